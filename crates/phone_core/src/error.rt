@@ -1,0 +1,89 @@
+//! Why a text is no number, and why a record is no territory.
+ghost use Rattle.std.specs.Prelude.{◌≡◌, IfOk};
+
+use std::alloc::AllocError;
+use thiserror::Error;
+
+/// Why a text was not read as a number.
+#[derive(Clone, PartialEq, Eq, Debug, Drop, Error)]
+pub enum ParseError {
+    /// No reader takes the text, or its national part is not viable.
+    #[error("not a number")]
+    NoNumber,
+
+    /// The calling code is listed nowhere, or there is none and the hint gives none.
+    #[error("invalid country code")]
+    InvalidCountryCode,
+
+    /// Kept for its number among the refusals; no call gives it.
+    #[error("the number is too short after IDD")]
+    TooShortAfterIdd,
+
+    /// Too few digits stand after the calling code.
+    #[error("the number is too short after the country code")]
+    TooShortNsn,
+
+    /// More digits than a national number may have, or a value past 56 bits.
+    #[error("the number is too long")]
+    TooLong,
+
+    /// Digits that give no number, such as zeros alone.
+    #[error("malformed integer part in phone number")]
+    MalformedInteger,
+
+    /// Memory was refused.
+    #[error("out of memory")]
+    Memory,
+}
+
+impl From<AllocError> for ParseError {
+    ghost use Rattle.std.specs.Prelude.{◌≡◌};
+    ghost use Rattle.phone_core.specs.declared.error.ParseError.TheVariants as error;
+
+    ghost from_gives = { λ _ e. e ≡ error.Memory };
+
+    fn from(_: AllocError) -> ParseError {
+        ParseError::Memory
+    }
+}
+
+/// What is wrong with a territory's record. Of these `MissingValue` and `UnhandledElement` are given.
+#[derive(PartialEq, Eq, Debug, Drop, Error)]
+pub enum MetadataError {
+    /// The database text ended too early.
+    #[error("unexpected end of file")]
+    UnexpectedEof,
+
+    /// A tag was closed that was not open.
+    #[error("mismatched tag: {0:?}")]
+    MismatchedTag(String),
+
+    /// A record lacks a value that it must have: the record's kind, and the value's name.
+    #[error("{phase}: missing value: {name:?}")]
+    MissingValue {
+        phase: String,
+        name: String,
+    },
+
+    /// A record has a key that it may not have: the record's kind, and the key.
+    #[error("{phase}: unhandled element: {name:?}")]
+    UnhandledElement {
+        phase: String,
+        name: String,
+    },
+
+    /// An attribute that no record has.
+    #[error("{phase}: unhandled attribute: {name:?}={value:?}")]
+    UnhandledAttribute {
+        phase: String,
+        name: String,
+        value: String,
+    },
+
+    /// An event that no record has.
+    #[error("{phase}: unhandled event: {event:?}")]
+    UnhandledEvent {
+        phase: String,
+        event: String,
+    },
+}

@@ -1,0 +1,16 @@
+//! The values that all other crates speak of: national numbers, calling codes with their source, region ids,
+//! extensions and carriers, errors, the classes of characters, and when a text may be a number at all.
+#![tactic(auto)]
+
+mod carrier;
+pub mod country;
+mod error;
+mod extension;
+mod kind;
+mod national_number;
+
+pub use carrier::Carrier;
+pub use error::{MetadataError, ParseError};
+pub use extension::Extension;
+pub use kind::Type;
+pub use national_number::NationalNumber;
