@@ -1,5 +1,6 @@
 pub mod Characters
 pub mod Codes
+pub mod Cuts
 pub mod Ids
 pub mod Norm
 pub mod Numbers

@@ -3,14 +3,18 @@
 #![tactic(auto)]
 
 mod carrier;
+pub mod chars;
 pub mod country;
+pub mod cuts;
 mod error;
 mod extension;
 mod kind;
 mod national_number;
+mod valid;
 
 pub use carrier::Carrier;
 pub use error::{MetadataError, ParseError};
 pub use extension::Extension;
 pub use kind::Type;
 pub use national_number::NationalNumber;
+pub use valid::is_viable;
