@@ -3,5 +3,6 @@ pub mod Codes
 pub mod Cuts
 pub mod Ids
 pub mod Norm
+pub mod Nsn
 pub mod Numbers
 pub mod Viable

@@ -1,0 +1,9 @@
+-- The national (significant) number that a text of digits gives.
+use Rattle.std.specs.Prelude.{ℕ, nat_lt, if◌then◌else◌, List, length, Result, Ok, Err}
+use Rattle.phone_core.specs.declared.error.ParseError.{ParseError}
+use Rattle.phone_core.specs.declared.error.ParseError.TheVariants.{TooShortNsn, TooLong}
+use Rattle.phone_core.specs.Numbers.{National, national_in}
+
+-- it has 2 to 17 bytes, and is read as zeros and a value
+abbrev pub nsn : List ℕ → Result National ParseError
+nsn t = if nat_lt (length t) 2 then Err TooShortNsn else if nat_lt 17 (length t) then Err TooLong else national_in t

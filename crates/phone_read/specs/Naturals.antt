@@ -1,0 +1,19 @@
+-- What free text is read as.
+use Rattle.std.specs.Prelude.{ℕ, List, Option, Some, None, Result, Ok, Err}
+use Rattle.phone_read.specs.Cores.{IsCore}
+use Rattle.phone_read.specs.Suffixes.{parameter, indicated, signed, HasNoSuffix, HasLongestSuffix}
+use Rattle.phone_read.specs.declared.natural.NoReading.{NoReading}
+use Rattle.phone_read.specs.declared.natural.NoReading.TheVariants.{Error, Failure}
+
+-- a national part, and the extension where there is one
+pub record NaturalParts : Type 0 where
+  pub national : List ℕ
+  pub extension : Option (List ℕ)
+
+-- without a core there is nothing to read; of a core the longest extension counts, and only the indicated form is read
+pub data IsNatural (t : List ℕ) : Result NaturalParts NoReading → Type 0 where
+  nothing : ((c : List ℕ) → ¬ (IsCore t c)) → IsNatural t (Err Error)
+  with_parameter : (c n d : List ℕ) → IsCore t c → HasLongestSuffix c n parameter d → IsNatural t (Err Failure)
+  with_sign : (c n d : List ℕ) → IsCore t c → HasLongestSuffix c n signed d → IsNatural t (Err Failure)
+  extended : (c n d : List ℕ) → IsCore t c → HasLongestSuffix c n indicated d → IsNatural t (Ok (record { national = n; extension = Some d }))
+  plain : (c : List ℕ) → IsCore t c → HasNoSuffix c → IsNatural t (Ok (record { national = c; extension = None }))

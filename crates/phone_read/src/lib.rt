@@ -1,0 +1,4 @@
+//! Reading: from a text to its parts, from the parts to calling code and national number.
+#![tactic(auto)]
+
+pub mod natural;
