@@ -2,3 +2,6 @@
 #![tactic(auto)]
 
 pub mod natural;
+mod reading;
+
+pub use reading::Reading;
