@@ -1,0 +1,68 @@
+-- The first match of a pattern text in a text, under flag x.
+use Rattle.std.specs.Prelude.{◌≡◌, ℕ, ◌+◌, ◌-◌, ◌*◌, ◌==◌, Bool, false, if◌then◌else◌, true, List, [], ◌++◌, take, drop, length, Option, Some, None, option_map}
+use Rattle.std.specs.Borrow.{Bor}
+use Rattle.std.specs.Option.{option_and_then, option_map_or}
+use Rattle.std.specs.Str.{chars}
+use Rattle.regex.specs.Patterns.{default_config, Config, Match, find_str, slot_of}
+use Rattle.regex.specs.Replace.{bytes_of}
+use Rattle.regex.specs.Strings.{regex_source, regex_config, IsReadFromSource}
+use Rattle.regex.specs.Templates.{written_after}
+use Rattle.regex.specs.Writes.{both}
+use Rattle.regex.specs.declared.string.regex.Regex.{Regex}
+use Rattle.regex_syntax.specs.Grammar.{Names, read}
+
+-- the options of a database pattern: flag x
+abbrev pub verbose : Config
+verbose = record default_config { flags = record default_config.flags { ignore_whitespace = true } }
+
+-- where a match begins and ends, and the slots of its groups
+abbrev pub Seen : Type 0
+Seen = ℕ × ℕ × (ℕ → Option ℕ)
+
+abbrev pub seen_of : Match → Seen
+seen_of m = (m.start, m.trace.end, slot_of m)
+
+-- the first match of the pattern text in a text
+unfoldable pub first_match : List ℕ → List ℕ → Option Seen
+first_match pattern hay = option_and_then (λ (re, _). option_map seen_of (find_str re.value hay 0)) (read verbose (chars pattern))
+
+-- the names of its groups, from group 0 on
+unfoldable pub names_in : List ℕ → Names
+names_in pattern = option_map_or (λ (_, names). names) (read verbose (chars pattern)) []
+
+-- where the first match begins and ends
+abbrev pub first_span : List ℕ → List ℕ → Option (ℕ × ℕ)
+first_span pattern hay = option_map (λ (s : Seen). (s.0, s.1)) (first_match pattern hay)
+
+-- whether the first match begins at the first byte
+abbrev pub at_start : List ℕ → List ℕ → Bool
+at_start pattern hay = option_map_or (λ (s : Seen). s.0 == 0) (first_match pattern hay) false
+
+-- what group n spans; group 0 is the match
+abbrev pub group_in : Seen → ℕ → Option (ℕ × ℕ)
+group_in s n = if n == 0 then Some (s.0, s.1) else both (s.2 (2 * n)) (s.2 (2 * n + 1))
+
+-- what the last group of the first match spans
+abbrev pub last_group_in : List ℕ → List ℕ → Option (Option (ℕ × ℕ))
+last_group_in pattern hay = option_map (λ s. group_in s (length (names_in pattern) - 1)) (first_match pattern hay)
+
+-- the text with a match replaced by what the template's text writes there
+abbrev pub with_first_replaced : Names → List ℕ → List ℕ → Option Seen → List ℕ
+with_first_replaced names template hay None = hay
+with_first_replaced names template hay (Some s) =
+    (take s.0 hay ++ written_after names (λ n. bytes_of hay (group_in s n)) template 0) ++ drop s.1 hay
+
+-- the text with the first match replaced by what the template's text writes there
+abbrev pub replaced : List ℕ → List ℕ → List ℕ → List ℕ
+replaced pattern template hay = with_first_replaced (names_in pattern) template hay (first_match pattern hay)
+
+-- a compiled pattern is of this text under flag x
+abbrev pub IsPatternOf : List ℕ → Regex → Type 0
+IsPatternOf pattern re = (regex_source re ≡ pattern) × (regex_config re ≡ verbose) × IsReadFromSource re
+
+-- a compiled pattern is lent just where its text is given
+abbrev pub IsLentPattern : Option (List ℕ) → Option (Bor Regex) → Type 0
+IsLentPattern None None = Unit {0}
+IsLentPattern (Some pattern) (Some re) = IsPatternOf pattern re.now
+IsLentPattern None (Some re) = ⊥
+IsLentPattern (Some pattern) None = ⊥

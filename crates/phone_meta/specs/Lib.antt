@@ -1,0 +1,3 @@
+pub mod Empty
+pub mod First
+pub mod Refusals
