@@ -1,4 +1,5 @@
 pub mod Digits
+pub mod ReadBack
 pub mod Runs
 pub mod Signed
 pub mod Texts

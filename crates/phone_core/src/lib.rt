@@ -9,6 +9,7 @@ pub mod cuts;
 mod error;
 mod extension;
 mod kind;
+pub mod laws;
 mod national_number;
 mod valid;
 
