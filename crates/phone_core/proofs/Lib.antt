@@ -1,4 +1,6 @@
 pub mod Digits
+pub mod Finds
+pub mod Norms
 pub mod ReadBack
 pub mod Runs
 pub mod Signed

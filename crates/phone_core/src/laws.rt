@@ -1,9 +1,14 @@
 //! What is true of the values for every text and every number: laws over their definitions alone. A law is a
 //! function without arguments that does nothing; its contract is the law.
-ghost use Rattle.std.specs.Prelude.{◌≡◌, ◌<◌, ◌^◌, ◌↔◌, ℕ, List, true, Ok};
+ghost use Rattle.std.specs.Prelude.{◌≡◌, ◌<◌, ◌^◌, ◌↔◌, ℕ, List, true, not, Some, Ok};
 ghost use Rattle.std.specs.List.{list_all};
 ghost use Rattle.std.specs.Str.Parse.{digits_value};
 ghost use Rattle.phone_core.specs.Characters.{is_digit};
+ghost use Rattle.phone_core.specs.Ids.{id_of, name};
+ghost use Rattle.phone_core.specs.Norm.{norm};
+ghost use Rattle.phone_core.specs.Validations.{is_possible, is_invalid, is_invalid_length};
+ghost use Rattle.phone_core.specs.declared.country.Id.{Id};
+ghost use Rattle.phone_core.specs.declared.validator.Validation.{Validation};
 ghost use Rattle.phone_core.specs.Numbers.{National, IsHeld, leading_zeros, national_in, text_of};
 
 /// Two national numbers have one text exactly if they have one value and one count of leading zeros.
@@ -23,4 +28,22 @@ pub fn text_printed_back()
         national_in t ≡ Ok (record { zeros = leading_zeros t; value = digits_value 10 t }) }
     ensures printed { (t : List ℕ) → list_all is_digit t ≡ true → leading_zeros t < 256 → 0 < digits_value 10 t → digits_value 10 t < 2 ^ 56 →
         text_of (record { zeros = leading_zeros t; value = digits_value 10 t }) ≡ t }
+{}
+
+/// What is left of a text once it is normalised is digits alone, and normalising it again changes nothing.
+pub fn digits_stay()
+    ensures digits { (t : List ℕ) → list_all is_digit (norm t) ≡ true }
+    ensures again { (t : List ℕ) → norm (norm t) ≡ norm t }
+{}
+
+/// A text is the id of a region exactly if it is the region's name: each of the 245 names is accepted, capitals and
+/// small letters told apart, and nothing else.
+pub fn ids_by_name()
+    ensures { (t : List ℕ) (i : Id) → (id_of t ≡ Some i) ↔ (t ≡ name i) }
+{}
+
+/// Exactly one of possible and invalid holds of each verdict, and one that is invalid by its length is invalid.
+pub fn verdicts()
+    ensures one { (v : Validation) → is_possible v ≡ not (is_invalid v) }
+    ensures length { (v : Validation) → is_invalid_length v ≡ true → is_invalid v ≡ true }
 {}

@@ -1,11 +1,11 @@
 //! Whether a text may be a number at all.
 ghost use Rattle.std.specs.Prelude.{◌≡◌, ◌↔◌, ◌&&◌, ◌||◌, IsTrue, chars, length};
-ghost use Rattle.std.specs.List.{list_all};
 ghost use Rattle.phone_core.specs.Characters.{is_alpha, is_digit, is_plus, is_punctuation, is_star};
 ghost use Rattle.phone_core.specs.Viable.{IsTwoDigits, IsSignedDigits, IsViable};
 
 use crate::chars::{is_alpha, is_digit, is_plus, is_punctuation, is_star};
 use crate::cuts::{CharSet, after_run, split_first};
+use crate::norm::has_digits_alone;
 
 /// The plus signs.
 pub struct PlusSigns;
@@ -23,13 +23,6 @@ fn char_count(text: &str) -> usize
     ensures { result ≡ length (chars text.now) }
 {
     text.chars().count()
-}
-
-/// Whether each character of a text is a digit.
-fn has_digits_alone(text: &str) -> bool
-    ensures { result ≡ list_all is_digit (chars text.now) }
-{
-    text.chars().all(|c| is_digit(c))
 }
 
 /// Whether a text is exactly two digits.
