@@ -1,3 +1,5 @@
 pub mod Empty
 pub mod First
+pub mod Missing
+pub mod Records
 pub mod Refusals
