@@ -50,17 +50,21 @@ descriptors_of m =
     m.general ∷ m.fixed_line ∷ m.mobile ∷ m.toll_free ∷ m.premium_rate ∷ m.shared_cost ∷ m.personal_number ∷ m.voip
     ∷ m.pager ∷ m.uan ∷ m.emergency ∷ m.voicemail ∷ m.short_code ∷ m.standard_rate ∷ m.carrier ∷ m.no_international ∷ []
 
--- a territory must have a general descriptor, the patterns of its descriptors, an id, a calling code, and whole layouts
-abbrev pub missing_in : Metadata → Option Missing
-missing_in m =
-    first_given
-    (missing_if_none lack.General m.general
+-- what a territory lacks of each thing that it must have: a general descriptor, the patterns of its descriptors, an id, a
+-- calling code, and whole layouts
+abbrev pub lacks_of : Metadata → List (Option Missing)
+lacks_of m =
+    missing_if_none lack.General m.general
     ∷ first_given (map missing_in_descriptor (descriptors_of m))
     ∷ missing_if_none lack.Id m.id
     ∷ missing_if_none lack.CountryCode m.country_code
     ∷ first_given (map missing_in_format m.formats)
     ∷ first_given (map missing_in_format m.international_formats)
-    ∷ [])
+    ∷ []
+
+-- the first of these
+unfoldable pub missing_in : Metadata → Option Missing
+missing_in m = first_given (lacks_of m)
 
 -- the first missing value over all records, in their order
 abbrev pub first_missing : List Metadata → Option Missing

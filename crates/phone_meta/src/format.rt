@@ -1,12 +1,12 @@
 //! A layout of national numbers, with its patterns compiled.
-ghost use Rattle.std.specs.Prelude.{◌≡◌, None, Some, IfOk, IfErr};
+ghost use Rattle.std.specs.Prelude.{◌≡◌, None, Some, map, IfOk};
 ghost use Rattle.std.specs.Option.{option_copied};
-ghost use Rattle.phone_meta.specs.First.{IsPatternOf};
-ghost use Rattle.phone_meta.specs.Missing.{missing_in_format};
+ghost use Rattle.phone_meta.specs.First.{IsLentPattern};
+ghost use Rattle.phone_meta.specs.Missing.{first_given, missing_in_format};
 
 use crate::error::LoadMetadata;
 use crate::loader::{self, Text};
-use crate::pattern::{Pattern, compile_all};
+use crate::pattern::{self, Pattern};
 use regex::Regex;
 use std::alloc::Global;
 use std::marker::Model;
@@ -40,10 +40,63 @@ impl Format {
         Ok(Format {
             pattern: Pattern::new(alloc, given.pattern.unwrap())?,
             template: given.format.unwrap(),
-            leading_digits: compile_all(alloc, given.leading_digits.into_vec())?,
+            leading_digits: pattern::compile_all(alloc, given.leading_digits.into_vec())?,
             national_prefix_rule: given.national_prefix_formatting_rule,
             is_national_prefix_optional: given.national_prefix_optional_when_formatting,
             domestic_carrier: given.domestic_carrier,
         })
     }
+
+    /// The pattern that parts the digits into groups.
+    pub fn pattern(&self) -> &Regex
+        ensures { IsLentPattern self.now.pattern (Some result) }
+    {
+        self.pattern.regex()
+    }
+
+    /// The template that lays the groups out, with `$1` for the first.
+    pub fn format(&self) -> &str
+        ensures { self.now.format ≡ Some result.now }
+    {
+        self.template.as_str()
+    }
+
+    /// How the national prefix is written: `$NP` stands for it, `$FG` for the first group.
+    pub fn national_prefix(&self) -> Option<&str>
+        ensures { option_copied result ≡ self.now.national_prefix_formatting_rule }
+    {
+        match &self.national_prefix_rule {
+            Some(text) => Some(text.as_str()),
+            None => None,
+        }
+    }
+
+    /// Whether the national prefix may be left out.
+    pub fn is_national_prefix_optional(&self) -> bool
+        ensures { result ≡ self.now.national_prefix_optional_when_formatting }
+    {
+        self.is_national_prefix_optional
+    }
+
+    /// How a carrier is written: `$CC` stands for it.
+    pub fn domestic_carrier(&self) -> Option<&str>
+        ensures { option_copied result ≡ self.now.domestic_carrier }
+    {
+        match &self.domestic_carrier {
+            Some(text) => Some(text.as_str()),
+            None => None,
+        }
+    }
+}
+
+/// Compiles each of these records, which lack nothing.
+pub fn compile_all(alloc: Global, given: Vec<loader::Format>) -> Result<Vec<Format>, LoadMetadata>
+    requires { first_given (map missing_in_format given.items) ≡ None }
+    ensures compiled { IfOk result (λ formats. formats.items ≡ given.items) }
+{
+    let mut formats = Vec::new(alloc);
+    for format in given {
+        formats.push(Format::compile(alloc, format)?)?;
+    }
+    Ok(formats)
 }

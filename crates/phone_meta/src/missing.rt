@@ -118,6 +118,7 @@ fn in_formats(formats: &[Format]) -> Option<Missing>
     None
 }
 
+#[tactic(auto, unfolding(crate::specs::Missing::missing_in))]
 fn in_record(m: &Metadata) -> Option<Missing>
     ensures { result ≡ missing_in m.now }
 {
