@@ -1,1 +1,3 @@
+pub mod Complete
 pub mod Matches
+pub mod Places

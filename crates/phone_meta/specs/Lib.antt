@@ -1,3 +1,6 @@
 pub mod Empty
 pub mod First
+pub mod Kinds
+pub mod Missing
+pub mod Records
 pub mod Refusals

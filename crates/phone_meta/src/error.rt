@@ -1,6 +1,6 @@
 //! Why a list of records is no database.
 use phone_core::MetadataError;
-use std::alloc::AllocError;
+use std::alloc::{AllocError, AllocFailed};
 use thiserror::Error;
 
 /// Why a database was refused.
@@ -38,6 +38,17 @@ impl From<AllocError> for LoadMetadata {
     ghost from_gives = { λ _ e. e ≡ error.Memory };
 
     fn from(_: AllocError) -> LoadMetadata {
+        LoadMetadata::Memory
+    }
+}
+
+impl<T: Drop> From<AllocFailed<T>> for LoadMetadata {
+    ghost use Rattle.std.specs.Prelude.{◌≡◌};
+    ghost use Rattle.phone_meta.specs.declared.error.LoadMetadata.TheVariants as error;
+
+    ghost from_gives = { λ _ e. e ≡ error.Memory };
+
+    fn from(_: AllocFailed<T>) -> LoadMetadata {
         LoadMetadata::Memory
     }
 }

@@ -1,8 +1,19 @@
 //! Territories: the records of a database, their patterns compiled once, and the look-ups by id and calling code.
 #![tactic(auto)]
 
+mod database;
+mod descriptor;
+mod descriptors;
 mod error;
+mod format;
 pub mod loader;
+mod metadata;
+mod missing;
 mod pattern;
 
+pub use database::Database;
+pub use descriptor::Descriptor;
+pub use descriptors::Descriptors;
 pub use error::LoadMetadata;
+pub use format::Format;
+pub use metadata::Metadata;

@@ -69,3 +69,14 @@ impl Pattern {
         }
     }
 }
+
+/// Compiles each of these texts.
+pub fn compile_all(alloc: Global, texts: Vec<Text>) -> Result<Vec<Pattern>, LoadMetadata>
+    ensures compiled { IfOk result (λ patterns. patterns.items ≡ texts.items) }
+{
+    let mut patterns = Vec::new(alloc);
+    for text in texts {
+        patterns.push(Pattern::new(alloc, text)?)?;
+    }
+    Ok(patterns)
+}

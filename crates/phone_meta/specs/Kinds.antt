@@ -1,0 +1,49 @@
+-- The descriptors of a territory, by kind.
+use Rattle.std.specs.Prelude.{Option}
+use Rattle.phone_core.specs.declared.kind.«Type».{«Type»}
+use Rattle.phone_core.specs.declared.kind.«Type».TheVariants as kind
+use Rattle.phone_meta.specs.declared.loader.Descriptor.{Descriptor}
+use Rattle.phone_meta.specs.declared.loader.Metadata.{Metadata}
+
+-- one descriptor a kind, where the territory has numbers of that kind
+pub record Kinds : Type 0 where
+  pub general : Option Descriptor
+  pub fixed_line : Option Descriptor
+  pub mobile : Option Descriptor
+  pub toll_free : Option Descriptor
+  pub premium_rate : Option Descriptor
+  pub shared_cost : Option Descriptor
+  pub personal_number : Option Descriptor
+  pub voip : Option Descriptor
+  pub pager : Option Descriptor
+  pub uan : Option Descriptor
+  pub emergency : Option Descriptor
+  pub voicemail : Option Descriptor
+  pub short_code : Option Descriptor
+  pub standard_rate : Option Descriptor
+  pub carrier : Option Descriptor
+  pub no_international : Option Descriptor
+
+-- the sixteen descriptors of a territory's record
+abbrev pub kinds_of : Metadata → Kinds
+kinds_of m = record { general = m.general; fixed_line = m.fixed_line; mobile = m.mobile; toll_free = m.toll_free; premium_rate = m.premium_rate; shared_cost = m.shared_cost; personal_number = m.personal_number; voip = m.voip; pager = m.pager; uan = m.uan; emergency = m.emergency; voicemail = m.voicemail; short_code = m.short_code; standard_rate = m.standard_rate; carrier = m.carrier; no_international = m.no_international }
+
+-- the descriptor of a kind: the general one where the kind is unknown, fixed line's where it may also be mobile
+abbrev pub kind_of : «Type» → Kinds → Option Descriptor
+kind_of kind.Unknown k = k.general
+kind_of kind.FixedLineOrMobile k = k.fixed_line
+kind_of kind.FixedLine k = k.fixed_line
+kind_of kind.Mobile k = k.mobile
+kind_of kind.TollFree k = k.toll_free
+kind_of kind.PremiumRate k = k.premium_rate
+kind_of kind.SharedCost k = k.shared_cost
+kind_of kind.PersonalNumber k = k.personal_number
+kind_of kind.Voip k = k.voip
+kind_of kind.Pager k = k.pager
+kind_of kind.Uan k = k.uan
+kind_of kind.Emergency k = k.emergency
+kind_of kind.Voicemail k = k.voicemail
+kind_of kind.ShortCode k = k.short_code
+kind_of kind.StandardRate k = k.standard_rate
+kind_of kind.Carrier k = k.carrier
+kind_of kind.NoInternational k = k.no_international

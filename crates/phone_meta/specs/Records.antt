@@ -1,0 +1,42 @@
+-- What contracts see of a database: its records, in the order in which they were handed in.
+use Rattle.std.specs.Prelude.{ℕ, suc, ◌==◌, ◌&&◌, ◌||◌, Bool, false, if◌then◌else◌, List, [], ◌∷◌, length, Option, None, Some, option_map, unwrap_or, codes}
+use Rattle.std.specs.List.{list_any}
+use Rattle.std.specs.Option.{option_or, option_map_or}
+use Rattle.std.specs.Str.{bytes_eq}
+use Rattle.phone_meta.specs.First.{at_start}
+use Rattle.phone_meta.specs.declared.loader.Descriptor.{Descriptor}
+use Rattle.phone_meta.specs.declared.loader.Metadata.{Metadata}
+
+-- the text of a descriptor's pattern
+abbrev pub pattern_of : Descriptor → List ℕ
+pattern_of d = unwrap_or d.national_number []
+
+-- the list of possible lengths is empty or has this one
+abbrev pub allows_length : Descriptor → ℕ → Bool
+allows_length d n = (length d.possible_length == 0) || list_any (λ k. k == n) d.possible_length
+
+-- a text is such a number: its length in bytes is allowed, and the pattern's first match begins at its first byte
+abbrev pub matches : Descriptor → List ℕ → Bool
+matches d text = allows_length d (length text) && at_start (pattern_of d) text
+
+-- the last that passes
+abbrev pub last_where : {X : Type 0} → (X → Bool) → List X → Option X
+last_where passes [] = None
+last_where passes (x ∷ xs) = option_or (last_where passes xs) (if passes x then Some x else None)
+
+-- the place of the last that passes
+abbrev pub last_place : {X : Type 0} → (X → Bool) → List X → Option ℕ
+last_place passes [] = None
+last_place passes (x ∷ xs) = option_or (option_map suc (last_place passes xs)) (if passes x then Some 0 else None)
+
+-- a territory has this id
+abbrev pub has_id : List ℕ → Metadata → Bool
+has_id id m = option_map_or (λ i. bytes_eq i id) m.id false
+
+-- the last territory with this id
+abbrev pub last_with : List ℕ → List Metadata → Option Metadata
+last_with id db = last_where (has_id id) db
+
+-- the pattern of the first group that a template names: a `$` and a digit
+abbrev pub first_group_pattern : List ℕ
+first_group_pattern = codes "(\\$\\d)"

@@ -1,0 +1,105 @@
+//! A database: territories by id and by calling code.
+ghost use Rattle.std.specs.Prelude.{◌≡◌, ℕ, List, None, IfOk};
+ghost use Rattle.std.specs.Result.{IsOk};
+ghost use Rattle.std.specs.HashMap.{get_by_text};
+ghost use Rattle.std.specs.Option.{option_copied};
+ghost use Rattle.phone_meta.specs.Records.{last_with, last_place, has_id, first_group_pattern};
+ghost use Rattle.phone_meta.specs.First.{IsPatternOf};
+ghost use Rattle.phone_meta.specs.Missing.{first_missing};
+
+use crate::error::LoadMetadata;
+use crate::loader::{self, Text};
+use crate::metadata::{self, Metadata};
+use crate::missing::{self, Missing};
+use crate::pattern::Pattern;
+use phone_core::MetadataError;
+use regex::Regex;
+use std::alloc::{AllocError, Global};
+use std::collections::HashMap;
+use std::marker::Model;
+
+/// Territories in the order in which their records were handed in. Contracts see these records.
+#[derive(Drop)]
+pub struct Database {
+    alloc: Global,
+    territories: Vec<Metadata>,
+    places: HashMap<String, usize>,
+    first_group: Pattern,
+}
+
+impl Model for Database {
+    ghost use Rattle.std.specs.Prelude.{◌≡◌, List, ℕ};
+    ghost use Rattle.std.specs.HashMap.{get_by_text};
+    ghost use Rattle.phone_meta.specs.Records.{last_place, has_id, first_group_pattern};
+    ghost use Rattle.phone_meta.specs.declared.loader.Metadata as loader;
+
+    ghost Value = { List loader.Metadata };
+
+    ghost view = { λ d. d.territories.items };
+
+    ghost invariant = { λ d. ((id : List ℕ) → get_by_text d.places id ≡ last_place (has_id id) d.territories.items) × (d.first_group ≡ first_group_pattern) };
+}
+
+/// The first group that a template names: a `$` and a digit.
+const FIRST_GROUP: &str = "(\\$\\d)";
+
+impl Database {
+    /// A database of these records, in their order. First every record is looked through for a value that it must
+    /// have: refused by `Metadata(MissingValue)` with the first that is missing. Then each pattern is compiled once:
+    /// refused by `Regex` with a text that is no pattern. Refused by `Memory` where memory is refused.
+    pub fn from(alloc: Global, records: Vec<loader::Metadata>) -> Result<Database, LoadMetadata>
+        ensures accepted { IfOk result (λ d. d ≡ records.items) }
+        ensures complete { IsOk result → first_missing records.items ≡ None }
+    {
+        if let Some(missing) = missing::first_missing(records.as_slice()) {
+            return Err(missing_value(alloc, missing)?);
+        }
+        let territories = metadata::compile_all(alloc, records)?;
+        let places = places_of(alloc, territories.as_slice())?;
+        let first_group = Text::from(String::from_str(alloc, FIRST_GROUP)?);
+        let first_group = Pattern::new(alloc, first_group)?;
+        Ok(Database {
+            alloc,
+            territories,
+            places,
+            first_group,
+        })
+    }
+
+    /// The allocator that the database keeps, for calls on it and its parts.
+    pub fn allocator(&self) -> Global {
+        self.alloc
+    }
+
+    /// The pattern `(\$\d)` of the first group that a template names.
+    pub fn first_group(&self) -> &Regex
+        ensures { IsPatternOf first_group_pattern result.now }
+    {
+        self.first_group.regex()
+    }
+
+    /// The territory of an id: the last of its records.
+    pub fn by_id(&self, id: &str) -> Option<&Metadata>
+        ensures { option_copied result ≡ last_with id.now self.now }
+    {
+        let place = *self.places.get(id)?;
+        self.territories.get(place)
+    }
+}
+
+fn places_of(alloc: Global, territories: &[Metadata]) -> Result<HashMap<String, usize>, AllocError>
+    ensures { IfOk result (λ m. (id : List ℕ) → get_by_text m id ≡ last_place (has_id id) territories.now) }
+{
+    let mut places = HashMap::new(alloc);
+    for (place, territory) in territories.iter().enumerate() {
+        places.insert(String::from_str(alloc, territory.id())?, place)?;
+    }
+    Ok(places)
+}
+
+fn missing_value(alloc: Global, missing: Missing) -> Result<LoadMetadata, AllocError> {
+    Ok(LoadMetadata::Metadata(MetadataError::MissingValue {
+        phase: String::from_str(alloc, missing.phase())?,
+        name: String::from_str(alloc, missing.name())?,
+    }))
+}

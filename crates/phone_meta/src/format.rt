@@ -1,0 +1,102 @@
+//! A layout of national numbers, with its patterns compiled.
+ghost use Rattle.std.specs.Prelude.{◌≡◌, None, Some, map, IfOk};
+ghost use Rattle.std.specs.Option.{option_copied};
+ghost use Rattle.phone_meta.specs.First.{IsLentPattern};
+ghost use Rattle.phone_meta.specs.Missing.{first_given, missing_in_format};
+
+use crate::error::LoadMetadata;
+use crate::loader::{self, Text};
+use crate::pattern::{self, Pattern};
+use regex::Regex;
+use std::alloc::Global;
+use std::marker::Model;
+
+/// How the digits of a national number are grouped when it is printed.
+#[derive(Drop)]
+pub struct Format {
+    pattern: Pattern,
+    template: Text,
+    leading_digits: Vec<Pattern>,
+    national_prefix_rule: Option<Text>,
+    is_national_prefix_optional: bool,
+    domestic_carrier: Option<Text>,
+}
+
+impl Model for Format {
+    ghost use Rattle.std.specs.Prelude.{Some};
+    ghost use Rattle.phone_meta.specs.declared.loader.Format as loader;
+
+    ghost Value = { loader.Format };
+
+    ghost view = { λ f. record { pattern = Some f.pattern; format = Some f.template; leading_digits = f.leading_digits.items; national_prefix_formatting_rule = f.national_prefix_rule; national_prefix_optional_when_formatting = f.is_national_prefix_optional; domestic_carrier = f.domestic_carrier } };
+}
+
+impl Format {
+    /// Compiles a record, whose pattern and template must be there.
+    pub fn compile(alloc: Global, given: loader::Format) -> Result<Format, LoadMetadata>
+        requires { missing_in_format given ≡ None }
+        ensures compiled { IfOk result (λ f. f ≡ given) }
+    {
+        Ok(Format {
+            pattern: Pattern::new(alloc, given.pattern.unwrap())?,
+            template: given.format.unwrap(),
+            leading_digits: pattern::compile_all(alloc, given.leading_digits.into_vec())?,
+            national_prefix_rule: given.national_prefix_formatting_rule,
+            is_national_prefix_optional: given.national_prefix_optional_when_formatting,
+            domestic_carrier: given.domestic_carrier,
+        })
+    }
+
+    /// The pattern that parts the digits into groups.
+    pub fn pattern(&self) -> &Regex
+        ensures { IsLentPattern self.now.pattern (Some result) }
+    {
+        self.pattern.regex()
+    }
+
+    /// The template that lays the groups out, with `$1` for the first.
+    pub fn format(&self) -> &str
+        ensures { self.now.format ≡ Some result.now }
+    {
+        self.template.as_str()
+    }
+
+    /// How the national prefix is written: `$NP` stands for it, `$FG` for the first group.
+    pub fn national_prefix(&self) -> Option<&str>
+        ensures { option_copied result ≡ self.now.national_prefix_formatting_rule }
+    {
+        match &self.national_prefix_rule {
+            Some(text) => Some(text.as_str()),
+            None => None,
+        }
+    }
+
+    /// Whether the national prefix may be left out.
+    pub fn is_national_prefix_optional(&self) -> bool
+        ensures { result ≡ self.now.national_prefix_optional_when_formatting }
+    {
+        self.is_national_prefix_optional
+    }
+
+    /// How a carrier is written: `$CC` stands for it.
+    pub fn domestic_carrier(&self) -> Option<&str>
+        ensures { option_copied result ≡ self.now.domestic_carrier }
+    {
+        match &self.domestic_carrier {
+            Some(text) => Some(text.as_str()),
+            None => None,
+        }
+    }
+}
+
+/// Compiles each of these records, which lack nothing.
+pub fn compile_all(alloc: Global, given: Vec<loader::Format>) -> Result<Vec<Format>, LoadMetadata>
+    requires { first_given (map missing_in_format given.items) ≡ None }
+    ensures compiled { IfOk result (λ formats. formats.items ≡ given.items) }
+{
+    let mut formats = Vec::new(alloc);
+    for format in given {
+        formats.push(Format::compile(alloc, format)?)?;
+    }
+    Ok(formats)
+}

@@ -1,0 +1,247 @@
+//! A territory, with its patterns compiled.
+ghost use Rattle.std.specs.Prelude.{◌≡◌, None, Some, IfOk};
+ghost use Rattle.std.specs.Option.{option_copied};
+ghost use Rattle.phone_meta.specs.First.{IsLentPattern};
+ghost use Rattle.phone_meta.specs.Kinds.{kinds_of};
+ghost use Rattle.phone_meta.specs.Missing.{first_missing, missing_in, missing_in_descriptor};
+
+use crate::descriptor::Descriptor;
+use crate::descriptors::Descriptors;
+use crate::error::LoadMetadata;
+use crate::format::{self, Format};
+use crate::loader::{self, Text};
+use crate::pattern::Pattern;
+use regex::Regex;
+use std::alloc::Global;
+use std::marker::Model;
+
+/// All that is known of a territory.
+#[derive(Drop)]
+pub struct Metadata {
+    descriptors: Descriptors,
+    id: Text,
+    country_code: u16,
+    international_prefix: Option<Pattern>,
+    preferred_international_prefix: Option<Text>,
+    national_prefix: Option<Text>,
+    preferred_extension_prefix: Option<Text>,
+    national_prefix_for_parsing: Option<Pattern>,
+    national_prefix_transform_rule: Option<Text>,
+    formats: Vec<Format>,
+    international_formats: Vec<Format>,
+    main_country_for_code: bool,
+    leading_digits: Option<Pattern>,
+    mobile_number_portable: bool,
+    defaults: loader::Defaults,
+}
+
+impl Model for Metadata {
+    ghost use Rattle.std.specs.Prelude.{Some};
+    ghost use Rattle.phone_meta.specs.declared.loader.Metadata as loader;
+
+    ghost Value = { loader.Metadata };
+
+    ghost view = { λ m. record { general = m.descriptors.general; fixed_line = m.descriptors.fixed_line; mobile = m.descriptors.mobile; toll_free = m.descriptors.toll_free; premium_rate = m.descriptors.premium_rate; shared_cost = m.descriptors.shared_cost; personal_number = m.descriptors.personal_number; voip = m.descriptors.voip; pager = m.descriptors.pager; uan = m.descriptors.uan; emergency = m.descriptors.emergency; voicemail = m.descriptors.voicemail; short_code = m.descriptors.short_code; standard_rate = m.descriptors.standard_rate; carrier = m.descriptors.carrier; no_international = m.descriptors.no_international; id = Some m.id; country_code = Some m.country_code; international_prefix = m.international_prefix; preferred_international_prefix = m.preferred_international_prefix; national_prefix = m.national_prefix; preferred_extension_prefix = m.preferred_extension_prefix; national_prefix_for_parsing = m.national_prefix_for_parsing; national_prefix_transform_rule = m.national_prefix_transform_rule; formats = m.formats.items; international_formats = m.international_formats.items; main_country_for_code = m.main_country_for_code; leading_digits = m.leading_digits; mobile_number_portable = m.mobile_number_portable; defaults = m.defaults } };
+}
+
+fn compile_text(alloc: Global, text: Option<Text>) -> Result<Option<Pattern>, LoadMetadata>
+    ensures compiled { IfOk result (λ pattern. pattern ≡ text) }
+{
+    match text {
+        Some(text) => Ok(Some(Pattern::new(alloc, text)?)),
+        None => Ok(None),
+    }
+}
+
+fn compile_descriptor(
+    alloc: Global,
+    given: Option<loader::Descriptor>,
+) -> Result<Option<Descriptor>, LoadMetadata>
+    requires { missing_in_descriptor given ≡ None }
+    ensures compiled { IfOk result (λ d. d ≡ given) }
+{
+    match given {
+        Some(given) => Ok(Some(Descriptor::compile(alloc, given)?)),
+        None => Ok(None),
+    }
+}
+
+impl Metadata {
+    /// Compiles a record that lacks nothing.
+    pub fn compile(alloc: Global, given: loader::Metadata) -> Result<Metadata, LoadMetadata>
+        requires { missing_in given ≡ None }
+        ensures compiled { IfOk result (λ m. m ≡ given) }
+    {
+        Ok(Metadata {
+            descriptors: Descriptors {
+                general: Descriptor::compile(alloc, given.general.unwrap())?,
+                fixed_line: compile_descriptor(alloc, given.fixed_line)?,
+                mobile: compile_descriptor(alloc, given.mobile)?,
+                toll_free: compile_descriptor(alloc, given.toll_free)?,
+                premium_rate: compile_descriptor(alloc, given.premium_rate)?,
+                shared_cost: compile_descriptor(alloc, given.shared_cost)?,
+                personal_number: compile_descriptor(alloc, given.personal_number)?,
+                voip: compile_descriptor(alloc, given.voip)?,
+                pager: compile_descriptor(alloc, given.pager)?,
+                uan: compile_descriptor(alloc, given.uan)?,
+                emergency: compile_descriptor(alloc, given.emergency)?,
+                voicemail: compile_descriptor(alloc, given.voicemail)?,
+                short_code: compile_descriptor(alloc, given.short_code)?,
+                standard_rate: compile_descriptor(alloc, given.standard_rate)?,
+                carrier: compile_descriptor(alloc, given.carrier)?,
+                no_international: compile_descriptor(alloc, given.no_international)?,
+            },
+            id: given.id.unwrap(),
+            country_code: given.country_code.unwrap(),
+            international_prefix: compile_text(alloc, given.international_prefix)?,
+            preferred_international_prefix: given.preferred_international_prefix,
+            national_prefix: given.national_prefix,
+            preferred_extension_prefix: given.preferred_extension_prefix,
+            national_prefix_for_parsing: compile_text(alloc, given.national_prefix_for_parsing)?,
+            national_prefix_transform_rule: given.national_prefix_transform_rule,
+            formats: format::compile_all(alloc, given.formats.into_vec())?,
+            international_formats: format::compile_all(
+                alloc,
+                given.international_formats.into_vec(),
+            )?,
+            main_country_for_code: given.main_country_for_code,
+            leading_digits: compile_text(alloc, given.leading_digits)?,
+            mobile_number_portable: given.mobile_number_portable,
+            defaults: given.defaults,
+        })
+    }
+
+    /// The descriptors, by kind.
+    pub fn descriptors(&self) -> &Descriptors
+        ensures { result.now ≡ kinds_of self.now }
+    {
+        &self.descriptors
+    }
+
+    /// The two letters of the region, or `001` for a code without a region.
+    pub fn id(&self) -> &str
+        ensures { self.now.id ≡ Some result.now }
+    {
+        self.id.as_str()
+    }
+
+    /// The calling code.
+    pub fn country_code(&self) -> u16
+        ensures { self.now.country_code ≡ Some result }
+    {
+        self.country_code
+    }
+
+    /// The pattern of what is dialled before a calling code.
+    pub fn international_prefix(&self) -> Option<&Regex>
+        ensures { IsLentPattern self.now.international_prefix result }
+    {
+        match &self.international_prefix {
+            Some(pattern) => Some(pattern.regex()),
+            None => None,
+        }
+    }
+
+    /// Which of these is preferred.
+    pub fn preferred_international_prefix(&self) -> Option<&str>
+        ensures { option_copied result ≡ self.now.preferred_international_prefix }
+    {
+        match &self.preferred_international_prefix {
+            Some(text) => Some(text.as_str()),
+            None => None,
+        }
+    }
+
+    /// The trunk prefix, dialled before a national number inside the territory.
+    pub fn national_prefix(&self) -> Option<&str>
+        ensures { option_copied result ≡ self.now.national_prefix }
+    {
+        match &self.national_prefix {
+            Some(text) => Some(text.as_str()),
+            None => None,
+        }
+    }
+
+    /// What is written before an extension.
+    pub fn preferred_extension_prefix(&self) -> Option<&str>
+        ensures { option_copied result ≡ self.now.preferred_extension_prefix }
+    {
+        match &self.preferred_extension_prefix {
+            Some(text) => Some(text.as_str()),
+            None => None,
+        }
+    }
+
+    /// The pattern of what may stand before a national number and is taken off.
+    pub fn national_prefix_for_parsing(&self) -> Option<&Regex>
+        ensures { IsLentPattern self.now.national_prefix_for_parsing result }
+    {
+        match &self.national_prefix_for_parsing {
+            Some(pattern) => Some(pattern.regex()),
+            None => None,
+        }
+    }
+
+    /// The template that takes its place, with `$1` for the first group of that pattern.
+    pub fn national_prefix_transform_rule(&self) -> Option<&str>
+        ensures { option_copied result ≡ self.now.national_prefix_transform_rule }
+    {
+        match &self.national_prefix_transform_rule {
+            Some(text) => Some(text.as_str()),
+            None => None,
+        }
+    }
+
+    /// The layouts of national text.
+    pub fn formats(&self) -> &[Format]
+        ensures { result.now ≡ self.now.formats }
+    {
+        self.formats.as_slice()
+    }
+
+    /// The layouts of international text.
+    pub fn international_formats(&self) -> &[Format]
+        ensures { result.now ≡ self.now.international_formats }
+    {
+        self.international_formats.as_slice()
+    }
+
+    /// Whether the territory is the main one of its calling code.
+    pub fn is_main_country_for_code(&self) -> bool
+        ensures { result ≡ self.now.main_country_for_code }
+    {
+        self.main_country_for_code
+    }
+
+    /// The pattern of digits that tell the territory from others of its calling code.
+    pub fn leading_digits(&self) -> Option<&Regex>
+        ensures { IsLentPattern self.now.leading_digits result }
+    {
+        match &self.leading_digits {
+            Some(pattern) => Some(pattern.regex()),
+            None => None,
+        }
+    }
+
+    /// Whether a mobile number can be kept when the carrier changes.
+    pub fn is_mobile_number_portable(&self) -> bool
+        ensures { result ≡ self.now.mobile_number_portable }
+    {
+        self.mobile_number_portable
+    }
+}
+
+/// Compiles each of these records, which lack nothing.
+pub fn compile_all(
+    alloc: Global,
+    given: Vec<loader::Metadata>,
+) -> Result<Vec<Metadata>, LoadMetadata>
+    requires { first_missing given.items ≡ None }
+    ensures compiled { IfOk result (λ territories. territories.items ≡ given.items) }
+{
+    let mut territories = Vec::new(alloc);
+    for territory in given {
+        territories.push(Metadata::compile(alloc, territory)?)?;
+    }
+    Ok(territories)
+}
