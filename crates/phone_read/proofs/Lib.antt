@@ -1,0 +1,3 @@
+pub mod DigitTexts
+pub mod Fronts
+pub mod HintCodes

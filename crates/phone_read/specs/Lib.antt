@@ -1,5 +1,9 @@
 pub mod Cores
+pub mod Hints
 pub mod Naturals
+pub mod Numbering
+pub mod Strips
 pub mod Suffixes
 pub mod Tel
 pub mod Texts
+pub mod Verdicts

@@ -1,5 +1,5 @@
 -- Words on texts, as lists of characters.
-use Rattle.std.specs.Prelude.{ℕ, Bool, false, if◌then◌else◌, List, [], ◌∷◌, map}
+use Rattle.std.specs.Prelude.{ℕ, Bool, false, if◌then◌else◌, List, [], ◌∷◌, length, take, drop, map, Option, None, Some}
 use Rattle.std.specs.Str.{bytes_eq}
 use Rattle.ucd_case.specs.CaseFolding.{simple_fold}
 
@@ -22,3 +22,12 @@ from_first p (c ∷ cs) = if p c then c ∷ cs else from_first p cs
 -- two texts are alike where their characters have the same simple foldings, one for one
 abbrev pub is_like : List ℕ → List ℕ → Bool
 is_like a b = bytes_eq (map simple_fold a) (map simple_fold b)
+
+-- one text stands at the front of the other
+abbrev pub is_front : List ℕ → List ℕ → Bool
+is_front front text = bytes_eq (take (length front) text) front
+
+-- the text without a front, where there is one and the text begins with it
+abbrev pub without_front : Option (List ℕ) → List ℕ → List ℕ
+without_front None text = text
+without_front (Some front) text = if is_front front text then drop (length front) text else text

@@ -1,0 +1,14 @@
+//! Phone numbers: read from a text, printed, compared.
+#![tactic(auto)]
+
+pub mod metadata;
+mod parser;
+mod phone_number;
+
+pub use metadata::Metadata;
+pub use parser::parse_with;
+pub use phone_core::{
+    Carrier, Extension, MetadataError, Mode, NationalNumber, ParseError, Type, Validation, country,
+    is_viable,
+};
+pub use phone_number::PhoneNumber;

@@ -1,0 +1,2 @@
+//! The territories that numbers are read and printed under.
+pub use phone_meta::{Database, Descriptor, Descriptors, Format, LoadMetadata, Metadata, loader};
