@@ -1,0 +1,6 @@
+//! Tests of whole readings: texts with the numbers or refusals that they give. They stand in a crate of their own,
+//! since a crate with tests is proved twice.
+#![tactic(auto)]
+
+#[cfg(test)]
+mod thin;
