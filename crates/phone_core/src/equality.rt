@@ -33,29 +33,107 @@ pub trait SameHash: Sized {
         ensures { self.now ≡ other.now → result.0 ≡ result.1 };
 }
 
-macro_rules! same_value {
-    ($($of:ty),*) => {
-        $(impl SameValue for $of {
-            fn is_same(&self, other: &$of) -> bool {
-                self == other
-            }
-        })*
-    };
+impl SameValue for Code {
+    fn is_same(&self, other: &Code) -> bool {
+        self == other
+    }
 }
 
-macro_rules! same_hash {
-    ($($of:ty),*) => {
-        $(impl SameHash for $of {
-            fn hashes(&self, other: &$of) -> (u64, u64) {
-                (hash_of(self), hash_of(other))
-            }
-        })*
-    };
+impl SameValue for Source {
+    fn is_same(&self, other: &Source) -> bool {
+        self == other
+    }
 }
 
-same_value!(Code, Source, Id, Type, Mode, Validation, Extension, Carrier, ParseError, UnknownId);
+impl SameValue for Id {
+    fn is_same(&self, other: &Id) -> bool {
+        self == other
+    }
+}
 
-same_hash!(NationalNumber, Code, Source, Id, Type, Extension, Carrier);
+impl SameValue for Type {
+    fn is_same(&self, other: &Type) -> bool {
+        self == other
+    }
+}
+
+impl SameValue for Mode {
+    fn is_same(&self, other: &Mode) -> bool {
+        self == other
+    }
+}
+
+impl SameValue for Validation {
+    fn is_same(&self, other: &Validation) -> bool {
+        self == other
+    }
+}
+
+impl SameValue for Extension {
+    fn is_same(&self, other: &Extension) -> bool {
+        self == other
+    }
+}
+
+impl SameValue for Carrier {
+    fn is_same(&self, other: &Carrier) -> bool {
+        self == other
+    }
+}
+
+impl SameValue for ParseError {
+    fn is_same(&self, other: &ParseError) -> bool {
+        self == other
+    }
+}
+
+impl SameValue for UnknownId {
+    fn is_same(&self, other: &UnknownId) -> bool {
+        self == other
+    }
+}
+
+impl SameHash for NationalNumber {
+    fn hashes(&self, other: &NationalNumber) -> (u64, u64) {
+        (hash_of(self), hash_of(other))
+    }
+}
+
+impl SameHash for Code {
+    fn hashes(&self, other: &Code) -> (u64, u64) {
+        (hash_of(self), hash_of(other))
+    }
+}
+
+impl SameHash for Source {
+    fn hashes(&self, other: &Source) -> (u64, u64) {
+        (hash_of(self), hash_of(other))
+    }
+}
+
+impl SameHash for Id {
+    fn hashes(&self, other: &Id) -> (u64, u64) {
+        (hash_of(self), hash_of(other))
+    }
+}
+
+impl SameHash for Type {
+    fn hashes(&self, other: &Type) -> (u64, u64) {
+        (hash_of(self), hash_of(other))
+    }
+}
+
+impl SameHash for Extension {
+    fn hashes(&self, other: &Extension) -> (u64, u64) {
+        (hash_of(self), hash_of(other))
+    }
+}
+
+impl SameHash for Carrier {
+    fn hashes(&self, other: &Carrier) -> (u64, u64) {
+        (hash_of(self), hash_of(other))
+    }
+}
 
 /// Whether two errors of territories' records are equal: whether they are of one kind and have the same texts.
 pub fn equal_record_errors(a: &MetadataError, b: &MetadataError) -> bool
