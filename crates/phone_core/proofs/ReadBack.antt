@@ -10,7 +10,7 @@ use Rattle.std.specs.Char.{digit_value}
 use Rattle.std.specs.List.{list_all}
 use Rattle.std.specs.Str.Parse.{AllDigits, digits_value, without_leading_plus}
 use Rattle.phone_core.specs.Characters.{is_digit}
-use Rattle.phone_core.specs.Numbers.{National, IsHeld, leading_zeros, number_in, national_in, text_of}
+use Rattle.phone_core.specs.Numbers.{National, IsHeld, packed, leading_zeros, number_in, national_in, text_of}
 use Rattle.phone_core.proofs.Digits.{number_some, national_in_parts, zeros_then}
 
 -- a text parted behind the zeros at its front
@@ -127,3 +127,8 @@ text_of-injective a b p q e = elim (cases_lt 0 a.value) [
         (omega (arith, none, also), omega (arith, long))
   ]
 ]
+
+-- the word tells the number
+pub packed-injective : (a b : National) → IsHeld a → IsHeld b → packed a ≡ packed b → a ≡ b
+packed-injective a b p q e =
+    ap₂ (λ z v. let n : National = record { zeros = z; value = v } in n) (omega (arith, p.1, q.1, e)) (omega (arith, p.1, q.1, e))

@@ -83,7 +83,7 @@ pub fn is_separator(c: char) -> bool
 pub fn is_wide_digit(c: char) -> bool
     ensures { result ≡ is_digit c }
 {
-    is_digit(c)
+    matches!(c, '0'..='9')
 }
 
 /// Whether the character is a decimal digit of some script: Unicode's general category Nd.

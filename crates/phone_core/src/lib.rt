@@ -7,6 +7,7 @@ pub mod chars;
 pub mod consts;
 pub mod country;
 pub mod cuts;
+pub mod equality;
 mod error;
 mod extension;
 mod kind;

@@ -3,6 +3,18 @@
 #![tactic(auto)]
 
 #[cfg(test)]
+mod characters;
+#[cfg(test)]
+mod errors;
+#[cfg(test)]
+mod ids;
+#[cfg(test)]
 mod national_number;
+#[cfg(test)]
+mod normalize;
+#[cfg(test)]
+mod serde_forms;
+#[cfg(test)]
+mod values;
 #[cfg(test)]
 mod viable;

@@ -1,0 +1,143 @@
+//! Equality of the values is equality of all that they hold, and equal values have equal hashes: `==` and `Hash` of
+//! each type, with contracts that say so.
+ghost use Rattle.std.specs.Prelude.{◌≡◌, ◌↔◌, IsTrue, fold};
+ghost use Rattle.std.specs.Hash.DefaultHasher as sip;
+ghost use Rattle.phone_core.specs.Errors.{told};
+
+use crate::country::{Code, Id, Source, UnknownId};
+use crate::{
+    Carrier, Extension, MetadataError, Mode, NationalNumber, ParseError, Type, Validation,
+};
+use std::hash::{DefaultHasher, Hash, Hasher};
+
+/// The hash of a value by std's hasher.
+pub fn hash_of<T: Hash>(x: &T) -> u64
+    ensures { result ≡ sip.finish (fold sip.write sip.initial (T.hash_input x.now)) }
+{
+    let mut state = DefaultHasher::new();
+    x.hash(&mut state);
+    state.finish()
+}
+
+/// A type whose `==` is equality of all that a value holds.
+pub trait SameValue: Sized {
+    /// Whether two values are equal by `==`: exactly where all that they hold is equal.
+    fn is_same(&self, other: &Self) -> bool
+        ensures { IsTrue result ↔ (self.now ≡ other.now) };
+}
+
+/// A type whose equal values have equal hashes.
+pub trait SameHash: Sized {
+    /// The hashes of two values by std's hasher.
+    fn hashes(&self, other: &Self) -> (u64, u64)
+        ensures { self.now ≡ other.now → result.0 ≡ result.1 };
+}
+
+impl SameValue for Code {
+    fn is_same(&self, other: &Code) -> bool {
+        self == other
+    }
+}
+
+impl SameValue for Source {
+    fn is_same(&self, other: &Source) -> bool {
+        self == other
+    }
+}
+
+impl SameValue for Id {
+    fn is_same(&self, other: &Id) -> bool {
+        self == other
+    }
+}
+
+impl SameValue for Type {
+    fn is_same(&self, other: &Type) -> bool {
+        self == other
+    }
+}
+
+impl SameValue for Mode {
+    fn is_same(&self, other: &Mode) -> bool {
+        self == other
+    }
+}
+
+impl SameValue for Validation {
+    fn is_same(&self, other: &Validation) -> bool {
+        self == other
+    }
+}
+
+impl SameValue for Extension {
+    fn is_same(&self, other: &Extension) -> bool {
+        self == other
+    }
+}
+
+impl SameValue for Carrier {
+    fn is_same(&self, other: &Carrier) -> bool {
+        self == other
+    }
+}
+
+impl SameValue for ParseError {
+    fn is_same(&self, other: &ParseError) -> bool {
+        self == other
+    }
+}
+
+impl SameValue for UnknownId {
+    fn is_same(&self, other: &UnknownId) -> bool {
+        self == other
+    }
+}
+
+impl SameHash for NationalNumber {
+    fn hashes(&self, other: &NationalNumber) -> (u64, u64) {
+        (hash_of(self), hash_of(other))
+    }
+}
+
+impl SameHash for Code {
+    fn hashes(&self, other: &Code) -> (u64, u64) {
+        (hash_of(self), hash_of(other))
+    }
+}
+
+impl SameHash for Source {
+    fn hashes(&self, other: &Source) -> (u64, u64) {
+        (hash_of(self), hash_of(other))
+    }
+}
+
+impl SameHash for Id {
+    fn hashes(&self, other: &Id) -> (u64, u64) {
+        (hash_of(self), hash_of(other))
+    }
+}
+
+impl SameHash for Type {
+    fn hashes(&self, other: &Type) -> (u64, u64) {
+        (hash_of(self), hash_of(other))
+    }
+}
+
+impl SameHash for Extension {
+    fn hashes(&self, other: &Extension) -> (u64, u64) {
+        (hash_of(self), hash_of(other))
+    }
+}
+
+impl SameHash for Carrier {
+    fn hashes(&self, other: &Carrier) -> (u64, u64) {
+        (hash_of(self), hash_of(other))
+    }
+}
+
+/// Whether two errors of territories' records are equal: whether they are of one kind and have the same texts.
+pub fn equal_record_errors(a: &MetadataError, b: &MetadataError) -> bool
+    ensures { IsTrue result ↔ (told a.now ≡ told b.now) }
+{
+    a == b
+}
