@@ -1,3 +1,5 @@
+pub mod CodeLemmas
 pub mod Complete
 pub mod Matches
 pub mod Places
+pub mod Refused

@@ -1,6 +1,7 @@
 -- The first match of a pattern text in a text, under flag x.
-use Rattle.std.specs.Prelude.{◌≡◌, ℕ, ◌+◌, ◌-◌, ◌*◌, ◌==◌, Bool, false, if◌then◌else◌, true, List, [], ◌++◌, take, drop, length, Option, Some, None, option_map}
+use Rattle.std.specs.Prelude.{◌≡◌, ℕ, ◌+◌, ◌-◌, ◌*◌, ◌==◌, Bool, false, if◌then◌else◌, true, List, [], ◌++◌, map, take, drop, length, Option, Some, None, option_map}
 use Rattle.std.specs.Borrow.{Bor}
+use Rattle.std.specs.List.{AllByRecursion}
 use Rattle.std.specs.Option.{option_and_then, option_map_or}
 use Rattle.std.specs.Str.{chars}
 use Rattle.regex.specs.Patterns.{default_config, Config, Match, find_str, slot_of}
@@ -56,9 +57,17 @@ with_first_replaced names template hay (Some s) =
 abbrev pub replaced : List ℕ → List ℕ → List ℕ → List ℕ
 replaced pattern template hay = with_first_replaced (names_in pattern) template hay (first_match pattern hay)
 
+-- a pattern was compiled from its text under flag x
+abbrev pub IsUnderX : Regex → Type 0
+IsUnderX re = (regex_config re ≡ verbose) × IsReadFromSource re
+
 -- a compiled pattern is of this text under flag x
 abbrev pub IsPatternOf : List ℕ → Regex → Type 0
-IsPatternOf pattern re = (regex_source re ≡ pattern) × (regex_config re ≡ verbose) × IsReadFromSource re
+IsPatternOf pattern re = (regex_source re ≡ pattern) × IsUnderX re
+
+-- compiled patterns are of these texts, in this order, under flag x
+abbrev pub ArePatternsOf : List (List ℕ) → List Regex → Type 0
+ArePatternsOf patterns res = (map regex_source res ≡ patterns) × AllByRecursion IsUnderX res
 
 -- a compiled pattern is lent just where its text is given
 abbrev pub IsLentPattern : Option (List ℕ) → Option (Bor Regex) → Type 0

@@ -1,3 +1,4 @@
+pub mod Codes
 pub mod Empty
 pub mod First
 pub mod Kinds

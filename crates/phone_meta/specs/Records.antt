@@ -1,7 +1,7 @@
 -- What contracts see of a database: its records, in the order in which they were handed in.
-use Rattle.std.specs.Prelude.{ℕ, suc, ◌==◌, ◌&&◌, ◌||◌, Bool, false, if◌then◌else◌, List, [], ◌∷◌, length, Option, None, Some, option_map, unwrap_or, codes}
+use Rattle.std.specs.Prelude.{ℕ, suc, ◌==◌, ◌&&◌, ◌||◌, Bool, if◌then◌else◌, List, [], ◌∷◌, length, Option, None, Some, option_map, unwrap_or, codes}
 use Rattle.std.specs.List.{list_any}
-use Rattle.std.specs.Option.{option_or, option_map_or}
+use Rattle.std.specs.Option.{option_or}
 use Rattle.std.specs.Str.{bytes_eq}
 use Rattle.phone_meta.specs.First.{at_start}
 use Rattle.phone_meta.specs.declared.loader.Descriptor.{Descriptor}
@@ -29,13 +29,27 @@ abbrev pub last_place : {X : Type 0} → (X → Bool) → List X → Option ℕ
 last_place passes [] = None
 last_place passes (x ∷ xs) = option_or (option_map suc (last_place passes xs)) (if passes x then Some 0 else None)
 
--- a territory has this id
+-- a territory's id and calling code; every territory of a database has both
+abbrev pub id_of : Metadata → List ℕ
+id_of m = unwrap_or m.id []
+
+abbrev pub code_of : Metadata → ℕ
+code_of m = unwrap_or m.country_code 0
+
 abbrev pub has_id : List ℕ → Metadata → Bool
-has_id id m = option_map_or (λ i. bytes_eq i id) m.id false
+has_id id m = bytes_eq (id_of m) id
+
+abbrev pub has_code : ℕ → Metadata → Bool
+has_code code m = code_of m == code
 
 -- the last territory with this id
 abbrev pub last_with : List ℕ → List Metadata → Option Metadata
 last_with id db = last_where (has_id id) db
+
+-- of each id the last territory, in order of arrival: those after which none has the same id
+abbrev pub lasts : List Metadata → List Metadata
+lasts [] = []
+lasts (m ∷ ms) = if list_any (has_id (id_of m)) ms then lasts ms else m ∷ lasts ms
 
 -- the pattern of the first group that a template names: a `$` and a digit
 abbrev pub first_group_pattern : List ℕ

@@ -1,10 +1,50 @@
 -- Why a list of records is no database.
-use Rattle.std.specs.Prelude.{◌≡◌, ℕ, List, string_bytes}
+use Rattle.std.specs.Prelude.{◌≡◌, ◌⊎◌, ℕ, List, [], ◌∷◌, ◌++◌, Option, MatchOption, string_bytes}
+use Rattle.std.specs.List.{Contains, flat_map}
+use Rattle.std.specs.Option.{option_and_then, option_to_list}
+use Rattle.phone_core.specs.declared.error.MetadataError.TheVariants as fault
+use Rattle.phone_meta.specs.Missing.{descriptors_of, first_missing, phase_of, name_of}
+use Rattle.phone_meta.specs.Records.{first_group_pattern}
 use Rattle.phone_meta.specs.declared.error.LoadMetadata.{LoadMetadata}
 use Rattle.phone_meta.specs.declared.error.LoadMetadata.TheVariants as error
+use Rattle.phone_meta.specs.declared.loader.Descriptor.{Descriptor}
+use Rattle.phone_meta.specs.declared.loader.Format.{Format}
+use Rattle.phone_meta.specs.declared.loader.Metadata.{Metadata}
+use Rattle.phone_meta.specs.declared.missing.Missing.{Missing}
 
--- a pattern's text is refused by itself, or memory was refused
-abbrev pub IsPatternRefusal : List ℕ → LoadMetadata → Type 0
-IsPatternRefusal pattern (error.Regex text) = string_bytes text ≡ pattern
-IsPatternRefusal pattern error.Memory = Unit {0}
-IsPatternRefusal pattern _ = ⊥
+-- the pattern of a descriptor
+abbrev pub patterns_in_descriptor : Option Descriptor → List (List ℕ)
+patterns_in_descriptor d = option_to_list (option_and_then (λ (d : Descriptor). d.national_number) d)
+
+-- the patterns of a layout
+abbrev pub patterns_in_format : Format → List (List ℕ)
+patterns_in_format f = option_to_list f.pattern ++ f.leading_digits
+
+-- the patterns of a territory
+unfoldable pub patterns_in : Metadata → List (List ℕ)
+patterns_in m =
+    flat_map patterns_in_descriptor (descriptors_of m)
+    ++ (option_to_list m.international_prefix
+    ++ (option_to_list m.national_prefix_for_parsing
+    ++ (option_to_list m.leading_digits
+    ++ (flat_map patterns_in_format m.formats ++ flat_map patterns_in_format m.international_formats))))
+
+-- the patterns of a database: those of its territories, and that of the first group of a template
+abbrev pub patterns : List Metadata → List (List ℕ)
+patterns db = flat_map patterns_in db ++ first_group_pattern ∷ []
+
+-- one of these patterns is refused by its text, or memory was refused
+abbrev pub IsPatternRefusal : List (List ℕ) → LoadMetadata → Type 0
+IsPatternRefusal ps (error.Regex text) = Contains ps (string_bytes text)
+IsPatternRefusal ps error.Memory = Unit {0}
+IsPatternRefusal ps _ = ⊥
+
+-- a refusal tells this missing value, by its kind of record and its name
+abbrev pub TellsMissing : Missing → LoadMetadata → Type 0
+TellsMissing missing (error.Metadata (fault.MissingValue phase name)) = (string_bytes phase ≡ phase_of missing) × (string_bytes name ≡ name_of missing)
+TellsMissing missing _ = ⊥
+
+-- records are refused for the first value that is missing; only where nothing is missing, for one of their patterns; or
+-- memory was refused
+abbrev pub IsRefusalOf : List Metadata → LoadMetadata → Type 0
+IsRefusalOf db e = MatchOption (first_missing db) (IsPatternRefusal (patterns db) e) (λ missing. TellsMissing missing e) ⊎ (e ≡ error.Memory)

@@ -1,11 +1,12 @@
 //! A database: territories by id and by calling code.
-ghost use Rattle.std.specs.Prelude.{◌≡◌, ℕ, List, None, IfOk};
+ghost use Rattle.std.specs.Prelude.{◌≡◌, ℕ, List, None, IfOk, IfErr};
 ghost use Rattle.std.specs.Result.{IsOk};
 ghost use Rattle.std.specs.HashMap.{get_by_text};
 ghost use Rattle.std.specs.Option.{option_copied};
 ghost use Rattle.phone_meta.specs.Records.{last_with, last_place, has_id, first_group_pattern};
 ghost use Rattle.phone_meta.specs.First.{IsPatternOf};
 ghost use Rattle.phone_meta.specs.Missing.{first_missing};
+ghost use Rattle.phone_meta.specs.Refusals.{IsRefusalOf, TellsMissing};
 
 use crate::error::LoadMetadata;
 use crate::loader::{self, Text};
@@ -50,6 +51,7 @@ impl Database {
     pub fn from(alloc: Global, records: Vec<loader::Metadata>) -> Result<Database, LoadMetadata>
         ensures accepted { IfOk result (λ d. d ≡ records.items) }
         ensures complete { IsOk result → first_missing records.items ≡ None }
+        ensures refused { IfErr result (IsRefusalOf records.items) }
     {
         if let Some(missing) = missing::first_missing(records.as_slice()) {
             return Err(missing_value(alloc, missing)?);
@@ -78,6 +80,13 @@ impl Database {
         self.first_group.regex()
     }
 
+    /// The territories in order of arrival.
+    pub(crate) fn territories(&self) -> &[Metadata]
+        ensures { result.now ≡ self.now }
+    {
+        self.territories.as_slice()
+    }
+
     /// The territory of an id: the last of its records.
     pub fn by_id(&self, id: &str) -> Option<&Metadata>
         ensures { option_copied result ≡ last_with id.now self.now }
@@ -97,7 +106,9 @@ fn places_of(alloc: Global, territories: &[Metadata]) -> Result<HashMap<String, 
     Ok(places)
 }
 
-fn missing_value(alloc: Global, missing: Missing) -> Result<LoadMetadata, AllocError> {
+fn missing_value(alloc: Global, missing: Missing) -> Result<LoadMetadata, AllocError>
+    ensures { IfOk result (TellsMissing missing) }
+{
     Ok(LoadMetadata::Metadata(MetadataError::MissingValue {
         phase: String::from_str(alloc, missing.phase())?,
         name: String::from_str(alloc, missing.name())?,

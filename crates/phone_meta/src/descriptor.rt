@@ -4,6 +4,7 @@ ghost use Rattle.std.specs.List.{list_any};
 ghost use Rattle.std.specs.Option.{option_copied};
 ghost use Rattle.phone_meta.specs.First.{IsPatternOf};
 ghost use Rattle.phone_meta.specs.Missing.{missing_in_descriptor};
+ghost use Rattle.phone_meta.specs.Refusals.{IsPatternRefusal, patterns_in_descriptor};
 ghost use Rattle.phone_meta.specs.Records.{matches, pattern_of};
 
 use crate::error::LoadMetadata;
@@ -36,6 +37,7 @@ impl Descriptor {
     pub fn compile(alloc: Global, given: loader::Descriptor) -> Result<Descriptor, LoadMetadata>
         requires { missing_in_descriptor (Some given) ≡ None }
         ensures compiled { IfOk result (λ d. d ≡ given) }
+        ensures refused { IfErr result (IsPatternRefusal (patterns_in_descriptor (Some given))) }
     {
         Ok(Descriptor {
             national_number: Pattern::new(alloc, given.national_number.unwrap())?,

@@ -1,8 +1,10 @@
 //! A layout of national numbers, with its patterns compiled.
-ghost use Rattle.std.specs.Prelude.{◌≡◌, None, Some, map, IfOk};
+ghost use Rattle.std.specs.Prelude.{◌≡◌, None, Some, map, IfOk, IfErr};
+ghost use Rattle.std.specs.List.{flat_map};
 ghost use Rattle.std.specs.Option.{option_copied};
-ghost use Rattle.phone_meta.specs.First.{IsLentPattern};
+ghost use Rattle.phone_meta.specs.First.{ArePatternsOf, IsLentPattern};
 ghost use Rattle.phone_meta.specs.Missing.{first_given, missing_in_format};
+ghost use Rattle.phone_meta.specs.Refusals.{IsPatternRefusal, patterns_in_format};
 
 use crate::error::LoadMetadata;
 use crate::loader::{self, Text};
@@ -16,19 +18,24 @@ use std::marker::Model;
 pub struct Format {
     pattern: Pattern,
     template: Text,
-    leading_digits: Vec<Pattern>,
+    leading_digits: Vec<Regex>,
     national_prefix_rule: Option<Text>,
     is_national_prefix_optional: bool,
     domestic_carrier: Option<Text>,
 }
 
 impl Model for Format {
-    ghost use Rattle.std.specs.Prelude.{Some};
+    ghost use Rattle.std.specs.Prelude.{Some, map};
+    ghost use Rattle.std.specs.List.{AllByRecursion};
+    ghost use Rattle.regex.specs.Strings.{regex_source};
+    ghost use Rattle.phone_meta.specs.First.{IsUnderX};
     ghost use Rattle.phone_meta.specs.declared.loader.Format as loader;
 
     ghost Value = { loader.Format };
 
-    ghost view = { λ f. record { pattern = Some f.pattern; format = Some f.template; leading_digits = f.leading_digits.items; national_prefix_formatting_rule = f.national_prefix_rule; national_prefix_optional_when_formatting = f.is_national_prefix_optional; domestic_carrier = f.domestic_carrier } };
+    ghost view = { λ f. record { pattern = Some f.pattern; format = Some f.template; leading_digits = map regex_source f.leading_digits.items; national_prefix_formatting_rule = f.national_prefix_rule; national_prefix_optional_when_formatting = f.is_national_prefix_optional; domestic_carrier = f.domestic_carrier } };
+
+    ghost invariant = { λ f. AllByRecursion IsUnderX f.leading_digits.items };
 }
 
 impl Format {
@@ -36,6 +43,7 @@ impl Format {
     pub fn compile(alloc: Global, given: loader::Format) -> Result<Format, LoadMetadata>
         requires { missing_in_format given ≡ None }
         ensures compiled { IfOk result (λ f. f ≡ given) }
+        ensures refused { IfErr result (IsPatternRefusal (patterns_in_format given)) }
     {
         Ok(Format {
             pattern: Pattern::new(alloc, given.pattern.unwrap())?,
@@ -59,6 +67,13 @@ impl Format {
         ensures { self.now.format ≡ Some result.now }
     {
         self.template.as_str()
+    }
+
+    /// Patterns of the digits in front for which the layout is meant.
+    pub fn leading_digits(&self) -> &[Regex]
+        ensures { ArePatternsOf self.now.leading_digits result.now }
+    {
+        self.leading_digits.as_slice()
     }
 
     /// How the national prefix is written: `$NP` stands for it, `$FG` for the first group.
@@ -93,6 +108,7 @@ impl Format {
 pub fn compile_all(alloc: Global, given: Vec<loader::Format>) -> Result<Vec<Format>, LoadMetadata>
     requires { first_given (map missing_in_format given.items) ≡ None }
     ensures compiled { IfOk result (λ formats. formats.items ≡ given.items) }
+    ensures refused { IfErr result (IsPatternRefusal (flat_map patterns_in_format given.items)) }
 {
     let mut formats = Vec::new(alloc);
     for format in given {

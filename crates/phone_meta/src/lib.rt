@@ -1,11 +1,13 @@
 //! Territories: the records of a database, their patterns compiled once, and the look-ups by id and calling code.
 #![tactic(auto)]
 
+mod codes;
 mod database;
 mod descriptor;
 mod descriptors;
 mod error;
 mod format;
+mod iter;
 pub mod loader;
 mod metadata;
 mod missing;
@@ -16,4 +18,5 @@ pub use descriptor::Descriptor;
 pub use descriptors::Descriptors;
 pub use error::LoadMetadata;
 pub use format::Format;
+pub use iter::Iter;
 pub use metadata::Metadata;

@@ -1,6 +1,8 @@
 //! A territory, with its patterns compiled.
-ghost use Rattle.std.specs.Prelude.{◌≡◌, None, Some, IfOk};
-ghost use Rattle.std.specs.Option.{option_copied};
+ghost use Rattle.std.specs.Prelude.{◌≡◌, None, Some, IfOk, IfErr};
+ghost use Rattle.std.specs.List.{flat_map};
+ghost use Rattle.std.specs.Option.{option_copied, option_to_list};
+ghost use Rattle.phone_meta.specs.Refusals.{IsPatternRefusal, patterns_in, patterns_in_descriptor};
 ghost use Rattle.phone_meta.specs.First.{IsLentPattern};
 ghost use Rattle.phone_meta.specs.Kinds.{kinds_of};
 ghost use Rattle.phone_meta.specs.Missing.{first_missing, missing_in, missing_in_descriptor};
@@ -46,6 +48,7 @@ impl Model for Metadata {
 
 fn compile_text(alloc: Global, text: Option<Text>) -> Result<Option<Pattern>, LoadMetadata>
     ensures compiled { IfOk result (λ pattern. pattern ≡ text) }
+    ensures refused { IfErr result (IsPatternRefusal (option_to_list text)) }
 {
     match text {
         Some(text) => Ok(Some(Pattern::new(alloc, text)?)),
@@ -59,6 +62,7 @@ fn compile_descriptor(
 ) -> Result<Option<Descriptor>, LoadMetadata>
     requires { missing_in_descriptor given ≡ None }
     ensures compiled { IfOk result (λ d. d ≡ given) }
+    ensures refused { IfErr result (IsPatternRefusal (patterns_in_descriptor given)) }
 {
     match given {
         Some(given) => Ok(Some(Descriptor::compile(alloc, given)?)),
@@ -71,6 +75,7 @@ impl Metadata {
     pub fn compile(alloc: Global, given: loader::Metadata) -> Result<Metadata, LoadMetadata>
         requires { missing_in given ≡ None }
         ensures compiled { IfOk result (λ m. m ≡ given) }
+        ensures refused { IfErr result (IsPatternRefusal (patterns_in given)) }
     {
         Ok(Metadata {
             descriptors: Descriptors {
@@ -238,6 +243,7 @@ pub fn compile_all(
 ) -> Result<Vec<Metadata>, LoadMetadata>
     requires { first_missing given.items ≡ None }
     ensures compiled { IfOk result (λ territories. territories.items ≡ given.items) }
+    ensures refused { IfErr result (IsPatternRefusal (flat_map patterns_in given.items)) }
 {
     let mut territories = Vec::new(alloc);
     for territory in given {

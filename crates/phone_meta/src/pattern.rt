@@ -1,6 +1,6 @@
 //! A pattern that is compiled once and held. Contracts see its text.
-ghost use Rattle.std.specs.Prelude.{◌≡◌, IfOk, IfErr};
-ghost use Rattle.phone_meta.specs.First.{at_start, IsPatternOf};
+ghost use Rattle.std.specs.Prelude.{◌≡◌, [], ◌∷◌, IfOk, IfErr};
+ghost use Rattle.phone_meta.specs.First.{at_start, ArePatternsOf, IsPatternOf};
 ghost use Rattle.phone_meta.specs.Refusals.{IsPatternRefusal};
 
 use crate::error::LoadMetadata;
@@ -28,20 +28,29 @@ impl Model for Pattern {
     ghost invariant = { λ p. (regex_config p.re ≡ verbose) × IsReadFromSource p.re };
 }
 
+/// Compiles a text. Refused by `Regex` with the text where it is no pattern, by `Memory` where memory is refused.
+fn compile(alloc: Global, text: Text) -> Result<Regex, LoadMetadata>
+    ensures compiled { IfOk result (λ re. IsPatternOf text re) }
+    ensures refused { IfErr result (IsPatternRefusal (text ∷ [])) }
+{
+    let built = RegexBuilder::new(text.as_str())
+        .ignore_whitespace(true)
+        .build(alloc);
+    match built {
+        Ok(re) => Ok(re),
+        Err(Error::OutOfMemory) => Err(LoadMetadata::Memory),
+        Err(_) => Err(LoadMetadata::Regex(text.into_string())),
+    }
+}
+
 impl Pattern {
     /// Compiles a text. Refused by `Regex` with the text where it is no pattern, by `Memory` where memory is refused.
     pub fn new(alloc: Global, text: Text) -> Result<Pattern, LoadMetadata>
         ensures compiled { IfOk result (λ p. p ≡ text) }
-        ensures refused { IfErr result (IsPatternRefusal text) }
+        ensures refused { IfErr result (IsPatternRefusal (text ∷ [])) }
     {
-        let built = RegexBuilder::new(text.as_str())
-            .ignore_whitespace(true)
-            .build(alloc);
-        match built {
-            Ok(re) => Ok(Pattern { alloc, re }),
-            Err(Error::OutOfMemory) => Err(LoadMetadata::Memory),
-            Err(_) => Err(LoadMetadata::Regex(text.into_string())),
-        }
+        let re = compile(alloc, text)?;
+        Ok(Pattern { alloc, re })
     }
 
     /// The compiled pattern.
@@ -71,12 +80,13 @@ impl Pattern {
 }
 
 /// Compiles each of these texts.
-pub fn compile_all(alloc: Global, texts: Vec<Text>) -> Result<Vec<Pattern>, LoadMetadata>
-    ensures compiled { IfOk result (λ patterns. patterns.items ≡ texts.items) }
+pub fn compile_all(alloc: Global, texts: Vec<Text>) -> Result<Vec<Regex>, LoadMetadata>
+    ensures compiled { IfOk result (λ res. ArePatternsOf texts.items res.items) }
+    ensures refused { IfErr result (IsPatternRefusal texts.items) }
 {
     let mut patterns = Vec::new(alloc);
     for text in texts {
-        patterns.push(Pattern::new(alloc, text)?)?;
+        patterns.push(compile(alloc, text)?)?;
     }
     Ok(patterns)
 }

@@ -1,0 +1,11 @@
+use Rattle.std.proofs.Common.{◌≡◌, ◌∷◌, ◌++◌, ap, sym, rules, ◌∙◌}
+use Rattle.phone_meta.specs.Refusals.{patterns_in_format}
+use Rattle.phone_meta.proofs.Refused.{refused_between}
+use Rattle.phone_meta.proofs.format.compile_all.Goals as goal
+
+pub returns-in_err-compile-clause-refused : goal.returns-in_err-compile-clause-refused
+returns-in_err-compile-clause-refused c =
+    let next : c.loop-format.format-iterator.rest.items ≡ c.in-Some.format ∷ c.next.new.self.rest.items = search rules in
+    let whole = ap (λ xs. c.loop-format.formats.items ++ xs) (sym next) ∙ c.loop-format.invariant.2 in
+    let h = refused_between patterns_in_format c.loop-format.formats.items c.next.new.self.rest.items c.args.given.items c.in-Some.format c.in_err-compile.field-0.0 whole c.in_err-compile.ensures.refused in
+    search (rules, h)
