@@ -1,2 +1,3 @@
+pub mod Printers
 pub mod Texts
 pub mod Thin

@@ -1,10 +1,12 @@
 //! Phone numbers: read from a text, printed, compared.
 #![tactic(auto)]
 
+mod formatter;
 pub mod metadata;
 mod parser;
 mod phone_number;
 
+pub use formatter::{FormatError, Formatter, format_with};
 pub use metadata::Metadata;
 pub use parser::parse_with;
 pub use phone_core::{

@@ -1,7 +1,7 @@
 //! Texts of digits, hyphens and spaces under one record of New Zealand.
 use phonenumber::country::{Code, Id, Source};
 use phonenumber::metadata::{Database, LoadMetadata, loader};
-use phonenumber::{NationalNumber, ParseError, PhoneNumber, parse_with};
+use phonenumber::{FormatError, NationalNumber, ParseError, PhoneNumber, format_with, parse_with};
 use std::alloc::{AllocError, Global};
 use std::test::Fail;
 
@@ -167,5 +167,30 @@ fn clones_a_number_to_an_equal_one(rt: HostRuntime) -> Result<(), Fail> {
     let first = number(Source::Default, 1, 12)?;
     let second = first.clone()?;
     assert_eq!(rt; first, second);
+    Ok(())
+}
+
+#[test]
+fn prints_a_number_of_a_listed_code(rt: HostRuntime) -> Result<(), Fail> {
+    let alloc = rt.alloc();
+    let database = new_zealand(alloc)?;
+    let number = number(Source::Default, 0, 33316005)?;
+    let printer = format_with(&database, &number);
+    assert_eq!(rt; printer.to_text(alloc)?.as_str(), "+6433316005");
+    assert_eq!(rt; printer.to_string(alloc)?.as_str(), "+6433316005");
+    Ok(())
+}
+
+#[test]
+fn refuses_to_print_a_number_of_an_unlisted_code(rt: HostRuntime) -> Result<(), Fail> {
+    let alloc = rt.alloc();
+    let database = new_zealand(alloc)?;
+    let national = NationalNumber::new(12345, 0)?;
+    let number = PhoneNumber::from_parts(Code::new(99, Source::Plus), national, None, None);
+    assert_eq!(rt; number.to_string(alloc)?.as_str(), "+9912345");
+    match format_with(&database, &number).to_text(alloc) {
+        Ok(_) => assert!(rt; false, "it was printed"),
+        Err(error) => assert_eq!(rt; error, FormatError::UnknownCode),
+    }
     Ok(())
 }
