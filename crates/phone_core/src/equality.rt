@@ -19,18 +19,20 @@ pub fn hash_of<T: Hash>(x: &T) -> u64
     state.finish()
 }
 
+/// The hashes of two values: each its own, and equal where the values are.
+pub fn hashes<T: Hash>(a: &T, b: &T) -> (u64, u64)
+    ensures first { result.0 ≡ sip.finish (fold sip.write sip.initial (T.hash_input a.now)) }
+    ensures second { result.1 ≡ sip.finish (fold sip.write sip.initial (T.hash_input b.now)) }
+    ensures alike { a.now ≡ b.now → result.0 ≡ result.1 }
+{
+    (hash_of(a), hash_of(b))
+}
+
 /// A type whose `==` is equality of all that a value holds.
 pub trait SameValue: Sized {
     /// Whether two values are equal by `==`: exactly where all that they hold is equal.
     fn is_same(&self, other: &Self) -> bool
         ensures { IsTrue result ↔ (self.now ≡ other.now) };
-}
-
-/// A type whose equal values have equal hashes.
-pub trait SameHash: Sized {
-    /// The hashes of two values by std's hasher.
-    fn hashes(&self, other: &Self) -> (u64, u64)
-        ensures { self.now ≡ other.now → result.0 ≡ result.1 };
 }
 
 impl SameValue for Code {
@@ -90,48 +92,6 @@ impl SameValue for ParseError {
 impl SameValue for UnknownId {
     fn is_same(&self, other: &UnknownId) -> bool {
         self == other
-    }
-}
-
-impl SameHash for NationalNumber {
-    fn hashes(&self, other: &NationalNumber) -> (u64, u64) {
-        (hash_of(self), hash_of(other))
-    }
-}
-
-impl SameHash for Code {
-    fn hashes(&self, other: &Code) -> (u64, u64) {
-        (hash_of(self), hash_of(other))
-    }
-}
-
-impl SameHash for Source {
-    fn hashes(&self, other: &Source) -> (u64, u64) {
-        (hash_of(self), hash_of(other))
-    }
-}
-
-impl SameHash for Id {
-    fn hashes(&self, other: &Id) -> (u64, u64) {
-        (hash_of(self), hash_of(other))
-    }
-}
-
-impl SameHash for Type {
-    fn hashes(&self, other: &Type) -> (u64, u64) {
-        (hash_of(self), hash_of(other))
-    }
-}
-
-impl SameHash for Extension {
-    fn hashes(&self, other: &Extension) -> (u64, u64) {
-        (hash_of(self), hash_of(other))
-    }
-}
-
-impl SameHash for Carrier {
-    fn hashes(&self, other: &Carrier) -> (u64, u64) {
-        (hash_of(self), hash_of(other))
     }
 }
 

@@ -1,6 +1,6 @@
 //! What is true of the values for every text and every number: laws over their definitions alone. A law is a
 //! function without arguments that does nothing; its contract is the law.
-ghost use Rattle.std.specs.Prelude.{◌≡◌, ◌<◌, ◌^◌, ◌↔◌, ℕ, List, true, not, Some, Ok};
+ghost use Rattle.std.specs.Prelude.{◌≡◌, ◌<◌, ◌^◌, ◌↔◌, ℕ, List, true, not, Some, Ok, chars, encode_utf8_all};
 ghost use Rattle.std.specs.List.{list_all};
 ghost use Rattle.std.specs.Str.Parse.{digits_value};
 ghost use Rattle.phone_core.specs.Characters.{is_digit};
@@ -46,4 +46,10 @@ pub fn ids_by_name()
 pub fn verdicts()
     ensures one { (v : Validation) → is_possible v ≡ not (is_invalid v) }
     ensures length { (v : Validation) → is_invalid_length v ≡ true → is_invalid v ≡ true }
+{}
+
+/// A text of digits is one list, as bytes and as characters; so the bytes of a normalised text are its digits.
+pub fn digits_are_bytes()
+    ensures read { (t : List ℕ) → list_all is_digit t ≡ true → chars t ≡ t }
+    ensures written { (t : List ℕ) → list_all is_digit t ≡ true → encode_utf8_all t ≡ t }
 {}

@@ -8,7 +8,7 @@ use crate::cuts::{CharSet, after_run, split_first};
 use crate::norm::has_digits_alone;
 
 /// The plus signs.
-pub struct PlusSigns;
+struct PlusSigns;
 
 impl CharSet for PlusSigns {
     ghost members = { λ _. is_plus };

@@ -1,6 +1,6 @@
 //! Codes, sources, extensions, carriers and verdicts.
 use phone_core::country::{Code, Source};
-use phone_core::equality::{hash_of, SameHash, SameValue};
+use phone_core::equality::{hash_of, hashes, SameValue};
 use phone_core::{Carrier, Extension, Validation};
 use std::test::Fail;
 
@@ -26,7 +26,7 @@ fn extensions_and_carriers_hold_their_texts(rt: HostRuntime) -> Result<(), Fail>
     assert_eq!(rt; carrier.as_str(), "31");
     assert_eq!(rt; carrier.to_string(alloc)?.as_str(), "31");
     assert_eq!(rt; carrier.clone()?, carrier);
-    let (a, b) = carrier.hashes(&carrier.clone()?);
+    let (a, b) = hashes(&carrier, &carrier.clone()?);
     assert_eq!(rt; a, b);
     Ok(())
 }
