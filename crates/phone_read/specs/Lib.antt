@@ -1,7 +1,10 @@
+pub mod Codes
 pub mod Cores
 pub mod Hints
 pub mod Naturals
 pub mod Numbering
+pub mod Readings
+pub mod Regions
 pub mod Strips
 pub mod Suffixes
 pub mod Tel

@@ -1,3 +1,5 @@
+pub mod Layouts
+pub mod Plain
 pub mod Printers
 pub mod Texts
 pub mod Thin

@@ -1,7 +1,9 @@
 //! The printing of a number.
 ghost use Rattle.std.specs.Prelude.{◌≡◌, ◌↔◌, None, Some, Err, IfOk, IsErr, string_bytes};
 ghost use Rattle.std.specs.Fmt.{DisplaysOnOk, DisplaysStyledOnOk};
-ghost use Rattle.phonenumber.specs.Printers.{database_of, number_of, printed};
+ghost use Rattle.phone_core.specs.declared.mode.Mode.TheVariants as mode;
+ghost use Rattle.phonenumber.specs.Printers.{database_of, number_of};
+ghost use Rattle.phonenumber.specs.Texts.{printed};
 
 use crate::PhoneNumber;
 use phone_meta::Database;
@@ -37,8 +39,8 @@ impl Formatter<'_> {
     /// The printed text: a plus sign, the calling code, the national number with its zeros. `UnknownCode` exactly
     /// where the database lists no territory of the code; `Memory` where memory was refused.
     pub fn to_text(&self, alloc: Global) -> Result<String, FormatError>
-        ensures text { IfOk result (λ t. printed (database_of self.now) (number_of self.now) ≡ Some (string_bytes t)) }
-        ensures unknown { (result ≡ Err FormatError.UnknownCode) ↔ (printed (database_of self.now) (number_of self.now) ≡ None) }
+        ensures text { IfOk result (λ t. printed (database_of self.now) mode.E164 None (number_of self.now) ≡ Some (string_bytes t)) }
+        ensures unknown { (result ≡ Err FormatError.UnknownCode) ↔ (printed (database_of self.now) mode.E164 None (number_of self.now) ≡ None) }
     {
         let number = self.number;
         let code = number.code().value();
@@ -54,17 +56,19 @@ impl Formatter<'_> {
 
 impl fmt::Display for Formatter<'_> {
     ghost use Rattle.std.specs.Prelude.{◌≡◌, None};
-    ghost use Rattle.phonenumber.specs.Printers.{database_of, number_of, printed};
+    ghost use Rattle.phone_core.specs.declared.mode.Mode.TheVariants as mode;
+    ghost use Rattle.phonenumber.specs.Printers.{database_of, number_of};
+    ghost use Rattle.phonenumber.specs.Texts.{printed};
 
-    ghost output = { λ f. printed (database_of f) (number_of f) };
+    ghost output = { λ f. printed (database_of f) mode.E164 None (number_of f) };
 
     /// Writes the printed text, made whole first with the database's allocator; where `to_text` would refuse it
     /// answers an error and writes nothing.
     fn fmt<W: fmt::Write>(&self, f: &mut fmt::Formatter<W>) -> fmt::Result
-        ensures writes { DisplaysOnOk W.write_str_gives f.old result (printed (database_of self.now) (number_of self.now)) f.new }
+        ensures writes { DisplaysOnOk W.write_str_gives f.old result (printed (database_of self.now) mode.E164 None (number_of self.now)) f.new }
         ensures styled { DisplaysStyledOnOk W.write_str_gives f.old result None f.new }
-        ensures refused { printed (database_of self.now) (number_of self.now) ≡ None → IsErr result }
-        ensures unchanged { printed (database_of self.now) (number_of self.now) ≡ None → f.new ≡ f.old }
+        ensures refused { printed (database_of self.now) mode.E164 None (number_of self.now) ≡ None → IsErr result }
+        ensures unchanged { printed (database_of self.now) mode.E164 None (number_of self.now) ≡ None → f.new ≡ f.old }
     {
         match self.to_text(self.database.allocator()) {
             Ok(text) => f.write_str(text.as_str()),
