@@ -2,3 +2,6 @@
 #![tactic(auto)]
 
 pub mod natural;
+mod number;
+
+pub use number::Number;
