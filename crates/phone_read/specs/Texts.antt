@@ -1,7 +1,8 @@
 -- Words on texts, as lists of characters.
-use Rattle.std.specs.Prelude.{ℕ, Bool, false, if◌then◌else◌, List, [], ◌∷◌, map}
+use Rattle.std.specs.Prelude.{ℕ, Bool, false, if◌then◌else◌, List, [], ◌∷◌, map, Option, Some, None}
 use Rattle.std.specs.Str.{bytes_eq}
 use Rattle.ucd_case.specs.CaseFolding.{simple_fold}
+use Rattle.phone_core.specs.Characters.{same_fold}
 
 -- the first character is there and is in the set
 abbrev pub begins : (ℕ → Bool) → List ℕ → Bool
@@ -22,3 +23,9 @@ from_first p (c ∷ cs) = if p c then c ∷ cs else from_first p cs
 -- two texts are alike where their characters have the same simple foldings, one for one
 abbrev pub is_like : List ℕ → List ℕ → Bool
 is_like a b = bytes_eq (map simple_fold a) (map simple_fold b)
+
+-- what follows a front of the text that is like the word
+abbrev pub after_like : List ℕ → List ℕ → Option (List ℕ)
+after_like text [] = Some text
+after_like [] (w ∷ ws) = None
+after_like (c ∷ cs) (w ∷ ws) = if same_fold c w then after_like cs ws else None

@@ -1,0 +1,35 @@
+//! What a text begins with.
+ghost use Rattle.std.specs.Prelude.{◌≡◌, ◌==◌, ℕ, List, ◌++◌, None, Some, MatchOption, IfSome, chars};
+ghost use Rattle.phone_read.specs.Texts.{begins, after_like};
+
+use crate::classes::same_fold;
+use phone_core::cuts::split_first;
+
+/// Whether the text begins with this character.
+pub(crate) fn begins_with(text: &str, c: char) -> bool
+    ensures { result ≡ begins (λ d. d == c) (chars text.now) }
+{
+    match split_first(text) {
+        Some((first, _)) => first == c,
+        None => false,
+    }
+}
+
+/// What follows a front of the text that is like the word: each of its characters has the folding of the word's
+/// character in that place. None where no such front is there.
+pub(crate) fn strip_like<'a>(text: &'a str, word: &str) -> Option<&'a str>
+    ensures read { MatchOption result (after_like (chars text.now) (chars word.now) ≡ None) (λ rest. after_like (chars text.now) (chars word.now) ≡ Some (chars rest.now)) }
+    ensures end { IfSome result (λ rest. (v : List ℕ) × (text.now ≡ v ++ rest.now)) }
+{
+    let mut rest = text;
+    let mut wanted = word;
+    while let Some((w, after_word)) = split_first(wanted) {
+        let (c, after) = split_first(rest)?;
+        if !same_fold(c, w) {
+            return None;
+        }
+        rest = after;
+        wanted = after_word;
+    }
+    Some(rest)
+}
