@@ -1,9 +1,17 @@
 //! What a text begins with.
-ghost use Rattle.std.specs.Prelude.{◌≡◌, ◌==◌, ℕ, List, ◌++◌, None, Some, MatchOption, IfSome, chars};
+ghost use Rattle.std.specs.Prelude.{◌≡◌, ◌==◌, ℕ, List, [], true, ◌∷◌, ◌++◌, ◌<◌, length, false, None, Some, MatchOption, IfSome, chars};
 ghost use Rattle.phone_read.specs.Texts.{begins, after_like};
 
 use crate::classes::same_fold;
 use phone_core::cuts::split_first;
+
+/// Whether the text has no character.
+pub(crate) fn is_nothing(text: &str) -> bool
+    ensures nothing { result ≡ true → chars text.now ≡ [] }
+    ensures something { result ≡ false → ¬ (chars text.now ≡ []) }
+{
+    text.is_empty()
+}
 
 /// Whether the text begins with this character.
 pub(crate) fn begins_with(text: &str, c: char) -> bool
@@ -32,4 +40,14 @@ pub(crate) fn strip_like<'a>(text: &'a str, word: &str) -> Option<&'a str>
         wanted = after_word;
     }
     Some(rest)
+}
+
+/// What follows this character, where the text begins with it.
+pub(crate) fn strip_char(text: &str, c: char) -> Option<&str>
+    ensures read { MatchOption result (begins (λ d. d == c) (chars text.now) ≡ false) (λ rest. chars text.now ≡ c ∷ chars rest.now) }
+    ensures end { IfSome result (λ rest. (v : List ℕ) × (text.now ≡ v ++ rest.now)) }
+    ensures shorter { IfSome result (λ rest. length rest.now < length text.now) }
+{
+    let (first, rest) = split_first(text)?;
+    if first == c { Some(rest) } else { None }
 }

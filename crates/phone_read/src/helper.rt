@@ -4,7 +4,7 @@ ghost use Rattle.phone_read.specs.Cores.{IsCore, IsTrimmed, IsBeforeSecondNumber
 ghost use Rattle.phone_read.specs.Parts.{IsSlice};
 
 use crate::classes::{is_letter, is_nd, is_number};
-use crate::fronts::begins_with;
+use crate::fronts::{begins_with, is_nothing};
 use phone_core::chars::is_plus;
 use phone_core::cuts::{CharSet, after_run, before, split_first, split_last};
 
@@ -44,7 +44,7 @@ pub fn extract(text: &str) -> Option<&str>
     ensures slice { IfSome result (λ core. IsSlice text.now core.now) }
 {
     let core = first_number(trimmed(after_run(text, &BeforeStart)));
-    if core.is_empty() { None } else { Some(core) }
+    if is_nothing(core) { None } else { Some(core) }
 }
 
 /// Whether a number may end in this character.

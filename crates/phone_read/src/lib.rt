@@ -6,5 +6,7 @@ mod fronts;
 pub mod helper;
 pub mod natural;
 mod number;
+mod parameters;
+pub mod rfc3966;
 
 pub use number::Number;

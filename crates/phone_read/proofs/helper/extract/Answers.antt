@@ -1,29 +1,25 @@
-use Rattle.std.proofs.Common.{◌≡◌, ⊎_elim, not, ◌==◌, length, eqb-true, true≢false, [], ap, ◌∙◌, sym, subst}
-use Rattle.std.proofs.lemmas.List.{nil_from_length}
-use Rattle.std.proofs.lemmas.Str.{chars-nil}
+use Rattle.std.proofs.Common.{◌≡◌, ⊎_elim, not, [], ◌∙◌, subst}
 use Rattle.std.specs.Str.{chars}
 use Rattle.phone_core.specs.Cuts.{after_front}
 use Rattle.phone_read.specs.Cores.{is_start, IsTrimmed}
-use Rattle.phone_read.proofs.Cores.{core_same, from_first, nil_trimmed, nil_first_number, nil_from_chars}
+use Rattle.phone_read.proofs.Cores.{core_same, from_first, nil_trimmed, nil_first_number}
 use Rattle.phone_read.proofs.helper.extract.Goals as goal
 
-pub returns-then-is_empty-clause-core : goal.returns-then-is_empty-clause-core
-returns-then-is_empty-clause-core c = λ core h.
+pub returns-then-is_nothing-clause-core : goal.returns-then-is_nothing-clause-core
+returns-then-is_nothing-clause-core c = λ core h.
     let text = chars c.args.text.now in
     let kept = chars c.trimmed.result.now in
     let trimmed = subst (λ t. IsTrimmed t kept) c.after_run.ensures.rest c.trimmed.ensures.read in
-    let empty : length c.first_number-core.result.now ≡ 0 = eqb-true _ _ (sym c.is_empty.ensures ∙ c.if-is_empty.true) in
-    let nil : c.first_number-core.result.now ≡ [] = nil_from_length _ empty in
-    h.not_empty (core_same text core kept (chars c.first_number-core.result.now) h trimmed c.first_number-core.ensures.read ∙ ap chars nil ∙ chars-nil)
+    h.not_empty (core_same text core kept (chars c.first_number-core.result.now) h trimmed c.first_number-core.ensures.read ∙ c.is_nothing.ensures.nothing c.if-is_nothing.true)
 
-pub returns-else-is_empty-clause-core : goal.returns-else-is_empty-clause-core
-returns-else-is_empty-clause-core c =
+pub returns-else-is_nothing-clause-core : goal.returns-else-is_nothing-clause-core
+returns-else-is_nothing-clause-core c =
     let text = chars c.args.text.now in
     let kept = chars c.trimmed.result.now in
     let core = chars c.first_number-core.result.now in
     let trimmed = subst (λ t. IsTrimmed t kept) c.after_run.ensures.rest c.trimmed.ensures.read in
     let f = from_first is_start text in
-    let some : ¬ (core ≡ []) = λ e. true≢false (ap (λ r. length r == 0) (sym (nil_from_chars _ c.first_number-core.utf8 e)) ∙ sym c.is_empty.ensures ∙ c.if-is_empty.false) in
+    let some : ¬ (core ≡ []) = c.is_nothing.ensures.something c.if-is_nothing.false in
     record {
       before = f.before;
       from = after_front (λ x. not (is_start x)) text;
