@@ -53,12 +53,12 @@ pub national_in_parts : (text rest : List ℕ) (count : ℕ) (number : Option �
     number_in 64 rest ≡ number → national_with count number ≡ national_in text
 national_in_parts text rest count number z r n = ap₂ national_with z (sym n ∙ ap (number_in 64) r)
 
-zeros_then : (n : ℕ) (cs : List ℕ) → 48 < get_or cs 0 0 → leading_zeros (replicate n 48 ++ cs) ≡ n
+pub zeros_then : (n : ℕ) (cs : List ℕ) → 48 < get_or cs 0 0 → leading_zeros (replicate n 48 ++ cs) ≡ n
 zeros_then zero [] h = refl
 zeros_then zero (c ∷ cs) h = cond-false (c == 48) _ _ (ne_eqb c 48 (omega arith))
 zeros_then (suc n) cs h = ap (λ m. m + 1) (zeros_then n cs h) ∙ add-one n
 
-after_zeros : (n : ℕ) (cs : List ℕ) → cs ≡ drop n (replicate n 48 ++ cs)
+pub after_zeros : (n : ℕ) (cs : List ℕ) → cs ≡ drop n (replicate n 48 ++ cs)
 after_zeros zero cs = refl
 after_zeros (suc n) cs = after_zeros n cs
 

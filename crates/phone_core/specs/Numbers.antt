@@ -1,5 +1,5 @@
 -- National numbers: a value and the zeros before it, their text, and what a text is read as.
-use Rattle.std.specs.Prelude.{ℕ, ◌+◌, ◌*◌, ◌/◌, ◌%◌, ◌^◌, ◌==◌, nat_lt, ◌&&◌, if◌then◌else◌, List, [], ◌∷◌, ◌++◌, length, drop, replicate, Option, Some, None, Result, Ok, Err}
+use Rattle.std.specs.Prelude.{ℕ, ◌+◌, ◌*◌, ◌/◌, ◌%◌, ◌^◌, ◌==◌, ◌<◌, nat_lt, ◌&&◌, if◌then◌else◌, List, [], ◌∷◌, ◌++◌, length, drop, replicate, Option, Some, None, Result, Ok, Err}
 use Rattle.std.specs.Char.{is_digit}
 use Rattle.std.specs.Fmt.{decimal}
 use Rattle.std.specs.List.{list_all}
@@ -18,6 +18,10 @@ packed n = n.zeros * 2 ^ 56 + n.value
 
 abbrev pub unpacked : ℕ → National
 unpacked word = record { zeros = word / 2 ^ 56; value = word % 2 ^ 56 }
+
+-- that word has room for 255 zeros and for values below 2 ^ 56
+abbrev pub IsHeld : National → Type 0
+IsHeld n = (n.zeros < 256) × (n.value < 2 ^ 56)
 
 -- its text is the zeros, then the value in decimal
 abbrev pub text_of : National → List ℕ

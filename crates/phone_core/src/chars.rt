@@ -1,8 +1,12 @@
 //! The classes of characters that the reading of numbers knows, each as a set.
 ghost use Rattle.std.specs.Prelude.{◌≡◌};
-ghost use Rattle.phone_core.specs.Characters.{is_digit, is_alpha, is_plus, is_star, is_punctuation, is_separator};
+ghost use Rattle.std.specs.List.{find};
+ghost use Rattle.phone_core.specs.Characters.{is_digit, is_alpha, is_plus, is_star, is_punctuation, is_separator, is_nd, is_number, is_letter, same_fold, as_dec_digit, keypad, is_in_run};
 
+pub use crate::norm::normalize;
 pub use crate::valid::is_viable;
+use unicode::case::simple_fold;
+use unicode::properties::{GeneralCategory, GeneralCategoryGroup};
 
 /// Whether the character may stand between the digits of a number: one of 32 dashes, spaces, brackets, dots,
 /// slashes and tildes, plain and wide, and the small `x`, which is often written for a carrier's place.
@@ -79,5 +83,81 @@ pub fn is_separator(c: char) -> bool
 pub fn is_wide_digit(c: char) -> bool
     ensures { result ≡ is_digit c }
 {
-    is_digit(c)
+    matches!(c, '0'..='9')
+}
+
+/// Whether the character is a decimal digit of some script: Unicode's general category Nd.
+pub fn is_nd(c: char) -> bool
+    ensures { result ≡ is_nd c }
+{
+    GeneralCategory::for_char(c) == GeneralCategory::DecimalNumber
+}
+
+/// Whether the character is a number of some script, as digits, Roman numerals and fractions are: Unicode's general
+/// category N, that is Nd, Nl or No.
+pub fn is_number(c: char) -> bool
+    ensures { result ≡ is_number c }
+{
+    GeneralCategoryGroup::Number.contains(GeneralCategory::for_char(c))
+}
+
+/// Whether the character is a letter of some script: Unicode's general category L.
+pub fn is_letter(c: char) -> bool
+    ensures { result ≡ is_letter c }
+{
+    GeneralCategoryGroup::Letter.contains(GeneralCategory::for_char(c))
+}
+
+/// Whether two characters are one when case is ignored: whether Unicode's simple case folding makes them the same.
+pub fn same_fold(a: char, b: char) -> bool
+    ensures { result ≡ same_fold a b }
+{
+    simple_fold(a) == simple_fold(b)
+}
+
+/// The zeros of the fifteen scripts whose digits are read, in the order of their code points.
+const SCRIPT_ZEROS: [u32; 15] = [
+    0x660, 0x6F0, 0x7C0, 0x966, 0x9E6, 0xA66, 0xAE6, 0xB66, 0xBE6, 0xC66, 0xCE6, 0xD66, 0xE50,
+    0xED0, 0xFF10,
+];
+
+/// The first of these zeros that begins the run of ten digits in which the character stands.
+fn find_zero(zeros: &[u32], c: u32) -> Option<u32>
+    ensures { result ≡ find (λ first. is_in_run first c) zeros.now }
+{
+    zeros
+        .iter()
+        .copied()
+        .find(|zero| *zero <= c && c - *zero < 10)
+}
+
+/// The digit from `0` to `9` that the character stands for as a digit: an ASCII digit itself, a digit of one of
+/// fifteen other scripts (U+FF10 to U+FF19 among them) the digit of its place; none for all others.
+pub fn as_dec_digit(c: char) -> Option<char>
+    ensures { result ≡ as_dec_digit c }
+{
+    if is_digit(c) {
+        return Some(c);
+    }
+    let zero = find_zero(&SCRIPT_ZEROS, c as u32)?;
+    char::from_digit(c as u32 - zero, 10)
+}
+
+/// The digit from `0` to `9` on whose key of a telephone the character stands: an ASCII digit itself, a letter from
+/// `a` to `z` or from `A` to `Z` the digit of its key, as `2` for `A`, `B` and `C`; none for all others.
+pub fn keypad(c: char) -> Option<char>
+    ensures { result ≡ keypad c }
+{
+    match c {
+        '0'..='9' => Some(c),
+        'A' | 'B' | 'C' | 'a' | 'b' | 'c' => Some('2'),
+        'D' | 'E' | 'F' | 'd' | 'e' | 'f' => Some('3'),
+        'G' | 'H' | 'I' | 'g' | 'h' | 'i' => Some('4'),
+        'J' | 'K' | 'L' | 'j' | 'k' | 'l' => Some('5'),
+        'M' | 'N' | 'O' | 'm' | 'n' | 'o' => Some('6'),
+        'P' | 'Q' | 'R' | 'S' | 'p' | 'q' | 'r' | 's' => Some('7'),
+        'T' | 'U' | 'V' | 't' | 'u' | 'v' => Some('8'),
+        'W' | 'X' | 'Y' | 'Z' | 'w' | 'x' | 'y' | 'z' => Some('9'),
+        _ => None,
+    }
 }

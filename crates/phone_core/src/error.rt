@@ -1,5 +1,6 @@
 //! Why a text is no number, and why a record is no territory.
 ghost use Rattle.std.specs.Prelude.{◌≡◌, IfOk};
+ghost use Rattle.phone_core.specs.Errors.{told};
 
 use std::alloc::AllocError;
 use thiserror::Error;
@@ -86,4 +87,37 @@ pub enum MetadataError {
         phase: String,
         event: String,
     },
+}
+
+impl MetadataError {
+    /// The same error again; refused only for memory.
+    pub fn clone(&self) -> Result<MetadataError, AllocError>
+        ensures { IfOk result (λ e. told e ≡ told self.now) }
+    {
+        match self {
+            MetadataError::UnexpectedEof => Ok(MetadataError::UnexpectedEof),
+            MetadataError::MismatchedTag(tag) => Ok(MetadataError::MismatchedTag(tag.clone()?)),
+            MetadataError::MissingValue { phase, name } => Ok(MetadataError::MissingValue {
+                phase: phase.clone()?,
+                name: name.clone()?,
+            }),
+            MetadataError::UnhandledElement { phase, name } => Ok(
+                MetadataError::UnhandledElement {
+                    phase: phase.clone()?,
+                    name: name.clone()?,
+                },
+            ),
+            MetadataError::UnhandledAttribute { phase, name, value } => {
+                Ok(MetadataError::UnhandledAttribute {
+                    phase: phase.clone()?,
+                    name: name.clone()?,
+                    value: value.clone()?,
+                })
+            }
+            MetadataError::UnhandledEvent { phase, event } => Ok(MetadataError::UnhandledEvent {
+                phase: phase.clone()?,
+                event: event.clone()?,
+            }),
+        }
+    }
 }

@@ -4,17 +4,25 @@
 
 mod carrier;
 pub mod chars;
+pub mod consts;
 pub mod country;
 pub mod cuts;
+pub mod equality;
 mod error;
 mod extension;
 mod kind;
+pub mod laws;
+mod mode;
 mod national_number;
+mod norm;
 mod valid;
+pub mod validator;
 
 pub use carrier::Carrier;
 pub use error::{MetadataError, ParseError};
 pub use extension::Extension;
 pub use kind::Type;
+pub use mode::Mode;
 pub use national_number::NationalNumber;
 pub use valid::is_viable;
+pub use validator::Validation;

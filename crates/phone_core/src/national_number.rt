@@ -1,9 +1,10 @@
 //! A national number: its value, and how many zeros stand before it.
 ghost use Rattle.std.specs.Prelude.{◌≡◌, ℕ, ◌+◌, ◌*◌, ◌^◌, ◌<◌, ◌≤◌, ◌↔◌, length, drop, replicate, MatchResult, IfOk, Ok, codes};
 ghost use Rattle.std.specs.Char.{is_ascii_digit};
-ghost use Rattle.phone_core.specs.Numbers.{National, leading_zeros, text_of, national_in};
+ghost use Rattle.phone_core.specs.Numbers.{National, IsHeld, leading_zeros, text_of, national_in};
 
 use crate::ParseError;
+use crate::equality::SameValue;
 use serde::{Deserialize, Serialize};
 use std::fmt;
 use std::marker::Model;
@@ -60,6 +61,13 @@ impl NationalNumber {
     {
         (self.word >> 56) as u8
     }
+
+    /// A law, which does nothing: every number has at most 255 zeros and a value below 2^56.
+    pub fn keeps_bounds(&self)
+        ensures { IsHeld self.now }
+    {
+        let _word = self.word;
+    }
 }
 
 impl From<NationalNumber> for u64 {
@@ -86,6 +94,14 @@ impl fmt::Display for NationalNumber {
         }
         let value = self.value();
         write!(f, "{value}")
+    }
+}
+
+impl SameValue for NationalNumber {
+    fn is_same(&self, other: &NationalNumber) -> bool {
+        self.keeps_bounds();
+        other.keeps_bounds();
+        self == other
     }
 }
 

@@ -1,0 +1,55 @@
+//! What is true of the values for every text and every number: laws over their definitions alone. A law is a
+//! function without arguments that does nothing; its contract is the law.
+ghost use Rattle.std.specs.Prelude.{◌≡◌, ◌<◌, ◌^◌, ◌↔◌, ℕ, List, true, not, Some, Ok, chars, encode_utf8_all};
+ghost use Rattle.std.specs.List.{list_all};
+ghost use Rattle.std.specs.Str.Parse.{digits_value};
+ghost use Rattle.phone_core.specs.Characters.{is_digit};
+ghost use Rattle.phone_core.specs.Ids.{id_of, name};
+ghost use Rattle.phone_core.specs.Norm.{norm};
+ghost use Rattle.phone_core.specs.Validations.{is_possible, is_invalid, is_invalid_length};
+ghost use Rattle.phone_core.specs.declared.country.Id.{Id};
+ghost use Rattle.phone_core.specs.declared.validator.Validation.{Validation};
+ghost use Rattle.phone_core.specs.Numbers.{National, IsHeld, leading_zeros, national_in, text_of};
+
+/// Two national numbers have one text exactly if they have one value and one count of leading zeros.
+pub fn same_text()
+    ensures { (a b : National) → IsHeld a → IsHeld b → (text_of a ≡ text_of b) ↔ ((a.value ≡ b.value) × (a.zeros ≡ b.zeros)) }
+{}
+
+/// A national number that isn't 0 is printed, and read back from its text as the same number.
+pub fn number_read_back()
+    ensures { (n : National) → IsHeld n → 0 < n.value → national_in (text_of n) ≡ Ok n }
+{}
+
+/// A text of digits with at most 255 zeros at its front and a value of 1 to 2^56 - 1 is read as these zeros and this
+/// value, and printed back unchanged.
+pub fn text_printed_back()
+    ensures read { (t : List ℕ) → list_all is_digit t ≡ true → leading_zeros t < 256 → 0 < digits_value 10 t → digits_value 10 t < 2 ^ 56 →
+        national_in t ≡ Ok (record { zeros = leading_zeros t; value = digits_value 10 t }) }
+    ensures printed { (t : List ℕ) → list_all is_digit t ≡ true → leading_zeros t < 256 → 0 < digits_value 10 t → digits_value 10 t < 2 ^ 56 →
+        text_of (record { zeros = leading_zeros t; value = digits_value 10 t }) ≡ t }
+{}
+
+/// What is left of a text once it is normalised is digits alone, and normalising it again changes nothing.
+pub fn digits_stay()
+    ensures digits { (t : List ℕ) → list_all is_digit (norm t) ≡ true }
+    ensures again { (t : List ℕ) → norm (norm t) ≡ norm t }
+{}
+
+/// A text is the id of a region exactly if it is the region's name: each of the 245 names is accepted, capitals and
+/// small letters told apart, and nothing else.
+pub fn ids_by_name()
+    ensures { (t : List ℕ) (i : Id) → (id_of t ≡ Some i) ↔ (t ≡ name i) }
+{}
+
+/// Exactly one of possible and invalid holds of each verdict, and one that is invalid by its length is invalid.
+pub fn verdicts()
+    ensures one { (v : Validation) → is_possible v ≡ not (is_invalid v) }
+    ensures length { (v : Validation) → is_invalid_length v ≡ true → is_invalid v ≡ true }
+{}
+
+/// A text of digits is one list, as bytes and as characters; so the bytes of a normalised text are its digits.
+pub fn digits_are_bytes()
+    ensures read { (t : List ℕ) → list_all is_digit t ≡ true → chars t ≡ t }
+    ensures written { (t : List ℕ) → list_all is_digit t ≡ true → encode_utf8_all t ≡ t }
+{}

@@ -1,0 +1,64 @@
+//! How many lines of each call agree.
+use std::alloc::{AllocError, Global};
+
+/// The lines of one call: how many agree, of how many.
+#[derive(Drop)]
+pub struct Count {
+    pub call: String,
+    pub agree: u64,
+    pub all: u64,
+}
+
+/// The counts of all calls, in the order in which the calls were met, and the lines of unknown calls.
+#[derive(Drop)]
+pub struct Tally {
+    counts: Vec<Count>,
+    unknown: u64,
+}
+
+impl Tally {
+    /// Nothing counted yet.
+    pub fn new(alloc: Global) -> Tally {
+        Tally {
+            counts: Vec::new(alloc),
+            unknown: 0,
+        }
+    }
+
+    /// Counts a line of a call that isn't known.
+    pub fn pass_over(&mut self) {
+        self.unknown = self.unknown.saturating_add(1);
+    }
+
+    /// Counts a line of this call.
+    pub fn count(&mut self, alloc: Global, call: &str, agrees: bool) -> Result<(), AllocError> {
+        for count in &mut self.counts {
+            if count.call.as_str() == call {
+                count.all = count.all.saturating_add(1);
+                count.agree = count.agree.saturating_add(u64::from(agrees));
+                return Ok(());
+            }
+        }
+        self.counts.push(Count {
+            call: String::from_str(alloc, call)?,
+            agree: u64::from(agrees),
+            all: 1,
+        })?;
+        Ok(())
+    }
+
+    /// The counts of the calls.
+    pub fn counts(&self) -> &[Count] {
+        self.counts.as_slice()
+    }
+
+    /// How many lines were of unknown calls.
+    pub fn unknown(&self) -> u64 {
+        self.unknown
+    }
+
+    /// Whether all lines of known calls agree.
+    pub fn all_agree(&self) -> bool {
+        self.counts.iter().all(|count| count.agree == count.all)
+    }
+}
