@@ -1,6 +1,10 @@
 pub mod Borders
 pub mod Cores
+pub mod CoreRows
+pub mod Endings
 pub mod Likes
 pub mod Runs
 pub mod Slices
+pub mod Starts
+pub mod TelRows
 pub mod Tels

@@ -15,10 +15,10 @@ ends p [] = false
 ends p (c ∷ []) = p c
 ends p (c ∷ d ∷ cs) = ends p (d ∷ cs)
 
--- the text from its first character of the set on
-abbrev pub from_first : (ℕ → Bool) → List ℕ → List ℕ
-from_first p [] = []
-from_first p (c ∷ cs) = if p c then c ∷ cs else from_first p cs
+-- the text without its first character, where that is in the set
+abbrev pub after_one : (ℕ → Bool) → List ℕ → List ℕ
+after_one p [] = []
+after_one p (c ∷ cs) = if p c then cs else c ∷ cs
 
 -- two texts are alike where their characters have the same simple foldings, one for one
 abbrev pub is_like : List ℕ → List ℕ → Bool

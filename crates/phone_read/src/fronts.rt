@@ -1,9 +1,9 @@
 //! What a text begins with.
 ghost use Rattle.std.specs.Prelude.{◌≡◌, ◌==◌, ℕ, List, [], true, ◌∷◌, ◌++◌, ◌<◌, length, false, None, Some, MatchOption, IfSome, chars};
-ghost use Rattle.phone_read.specs.Texts.{begins, after_like};
+ghost use Rattle.phone_read.specs.Texts.{begins, after_like, after_one};
 
-use crate::classes::same_fold;
-use phone_core::cuts::split_first;
+use phone_core::chars::same_fold;
+use phone_core::cuts::{CharSet, split_first};
 
 /// Whether the text has no character.
 pub(crate) fn is_nothing(text: &str) -> bool
@@ -50,4 +50,20 @@ pub(crate) fn strip_char(text: &str, c: char) -> Option<&str>
 {
     let (first, rest) = split_first(text)?;
     if first == c { Some(rest) } else { None }
+}
+
+/// The text without its first character, where that is in the set; else all of it.
+pub(crate) fn skip_one<'a, S: CharSet>(text: &'a str, set: &S) -> &'a str
+    ensures read { chars result.now ≡ after_one (S.members set.now) (chars text.now) }
+    ensures end { (v : List ℕ) × (text.now ≡ v ++ result.now) }
+{
+    match split_first(text) {
+        Some((c, rest)) => {
+            if set.has(c) {
+                return rest;
+            }
+            text
+        },
+        None => text,
+    }
 }

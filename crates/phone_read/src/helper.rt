@@ -3,9 +3,8 @@ ghost use Rattle.std.specs.Prelude.{◌≡◌, ◌==◌, ℕ, List, ◌++◌, Ma
 ghost use Rattle.phone_read.specs.Cores.{IsCore, IsTrimmed, IsBeforeSecondNumber, is_last, begins_second_number};
 ghost use Rattle.phone_read.specs.Parts.{IsSlice};
 
-use crate::classes::{is_letter, is_nd, is_number};
 use crate::fronts::{begins_with, is_nothing};
-use phone_core::chars::is_plus;
+use phone_core::chars::{is_letter, is_nd, is_number, is_plus};
 use phone_core::cuts::{CharSet, after_run, before, split_first, split_last};
 
 /// Characters at which no number starts.

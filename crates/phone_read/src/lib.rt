@@ -1,12 +1,13 @@
 //! Reading: from a text to its parts, from the parts to calling code and national number.
 #![tactic(auto)]
 
-mod classes;
 mod fronts;
 pub mod helper;
+pub mod laws;
 pub mod natural;
 mod number;
 mod parameters;
 pub mod rfc3966;
+mod suffix;
 
 pub use number::Number;
