@@ -1,3 +1,13 @@
+pub mod Borders
+pub mod CoreRows
+pub mod Cores
 pub mod DigitTexts
-pub mod Fronts
+pub mod Endings
 pub mod HintCodes
+pub mod Likes
+pub mod Prefixes
+pub mod Runs
+pub mod Slices
+pub mod Starts
+pub mod TelRows
+pub mod Tels

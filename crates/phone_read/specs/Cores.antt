@@ -25,16 +25,22 @@ pub record IsBeforeSecondNumber (text first : List ℕ) : Type 0 where
   pub ended : (after ≡ []) ⊎ (begins_second_number after ≡ true)
   pub earliest : (k : ℕ) → k < length first → begins_second_number (drop k text) ≡ false
 
+-- `kept` is the text without its longest end of characters in which no number ends
+pub record IsTrimmed (text kept : List ℕ) : Type 0 where
+  pub trailing : List ℕ
+  pub whole : text ≡ kept ++ trailing
+  pub no_last : list_any is_last trailing ≡ false
+  pub trimmed : (kept ≡ []) ⊎ (ends is_last kept ≡ true)
+
 -- the text from its first start character on, without its longest end of characters in which no number ends,
 -- up to the second-number mark; it is not empty
 pub record IsCore (text core : List ℕ) : Type 0 where
   pub before : List ℕ
+  pub from : List ℕ
   pub kept : List ℕ
-  pub trailing : List ℕ
-  pub whole : text ≡ before ++ (kept ++ trailing)
+  pub whole : text ≡ before ++ from
   pub no_start : list_any is_start before ≡ false
-  pub starts : begins is_start (kept ++ trailing) ≡ true
-  pub no_last : list_any is_last trailing ≡ false
-  pub trimmed : (kept ≡ []) ⊎ (ends is_last kept ≡ true)
+  pub starts : begins is_start from ≡ true
+  pub trimmed : IsTrimmed from kept
   pub first : IsBeforeSecondNumber kept core
-  pub not_empty : begins is_start core ≡ true
+  pub not_empty : ¬ (core ≡ [])

@@ -3,6 +3,7 @@ pub mod Cores
 pub mod Hints
 pub mod Naturals
 pub mod Numbering
+pub mod Parts
 pub mod Readings
 pub mod Regions
 pub mod Strips

@@ -3,12 +3,9 @@ use Rattle.std.specs.Prelude.{◌≡◌, ℕ, ◌≤◌, ◌<◌, ◌==◌, Bool
 use Rattle.std.specs.List.{list_all, list_any}
 use Rattle.phone_core.specs.Characters.{is_nd, is_one_of}
 use Rattle.phone_read.specs.Texts.{is_like}
-
--- the forms: `;ext=5`, an indicator before the digits as in ` ext. 5`, a number sign behind them as in ` 5#`
-pub data Form : Type 0 where
-  parameter : Form
-  indicated : Form
-  signed : Form
+use Rattle.phone_read.specs.declared.suffix.Form.{Form}
+use Rattle.phone_read.specs.declared.suffix.Form.TheVariants.{Parameter, Indicated, Signed}
+use Rattle.ucd_case.specs.CaseFolding.{simple_fold}
 
 -- every text of the first list followed by every text of the second
 abbrev pub joined : List (List ℕ) → List (List ℕ) → List (List ℕ)
@@ -41,9 +38,6 @@ other_words = codes "int" ∷ codes "anexo" ∷ (0xFF49 ∷ 0xFF4E ∷ 0xFF54 �
 abbrev pub indicators : List (List ℕ)
 indicators = ext_words ++ wide_ext_words ++ map (λ c. c ∷ []) indicator_signs ++ other_words
 
-abbrev pub is_indicator : List ℕ → Bool
-is_indicator text = list_any (is_like text) indicators
-
 -- before an indicator: space, no-break space, tab, comma
 abbrev pub is_lead : ℕ → Bool
 is_lead c = is_one_of (32 ∷ 0xA0 ∷ 9 ∷ 44 ∷ []) c
@@ -55,6 +49,14 @@ is_mark c = is_one_of (58 ∷ 46 ∷ 0xFF0E ∷ []) c
 -- before the digits: space, no-break space, tab, comma, hyphen
 abbrev pub is_gap : ℕ → Bool
 is_gap c = is_one_of (32 ∷ 0xA0 ∷ 9 ∷ 44 ∷ 45 ∷ []) c
+
+-- hyphen, space: before the digits of the form with a number sign
+abbrev pub is_dash : ℕ → Bool
+is_dash c = is_one_of (45 ∷ 32 ∷ []) c
+
+-- the number sign
+abbrev pub is_sign : ℕ → Bool
+is_sign c = c == 35
 
 -- digits of any script, at most n
 pub record IsDigits (n : ℕ) (d : List ℕ) : Type 0 where
@@ -73,35 +75,54 @@ pub record IsParameter (w d : List ℕ) : Type 0 where
   pub named : is_like name (codes ";ext=") ≡ true
   pub digits : IsDigits 7 d
 
--- a lead, an indicator, perhaps a mark, a gap, at most seven digits, perhaps a number sign
-pub record IsIndicated (w d : List ℕ) : Type 0 where
-  pub lead : List ℕ
-  pub indicator : List ℕ
+-- perhaps a mark, a gap, at most seven digits, perhaps a number sign
+pub record IsEnding (w d : List ℕ) : Type 0 where
   pub mark : List ℕ
   pub gap : List ℕ
   pub sign : List ℕ
-  pub whole : w ≡ lead ++ (indicator ++ (mark ++ (gap ++ (d ++ sign))))
-  pub leads : list_all is_lead lead ≡ true
-  pub indicates : is_indicator indicator ≡ true
+  pub whole : w ≡ mark ++ (gap ++ (d ++ sign))
   pub marks : IsOptional is_mark mark
   pub gaps : list_all is_gap gap ≡ true
   pub digits : IsDigits 7 d
-  pub signs : IsOptional (λ c. c == 35) sign
+  pub signs : IsOptional is_sign sign
+
+-- one of the words, and such an ending
+pub record IsAnnounced (words : List (List ℕ)) (w d : List ℕ) : Type 0 where
+  pub word : List ℕ
+  pub ending : List ℕ
+  pub whole : w ≡ word ++ ending
+  pub announces : list_any (is_like word) words ≡ true
+  pub ends : IsEnding ending d
+
+-- a lead, an indicator, an ending
+pub record IsIndicated (w d : List ℕ) : Type 0 where
+  pub lead : List ℕ
+  pub rest : List ℕ
+  pub whole : w ≡ lead ++ rest
+  pub leads : list_all is_lead lead ≡ true
+  pub announced : IsAnnounced indicators rest d
 
 -- hyphens and spaces, one to five digits, a number sign
 pub record IsSigned (w d : List ℕ) : Type 0 where
   pub lead : List ℕ
   pub whole : w ≡ lead ++ (d ++ 35 ∷ [])
-  pub leads : list_all (is_one_of (45 ∷ 32 ∷ [])) lead ≡ true
+  pub leads : list_all is_dash lead ≡ true
   pub some_lead : 1 ≤ length lead
   pub digits : IsDigits 5 d
   pub some_digits : 1 ≤ length d
 
 -- w is an extension of this form, with these digits
 abbrev pub IsSuffix : List ℕ → Form → List ℕ → Type 0
-IsSuffix w parameter d = IsParameter w d
-IsSuffix w indicated d = IsIndicated w d
-IsSuffix w signed d = IsSigned w d
+IsSuffix w Parameter d = IsParameter w d
+IsSuffix w Indicated d = IsIndicated w d
+IsSuffix w Signed d = IsSigned w d
+
+-- an extension begins with one of these, or with a character that folds to one
+abbrev pub suffix_starts : List ℕ
+suffix_starts = 32 ∷ 9 ∷ 0xA0 ∷ 44 ∷ 45 ∷ 59 ∷ 35 ∷ 126 ∷ 120 ∷ 101 ∷ 105 ∷ 97 ∷ 0xFF03 ∷ 0xFF5E ∷ 0xFF58 ∷ 0xFF45 ∷ 0xFF49 ∷ []
+
+abbrev pub is_suffix_start : ℕ → Bool
+is_suffix_start c = is_one_of suffix_starts (simple_fold c)
 
 -- no end of the text is an extension
 abbrev pub HasNoSuffix : List ℕ → Type 0

@@ -2,6 +2,7 @@
 use Rattle.std.specs.Prelude.{ℕ, Bool, false, if◌then◌else◌, List, [], ◌∷◌, length, take, drop, map, Option, None, Some}
 use Rattle.std.specs.Str.{bytes_eq}
 use Rattle.ucd_case.specs.CaseFolding.{simple_fold}
+use Rattle.phone_core.specs.Characters.{same_fold}
 
 -- the first character is there and is in the set
 abbrev pub begins : (ℕ → Bool) → List ℕ → Bool
@@ -14,10 +15,10 @@ ends p [] = false
 ends p (c ∷ []) = p c
 ends p (c ∷ d ∷ cs) = ends p (d ∷ cs)
 
--- the text from its first character of the set on
-abbrev pub from_first : (ℕ → Bool) → List ℕ → List ℕ
-from_first p [] = []
-from_first p (c ∷ cs) = if p c then c ∷ cs else from_first p cs
+-- the text without its first character, where that is in the set
+abbrev pub after_one : (ℕ → Bool) → List ℕ → List ℕ
+after_one p [] = []
+after_one p (c ∷ cs) = if p c then cs else c ∷ cs
 
 -- two texts are alike where their characters have the same simple foldings, one for one
 abbrev pub is_like : List ℕ → List ℕ → Bool
@@ -31,3 +32,9 @@ is_front front text = bytes_eq (take (length front) text) front
 abbrev pub without_front : Option (List ℕ) → List ℕ → List ℕ
 without_front None text = text
 without_front (Some front) text = if is_front front text then drop (length front) text else text
+
+-- what follows a front of the text that is like the word
+abbrev pub after_like : List ℕ → List ℕ → Option (List ℕ)
+after_like text [] = Some text
+after_like [] (w ∷ ws) = None
+after_like (c ∷ cs) (w ∷ ws) = if same_fold c w then after_like cs ws else None

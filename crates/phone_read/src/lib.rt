@@ -1,7 +1,15 @@
 //! Reading: from a text to its parts, from the parts to calling code and national number.
 #![tactic(auto)]
 
+mod fronts;
+pub mod helper;
+pub mod laws;
 pub mod natural;
+mod number;
+mod parameters;
 mod reading;
+pub mod rfc3966;
+mod suffix;
 
+pub use number::Number;
 pub use reading::Reading;

@@ -1,0 +1,37 @@
+//! What holds of the two readings, and rows that are computed on their definitions. These functions do nothing; their
+//! contracts are the statements.
+ghost use Rattle.std.specs.Prelude.{◌≡◌, ℕ, List, [], ◌∷◌, ◌++◌, codes, Some, None};
+ghost use Rattle.phone_read.specs.Cores.{IsCore};
+ghost use Rattle.phone_read.specs.Tel.{IsTel, TelParts};
+
+/// A text has at most one core.
+pub fn one_core()
+    ensures { (text a b : List ℕ) → IsCore text a → IsCore text b → a ≡ b }
+{}
+
+/// A text has at most one reading as a `tel:` text.
+pub fn one_tel_reading()
+    ensures { (text : List ℕ) (a b : TelParts) → IsTel text a → IsTel text b → a ≡ b }
+{}
+
+/// Cores: what stands before the first digit or plus sign and what stands after the last letter, number or `#` is cut.
+pub fn core_rows()
+    ensures brackets { IsCore (codes "(650) 253-0000..- ..") (codes "650) 253-0000") }
+    ensures words { IsCore (codes "Tel:+800-345-600") (codes "+800-345-600") }
+    ensures mark { IsCore (0x28 ∷ codes "650) 253-0000" ++ 0x200F ∷ []) (codes "650) 253-0000") }
+    ensures wide { IsCore (codes "Num-" ++ 0xFF11 ∷ 0xFF12 ∷ 0xFF13 ∷ []) (0xFF11 ∷ 0xFF12 ∷ 0xFF13 ∷ []) }
+    ensures second_number { IsCore (codes "508/x30") (codes "508") }
+{}
+
+/// Readings of `tel:` texts: the prefix of a plus sign and of a context, parameters in any order, a repeated one.
+pub fn tel_rows()
+    ensures context { IsTel (codes "tel:2034567890;ext=456;phone-context=+44")
+        (record { national = codes "2034567890"; prefix = Some (codes "44"); extension = Some (codes "456") }) }
+    ensures plus { IsTel (codes "tel:+64-3-331-6005;ext=1235")
+        (record { national = codes "-3-331-6005"; prefix = Some (codes "64"); extension = Some (codes "1235") }) }
+    ensures ignored { IsTel (codes "03-331-6005;phone-context=+64;a=%A1")
+        (record { national = codes "03-331-6005"; prefix = Some (codes "64"); extension = None }) }
+    ensures any_case { IsTel (codes "TEL:12") (record { national = codes "12"; prefix = None; extension = None }) }
+    ensures last_counts { IsTel (codes "12;ext=1;ext=2") (record { national = codes "12"; prefix = None; extension = Some (codes "2") }) }
+    ensures exact_names { IsTel (codes "12;ext=1;Ext=3") (record { national = codes "12"; prefix = None; extension = Some (codes "1") }) }
+{}
