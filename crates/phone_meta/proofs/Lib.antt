@@ -1,5 +1,6 @@
 pub mod CodeLemmas
 pub mod Complete
+pub mod Lasts
 pub mod Matches
 pub mod Places
 pub mod Refused

@@ -34,7 +34,10 @@ impl Model for Descriptor {
 
 impl Descriptor {
     /// Compiles a record, whose pattern must be there.
-    pub fn compile(alloc: Global, given: loader::Descriptor) -> Result<Descriptor, LoadMetadata>
+    pub(crate) fn compile(
+        alloc: Global,
+        given: loader::Descriptor,
+    ) -> Result<Descriptor, LoadMetadata>
         requires { missing_in_descriptor (Some given) ≡ None }
         ensures compiled { IfOk result (λ d. d ≡ given) }
         ensures refused { IfErr result (IsPatternRefusal (patterns_in_descriptor (Some given))) }

@@ -40,7 +40,7 @@ impl Model for Format {
 
 impl Format {
     /// Compiles a record, whose pattern and template must be there.
-    pub fn compile(alloc: Global, given: loader::Format) -> Result<Format, LoadMetadata>
+    pub(crate) fn compile(alloc: Global, given: loader::Format) -> Result<Format, LoadMetadata>
         requires { missing_in_format given ≡ None }
         ensures compiled { IfOk result (λ f. f ≡ given) }
         ensures refused { IfErr result (IsPatternRefusal (patterns_in_format given)) }

@@ -72,7 +72,7 @@ fn compile_descriptor(
 
 impl Metadata {
     /// Compiles a record that lacks nothing.
-    pub fn compile(alloc: Global, given: loader::Metadata) -> Result<Metadata, LoadMetadata>
+    pub(crate) fn compile(alloc: Global, given: loader::Metadata) -> Result<Metadata, LoadMetadata>
         requires { missing_in given ≡ None }
         ensures compiled { IfOk result (λ m. m ≡ given) }
         ensures refused { IfErr result (IsPatternRefusal (patterns_in given)) }
