@@ -3,6 +3,7 @@ pub mod Cores
 pub mod CoreRows
 pub mod Endings
 pub mod Likes
+pub mod NaturalRows
 pub mod Runs
 pub mod Slices
 pub mod Starts
