@@ -4,10 +4,10 @@ use Rattle.ucd_table.proofs.TrieCheck.{all_below, all_below-at}
 use Rattle.ucd_category.proofs.Computing.{ucd_category}
 use Rattle.phone_read.specs.Cores.{IsCore, IsBeforeSecondNumber, begins_second_number}
 
-no_mark : List ℕ → ℕ → Bool
+unfoldable pub no_mark : List ℕ → ℕ → Bool
 no_mark text k = not (begins_second_number (drop k text))
 
-not_marked : (b : Bool) → not b ≡ true → b ≡ false
+pub not_marked : (b : Bool) → not b ≡ true → b ≡ false
 not_marked true e = absurd (true≢false (sym e))
 not_marked false e = refl
 
@@ -22,7 +22,7 @@ before_mark first after none ended = record {
   earliest = λ k less. not_marked _ (all_below-at (no_mark (first ++ after)) (length first) k none less);
 }
 
-no_second : (text : List ℕ) → all_below (no_mark text) (length text) ≡ true → IsBeforeSecondNumber text text
+pub no_second : (text : List ℕ) → all_below (no_mark text) (length text) ≡ true → IsBeforeSecondNumber text text
 unfolding no_mark
 no_second text none = record {
   after = [];

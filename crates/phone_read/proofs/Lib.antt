@@ -6,6 +6,7 @@ pub mod Endings
 pub mod HintCodes
 pub mod Likes
 pub mod Prefixes
+pub mod NaturalRows
 pub mod Runs
 pub mod Slices
 pub mod Starts

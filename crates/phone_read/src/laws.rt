@@ -1,7 +1,13 @@
 //! What holds of the two readings, and rows that are computed on their definitions. These functions do nothing; their
 //! contracts are the statements.
-ghost use Rattle.std.specs.Prelude.{◌≡◌, ℕ, List, [], ◌∷◌, ◌++◌, codes, Some, None};
+ghost use Rattle.std.specs.Prelude.{◌≡◌, ℕ, List, [], ◌∷◌, ◌++◌, codes, Some, None, Ok, Err, true};
 ghost use Rattle.phone_read.specs.Cores.{IsCore};
+ghost use Rattle.phone_read.specs.Naturals.{IsNatural};
+ghost use Rattle.phone_read.specs.Suffixes.{IsSuffix, is_suffix_start};
+ghost use Rattle.phone_read.specs.Texts.{begins};
+ghost use Rattle.phone_read.specs.declared.natural.NoReading.TheVariants.{Error, Failure};
+ghost use Rattle.phone_read.specs.declared.suffix.Form.{Form};
+ghost use Rattle.phone_read.specs.declared.suffix.Form.TheVariants.{Parameter, Indicated, Signed};
 ghost use Rattle.phone_read.specs.Tel.{IsTel, TelParts};
 
 /// A text has at most one core.
@@ -34,4 +40,28 @@ pub fn tel_rows()
     ensures any_case { IsTel (codes "TEL:12") (record { national = codes "12"; prefix = None; extension = None }) }
     ensures last_counts { IsTel (codes "12;ext=1;ext=2") (record { national = codes "12"; prefix = None; extension = Some (codes "2") }) }
     ensures exact_names { IsTel (codes "12;ext=1;Ext=3") (record { national = codes "12"; prefix = None; extension = Some (codes "1") }) }
+{}
+
+/// What an extension may begin with.
+pub fn extension_starts()
+    ensures { (text : List ℕ) (f : Form) (digits : List ℕ) → IsSuffix text f digits → begins is_suffix_start text ≡ true }
+{}
+
+/// Extensions: one of each form, and for the indicated form one of each kind of indicator.
+pub fn extension_rows()
+    ensures parameter { IsSuffix (codes ";EXT=12") Parameter (codes "12") }
+    ensures signed { IsSuffix (codes " - 12#") Signed (codes "12") }
+    ensures word { IsSuffix (codes ", Exten" ++ 0x17F ∷ codes "ion. 12#") Indicated (codes "12") }
+    ensures wide_word { IsSuffix (0xFF38 ∷ 0xFF34 ∷ 0xFF4E ∷ 0x661 ∷ []) Indicated (0x661 ∷ []) }
+    ensures sign { IsSuffix (codes ",;") Indicated [] }
+    ensures other_word { IsSuffix (codes "anexo:-7") Indicated (codes "7") }
+{}
+
+/// Readings of free text: one for each of the five cases.
+pub fn natural_rows()
+    ensures whole_text { IsNatural (codes "650253") (Ok (record { national = codes "650253"; extension = None })) }
+    ensures extended { IsNatural (codes "+64331x12") (Ok (record { national = codes "+64331"; extension = Some (codes "12") })) }
+    ensures parameter { IsNatural (codes "650;ext=5") (Err Failure) }
+    ensures sign { IsNatural (codes "650 5#") (Err Failure) }
+    ensures no_number { IsNatural (codes "Num-....") (Err Error) }
 {}

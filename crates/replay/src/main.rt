@@ -4,6 +4,7 @@
 #![tactic(auto)]
 
 mod core_calls;
+mod read_calls;
 mod table;
 mod tally;
 
@@ -16,7 +17,11 @@ use tally::Tally;
 
 /// What the port answers to the row's call; none for a call that no module knows.
 fn answer(alloc: Global, row: &Row) -> Result<Option<String>, AllocError> {
-    core_calls::answer(alloc, row)
+    let found = core_calls::answer(alloc, row)?;
+    if found.is_some() {
+        return Ok(found);
+    }
+    read_calls::answer(alloc, row)
 }
 
 fn main(rt: HostRuntime) -> Result<ExitCode> {

@@ -1,0 +1,142 @@
+-- Extensions, and readings of free text, computed on their definitions.
+use Rattle.std.proofs.Common.{◌≡◌, ◌⊎◌, inl, inr, ⊎_elim, ℕ, ◌<◌, ◌≤◌, Bool, true, false, not, List, [], ◌∷◌, ◌++◌, length, length-drop, drop, codes, Option, Some, None, Ok, Err, refl, ap, sym, subst, ◌∙◌, true≢false, arith, append-nil}
+use Rattle.std.proofs.lemmas.Bool.{cases_lt}
+use Rattle.std.proofs.lemmas.List.{nil_from_length}
+use Rattle.std.specs.List.{list_any, list_all}
+use Rattle.ucd_case.proofs.Computing.{ucd_case}
+use Rattle.ucd_category.proofs.Computing.{ucd_category}
+use Rattle.ucd_table.proofs.TrieCheck.{all_below, all_below-at}
+use Rattle.phone_core.specs.Characters.{is_nd}
+use Rattle.phone_core.specs.Cuts.{after_front}
+use Rattle.phone_read.specs.Cores.{IsCore, is_start, is_last, begins_second_number}
+use Rattle.phone_read.specs.Naturals
+use Rattle.phone_read.specs.Naturals.{IsNatural}
+use Rattle.phone_read.specs.Suffixes.{IsSuffix, HasNoSuffix, HasLongestSuffix, IsEnding, indicators, is_lead, is_mark, is_gap, is_sign, is_dash, is_suffix_start}
+use Rattle.phone_read.specs.Texts.{begins, ends, is_like}
+use Rattle.phone_read.specs.declared.natural.NoReading.TheVariants.{Error, Failure}
+use Rattle.phone_read.specs.declared.suffix.Form.{Form}
+use Rattle.phone_read.specs.declared.suffix.Form.TheVariants.{Parameter, Indicated, Signed}
+use Rattle.phone_read.proofs.CoreRows.{no_second, no_mark, not_marked}
+use Rattle.phone_read.proofs.Cores.{after_front_others}
+use Rattle.phone_read.proofs.Starts.{suffix_begins}
+
+-- an extension of the indicated form, put together
+indicated_row : (lead word mark gap d sign : List ℕ) → list_all is_lead lead ≡ true → list_any (is_like word) indicators ≡ true →
+    list_all is_mark mark ≡ true → length mark ≤ 1 → list_all is_gap gap ≡ true → list_all is_nd d ≡ true → length d ≤ 7 →
+    list_all is_sign sign ≡ true → length sign ≤ 1 → IsSuffix (lead ++ (word ++ (mark ++ (gap ++ (d ++ sign))))) Indicated d
+indicated_row lead word mark gap d sign leads announces marks one_mark gaps digits few signs one_sign = record {
+  lead = lead;
+  rest = word ++ (mark ++ (gap ++ (d ++ sign)));
+  whole = refl;
+  leads = leads;
+  announced = record {
+    word = word;
+    ending = mark ++ (gap ++ (d ++ sign));
+    whole = refl;
+    announces = announces;
+    ends = record {
+      mark = mark;
+      gap = gap;
+      sign = sign;
+      whole = refl;
+      marks = record { only = marks; few = one_mark };
+      gaps = gaps;
+      digits = record { only = digits; few = few };
+      signs = record { only = signs; few = one_sign };
+    };
+  };
+}
+
+pub parameter : IsSuffix (codes ";EXT=12") Parameter (codes "12")
+unfolding ucd_case ucd_category
+parameter = record { name = codes ";EXT="; whole = refl; named = refl; digits = record { only = refl; few = omega arith } }
+
+pub signed : IsSuffix (codes " - 12#") Signed (codes "12")
+unfolding ucd_category
+signed = record { lead = codes " - "; whole = refl; leads = refl; some_lead = omega arith; digits = record { only = refl; few = omega arith }; some_digits = omega arith }
+
+pub word : IsSuffix (codes ", Exten" ++ 0x17F ∷ codes "ion. 12#") Indicated (codes "12")
+unfolding ucd_case ucd_category
+word =
+    indicated_row (codes ", ") (codes "Exten" ++ 0x17F ∷ codes "ion") (codes ".") (codes " ") (codes "12") (codes "#")
+    refl refl refl (omega arith) refl refl (omega arith) refl (omega arith)
+
+pub wide_word : IsSuffix (0xFF38 ∷ 0xFF34 ∷ 0xFF4E ∷ 0x661 ∷ []) Indicated (0x661 ∷ [])
+unfolding ucd_case ucd_category
+wide_word = indicated_row [] (0xFF38 ∷ 0xFF34 ∷ 0xFF4E ∷ []) [] [] (0x661 ∷ []) [] refl refl refl (omega arith) refl refl (omega arith) refl (omega arith)
+
+pub sign : IsSuffix (codes ",;") Indicated []
+unfolding ucd_case ucd_category
+sign = indicated_row (codes ",") (codes ";") [] [] [] [] refl refl refl (omega arith) refl refl (omega arith) refl (omega arith)
+
+pub other_word : IsSuffix (codes "anexo:-7") Indicated (codes "7")
+unfolding ucd_case ucd_category
+other_word = indicated_row [] (codes "anexo") (codes ":") (codes "-") (codes "7") [] refl refl refl (omega arith) refl refl (omega arith) refl (omega arith)
+
+-- a text that is its own core
+own_core : (text : List ℕ) → begins is_start text ≡ true → ends is_last text ≡ true → all_below (no_mark text) (length text) ≡ true → ¬ (text ≡ []) → IsCore text text
+own_core text starts last none some = record {
+  before = [];
+  from = text;
+  kept = text;
+  whole = refl;
+  no_start = refl;
+  starts = starts;
+  trimmed = record { trailing = []; whole = sym (append-nil text); no_last = refl; trimmed = inr last };
+  first = no_second text none;
+  not_empty = some;
+}
+
+no_start_at : List ℕ → ℕ → Bool
+no_start_at text k = not (begins is_suffix_start (drop k text))
+
+-- no extension begins where none of its starts stands
+no_suffix_until : (text : List ℕ) (n : ℕ) → all_below (no_start_at text) n ≡ true → (k : ℕ) (f : Form) (d : List ℕ) → k < n → ¬ (IsSuffix (drop k text) f d)
+unfolding no_start_at
+no_suffix_until text n none k f d less h =
+    true≢false (sym (suffix_begins (drop k text) f d h) ∙ not_marked _ (all_below-at (no_start_at text) n k none less))
+
+pub whole_text : IsNatural (codes "650253") (Ok (record { national = codes "650253"; extension = None }))
+unfolding ucd_case ucd_category no_mark no_start_at
+whole_text = Naturals.plain (codes "650253") (own_core (codes "650253") refl refl refl (λ e. cc)) (λ k f d h.
+    ⊎_elim
+    (λ (less : k < 6). no_suffix_until (codes "650253") 6 refl k f d less h)
+    (λ (more : 6 ≤ k).
+    let nil : drop k (codes "650253") ≡ [] = nil_from_length (drop k (codes "650253")) (omega (arith, length-drop k (codes "650253"))) in
+    true≢false (sym (suffix_begins [] f d (subst (λ t. IsSuffix t f d) nil h))))
+    (cases_lt k 6))
+
+pub extended : IsNatural (codes "+64331x12") (Ok (record { national = codes "+64331"; extension = Some (codes "12") }))
+unfolding ucd_case ucd_category no_mark no_start_at
+extended = Naturals.extended (codes "+64331x12") (codes "+64331") (codes "12") (own_core (codes "+64331x12") refl refl refl (λ e. cc)) (record {
+  suffix = codes "x12";
+  whole = refl;
+  is_suffix = indicated_row [] (codes "x") [] [] (codes "12") [] refl refl refl (omega arith) refl refl (omega arith) refl (omega arith);
+  longest = no_suffix_until (codes "+64331x12") 6 refl;
+})
+
+pub parameter_refused : IsNatural (codes "650;ext=5") (Err Failure)
+unfolding ucd_case ucd_category no_mark no_start_at
+parameter_refused = Naturals.with_parameter (codes "650;ext=5") (codes "650") (codes "5") (own_core (codes "650;ext=5") refl refl refl (λ e. cc)) (record {
+  suffix = codes ";ext=5";
+  whole = refl;
+  is_suffix = record { name = codes ";ext="; whole = refl; named = refl; digits = record { only = refl; few = omega arith } };
+  longest = no_suffix_until (codes "650;ext=5") 3 refl;
+})
+
+pub sign_refused : IsNatural (codes "650 5#") (Err Failure)
+unfolding ucd_case ucd_category no_mark no_start_at
+sign_refused = Naturals.with_sign (codes "650 5#") (codes "650") (codes "5") (own_core (codes "650 5#") refl refl refl (λ e. cc)) (record {
+  suffix = codes " 5#";
+  whole = refl;
+  is_suffix = record { lead = codes " "; whole = refl; leads = refl; some_lead = omega arith; digits = record { only = refl; few = omega arith }; some_digits = omega arith };
+  longest = no_suffix_until (codes "650 5#") 3 refl;
+})
+
+pub no_number : IsNatural (codes "Num-....") (Err Error)
+unfolding ucd_category
+no_number = Naturals.nothing (λ core h.
+    let from : h.from ≡ after_front (λ c. not (is_start c)) (codes "Num-....") =
+    sym (ap (after_front (λ c. not (is_start c))) h.whole ∙ after_front_others is_start h.before h.from h.no_start h.starts) in
+    let nil : h.from ≡ [] = from in
+    true≢false (sym h.starts ∙ ap (begins is_start) nil))

@@ -1,0 +1,14 @@
+//! Tests of the two readers: tables of texts with their parts. They stand in a crate of their own, since a crate with
+//! tests is proved twice.
+#![tactic(auto)]
+
+#[cfg(test)]
+mod extract;
+#[cfg(test)]
+mod hostile;
+#[cfg(test)]
+mod natural;
+#[cfg(test)]
+mod number;
+#[cfg(test)]
+mod rfc3966;
