@@ -5,8 +5,8 @@ pub mod DigitTexts
 pub mod Endings
 pub mod HintCodes
 pub mod Likes
-pub mod Prefixes
 pub mod NaturalRows
+pub mod Prefixes
 pub mod Runs
 pub mod Slices
 pub mod Starts
