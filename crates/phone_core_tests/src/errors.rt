@@ -9,10 +9,19 @@ fn each_refusal_has_its_text(rt: HostRuntime) -> Result<(), Fail> {
     for (error, text) in [
         (ParseError::NoNumber, "not a number"),
         (ParseError::InvalidCountryCode, "invalid country code"),
-        (ParseError::TooShortAfterIdd, "the number is too short after IDD"),
-        (ParseError::TooShortNsn, "the number is too short after the country code"),
+        (
+            ParseError::TooShortAfterIdd,
+            "the number is too short after IDD",
+        ),
+        (
+            ParseError::TooShortNsn,
+            "the number is too short after the country code",
+        ),
         (ParseError::TooLong, "the number is too long"),
-        (ParseError::MalformedInteger, "malformed integer part in phone number"),
+        (
+            ParseError::MalformedInteger,
+            "malformed integer part in phone number",
+        ),
         (ParseError::Memory, "out of memory"),
     ] {
         assert_eq!(rt; error.to_string(alloc)?.as_str(), text);

@@ -5,6 +5,8 @@
 #[cfg(test)]
 mod characters;
 #[cfg(test)]
+mod constants;
+#[cfg(test)]
 mod errors;
 #[cfg(test)]
 mod ids;

@@ -1,6 +1,6 @@
 //! Codes, sources, extensions, carriers and verdicts.
 use phone_core::country::{Code, Source};
-use phone_core::equality::{hash_of, hashes, SameValue};
+use phone_core::equality::{SameValue, hash_of, hashes};
 use phone_core::{Carrier, Extension, Validation};
 use std::test::Fail;
 
