@@ -1,5 +1,5 @@
 -- Extensions, and readings of free text, computed on their definitions.
-use Rattle.std.proofs.Common.{◌≡◌, ◌⊎◌, inl, inr, ⊎_elim, ℕ, ◌<◌, ◌≤◌, Bool, true, false, not, List, [], ◌∷◌, ◌++◌, length, length-drop, drop, codes, Option, Some, None, Ok, Err, refl, ap, sym, subst, ◌∙◌, true≢false, arith, append-nil}
+use Rattle.std.proofs.Common.{◌≡◌, inr, ⊎_elim, ℕ, ◌<◌, ◌≤◌, Bool, true, not, List, [], ◌∷◌, ◌++◌, length, length-drop, drop, codes, Some, None, Ok, Err, refl, ap, sym, subst, ◌∙◌, true≢false, arith, append-nil}
 use Rattle.std.proofs.lemmas.Bool.{cases_lt}
 use Rattle.std.proofs.lemmas.List.{nil_from_length}
 use Rattle.std.specs.List.{list_any, list_all}
@@ -8,10 +8,10 @@ use Rattle.ucd_category.proofs.Computing.{ucd_category}
 use Rattle.ucd_table.proofs.TrieCheck.{all_below, all_below-at}
 use Rattle.phone_core.specs.Characters.{is_nd}
 use Rattle.phone_core.specs.Cuts.{after_front}
-use Rattle.phone_read.specs.Cores.{IsCore, is_start, is_last, begins_second_number}
+use Rattle.phone_read.specs.Cores.{IsCore, is_start, is_last}
 use Rattle.phone_read.specs.Naturals
 use Rattle.phone_read.specs.Naturals.{IsNatural}
-use Rattle.phone_read.specs.Suffixes.{IsSuffix, HasNoSuffix, HasLongestSuffix, IsEnding, indicators, is_lead, is_mark, is_gap, is_sign, is_dash, is_suffix_start}
+use Rattle.phone_read.specs.Suffixes.{IsSuffix, indicators, is_lead, is_mark, is_gap, is_sign, is_suffix_start}
 use Rattle.phone_read.specs.Texts.{begins, ends, is_like}
 use Rattle.phone_read.specs.declared.natural.NoReading.TheVariants.{Error, Failure}
 use Rattle.phone_read.specs.declared.suffix.Form.{Form}
