@@ -1,11 +1,11 @@
 //! The extension at the end of a text, in its three forms.
-ghost use Rattle.std.specs.Prelude.{◌≡◌, ◌≤◌, ℕ, List, ◌∷◌, ◌++◌, ◌&&◌, [], nat_le, length, MatchOption, IfSome, IsTrue, ◌↔◌, chars, codes, map};
+ghost use Rattle.std.specs.Prelude.{◌≡◌, ℕ, List, ◌∷◌, ◌++◌, ◌&&◌, [], nat_le, length, MatchOption, IfSome, IsTrue, chars, map};
 ghost use Rattle.std.specs.Borrow.{Bor};
 ghost use Rattle.std.specs.List.{list_all};
 ghost use Rattle.phone_core.specs.Characters.{is_nd};
 ghost use Rattle.phone_read.specs.Parts.{IsSlice};
 ghost use Rattle.phone_read.specs.Texts.{begins};
-ghost use Rattle.phone_read.specs.Suffixes.{IsDigits, IsParameter, IsSigned, IsIndicated, IsAnnounced, IsEnding, IsSuffix, is_lead, is_suffix_start, HasNoSuffix, HasLongestSuffix};
+ghost use Rattle.phone_read.specs.Suffixes.{IsParameter, IsSigned, IsIndicated, IsAnnounced, IsEnding, IsSuffix, is_lead, is_suffix_start, HasNoSuffix, HasLongestSuffix};
 
 use crate::fronts::{is_nothing, skip_one, strip_char, strip_like};
 use phone_core::chars::is_nd;
