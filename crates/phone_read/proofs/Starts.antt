@@ -85,3 +85,9 @@ indicated_rest w d c rest h e none = at h.lead h.whole h.leads
 
 pub not_indicated_nil : (d : List ℕ) → ¬ (IsIndicated [] d)
 not_indicated_nil d h = true≢false (sym (suffix_begins [] Indicated d h))
+
+-- behind a lead of a text without an indicator there is none
+pub not_indicated_after_lead : (rest after : List ℕ) (c : ℕ) → rest ≡ c ∷ after → is_lead c ≡ true → ((d : List ℕ) → ¬ (IsIndicated rest d)) →
+    (d : List ℕ) → ¬ (IsIndicated after d)
+not_indicated_after_lead rest after c e lead none d h =
+    none d (record { lead = c ∷ h.lead; rest = h.rest; whole = e ∙ ap (λ t. c ∷ t) h.whole; leads = rw lead h.leads; announced = h.announced })

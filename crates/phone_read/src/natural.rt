@@ -23,7 +23,7 @@ pub enum NoReading {
 /// extension. Of the three forms of an extension only the one with an indicator, as in `650 253 0000 ext. 4567`, is
 /// read; the other two, `;ext=5` and ` 5#`, are refused by `Failure`. A text without a core is refused by `Error`.
 /// National part and extension are slices of the text, and no memory is taken. The time is that of `extract`, linear in
-/// the text, and of the search for an extension: linear but for runs of spaces, tabs and commas, which cost at most the
+/// the text, and of the search for an extension: linear but for runs of spaces, hyphens and commas, which cost at most the
 /// square of their length.
 pub fn phone_number(text: &str) -> Result<Number<'_>, NoReading>
     ensures read { IsNatural (chars text.now) (result_map_both natural_parts (λ e. e) result) }

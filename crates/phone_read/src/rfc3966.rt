@@ -1,5 +1,5 @@
 //! The reader of the `tel:` form of a number, after RFC 3966.
-ghost use Rattle.std.specs.Prelude.{◌≡◌, ◌==◌, ℕ, List, ◌++◌, Option, None, Some, MatchOption, IfSome, codes, chars, unwrap_or, option_copied, option_map, false, true, IsTrue, ◌↔◌, ◌⊎◌, []};
+ghost use Rattle.std.specs.Prelude.{◌≡◌, ◌==◌, ℕ, List, ◌++◌, Option, None, Some, MatchOption, IfSome, codes, chars, unwrap_or, option_copied, option_map, true, IsTrue, ◌↔◌, ◌⊎◌, []};
 ghost use Rattle.phone_core.specs.declared.country.Source.TheVariants.{Default};
 ghost use Rattle.phone_read.specs.Parts.{IsSlice, IsLent, AreLent, tel_parts};
 ghost use Rattle.phone_read.specs.Tel.{IsTel, TelParts, IsSignedRun, without_plus};

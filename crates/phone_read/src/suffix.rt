@@ -1,10 +1,11 @@
 //! The extension at the end of a text, in its three forms.
-ghost use Rattle.std.specs.Prelude.{◌≡◌, ◌≤◌, ℕ, List, ◌∷◌, ◌++◌, ◌&&◌, [], nat_le, length, MatchOption, IfSome, IsTrue, ◌↔◌, chars, codes, map};
+ghost use Rattle.std.specs.Prelude.{◌≡◌, ℕ, List, ◌∷◌, ◌++◌, ◌&&◌, [], nat_le, length, MatchOption, IfSome, IsTrue, chars, map};
 ghost use Rattle.std.specs.Borrow.{Bor};
 ghost use Rattle.std.specs.List.{list_all};
 ghost use Rattle.phone_core.specs.Characters.{is_nd};
 ghost use Rattle.phone_read.specs.Parts.{IsSlice};
-ghost use Rattle.phone_read.specs.Suffixes.{IsDigits, IsParameter, IsSigned, IsIndicated, IsAnnounced, IsEnding, IsSuffix, is_lead, is_suffix_start, HasNoSuffix, HasLongestSuffix};
+ghost use Rattle.phone_read.specs.Texts.{begins};
+ghost use Rattle.phone_read.specs.Suffixes.{IsParameter, IsSigned, IsIndicated, IsAnnounced, IsEnding, IsSuffix, is_lead, is_suffix_start, HasNoSuffix, HasLongestSuffix};
 
 use crate::fronts::{is_nothing, skip_one, strip_char, strip_like};
 use phone_core::chars::is_nd;
@@ -157,39 +158,54 @@ fn is_suffix_start(c: char) -> bool
     )
 }
 
+/// Whether the text begins as an extension may.
+fn begins_suffix(text: &str) -> bool
+    ensures { result ≡ begins is_suffix_start (chars text.now) }
+{
+    match split_first(text) {
+        Some((c, _)) => is_suffix_start(c),
+        None => false,
+    }
+}
+
 /// The longest end of a text that is an extension, with what stands before it; none where no end is one. It asks from
 /// the left, at each border between characters, whether an extension begins there, and passes at once a border whose
-/// character can't begin one. So its cost is linear in the text, but for runs of spaces, tabs and commas, which are
-/// looked through from each of their places: at most the square of such a run's length.
+/// character can't begin one. Where a run of spaces, tabs and commas is followed by no indicator, that is found out once,
+/// at the front of the run. So the cost is linear in the text, but for runs of spaces, hyphens and commas: at most the
+/// square of such a run's length.
 pub(crate) fn find_suffix(text: &str) -> Option<(&str, Suffix<'_>)>
     ensures read { MatchOption result (HasNoSuffix (chars text.now)) (λ p. HasLongestSuffix (chars text.now) (chars p.0.now) p.1.form (chars p.1.digits.now)) }
     ensures front { IfSome result (λ p. (v : List ℕ) × (text.now ≡ p.0.now ++ v)) }
     ensures slice { IfSome result (λ p. IsSlice text.now p.1.digits.now) }
 {
     let mut rest = text;
+    let mut in_lead = false;
     while let Some((c, after)) = split_first(rest) {
-        if is_suffix_start(c) {
-            if let Some(found) = read_suffix(rest) {
-                return Some((before(text, rest), found));
-            }
+        if let Some(found) = read_suffix(rest, in_lead) {
+            return Some((before(text, rest), found));
         }
+        in_lead = is_lead(c);
         rest = after;
     }
     None
 }
 
-/// The text as an extension.
-fn read_suffix(text: &str) -> Option<Suffix<'_>>
+/// The text as an extension. It may be known that the text has no indicator: then that form isn't tried.
+fn read_suffix(text: &str, no_indicator: bool) -> Option<Suffix<'_>>
+    requires { IsTrue no_indicator → (d : List ℕ) → ¬ (IsIndicated (chars text.now) d) }
     ensures read { MatchOption result ((f : Form) (d : List ℕ) → ¬ (IsSuffix (chars text.now) f d)) (λ s. IsSuffix (chars text.now) s.form (chars s.digits.now)) }
     ensures slice { IfSome result (λ s. IsSlice text.now s.digits.now) }
 {
+    if !begins_suffix(text) {
+        return None;
+    }
     if let Some(digits) = parameter(text) {
         return Some(Suffix {
             form: Form::Parameter,
             digits,
         });
     }
-    if let Some(digits) = indicated(text) {
+    if let Some(digits) = indicated_unless(text, no_indicator) {
         return Some(Suffix {
             form: Form::Indicated,
             digits,
@@ -200,6 +216,15 @@ fn read_suffix(text: &str) -> Option<Suffix<'_>>
         form: Form::Signed,
         digits,
     })
+}
+
+/// The digits of an extension with an indicator, unless it is known that the text is none.
+fn indicated_unless(text: &str, no_indicator: bool) -> Option<&str>
+    requires { IsTrue no_indicator → (d : List ℕ) → ¬ (IsIndicated (chars text.now) d) }
+    ensures read { MatchOption result ((d : List ℕ) → ¬ (IsIndicated (chars text.now) d)) (λ d. IsIndicated (chars text.now) (chars d.now)) }
+    ensures slice { IfSome result (λ d. IsSlice text.now d.now) }
+{
+    if no_indicator { None } else { indicated(text) }
 }
 
 /// Whether the text is digits of any script, and no more of them than this.

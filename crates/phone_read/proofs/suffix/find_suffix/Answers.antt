@@ -3,12 +3,12 @@ use Rattle.std.proofs.lemmas.Bool.{cases_lt}
 use Rattle.std.proofs.lemmas.List.{append_cancel_right, nil_from_length}
 use Rattle.std.proofs.lemmas.Str.{chars-nil}
 use Rattle.std.specs.Str.{chars}
-use Rattle.phone_read.specs.Suffixes.{IsSuffix, is_suffix_start}
-use Rattle.phone_read.specs.Texts.{begins}
+use Rattle.phone_read.specs.Suffixes.{IsSuffix}
 use Rattle.phone_read.specs.declared.suffix.Form.{Form}
+use Rattle.phone_read.specs.declared.suffix.Form.TheVariants.{Indicated}
 use Rattle.phone_read.proofs.Borders.{borders_more}
 use Rattle.phone_read.proofs.Slices.{slice_of_end}
-use Rattle.phone_read.proofs.Starts.{suffix_begins}
+use Rattle.phone_read.proofs.Starts.{suffix_begins, not_indicated_after_lead}
 use Rattle.phone_read.proofs.suffix.find_suffix.Goals as goal
 
 pub returns-in-Some-read_suffix-clause-slice : goal.returns-in-Some-read_suffix-clause-slice
@@ -30,8 +30,8 @@ returns-in-Some-read_suffix-clause-read c =
       longest = λ k f d less. subst (λ t. (j : ℕ) → j < length t → (g : Form) (e : List ℕ) → ¬ (IsSuffix (drop j text) g e)) same i.2 k less f d;
     }
 
-pub loop-c-preserved-in_default-read_suffix : goal.loop-c-preserved-in_default-read_suffix
-loop-c-preserved-in_default-read_suffix c =
+pub loop-c-preserved : goal.loop-c-preserved
+loop-c-preserved c =
     let v = c.loop-c.invariant.1 in
     let i = c.loop-c.invariant.2 in
     let x = c.in-Some.c in (
@@ -42,22 +42,7 @@ loop-c-preserved-in_default-read_suffix c =
         i.1 ∙ ap (λ t. i.0 ++ t) c.in-Some.ensures.read ∙ sym (append_assoc i.0 (x ∷ []) (chars c.in-Some.after.now)),
         borders_more (λ t. (f : Form) (d : List ℕ) → ¬ (IsSuffix t f d)) (chars c.args.text.now) i.0 (chars c.loop-c.rest.now) x i.1 i.2 c.in_default-read_suffix.ensures.read,
       ),
-    )
-
-pub loop-c-preserved : goal.loop-c-preserved
-loop-c-preserved c =
-    let v = c.loop-c.invariant.1 in
-    let i = c.loop-c.invariant.2 in
-    let x = c.in-Some.c in
-    let rest = chars c.loop-c.rest.now in (
-      search rules,
-      (v.0 ++ encode_utf8 x, rw (v.1, c.in-Some.ensures.cut) (sym (append_assoc v.0 _ _))),
-      (
-        i.0 ++ x ∷ [],
-        i.1 ∙ ap (λ t. i.0 ++ t) c.in-Some.ensures.read ∙ sym (append_assoc i.0 (x ∷ []) (chars c.in-Some.after.now)),
-        borders_more (λ t. (f : Form) (d : List ℕ) → ¬ (IsSuffix t f d)) (chars c.args.text.now) i.0 rest x i.1 i.2
-            (λ f d h. true≢false (sym (suffix_begins rest f d h) ∙ ap (begins is_suffix_start) c.in-Some.ensures.read ∙ sym c.is_suffix_start.ensures ∙ c.if-is_suffix_start.false)),
-      ),
+      (λ e. not_indicated_after_lead (chars c.loop-c.rest.now) (chars c.in-Some.after.now) x c.in-Some.ensures.read (sym c.is_lead-in_lead.ensures ∙ e) (c.in_default-read_suffix.ensures.read Indicated)),
     )
 
 pub returns-clause-read : goal.returns-clause-read

@@ -1,7 +1,7 @@
-use Rattle.std.proofs.Common.{◌≡◌, List, ℕ, ◌<◌, ◌++◌, chars, length, drop}
+use Rattle.std.proofs.Common.{◌≡◌, true, List, ℕ, ◌<◌, ◌++◌, chars, length, drop}
 use denote.Text.{Utf8}
 use denote.Shadow.{shadow}
-use Rattle.phone_read.specs.Suffixes.{IsSuffix}
+use Rattle.phone_read.specs.Suffixes.{IsSuffix, IsIndicated}
 use Rattle.phone_read.specs.declared.suffix.Form.{Form}
 use Rattle.phone_read.proofs.suffix.find_suffix.Given as goal
 
@@ -10,6 +10,7 @@ invariant-loop-c l =
     shadow (Utf8 l.rest) × ((v : List ℕ) × (l.text ≡ v ++ l.rest))
     × ((passed : List ℕ) × (chars l.text ≡ passed ++ chars l.rest)
     × ((k : ℕ) → k < length passed → (f : Form) (d : List ℕ) → ¬ (IsSuffix (drop k (chars l.text)) f d)))
+    × (l.in_lead ≡ true → (d : List ℕ) → ¬ (IsIndicated (chars l.rest) d))
 
 abbrev pub decreases-loop-c : goal.decreases-loop-c
 decreases-loop-c l = length l.rest
