@@ -1,0 +1,12 @@
+//! Tests of the records, look-ups and refusals of a database, on small databases.
+#![tactic(auto)]
+
+#[cfg(test)]
+mod accessors;
+#[cfg(test)]
+mod look_ups;
+#[cfg(test)]
+mod matching;
+#[cfg(test)]
+mod refusals;
+mod told;
