@@ -93,3 +93,45 @@ fn compares_true_lengths(rt: HostRuntime) -> Result<(), Fail> {
     );
     Ok(())
 }
+
+/// One territory whose general descriptor has this pattern and these lengths.
+fn of_general<const N: usize>(
+    alloc: Global,
+    pattern: &str,
+    lengths: [u16; N],
+) -> Result<Database, LoadMetadata> {
+    let m = territory(alloc, "ZA", 27, pattern, lengths)?;
+    Database::from(alloc, vec![in alloc; m]?)
+}
+
+#[test]
+fn asks_where_the_first_match_begins(rt: HostRuntime) -> Result<(), Fail> {
+    let db = of_general(rt.alloc(), "0", [])?;
+    assert_eq!(rt;
+        is_match(&db, Type::Unknown, "10")?,
+        Some(false),
+        "not at the front"
+    );
+    assert_eq!(rt;
+        is_match(&db, Type::Unknown, "01")?,
+        Some(true),
+        "at the front"
+    );
+    Ok(())
+}
+
+#[test]
+fn counts_the_bytes_of_a_text(rt: HostRuntime) -> Result<(), Fail> {
+    let db = of_general(rt.alloc(), "\\d+", [5, 8, 10])?;
+    assert_eq!(rt;
+        is_match(&db, Type::Unknown, "1\u{e9}\u{e9}")?,
+        Some(true),
+        "five bytes"
+    );
+    assert_eq!(rt;
+        is_match(&db, Type::Unknown, "123")?,
+        Some(false),
+        "three bytes"
+    );
+    Ok(())
+}
