@@ -8,8 +8,11 @@ ghost use Rattle.phone_core.specs.Ids.{id_of, name};
 ghost use Rattle.phone_core.specs.Norm.{norm};
 ghost use Rattle.phone_core.specs.Validations.{is_possible, is_invalid, is_invalid_length};
 ghost use Rattle.phone_core.specs.declared.country.Id.{Id};
+ghost use Rattle.phone_core.specs.declared.country.Source.TheVariants as source;
 ghost use Rattle.phone_core.specs.declared.validator.Validation.{Validation};
 ghost use Rattle.phone_core.specs.Numbers.{National, IsHeld, leading_zeros, national_in, text_of};
+
+use crate::country::Source;
 
 /// Two national numbers have one text exactly if they have one value and one count of leading zeros.
 pub fn same_text()
@@ -53,3 +56,10 @@ pub fn digits_are_bytes()
     ensures read { (t : List ℕ) → list_all is_digit t ≡ true → chars t ≡ t }
     ensures written { (t : List ℕ) → list_all is_digit t ≡ true → encode_utf8_all t ≡ t }
 {}
+
+/// The source that a number has before anything is found of its calling code: the hint's, `Default`.
+pub fn default_source() -> Source
+    ensures { result ≡ source.Default }
+{
+    Source::default()
+}
