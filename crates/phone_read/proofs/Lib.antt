@@ -6,7 +6,9 @@ pub mod Endings
 pub mod HintCodes
 pub mod Likes
 pub mod NaturalRows
+pub mod Openings
 pub mod Prefixes
+pub mod ReadingOnes
 pub mod Runs
 pub mod Slices
 pub mod Starts
