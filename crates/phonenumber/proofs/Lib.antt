@@ -1,2 +1,4 @@
 pub mod Lengths
 pub mod Thins
+pub mod ThinReadings
+pub mod ThinTexts
