@@ -4,24 +4,28 @@
 #![tactic(auto)]
 
 mod core_calls;
+mod meta_calls;
 mod read_calls;
 mod table;
 mod tally;
 
 use anyhow::Result;
-use std::alloc::{AllocError, Global};
-use std::fs;
+use std::alloc::AllocGlobal;
+use std::fs::{self, Files};
 use std::process::ExitCode;
 use table::Row;
 use tally::Tally;
 
 /// What the port answers to the row's call; none for a call that no module knows.
-fn answer(alloc: Global, row: &Row) -> Result<Option<String>, AllocError> {
-    let found = core_calls::answer(alloc, row)?;
-    if found.is_some() {
-        return Ok(found);
+fn answer<R: Files + AllocGlobal>(rt: &R, row: &Row) -> Result<Option<String>> {
+    let alloc = rt.alloc();
+    if let Some(found) = core_calls::answer(alloc, row)? {
+        return Ok(Some(found));
     }
-    read_calls::answer(alloc, row)
+    if let Some(found) = read_calls::answer(alloc, row)? {
+        return Ok(Some(found));
+    }
+    meta_calls::answer(rt, row)
 }
 
 fn main(rt: HostRuntime) -> Result<ExitCode> {
@@ -30,7 +34,7 @@ fn main(rt: HostRuntime) -> Result<ExitCode> {
     let mut tally = Tally::new(alloc);
     for line in text.as_str().lines() {
         let row = Row::read(alloc, line)?;
-        let Some(found) = answer(alloc, &row)? else {
+        let Some(found) = answer(&rt, &row)? else {
             tally.pass_over();
             continue;
         };
