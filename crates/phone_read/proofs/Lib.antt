@@ -9,6 +9,7 @@ pub mod NaturalRows
 pub mod Openings
 pub mod Prefixes
 pub mod ReadingOnes
+pub mod ReadingSome
 pub mod Runs
 pub mod Slices
 pub mod Starts

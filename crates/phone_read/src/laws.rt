@@ -1,14 +1,22 @@
 //! What holds of the two readings, and rows that are computed on their definitions. These functions do nothing; their
 //! contracts are the statements.
-ghost use Rattle.std.specs.Prelude.{◌≡◌, ℕ, List, [], ◌∷◌, ◌++◌, codes, Some, None, Ok, Err, true};
+ghost use Rattle.std.specs.Prelude.{◌≡◌, ℕ, List, [], ◌∷◌, ◌++◌, codes, chars, Option, Some, None, Result, Ok, Err, true};
+ghost use Rattle.phone_core.specs.declared.country.Id.{Id};
+ghost use Rattle.phone_core.specs.declared.error.ParseError.{ParseError};
+ghost use Rattle.phone_meta.specs.declared.loader.Metadata as loader;
 ghost use Rattle.phone_read.specs.Cores.{IsCore};
 ghost use Rattle.phone_read.specs.Naturals.{IsNatural};
+ghost use Rattle.phone_read.specs.Readings.{Reads};
 ghost use Rattle.phone_read.specs.Suffixes.{IsSuffix, is_suffix_start};
 ghost use Rattle.phone_read.specs.Texts.{begins};
 ghost use Rattle.phone_read.specs.declared.natural.NoReading.TheVariants.{Error, Failure};
+ghost use Rattle.phone_read.specs.declared.reading.Reading.{Reading};
 ghost use Rattle.phone_read.specs.declared.suffix.Form.{Form};
 ghost use Rattle.phone_read.specs.declared.suffix.Form.TheVariants.{Parameter, Indicated, Signed};
 ghost use Rattle.phone_read.specs.Tel.{IsTel, TelParts};
+
+use crate::reading::parts;
+use phone_core::is_viable;
 
 /// A text has at most one core.
 pub fn one_core()
@@ -19,6 +27,15 @@ pub fn one_core()
 pub fn one_tel_reading()
     ensures { (text : List ℕ) (a b : TelParts) → IsTel text a → IsTel text b → a ≡ b }
 {}
+
+/// Each text has a reading under each database and hint: the readers find its parts, and the rest is told by cases.
+pub fn some_reading(text: &str)
+    ensures { (db : List loader.Metadata) (hint : Option Id) → (r : Result Reading ParseError) × Reads db hint (chars text.now) r }
+{
+    if let Some(number) = parts(text) {
+        let _viable = is_viable(number.national.as_str());
+    }
+}
 
 /// Cores: what stands before the first digit or plus sign and what stands after the last letter, number or `#` is cut.
 pub fn core_rows()
