@@ -3,9 +3,13 @@ pub mod CoreRows
 pub mod Cores
 pub mod DigitTexts
 pub mod Endings
+pub mod Ends
+pub mod Foldings
 pub mod HintCodes
 pub mod Likes
+pub mod NaturalOnes
 pub mod NaturalRows
+pub mod OneForm
 pub mod Prefixes
 pub mod Runs
 pub mod Slices

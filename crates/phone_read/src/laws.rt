@@ -1,10 +1,11 @@
 //! What holds of the two readings, and rows that are computed on their definitions. These functions do nothing; their
 //! contracts are the statements.
-ghost use Rattle.std.specs.Prelude.{◌≡◌, ℕ, List, [], ◌∷◌, ◌++◌, codes, Some, None, Ok, Err, true};
+ghost use Rattle.std.specs.Prelude.{◌≡◌, ℕ, List, [], ◌∷◌, ◌++◌, codes, Some, None, Result, Ok, Err, true};
 ghost use Rattle.phone_read.specs.Cores.{IsCore};
-ghost use Rattle.phone_read.specs.Naturals.{IsNatural};
+ghost use Rattle.phone_read.specs.Naturals.{IsNatural, NaturalParts};
 ghost use Rattle.phone_read.specs.Suffixes.{IsSuffix, is_suffix_start};
 ghost use Rattle.phone_read.specs.Texts.{begins};
+ghost use Rattle.phone_read.specs.declared.natural.NoReading.{NoReading};
 ghost use Rattle.phone_read.specs.declared.natural.NoReading.TheVariants.{Error, Failure};
 ghost use Rattle.phone_read.specs.declared.suffix.Form.{Form};
 ghost use Rattle.phone_read.specs.declared.suffix.Form.TheVariants.{Parameter, Indicated, Signed};
@@ -18,6 +19,11 @@ pub fn one_core()
 /// A text has at most one reading as a `tel:` text.
 pub fn one_tel_reading()
     ensures { (text : List ℕ) (a b : TelParts) → IsTel text a → IsTel text b → a ≡ b }
+{}
+
+/// A text is read in at most one way as free text.
+pub fn one_natural_reading()
+    ensures { (text : List ℕ) (a b : Result NaturalParts NoReading) → IsNatural text a → IsNatural text b → a ≡ b }
 {}
 
 /// Cores: what stands before the first digit or plus sign and what stands after the last letter, number or `#` is cut.
