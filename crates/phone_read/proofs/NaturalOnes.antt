@@ -23,6 +23,7 @@ suffix_at c before f d h = subst (λ t. IsSuffix t f d) (sym (ap (drop (length b
 longest_excludes_none : (c before : List ℕ) (f : Form) (d : List ℕ) → HasLongestSuffix c before f d → ¬ (HasNoSuffix c)
 longest_excludes_none c before f d h none = none (length before) f d (suffix_at c before f d h)
 
+-- what stands before is of one length
 longest_length : (c a b : List ℕ) (f g : Form) (d e : List ℕ) → HasLongestSuffix c a f d → HasLongestSuffix c b g e → length a ≡ length b
 longest_length c a b f g d e h k =
     ⊎_elim
@@ -60,6 +61,7 @@ outcome n Parameter d = Err Failure
 outcome n Signed d = Err Failure
 outcome n Indicated d = Ok (record { national = n; extension = Some d })
 
+-- what is made of two extensions that are one text is the same
 outcome_same : (n w : List ℕ) (f g : Form) (d e : List ℕ) → IsSuffix w f d → IsSuffix w g e → outcome n f d ≡ outcome n g e
 outcome_same n w Parameter Parameter d e h k = refl
 outcome_same n w Parameter Signed d e h k = refl
@@ -91,6 +93,7 @@ record IsExtended (t : List ℕ) (r : Result NaturalParts NoReading) : Type 0 wh
   pub longest : HasLongestSuffix core national form digits
   pub is : r ≡ outcome national form digits
 
+-- each reading comes in one of these ways
 ways : (t : List ℕ) (r : Result NaturalParts NoReading) → IsNatural t r → IsUnread t r ⊎ (IsPlain t r ⊎ IsExtended t r)
 ways t r (Naturals.nothing none) = inl (record { none = none; is = refl })
 ways t r (Naturals.plain c core none) = inr (inl (record { core = c; is_core = core; none = none; is = refl }))
@@ -101,6 +104,7 @@ ways t r (Naturals.with_sign c n d core longest) =
 ways t r (Naturals.extended c n d core longest) =
     inr (inr (record { core = c; national = n; form = Indicated; digits = d; is_core = core; longest = longest; is = refl }))
 
+-- in each way alone, and across them
 extended_same : (t : List ℕ) (a b : Result NaturalParts NoReading) → IsExtended t a → IsExtended t b → a ≡ b
 extended_same t a b g h =
     let core : h.core ≡ g.core = core_unique t h.core g.core h.is_core g.is_core in

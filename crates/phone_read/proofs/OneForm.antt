@@ -17,6 +17,7 @@ use Rattle.phone_read.proofs.Foldings.{IsFolded, nd_folded, not_in_folded, lengt
 
 -- ---- what the indicators begin and end in
 
+-- dashes and number signs fold to themselves
 dash_folded : IsFolded is_dash
 unfolding ucd_case
 dash_folded c = member_passes (λ x. is_dash (simple_fold x)) (45 ∷ 32 ∷ []) c refl
@@ -25,6 +26,7 @@ sign_folded : IsFolded is_sign
 unfolding ucd_case
 sign_folded c e = ap (λ x. is_sign (simple_fold x)) (is_35 c e)
 
+-- what a character's folding is
 abbrev folds_to_dash : ℕ → Bool
 folds_to_dash c = is_dash (simple_fold c)
 
@@ -53,6 +55,7 @@ indicators_one_if_sign : list_all one_if_sign indicators ≡ true
 unfolding ucd_case
 indicators_one_if_sign = refl
 
+-- the empty text is no indicator
 nothing_announces : list_any (is_like []) indicators ≡ false
 nothing_announces = refl
 
@@ -76,6 +79,7 @@ word_apart word h =
       no_last_digit = ends-like is_nd nd_folded word one.word one.like (not-true _ digits.1);
     }
 
+-- a text like an indicator is one character where it begins in a semicolon or ends in a number sign
 word_of_one : (word : List ℕ) → list_any (is_like word) indicators ≡ true → (begins folds_to_semicolon word ≡ true) ⊎ (ends folds_to_sign word ≡ true) →
     length word ≡ 1
 word_of_one word h sign =
@@ -122,11 +126,13 @@ lead_before_sign lead word mark gap t announces marks gaps e =
     let last : ends is_sign word ≡ true = sym (ends-append is_sign lead word (word_some word announces)) ∙ ap (ends is_sign) announced ∙ ends-push is_sign t 35 in
     append_cancel_right lead t (35 ∷ []) (ap (λ u. lead ++ u) (sym (word_sign word announces last)) ∙ announced)
 
+-- an optional number sign is there or not
 optional_sign : (t : List ℕ) → IsOptional is_sign t → (t ≡ []) ⊎ (t ≡ 35 ∷ [])
 optional_sign [] h = inl refl
 optional_sign (x ∷ []) h = inr (ap (λ c. c ∷ []) (is_35 x (and_parts (is_sign x) true h.only).0))
 optional_sign (x ∷ y ∷ t) h = absurd (omega (arith, h.few))
 
+-- a text cut before digits: what stands before them ends in no digit; a number sign there is the indicator, so that only the lead stands before it
 record IndicatedCut (w d : List ℕ) : Type 0 where
   pub before : List ℕ
   pub sign : List ℕ
@@ -228,6 +234,7 @@ indicated_not_signed w d e g h = at g.announced.word refl
         let nil : e ≡ [] = run_nil is_lead is_nd lead_nd e leads.1 h.digits.only in
         omega (arith, h.some_digits, ap length nil)
 
+-- what neither a lead nor an ending has: a semicolon, an `e`
 abbrev folds_to_e : ℕ → Bool
 folds_to_e c = same_fold c 101
 
