@@ -65,7 +65,8 @@ no_passing_end p x kept trailing others e none (inl h) = cc
 no_passing_end p x kept trailing others e none (inr h) =
     true≢false (sym (ap (λ b. b || list_any p trailing) (any_from_ends p (x ∷ kept) h)) ∙ sym (list_any-append p (x ∷ kept) trailing) ∙ ap (list_any p) (sym e) ∙ none)
 
-kept_same : (p : ℕ → Bool) (a b s t : List ℕ) → a ++ s ≡ b ++ t → list_any p s ≡ false → list_any p t ≡ false →
+-- two texts are one where only their longest ends without passing characters differ
+pub kept_same : (p : ℕ → Bool) (a b s t : List ℕ) → a ++ s ≡ b ++ t → list_any p s ≡ false → list_any p t ≡ false →
     (a ≡ []) ⊎ (ends p a ≡ true) → (b ≡ []) ⊎ (ends p b ≡ true) → a ≡ b
 kept_same p [] [] s t e ns nt ea eb = refl
 kept_same p [] (y ∷ b) s t e ns nt ea eb = absurd (no_passing_end p y b t s e ns eb)

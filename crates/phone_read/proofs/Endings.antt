@@ -33,21 +33,21 @@ from_false : (b : Bool) → (b ≡ true → false ≡ true) → b ≡ false
 from_false true h = absurd (true≢false (sym (h refl)))
 from_false false h = refl
 
-members_apart : (p : ℕ → Bool) (members : List ℕ) → list_all (λ c. not (p c)) members ≡ true → AreApart p (is_one_of members)
+pub members_apart : (p : ℕ → Bool) (members : List ℕ) → list_all (λ c. not (p c)) members ≡ true → AreApart p (is_one_of members)
 members_apart p members all c e = not_true (p c) (member_passes (λ x. not (p x)) members c all e)
 
-apart_members : (q : ℕ → Bool) (members : List ℕ) → list_all (λ c. not (q c)) members ≡ true → AreApart (is_one_of members) q
+pub apart_members : (q : ℕ → Bool) (members : List ℕ) → list_all (λ c. not (q c)) members ≡ true → AreApart (is_one_of members) q
 apart_members q members all c e =
     from_false (is_one_of members c) (λ f. absurd (true≢false (sym e ∙ not_true (q c) (member_passes (λ x. not (q x)) members c all f))))
 
 mark_gap : AreApart is_mark is_gap
 mark_gap = members_apart is_mark (32 ∷ 0xA0 ∷ 9 ∷ 44 ∷ 45 ∷ []) refl
 
-mark_nd : AreApart is_mark is_nd
+pub mark_nd : AreApart is_mark is_nd
 unfolding ucd_category
 mark_nd = apart_members is_nd (58 ∷ 46 ∷ 0xFF0E ∷ []) refl
 
-gap_nd : AreApart is_gap is_nd
+pub gap_nd : AreApart is_gap is_nd
 unfolding ucd_category
 gap_nd = apart_members is_nd (32 ∷ 0xA0 ∷ 9 ∷ 44 ∷ 45 ∷ []) refl
 
@@ -55,7 +55,7 @@ pub dash_nd : AreApart is_dash is_nd
 unfolding ucd_category
 dash_nd = apart_members is_nd (45 ∷ 32 ∷ []) refl
 
-is_35 : (c : ℕ) → is_sign c ≡ true → c ≡ 35
+pub is_35 : (c : ℕ) → is_sign c ≡ true → c ≡ 35
 is_35 c e = eqb-true c 35 e
 
 mark_sign : AreApart is_mark is_sign
@@ -64,7 +64,7 @@ mark_sign c e = ap is_mark (is_35 c e)
 gap_sign : AreApart is_gap is_sign
 gap_sign c e = ap is_gap (is_35 c e)
 
-nd_35 : is_nd 35 ≡ false
+pub nd_35 : is_nd 35 ≡ false
 unfolding ucd_category
 nd_35 = refl
 

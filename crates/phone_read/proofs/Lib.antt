@@ -3,10 +3,14 @@ pub mod CoreRows
 pub mod Cores
 pub mod DigitTexts
 pub mod Endings
+pub mod Ends
+pub mod Foldings
 pub mod HintCodes
 pub mod Likes
+pub mod NaturalOnes
 pub mod NaturalRows
 pub mod Openings
+pub mod OneForm
 pub mod Prefixes
 pub mod ReadingOnes
 pub mod ReadingSome

@@ -5,10 +5,11 @@ ghost use Rattle.phone_core.specs.declared.country.Id.{Id};
 ghost use Rattle.phone_core.specs.declared.error.ParseError.{ParseError};
 ghost use Rattle.phone_meta.specs.declared.loader.Metadata as loader;
 ghost use Rattle.phone_read.specs.Cores.{IsCore};
-ghost use Rattle.phone_read.specs.Naturals.{IsNatural};
+ghost use Rattle.phone_read.specs.Naturals.{IsNatural, NaturalParts};
 ghost use Rattle.phone_read.specs.Readings.{Reads};
 ghost use Rattle.phone_read.specs.Suffixes.{IsSuffix, is_suffix_start};
 ghost use Rattle.phone_read.specs.Texts.{begins};
+ghost use Rattle.phone_read.specs.declared.natural.NoReading.{NoReading};
 ghost use Rattle.phone_read.specs.declared.natural.NoReading.TheVariants.{Error, Failure};
 ghost use Rattle.phone_read.specs.declared.reading.Reading.{Reading};
 ghost use Rattle.phone_read.specs.declared.suffix.Form.{Form};
@@ -26,6 +27,16 @@ pub fn one_core()
 /// A text has at most one reading as a `tel:` text.
 pub fn one_tel_reading()
     ensures { (text : List ℕ) (a b : TelParts) → IsTel text a → IsTel text b → a ≡ b }
+{}
+
+/// A text is read in at most one way as free text.
+pub fn one_natural_reading()
+    ensures { (text : List ℕ) (a b : Result NaturalParts NoReading) → IsNatural text a → IsNatural text b → a ≡ b }
+{}
+
+/// A text has at most one reading, under each database and hint.
+pub fn one_reading()
+    ensures { (db : List loader.Metadata) (hint : Option Id) (text : List ℕ) (a b : Result Reading ParseError) → Reads db hint text a → Reads db hint text b → a ≡ b }
 {}
 
 /// Each text has a reading under each database and hint: the readers find its parts, and the rest is told by cases.

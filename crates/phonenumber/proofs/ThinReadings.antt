@@ -155,63 +155,62 @@ read_with f (Err e) = Err e
 abbrev numbered : List Metadata → Option Id → Coded → Result Reading ParseError
 numbered db hint c = reading_of c None (stripped (stripping_territory db hint c) c.rest)
 
-module _ (natural_same : (t : List ℕ) (a b : Result NaturalParts NoReading) → IsNatural t a → IsNatural t b → a ≡ b) where
-  -- the parts of a thin text are these
-  part_of : (t : List ℕ) (thin : IsThinText t) (p : TelParts) → HasParts t (Some p) → p ≡ whole_part t
-  part_of t thin p g =
-      let same : Some p ≡ Some (whole_part t) = parts_same natural_same t (Some p) (Some (whole_part t)) g (thin_parts t thin) in cc
+-- the parts of a thin text are these
+part_of : (t : List ℕ) (thin : IsThinText t) (p : TelParts) → HasParts t (Some p) → p ≡ whole_part t
+part_of t thin p g =
+    let same : Some p ≡ Some (whole_part t) = parts_same t (Some p) (Some (whole_part t)) g (thin_parts t thin) in cc
 
-  some_part : (t : List ℕ) (thin : IsThinText t) → ¬ (HasParts t None)
-  some_part t thin g =
-      apart None (whole_part t) refl (parts_same natural_same t None (Some (whole_part t)) g (thin_parts t thin))
-    where
-      apart : (o : Option TelParts) (p : TelParts) → o ≡ None → o ≡ Some p → ⊥
-      apart o p e f = cc
+some_part : (t : List ℕ) (thin : IsThinText t) → ¬ (HasParts t None)
+some_part t thin g =
+    apart None (whole_part t) refl (parts_same t None (Some (whole_part t)) g (thin_parts t thin))
+  where
+    apart : (o : Option TelParts) (p : TelParts) → o ≡ None → o ≡ Some p → ⊥
+    apart o p e f = cc
 
-  none_of_nil : (p : TelParts) → ¬ (HasParts [] (Some p))
-  none_of_nil p g = let same : Some p ≡ None = parts_same natural_same [] (Some p) None g nil_parts in cc
+none_of_nil : (p : TelParts) → ¬ (HasParts [] (Some p))
+none_of_nil p g = let same : Some p ≡ None = parts_same [] (Some p) None g nil_parts in cc
 
-  -- a viable thin text is read by its code
-  by_code : (db : List Metadata) → IsThinDatabase db → (hint : Option Id) (t : List ℕ) (thin : IsThinText t) → IsViable t →
-      (r : Result Coded ParseError) → code_of db hint t None ≡ r →
-      ThinReads db hint t (read_with (numbered db hint) r)
-  by_code db h None t thin v r e =
-      let told : r ≡ Err InvalidCountryCode = sym e ∙ thin_code db None t None thin.first refl refl in
-      subst (λ x. ThinReads db None t (read_with (numbered db None) x)) (sym told) (Thin.no_territory v refl)
-  by_code db h (Some id) t thin v r e = at (hinted db (Some id)) refl
-    where
-      at : (o : Option Metadata) → hinted db (Some id) ≡ o → ThinReads db (Some id) t (read_with (numbered db (Some id)) r)
-      at None f =
-          let told : r ≡ Err InvalidCountryCode = sym e ∙ thin_code db (Some id) t None thin.first f refl in
-          subst (λ x. ThinReads db (Some id) t (read_with (numbered db (Some id)) x)) (sym told) (Thin.no_territory v f)
-      at (Some m) f =
-          let same : m ≡ the_record db h = thin_hinted db h id m f in
-          let dialled : after_dialling (Some m) (norm t) ≡ None = rw same in
-          let c = code_by_hint m (norm t) in
-          let told : r ≡ Ok c = sym e ∙ thin_code db (Some id) t (Some m) thin.first f dialled in
-          let cut : stripped (hinted db (Some id)) c.rest ≡ record { national = thin_rest m c.rest; carrier = None } = ap (λ o. stripped o c.rest) f ∙ thin_strip_of db h m same c.rest in
-          subst (λ x. ThinReads db (Some id) t (read_with (numbered db (Some id)) x)) (sym told)
-          (subst (λ s. ThinReads db (Some id) t (reading_of c None s)) (sym cut) (Thin.by_hint m v f))
+-- a viable thin text is read by its code
+by_code : (db : List Metadata) → IsThinDatabase db → (hint : Option Id) (t : List ℕ) (thin : IsThinText t) → IsViable t →
+    (r : Result Coded ParseError) → code_of db hint t None ≡ r →
+    ThinReads db hint t (read_with (numbered db hint) r)
+by_code db h None t thin v r e =
+    let told : r ≡ Err InvalidCountryCode = sym e ∙ thin_code db None t None thin.first refl refl in
+    subst (λ x. ThinReads db None t (read_with (numbered db None) x)) (sym told) (Thin.no_territory v refl)
+by_code db h (Some id) t thin v r e = at (hinted db (Some id)) refl
+  where
+    at : (o : Option Metadata) → hinted db (Some id) ≡ o → ThinReads db (Some id) t (read_with (numbered db (Some id)) r)
+    at None f =
+        let told : r ≡ Err InvalidCountryCode = sym e ∙ thin_code db (Some id) t None thin.first f refl in
+        subst (λ x. ThinReads db (Some id) t (read_with (numbered db (Some id)) x)) (sym told) (Thin.no_territory v f)
+    at (Some m) f =
+        let same : m ≡ the_record db h = thin_hinted db h id m f in
+        let dialled : after_dialling (Some m) (norm t) ≡ None = rw same in
+        let c = code_by_hint m (norm t) in
+        let told : r ≡ Ok c = sym e ∙ thin_code db (Some id) t (Some m) thin.first f dialled in
+        let cut : stripped (hinted db (Some id)) c.rest ≡ record { national = thin_rest m c.rest; carrier = None } = ap (λ o. stripped o c.rest) f ∙ thin_strip_of db h m same c.rest in
+        subst (λ x. ThinReads db (Some id) t (read_with (numbered db (Some id)) x)) (sym told)
+        (subst (λ s. ThinReads db (Some id) t (reading_of c None s)) (sym cut) (Thin.by_hint m v f))
 
-  back_text : (db : List Metadata) → IsThinDatabase db → (hint : Option Id) (t : List ℕ) → IsThinText t → (r : Result Reading ParseError) → Reads db hint t r → ThinReads db hint t r
-  back_text db h hint t thin r (Readings.no_parts g) = absurd (some_part t thin g)
-  back_text db h hint t thin r (Readings.not_viable p g n) =
-      Thin.not_viable (subst (λ (x : TelParts). ¬ (IsViable x.national)) (part_of t thin p g) n)
-  back_text db h hint t thin r (Readings.no_code p e g v c) =
-      let same = part_of t thin p g in
-      by_code db h hint t thin (subst (λ (x : TelParts). IsViable x.national) same v) (Err e)
-      (subst (λ (x : TelParts). code_of db hint x.national x.prefix ≡ Err e) same c)
-  back_text db h hint t thin r (Readings.coded p c g v e) =
-      let same = part_of t thin p g in
-      subst (λ (x : TelParts). ThinReads db hint t (reading_of c (option_map norm x.extension) (stripped (stripping_territory db hint c) c.rest))) (sym same)
-      (by_code db h hint t thin (subst (λ (x : TelParts). IsViable x.national) same v) (Ok c)
-      (subst (λ (x : TelParts). code_of db hint x.national x.prefix ≡ Ok c) same e))
+back_text : (db : List Metadata) → IsThinDatabase db → (hint : Option Id) (t : List ℕ) → IsThinText t → (r : Result Reading ParseError) → Reads db hint t r → ThinReads db hint t r
+back_text db h hint t thin r (Readings.no_parts g) = absurd (some_part t thin g)
+back_text db h hint t thin r (Readings.not_viable p g n) =
+    Thin.not_viable (subst (λ (x : TelParts). ¬ (IsViable x.national)) (part_of t thin p g) n)
+back_text db h hint t thin r (Readings.no_code p e g v c) =
+    let same = part_of t thin p g in
+    by_code db h hint t thin (subst (λ (x : TelParts). IsViable x.national) same v) (Err e)
+    (subst (λ (x : TelParts). code_of db hint x.national x.prefix ≡ Err e) same c)
+back_text db h hint t thin r (Readings.coded p c g v e) =
+    let same = part_of t thin p g in
+    subst (λ (x : TelParts). ThinReads db hint t (reading_of c (option_map norm x.extension) (stripped (stripping_territory db hint c) c.rest))) (sym same)
+    (by_code db h hint t thin (subst (λ (x : TelParts). IsViable x.national) same v) (Ok c)
+    (subst (λ (x : TelParts). code_of db hint x.national x.prefix ≡ Ok c) same e))
 
-  -- and each reading of a thin text is that one
-  pub thin_reads_back : (db : List Metadata) → IsThinDatabase db → (hint : Option Id) (t : List ℕ) → is_thin t ≡ true → (r : Result Reading ParseError) →
-      Reads db hint t r → ThinReads db hint t r
-  thin_reads_back db h hint [] thin r (Readings.no_parts g) = Thin.not_viable not_viable_nil
-  thin_reads_back db h hint [] thin r (Readings.not_viable p g n) = absurd (none_of_nil p g)
-  thin_reads_back db h hint [] thin r (Readings.no_code p e g v c) = absurd (none_of_nil p g)
-  thin_reads_back db h hint [] thin r (Readings.coded p c g v e) = absurd (none_of_nil p g)
-  thin_reads_back db h hint (c ∷ cs) thin r reads = back_text db h hint (c ∷ cs) (thin_text c cs thin) r reads
+-- and each reading of a thin text is that one
+pub thin_reads_back : (db : List Metadata) → IsThinDatabase db → (hint : Option Id) (t : List ℕ) → is_thin t ≡ true → (r : Result Reading ParseError) →
+    Reads db hint t r → ThinReads db hint t r
+thin_reads_back db h hint [] thin r (Readings.no_parts g) = Thin.not_viable not_viable_nil
+thin_reads_back db h hint [] thin r (Readings.not_viable p g n) = absurd (none_of_nil p g)
+thin_reads_back db h hint [] thin r (Readings.no_code p e g v c) = absurd (none_of_nil p g)
+thin_reads_back db h hint [] thin r (Readings.coded p c g v e) = absurd (none_of_nil p g)
+thin_reads_back db h hint (c ∷ cs) thin r reads = back_text db h hint (c ∷ cs) (thin_text c cs thin) r reads

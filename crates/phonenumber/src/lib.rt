@@ -2,6 +2,7 @@
 #![tactic(auto)]
 
 mod formatter;
+pub mod laws;
 pub mod metadata;
 mod parser;
 mod phone_number;
