@@ -29,6 +29,13 @@ pub fn core_rows()
     ensures second_number { IsCore (codes "508/x30") (codes "508") }
 {}
 
+/// Texts without a core: without anything at which a number starts, or without anything in which one ends after that.
+pub fn no_core_rows()
+    ensures no_start { (core : List ℕ) → ¬ (IsCore (codes "Num-....") core) }
+    ensures sign_alone { (core : List ℕ) → ¬ (IsCore (codes "+") core) }
+    ensures nothing { (core : List ℕ) → ¬ (IsCore [] core) }
+{}
+
 /// Readings of `tel:` texts: the prefix of a plus sign and of a context, parameters in any order, a repeated one.
 pub fn tel_rows()
     ensures context { IsTel (codes "tel:2034567890;ext=456;phone-context=+44")
