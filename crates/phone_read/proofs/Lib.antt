@@ -10,5 +10,6 @@ pub mod Prefixes
 pub mod Runs
 pub mod Slices
 pub mod Starts
+pub mod TelRefusals
 pub mod TelRows
 pub mod Tels

@@ -49,6 +49,14 @@ pub fn tel_rows()
     ensures exact_names { IsTel (codes "12;ext=1;Ext=3") (record { national = codes "12"; prefix = None; extension = Some (codes "1") }) }
 {}
 
+/// Texts without the `tel:` form: the run after the plus sign takes all, a space, a plus sign alone, other letters.
+pub fn not_tel_rows()
+    ensures all_in_run { (p : TelParts) → ¬ (IsTel (codes "+6433316005") p) }
+    ensures space { (p : TelParts) → ¬ (IsTel (codes "1 2") p) }
+    ensures sign_alone { (p : TelParts) → ¬ (IsTel (codes "+") p) }
+    ensures other_letters { (p : TelParts) → ¬ (IsTel (codes "0800-4-pizza") p) }
+{}
+
 /// What an extension may begin with.
 pub fn extension_starts()
     ensures { (text : List ℕ) (f : Form) (digits : List ℕ) → IsSuffix text f digits → begins is_suffix_start text ≡ true }
