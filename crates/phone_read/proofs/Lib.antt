@@ -10,6 +10,7 @@ pub mod Prefixes
 pub mod Runs
 pub mod Slices
 pub mod Starts
+pub mod SuffixTests
 pub mod TelRefusals
 pub mod TelRows
 pub mod Tels

@@ -75,8 +75,13 @@ pub fn extension_rows()
 /// Readings of free text: one for each of the five cases.
 pub fn natural_rows()
     ensures whole_text { IsNatural (codes "650253") (Ok (record { national = codes "650253"; extension = None })) }
+    ensures spaced { IsNatural (codes "650 253 0000 extn. 4567")
+        (Ok (record { national = codes "650 253 0000"; extension = Some (codes "4567") })) }
+    ensures no_digits { IsNatural (codes "+64 3 331 6005x") (Ok (record { national = codes "+64 3 331 6005"; extension = Some [] })) }
     ensures extended { IsNatural (codes "+64331x12") (Ok (record { national = codes "+64331"; extension = Some (codes "12") })) }
     ensures parameter { IsNatural (codes "650;ext=5") (Err Failure) }
     ensures sign { IsNatural (codes "650 5#") (Err Failure) }
+    ensures longer_sign { IsNatural (codes "+64 3 331 6005#") (Err Failure) }
     ensures no_number { IsNatural (codes "Num-....") (Err Error) }
+    ensures no_digit { IsNatural (codes "+") (Err Error) }
 {}
