@@ -4,6 +4,7 @@ pub mod Cores
 pub mod DigitTexts
 pub mod Endings
 pub mod HintCodes
+pub mod IndicatorRows
 pub mod Likes
 pub mod NaturalRows
 pub mod Prefixes

@@ -16,7 +16,7 @@ use Rattle.phone_read.proofs.CoreRows.{no_second, no_mark, no_start, sign_alone}
 use Rattle.phone_read.proofs.SuffixTests.{fails_at, no_suffix, no_suffix_before}
 
 -- an extension of the indicated form, put together
-indicated_row : (lead word mark gap d sign : List ℕ) → list_all is_lead lead ≡ true → list_any (is_like word) indicators ≡ true →
+pub indicated_row : (lead word mark gap d sign : List ℕ) → list_all is_lead lead ≡ true → list_any (is_like word) indicators ≡ true →
     list_all is_mark mark ≡ true → length mark ≤ 1 → list_all is_gap gap ≡ true → list_all is_nd d ≡ true → length d ≤ 7 →
     list_all is_sign sign ≡ true → length sign ≤ 1 → IsSuffix (lead ++ (word ++ (mark ++ (gap ++ (d ++ sign))))) Indicated d
 indicated_row lead word mark gap d sign leads announces marks one_mark gaps digits few signs one_sign = record {

@@ -1,10 +1,12 @@
 //! What holds of the two readings, and rows that are computed on their definitions. These functions do nothing; their
 //! contracts are the statements.
-ghost use Rattle.std.specs.Prelude.{◌≡◌, ℕ, List, [], ◌∷◌, ◌++◌, codes, Some, None, Ok, Err, true};
+ghost use Rattle.std.specs.Prelude.{◌≡◌, ℕ, List, [], ◌∷◌, ◌++◌, length, codes, Some, None, Ok, Err, true};
+ghost use Rattle.std.specs.List.{list_any};
+ghost use Rattle.std.specs.Str.{bytes_eq};
 ghost use Rattle.phone_read.specs.Cores.{IsCore};
 ghost use Rattle.phone_read.specs.Naturals.{IsNatural};
-ghost use Rattle.phone_read.specs.Suffixes.{IsSuffix, is_suffix_start};
-ghost use Rattle.phone_read.specs.Texts.{begins};
+ghost use Rattle.phone_read.specs.Suffixes.{IsSuffix, indicators, is_suffix_start};
+ghost use Rattle.phone_read.specs.Texts.{begins, is_like};
 ghost use Rattle.phone_read.specs.declared.natural.NoReading.TheVariants.{Error, Failure};
 ghost use Rattle.phone_read.specs.declared.suffix.Form.{Form};
 ghost use Rattle.phone_read.specs.declared.suffix.Form.TheVariants.{Parameter, Indicated, Signed};
@@ -70,6 +72,13 @@ pub fn extension_rows()
     ensures wide_word { IsSuffix (0xFF38 ∷ 0xFF34 ∷ 0xFF4E ∷ 0x661 ∷ []) Indicated (0x661 ∷ []) }
     ensures sign { IsSuffix (codes ",;") Indicated [] }
     ensures other_word { IsSuffix (codes "anexo:-7") Indicated (codes "7") }
+{}
+
+/// Each of the 31 indicators announces an extension, and so does each text that is like one, as in capitals.
+pub fn indicator_rows()
+    ensures count { length indicators ≡ 31 }
+    ensures each { (w : List ℕ) → list_any (bytes_eq w) indicators ≡ true → IsSuffix (w ++ codes "5") Indicated (codes "5") }
+    ensures like { (w : List ℕ) → list_any (is_like w) indicators ≡ true → IsSuffix (w ++ codes "5") Indicated (codes "5") }
 {}
 
 /// Readings of free text: one for each of the five cases.
