@@ -8,6 +8,7 @@ pub mod IndicatorRows
 pub mod Likes
 pub mod NaturalRows
 pub mod Prefixes
+pub mod ReadingRows
 pub mod Runs
 pub mod Slices
 pub mod Starts

@@ -69,7 +69,7 @@ unfolding ucd_case ucd_category
 other_word = indicated_row [] (codes "anexo") (codes ":") (codes "-") (codes "7") [] refl refl refl (omega arith) refl refl (omega arith) refl (omega arith)
 
 -- a text that is its own core
-own_core : (text : List ℕ) → begins is_start text ≡ true → ends is_last text ≡ true → all_below (no_mark text) (length text) ≡ true → ¬ (text ≡ []) → IsCore text text
+pub own_core : (text : List ℕ) → begins is_start text ≡ true → ends is_last text ≡ true → all_below (no_mark text) (length text) ≡ true → ¬ (text ≡ []) → IsCore text text
 own_core text starts last none some = record {
   before = [];
   from = text;

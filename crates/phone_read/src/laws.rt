@@ -3,8 +3,12 @@
 ghost use Rattle.std.specs.Prelude.{◌≡◌, ℕ, List, [], ◌∷◌, ◌++◌, length, codes, Some, None, Ok, Err, true};
 ghost use Rattle.std.specs.List.{list_any};
 ghost use Rattle.std.specs.Str.{bytes_eq};
+ghost use Rattle.phone_core.specs.declared.country.Id.TheVariants.{NZ};
+ghost use Rattle.phone_core.specs.declared.country.Source.TheVariants.{Default, Plus};
 ghost use Rattle.phone_read.specs.Cores.{IsCore};
 ghost use Rattle.phone_read.specs.Naturals.{IsNatural};
+ghost use Rattle.phone_read.specs.Readings.{Reads};
+ghost use Rattle.phone_read.specs.Samples.{nz};
 ghost use Rattle.phone_read.specs.Suffixes.{IsSuffix, indicators, is_suffix_start};
 ghost use Rattle.phone_read.specs.Texts.{begins, is_like};
 ghost use Rattle.phone_read.specs.declared.natural.NoReading.TheVariants.{Error, Failure};
@@ -81,7 +85,7 @@ pub fn indicator_rows()
     ensures like { (w : List ℕ) → list_any (is_like w) indicators ≡ true → IsSuffix (w ++ codes "5") Indicated (codes "5") }
 {}
 
-/// Readings of free text: one for each of the five cases.
+/// Readings of free text, with each of the five cases among them.
 pub fn natural_rows()
     ensures whole_text { IsNatural (codes "650253") (Ok (record { national = codes "650253"; extension = None })) }
     ensures spaced { IsNatural (codes "650 253 0000 extn. 4567")
@@ -93,4 +97,21 @@ pub fn natural_rows()
     ensures longer_sign { IsNatural (codes "+64 3 331 6005#") (Err Failure) }
     ensures no_number { IsNatural (codes "Num-....") (Err Error) }
     ensures no_digit { IsNatural (codes "+") (Err Error) }
+{}
+
+/// Whole readings under a database of New Zealand alone and its hint: a number as it is dialled there, whose code is the
+/// hint's and whose national prefix is cut off, and one of the `tel:` form.
+pub fn whole_readings()
+    ensures by_hint { Reads (nz ∷ []) (Some NZ) (codes "03-331 6005") (Ok (record {
+      code = record { value = 64; source = Default };
+      national = record { zeros = 0; value = 33316005 };
+      extension = None;
+      carrier = None;
+    })) }
+    ensures by_prefix { Reads (nz ∷ []) (Some NZ) (codes "tel:+64-3-331-6005") (Ok (record {
+      code = record { value = 64; source = Plus };
+      national = record { zeros = 0; value = 33316005 };
+      extension = None;
+      carrier = None;
+    })) }
 {}
