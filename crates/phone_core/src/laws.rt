@@ -1,12 +1,14 @@
 //! What is true of the values for every text and every number: laws over their definitions alone. A law is a
-//! function without arguments that does nothing; its contract is the law.
-ghost use Rattle.std.specs.Prelude.{◌≡◌, ◌<◌, ◌^◌, ◌↔◌, ℕ, List, true, not, Some, Ok, chars, encode_utf8_all};
+//! function without arguments that does nothing; its contract is the law. Rows of single texts are computed on the
+//! definitions in the same way.
+ghost use Rattle.std.specs.Prelude.{◌≡◌, ◌<◌, ◌^◌, ◌↔◌, ℕ, List, [], ◌∷◌, ◌++◌, true, not, Some, Ok, chars, codes, encode_utf8_all};
 ghost use Rattle.std.specs.List.{list_all};
 ghost use Rattle.std.specs.Str.Parse.{digits_value};
 ghost use Rattle.phone_core.specs.Characters.{is_digit};
 ghost use Rattle.phone_core.specs.Ids.{id_of, name};
 ghost use Rattle.phone_core.specs.Norm.{norm};
 ghost use Rattle.phone_core.specs.Validations.{is_possible, is_invalid, is_invalid_length};
+ghost use Rattle.phone_core.specs.Viable.{IsViable};
 ghost use Rattle.phone_core.specs.declared.country.Id.{Id};
 ghost use Rattle.phone_core.specs.declared.country.Source.TheVariants as source;
 ghost use Rattle.phone_core.specs.declared.validator.Validation.{Validation};
@@ -63,3 +65,34 @@ pub fn default_source() -> Source
 {
     Source::default()
 }
+
+/// Normalised texts: letters of the keypad, marks that give nothing, wide digits.
+pub fn norm_rows()
+    ensures letters { norm (codes "034-I-am-HUNGRY") ≡ codes "034426486479" }
+    ensures marks { norm (codes "034-56&+#2") ≡ codes "034562" }
+    ensures wide { norm (0xFF14 ∷ 0xFF12 ∷ codes "0") ≡ codes "420" }
+{}
+
+/// Texts that may be a number: two digits; three digits with letters behind them, a plus sign before them, a small `x`
+/// between them.
+pub fn viable_rows()
+    ensures two { IsViable (codes "00") }
+    ensures three { IsViable (codes "111") }
+    ensures word { IsViable (codes "0800-4-pizza") }
+    ensures capitals { IsViable (codes "0800-4-PIZZA") }
+    ensures signed { IsViable (codes "+64 3 331 6005") }
+    ensures between { IsViable (codes "1x2x3") }
+{}
+
+/// Texts that are no number: too few digits, plus signs or other characters between them, a letter before the third digit.
+pub fn not_viable_rows()
+    ensures nothing { ¬ (IsViable []) }
+    ensures one { ¬ (IsViable (codes "1")) }
+    ensures plus_between { ¬ (IsViable (codes "1+1+1")) }
+    ensures plus_after { ¬ (IsViable (codes "80+0")) }
+    ensures two_and_letters { ¬ (IsViable (codes "08-PIZZA")) }
+    ensures early_letter { ¬ (IsViable (codes "08-P1ZZA")) }
+    ensures one_and_letters { ¬ (IsViable (codes "8-PIZZA")) }
+    ensures date { ¬ (IsViable (codes "12. March")) }
+    ensures address { ¬ (IsViable (codes "1110@gmail.com")) }
+{}

@@ -1,15 +1,15 @@
 -- Cores, computed on their definition.
-use Rattle.std.proofs.Common.{◌≡◌, ◌⊎◌, inl, inr, ℕ, Bool, true, false, not, List, [], ◌∷◌, ◌++◌, length, drop, codes, refl, sym, true≢false, append-nil}
+use Rattle.std.proofs.Common.{◌≡◌, ◌⊎◌, inl, inr, ℕ, Bool, true, false, not, List, [], ◌∷◌, ◌++◌, length, drop, codes, refl, sym, append-nil}
+use Rattle.std.proofs.lemmas.Bool.{not-true}
+use Rattle.std.specs.List.{list_any}
 use Rattle.ucd_table.proofs.TrieCheck.{all_below, all_below-at}
 use Rattle.ucd_category.proofs.Computing.{ucd_category}
-use Rattle.phone_read.specs.Cores.{IsCore, IsBeforeSecondNumber, begins_second_number}
+use Rattle.phone_core.specs.Cuts.{after_front}
+use Rattle.phone_read.specs.Cores.{IsCore, IsBeforeSecondNumber, begins_second_number, is_start, is_last}
+use Rattle.phone_read.proofs.Cores.{core_same}
 
 unfoldable pub no_mark : List ℕ → ℕ → Bool
 no_mark text k = not (begins_second_number (drop k text))
-
-pub not_marked : (b : Bool) → not b ≡ true → b ≡ false
-not_marked true e = absurd (true≢false (sym e))
-not_marked false e = refl
 
 -- the part before the first mark, where no border up to it has one
 before_mark : (first after : List ℕ) → all_below (no_mark (first ++ after)) (length first) ≡ true →
@@ -19,7 +19,7 @@ before_mark first after none ended = record {
   after = after;
   whole = refl;
   ended = ended;
-  earliest = λ k less. not_marked _ (all_below-at (no_mark (first ++ after)) (length first) k none less);
+  earliest = λ k less. not-true _ (all_below-at (no_mark (first ++ after)) (length first) k none less);
 }
 
 pub no_second : (text : List ℕ) → all_below (no_mark text) (length text) ≡ true → IsBeforeSecondNumber text text
@@ -28,7 +28,7 @@ no_second text none = record {
   after = [];
   whole = sym (append-nil text);
   ended = inl refl;
-  earliest = λ k less. not_marked _ (all_below-at (no_mark text) (length text) k none less);
+  earliest = λ k less. not-true _ (all_below-at (no_mark text) (length text) k none less);
 }
 
 pub brackets : IsCore (codes "(650) 253-0000..- ..") (codes "650) 253-0000")
@@ -100,3 +100,21 @@ second_number = record {
   first = before_mark (codes "508") (codes "/x30") refl (inr refl);
   not_empty = λ e. cc;
 }
+
+-- a text has no core where no number can end in what follows its first start
+pub no_core : (text : List ℕ) → list_any is_last (after_front (λ c. not (is_start c)) text) ≡ false → (core : List ℕ) → ¬ (IsCore text core)
+unfolding no_mark all_below
+no_core text none core h =
+    h.not_empty (core_same text core [] [] h
+    (record { trailing = after_front (λ c. not (is_start c)) text; whole = refl; no_last = none; trimmed = inl refl }) (no_second [] refl))
+
+pub no_start : (core : List ℕ) → ¬ (IsCore (codes "Num-....") core)
+unfolding ucd_category
+no_start = no_core (codes "Num-....") refl
+
+pub sign_alone : (core : List ℕ) → ¬ (IsCore (codes "+") core)
+unfolding ucd_category
+sign_alone = no_core (codes "+") refl
+
+pub nothing : (core : List ℕ) → ¬ (IsCore [] core)
+nothing = no_core [] refl

@@ -6,6 +6,7 @@ pub mod Endings
 pub mod Ends
 pub mod Foldings
 pub mod HintCodes
+pub mod IndicatorRows
 pub mod Likes
 pub mod NaturalOnes
 pub mod NaturalRows
@@ -14,8 +15,11 @@ pub mod OneForm
 pub mod Prefixes
 pub mod ReadingOnes
 pub mod ReadingSome
+pub mod ReadingRows
 pub mod Runs
 pub mod Slices
 pub mod Starts
+pub mod SuffixTests
+pub mod TelRefusals
 pub mod TelRows
 pub mod Tels

@@ -1,27 +1,22 @@
 -- Extensions, and readings of free text, computed on their definitions.
-use Rattle.std.proofs.Common.{◌≡◌, inr, ⊎_elim, ℕ, ◌<◌, ◌≤◌, Bool, true, not, List, [], ◌∷◌, ◌++◌, length, length-drop, drop, codes, Some, None, Ok, Err, refl, ap, sym, subst, ◌∙◌, true≢false, arith, append-nil}
-use Rattle.std.proofs.lemmas.Bool.{cases_lt}
-use Rattle.std.proofs.lemmas.List.{nil_from_length}
+use Rattle.std.proofs.Common.{◌≡◌, inr, ℕ, ◌≤◌, true, List, [], ◌∷◌, ◌++◌, length, codes, Some, None, Ok, Err, refl, sym, arith, append-nil}
 use Rattle.std.specs.List.{list_any, list_all}
 use Rattle.ucd_case.proofs.Computing.{ucd_case}
 use Rattle.ucd_category.proofs.Computing.{ucd_category}
-use Rattle.ucd_table.proofs.TrieCheck.{all_below, all_below-at}
+use Rattle.ucd_table.proofs.TrieCheck.{all_below}
 use Rattle.phone_core.specs.Characters.{is_nd}
-use Rattle.phone_core.specs.Cuts.{after_front}
 use Rattle.phone_read.specs.Cores.{IsCore, is_start, is_last}
 use Rattle.phone_read.specs.Naturals
 use Rattle.phone_read.specs.Naturals.{IsNatural}
-use Rattle.phone_read.specs.Suffixes.{IsSuffix, indicators, is_lead, is_mark, is_gap, is_sign, is_suffix_start}
+use Rattle.phone_read.specs.Suffixes.{IsSuffix, indicators, is_lead, is_mark, is_gap, is_sign}
 use Rattle.phone_read.specs.Texts.{begins, ends, is_like}
 use Rattle.phone_read.specs.declared.natural.NoReading.TheVariants.{Error, Failure}
-use Rattle.phone_read.specs.declared.suffix.Form.{Form}
 use Rattle.phone_read.specs.declared.suffix.Form.TheVariants.{Parameter, Indicated, Signed}
-use Rattle.phone_read.proofs.CoreRows.{no_second, no_mark, not_marked}
-use Rattle.phone_read.proofs.Cores.{after_front_others}
-use Rattle.phone_read.proofs.Starts.{suffix_begins}
+use Rattle.phone_read.proofs.CoreRows.{no_second, no_mark, no_start, sign_alone}
+use Rattle.phone_read.proofs.SuffixTests.{fails_at, no_suffix, no_suffix_before}
 
 -- an extension of the indicated form, put together
-indicated_row : (lead word mark gap d sign : List ℕ) → list_all is_lead lead ≡ true → list_any (is_like word) indicators ≡ true →
+pub indicated_row : (lead word mark gap d sign : List ℕ) → list_all is_lead lead ≡ true → list_any (is_like word) indicators ≡ true →
     list_all is_mark mark ≡ true → length mark ≤ 1 → list_all is_gap gap ≡ true → list_all is_nd d ≡ true → length d ≤ 7 →
     list_all is_sign sign ≡ true → length sign ≤ 1 → IsSuffix (lead ++ (word ++ (mark ++ (gap ++ (d ++ sign))))) Indicated d
 indicated_row lead word mark gap d sign leads announces marks one_mark gaps digits few signs one_sign = record {
@@ -74,7 +69,7 @@ unfolding ucd_case ucd_category
 other_word = indicated_row [] (codes "anexo") (codes ":") (codes "-") (codes "7") [] refl refl refl (omega arith) refl refl (omega arith) refl (omega arith)
 
 -- a text that is its own core
-own_core : (text : List ℕ) → begins is_start text ≡ true → ends is_last text ≡ true → all_below (no_mark text) (length text) ≡ true → ¬ (text ≡ []) → IsCore text text
+pub own_core : (text : List ℕ) → begins is_start text ≡ true → ends is_last text ≡ true → all_below (no_mark text) (length text) ≡ true → ¬ (text ≡ []) → IsCore text text
 own_core text starts last none some = record {
   before = [];
   from = text;
@@ -87,56 +82,66 @@ own_core text starts last none some = record {
   not_empty = some;
 }
 
-no_start_at : List ℕ → ℕ → Bool
-no_start_at text k = not (begins is_suffix_start (drop k text))
-
--- no extension begins where none of its starts stands
-no_suffix_until : (text : List ℕ) (n : ℕ) → all_below (no_start_at text) n ≡ true → (k : ℕ) (f : Form) (d : List ℕ) → k < n → ¬ (IsSuffix (drop k text) f d)
-unfolding no_start_at
-no_suffix_until text n none k f d less h =
-    true≢false (sym (suffix_begins (drop k text) f d h) ∙ not_marked _ (all_below-at (no_start_at text) n k none less))
-
 pub whole_text : IsNatural (codes "650253") (Ok (record { national = codes "650253"; extension = None }))
-unfolding ucd_case ucd_category no_mark no_start_at
-whole_text = Naturals.plain (codes "650253") (own_core (codes "650253") refl refl refl (λ e. cc)) (λ k f d h.
-    ⊎_elim
-    (λ (less : k < 6). no_suffix_until (codes "650253") 6 refl k f d less h)
-    (λ (more : 6 ≤ k).
-    let nil : drop k (codes "650253") ≡ [] = nil_from_length (drop k (codes "650253")) (omega (arith, length-drop k (codes "650253"))) in
-    true≢false (sym (suffix_begins [] f d (subst (λ t. IsSuffix t f d) nil h))))
-    (cases_lt k 6))
+unfolding ucd_case ucd_category no_mark fails_at
+whole_text = Naturals.plain (codes "650253") (own_core (codes "650253") refl refl refl (λ e. cc)) (no_suffix (codes "650253") refl)
 
 pub extended : IsNatural (codes "+64331x12") (Ok (record { national = codes "+64331"; extension = Some (codes "12") }))
-unfolding ucd_case ucd_category no_mark no_start_at
+unfolding ucd_case ucd_category no_mark fails_at
 extended = Naturals.extended (codes "+64331x12") (codes "+64331") (codes "12") (own_core (codes "+64331x12") refl refl refl (λ e. cc)) (record {
   suffix = codes "x12";
   whole = refl;
   is_suffix = indicated_row [] (codes "x") [] [] (codes "12") [] refl refl refl (omega arith) refl refl (omega arith) refl (omega arith);
-  longest = no_suffix_until (codes "+64331x12") 6 refl;
+  longest = no_suffix_before (codes "+64331x12") 6 refl;
+})
+
+pub spaced : IsNatural (codes "650 253 0000 extn. 4567") (Ok (record { national = codes "650 253 0000"; extension = Some (codes "4567") }))
+unfolding ucd_case ucd_category no_mark fails_at
+spaced = Naturals.extended (codes "650 253 0000 extn. 4567") (codes "650 253 0000") (codes "4567") (own_core (codes "650 253 0000 extn. 4567") refl refl refl (λ e. cc)) (record {
+  suffix = codes " extn. 4567";
+  whole = refl;
+  is_suffix = indicated_row (codes " ") (codes "extn") (codes ".") (codes " ") (codes "4567") [] refl refl refl (omega arith) refl refl (omega arith) refl (omega arith);
+  longest = no_suffix_before (codes "650 253 0000 extn. 4567") 12 refl;
+})
+
+pub no_digits : IsNatural (codes "+64 3 331 6005x") (Ok (record { national = codes "+64 3 331 6005"; extension = Some [] }))
+unfolding ucd_case ucd_category no_mark fails_at
+no_digits = Naturals.extended (codes "+64 3 331 6005x") (codes "+64 3 331 6005") [] (own_core (codes "+64 3 331 6005x") refl refl refl (λ e. cc)) (record {
+  suffix = codes "x";
+  whole = refl;
+  is_suffix = indicated_row [] (codes "x") [] [] [] [] refl refl refl (omega arith) refl refl (omega arith) refl (omega arith);
+  longest = no_suffix_before (codes "+64 3 331 6005x") 14 refl;
 })
 
 pub parameter_refused : IsNatural (codes "650;ext=5") (Err Failure)
-unfolding ucd_case ucd_category no_mark no_start_at
+unfolding ucd_case ucd_category no_mark fails_at
 parameter_refused = Naturals.with_parameter (codes "650;ext=5") (codes "650") (codes "5") (own_core (codes "650;ext=5") refl refl refl (λ e. cc)) (record {
   suffix = codes ";ext=5";
   whole = refl;
   is_suffix = record { name = codes ";ext="; whole = refl; named = refl; digits = record { only = refl; few = omega arith } };
-  longest = no_suffix_until (codes "650;ext=5") 3 refl;
+  longest = no_suffix_before (codes "650;ext=5") 3 refl;
 })
 
 pub sign_refused : IsNatural (codes "650 5#") (Err Failure)
-unfolding ucd_case ucd_category no_mark no_start_at
+unfolding ucd_case ucd_category no_mark fails_at
 sign_refused = Naturals.with_sign (codes "650 5#") (codes "650") (codes "5") (own_core (codes "650 5#") refl refl refl (λ e. cc)) (record {
   suffix = codes " 5#";
   whole = refl;
   is_suffix = record { lead = codes " "; whole = refl; leads = refl; some_lead = omega arith; digits = record { only = refl; few = omega arith }; some_digits = omega arith };
-  longest = no_suffix_until (codes "650 5#") 3 refl;
+  longest = no_suffix_before (codes "650 5#") 3 refl;
+})
+
+pub longer_sign_refused : IsNatural (codes "+64 3 331 6005#") (Err Failure)
+unfolding ucd_case ucd_category no_mark fails_at
+longer_sign_refused = Naturals.with_sign (codes "+64 3 331 6005#") (codes "+64 3 331") (codes "6005") (own_core (codes "+64 3 331 6005#") refl refl refl (λ e. cc)) (record {
+  suffix = codes " 6005#";
+  whole = refl;
+  is_suffix = record { lead = codes " "; whole = refl; leads = refl; some_lead = omega arith; digits = record { only = refl; few = omega arith }; some_digits = omega arith };
+  longest = no_suffix_before (codes "+64 3 331 6005#") 9 refl;
 })
 
 pub no_number : IsNatural (codes "Num-....") (Err Error)
-unfolding ucd_category
-no_number = Naturals.nothing (λ core h.
-    let from : h.from ≡ after_front (λ c. not (is_start c)) (codes "Num-....") =
-    sym (ap (after_front (λ c. not (is_start c))) h.whole ∙ after_front_others is_start h.before h.from h.no_start h.starts) in
-    let nil : h.from ≡ [] = from in
-    true≢false (sym h.starts ∙ ap (begins is_start) nil))
+no_number = Naturals.nothing no_start
+
+pub no_digit : IsNatural (codes "+") (Err Error)
+no_digit = Naturals.nothing sign_alone

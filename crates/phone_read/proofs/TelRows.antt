@@ -6,7 +6,7 @@ use Rattle.phone_read.specs.Tel
 use Rattle.phone_read.specs.Tel.{IsTel, TelParts, Parameter, BeginsWith, HasParameters, is_name_char, is_value_char}
 use Rattle.phone_read.specs.Texts.{begins}
 
-no_parameters : HasParameters [] []
+pub no_parameters : HasParameters [] []
 no_parameters = Tel.no_more [] (λ p rest h. let e : [] ≡ 59 ∷ (p.name ++ 61 ∷ (p.value ++ rest)) = h.whole in cc)
 
 -- a parameter, and more of them

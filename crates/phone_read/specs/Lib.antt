@@ -6,6 +6,7 @@ pub mod Numbering
 pub mod Parts
 pub mod Readings
 pub mod Regions
+pub mod Samples
 pub mod Strips
 pub mod Suffixes
 pub mod Tel

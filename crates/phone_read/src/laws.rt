@@ -1,6 +1,5 @@
-//! What holds of the two readings, and rows that are computed on their definitions. These functions do nothing; their
-//! contracts are the statements.
-ghost use Rattle.std.specs.Prelude.{◌≡◌, ℕ, List, [], ◌∷◌, ◌++◌, codes, chars, Option, Some, None, Result, Ok, Err, true};
+//! What holds of the definitions of reading. These functions do nothing; their contracts are the statements.
+ghost use Rattle.std.specs.Prelude.{◌≡◌, ℕ, List, chars, Option, Result, true};
 ghost use Rattle.phone_core.specs.declared.country.Id.{Id};
 ghost use Rattle.phone_core.specs.declared.error.ParseError.{ParseError};
 ghost use Rattle.phone_meta.specs.declared.loader.Metadata as loader;
@@ -8,13 +7,11 @@ ghost use Rattle.phone_read.specs.Cores.{IsCore};
 ghost use Rattle.phone_read.specs.Naturals.{IsNatural, NaturalParts};
 ghost use Rattle.phone_read.specs.Readings.{Reads};
 ghost use Rattle.phone_read.specs.Suffixes.{IsSuffix, is_suffix_start};
+ghost use Rattle.phone_read.specs.Tel.{IsTel, TelParts};
 ghost use Rattle.phone_read.specs.Texts.{begins};
 ghost use Rattle.phone_read.specs.declared.natural.NoReading.{NoReading};
-ghost use Rattle.phone_read.specs.declared.natural.NoReading.TheVariants.{Error, Failure};
 ghost use Rattle.phone_read.specs.declared.reading.Reading.{Reading};
 ghost use Rattle.phone_read.specs.declared.suffix.Form.{Form};
-ghost use Rattle.phone_read.specs.declared.suffix.Form.TheVariants.{Parameter, Indicated, Signed};
-ghost use Rattle.phone_read.specs.Tel.{IsTel, TelParts};
 
 use crate::reading::parts;
 use phone_core::is_viable;
@@ -34,6 +31,11 @@ pub fn one_natural_reading()
     ensures { (text : List ℕ) (a b : Result NaturalParts NoReading) → IsNatural text a → IsNatural text b → a ≡ b }
 {}
 
+/// What an extension may begin with.
+pub fn extension_starts()
+    ensures { (text : List ℕ) (f : Form) (digits : List ℕ) → IsSuffix text f digits → begins is_suffix_start text ≡ true }
+{}
+
 /// A text has at most one reading, under each database and hint.
 pub fn one_reading()
     ensures { (db : List loader.Metadata) (hint : Option Id) (text : List ℕ) (a b : Result Reading ParseError) → Reads db hint text a → Reads db hint text b → a ≡ b }
@@ -47,49 +49,3 @@ pub fn some_reading(text: &str)
         let _viable = is_viable(number.national.as_str());
     }
 }
-
-/// Cores: what stands before the first digit or plus sign and what stands after the last letter, number or `#` is cut.
-pub fn core_rows()
-    ensures brackets { IsCore (codes "(650) 253-0000..- ..") (codes "650) 253-0000") }
-    ensures words { IsCore (codes "Tel:+800-345-600") (codes "+800-345-600") }
-    ensures mark { IsCore (0x28 ∷ codes "650) 253-0000" ++ 0x200F ∷ []) (codes "650) 253-0000") }
-    ensures wide { IsCore (codes "Num-" ++ 0xFF11 ∷ 0xFF12 ∷ 0xFF13 ∷ []) (0xFF11 ∷ 0xFF12 ∷ 0xFF13 ∷ []) }
-    ensures second_number { IsCore (codes "508/x30") (codes "508") }
-{}
-
-/// Readings of `tel:` texts: the prefix of a plus sign and of a context, parameters in any order, a repeated one.
-pub fn tel_rows()
-    ensures context { IsTel (codes "tel:2034567890;ext=456;phone-context=+44")
-        (record { national = codes "2034567890"; prefix = Some (codes "44"); extension = Some (codes "456") }) }
-    ensures plus { IsTel (codes "tel:+64-3-331-6005;ext=1235")
-        (record { national = codes "-3-331-6005"; prefix = Some (codes "64"); extension = Some (codes "1235") }) }
-    ensures ignored { IsTel (codes "03-331-6005;phone-context=+64;a=%A1")
-        (record { national = codes "03-331-6005"; prefix = Some (codes "64"); extension = None }) }
-    ensures any_case { IsTel (codes "TEL:12") (record { national = codes "12"; prefix = None; extension = None }) }
-    ensures last_counts { IsTel (codes "12;ext=1;ext=2") (record { national = codes "12"; prefix = None; extension = Some (codes "2") }) }
-    ensures exact_names { IsTel (codes "12;ext=1;Ext=3") (record { national = codes "12"; prefix = None; extension = Some (codes "1") }) }
-{}
-
-/// What an extension may begin with.
-pub fn extension_starts()
-    ensures { (text : List ℕ) (f : Form) (digits : List ℕ) → IsSuffix text f digits → begins is_suffix_start text ≡ true }
-{}
-
-/// Extensions: one of each form, and for the indicated form one of each kind of indicator.
-pub fn extension_rows()
-    ensures parameter { IsSuffix (codes ";EXT=12") Parameter (codes "12") }
-    ensures signed { IsSuffix (codes " - 12#") Signed (codes "12") }
-    ensures word { IsSuffix (codes ", Exten" ++ 0x17F ∷ codes "ion. 12#") Indicated (codes "12") }
-    ensures wide_word { IsSuffix (0xFF38 ∷ 0xFF34 ∷ 0xFF4E ∷ 0x661 ∷ []) Indicated (0x661 ∷ []) }
-    ensures sign { IsSuffix (codes ",;") Indicated [] }
-    ensures other_word { IsSuffix (codes "anexo:-7") Indicated (codes "7") }
-{}
-
-/// Readings of free text: one for each of the five cases.
-pub fn natural_rows()
-    ensures whole_text { IsNatural (codes "650253") (Ok (record { national = codes "650253"; extension = None })) }
-    ensures extended { IsNatural (codes "+64331x12") (Ok (record { national = codes "+64331"; extension = Some (codes "12") })) }
-    ensures parameter { IsNatural (codes "650;ext=5") (Err Failure) }
-    ensures sign { IsNatural (codes "650 5#") (Err Failure) }
-    ensures no_number { IsNatural (codes "Num-....") (Err Error) }
-{}

@@ -9,6 +9,7 @@ mod number;
 mod parameters;
 mod reading;
 pub mod rfc3966;
+pub mod rows;
 mod suffix;
 
 pub use number::Number;
