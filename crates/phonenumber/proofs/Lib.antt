@@ -1,4 +1,5 @@
 pub mod Lengths
 pub mod Thins
+pub mod ReportRows
 pub mod ThinReadings
 pub mod ThinTexts

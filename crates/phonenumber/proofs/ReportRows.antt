@@ -1,37 +1,47 @@
 -- Lines of the report, computed on their definition.
-use Rattle.std.proofs.Common.{◌≡◌, inl, ℕ, List, [], ◌∷◌, ◌++◌, codes, Some, None, Ok, Err, true, refl, ap, sym, subst, ◌∙◌, true≢false, arith, IsUtf8, chars}
+use Rattle.std.proofs.Common.{◌≡◌, inl, ℕ, Bool, false, Option, List, [], ◌∷◌, ◌++◌, codes, Some, None, Ok, Err, true, refl, ap, sym, subst, ◌∙◌, true≢false, arith, IsUtf8, ◌==◌, encode_utf8_all}
 use Rattle.std.proofs.lemmas.Fmt.{decimal_digit, decimal_step}
 use Rattle.std.proofs.lemmas.Str.{IsUtf8-from_is_utf8, is_utf8-from_IsUtf8}
 use Rattle.std.specs.Fmt.{decimal}
-use Rattle.std.specs.Str.{is_utf8}
-use Rattle.phone_core.specs.Characters.{is_digit}
+use Rattle.std.specs.Option.{option_and_then, option_map_or}
+use Rattle.std.specs.Str.{chars, is_utf8}
 use Rattle.phone_core.specs.Ids.{id_of}
 use Rattle.phone_core.specs.Viable.{IsViable}
+use Rattle.phone_core.specs.declared.country.Id.{Id}
 use Rattle.phone_core.specs.declared.country.Id.TheVariants.{NZ}
 use Rattle.phone_core.specs.declared.country.Source.TheVariants.{Default}
 use Rattle.phone_core.specs.declared.error.ParseError.TheVariants.{NoNumber}
+use Rattle.phone_core.specs.declared.kind.«Type».{«Type»}
+use Rattle.phone_core.specs.declared.kind.«Type».TheVariants.{Unknown}
+use Rattle.phone_core.specs.declared.mode.Mode.TheVariants.{E164, International, National, Rfc3966}
+use Rattle.phone_meta.specs.declared.loader.Metadata.{Metadata}
 use Rattle.phone_core.proofs.Texts.{id_of-name}
+use Rattle.phone_core.proofs.ViableRows.{not_viable}
 use Rattle.phone_read.specs.Hints.{Coded, code_by_hint}
 use Rattle.phone_read.specs.Readings.{Reads}
+use Rattle.phone_read.specs.Regions.{home, type_of, is_known}
 use Rattle.phone_read.specs.Samples.{nz}
 use Rattle.phone_read.specs.Texts.{begins}
 use Rattle.phone_read.specs.declared.reading.Reading.{Reading}
+use Rattle.phone_read.proofs.DigitTexts.{encode_utf8_all-digits}
 use Rattle.phone_read.proofs.HintCodes.{code_by_hint-other}
 use Rattle.phonenumber.specs.Reports
-use Rattle.phonenumber.specs.Reports.{IsReportLine, number_line}
+use Rattle.phonenumber.specs.Queries.{kind_of, region_of, is_valid}
+use Rattle.phonenumber.specs.Reports.{IsReportLine, number_line, tabbed, kind_word, region_word, validity_word}
+use Rattle.phonenumber.specs.Texts.{text_by}
 use Rattle.phonenumber.specs.Thin
 use Rattle.phonenumber.specs.Thin.{IsThinDatabase, thin_reading}
 use Rattle.phonenumber.proofs.ThinReadings.{thin_reads}
 
 pub no_text : IsReportLine (nz ∷ []) (Some NZ) (0xFF ∷ []) (codes "error\t0\tnot UTF-8")
-unfolding is_utf8
+unfolding is_utf8 chars lib.Utf8.encode
 no_text = Reports.no_text (λ h. true≢false (sym (is_utf8-from_IsUtf8 (0xFF ∷ []) h)))
 
 nz_is_thin : IsThinDatabase (nz ∷ [])
 nz_is_thin = record { general = _; id = _; code = _; national_prefix = _; whole = refl }
 
 one_utf8 : IsUtf8 (codes "1")
-unfolding is_utf8
+unfolding is_utf8 chars lib.Utf8.encode
 one_utf8 = IsUtf8-from_is_utf8 (codes "1") refl
 
 one_chars : chars (codes "1") ≡ codes "1"
@@ -39,15 +49,7 @@ unfolding chars
 one_chars = refl
 
 one_too_few : ¬ (IsViable (codes "1"))
-one_too_few v = ⊎_elim (λ (two : IsTwoDigits (codes "1")). apart 1 refl two.two) (λ (signed : IsSignedDigits (codes "1")). few signed.signs signed.body signed.whole signed.three_digits) v
-  where
-    apart : (n : ℕ) → n ≡ 1 → n ≡ 2 → ⊥
-    apart n e f = absurd (omega arith)
-
-    few : (s b : List ℕ) → codes "1" ≡ s ++ b → 3 ≤ count_by is_digit b → ⊥
-    few [] b e f = let same : b ≡ codes "1" = sym e in absurd (short 1 refl (subst (λ x. 3 ≤ count_by is_digit x) same f))
-    few (c ∷ []) b e f = let same : b ≡ [] = cc in absurd (short 0 refl (subst (λ x. 3 ≤ count_by is_digit x) same f))
-    few (c ∷ d ∷ cs) b e f = cc
+one_too_few = not_viable (codes "1") (λ e. cc) refl
 
 pub refused : IsReportLine (nz ∷ []) (Some NZ) (codes "1") (codes "error\t1\tnot a number")
 refused =
@@ -69,7 +71,7 @@ twelve : Reading
 twelve = record { code = record { value = 64; source = Default }; national = record { zeros = 0; value = 12 }; extension = None; carrier = None }
 
 twelve_utf8 : IsUtf8 (codes "12")
-unfolding is_utf8
+unfolding is_utf8 chars lib.Utf8.encode
 twelve_utf8 = IsUtf8-from_is_utf8 (codes "12") refl
 
 twelve_chars : chars (codes "12") ≡ codes "12"
@@ -88,11 +90,62 @@ reads_twelve =
     subst (λ r. Reads (nz ∷ []) (Some NZ) (codes "12") r) (ap (thin_reading nz) twelve_code)
     (thin_reads (nz ∷ []) nz_is_thin (Some NZ) (codes "12") refl _ (Thin.by_hint nz twelve_viable refl))
 
+-- every number of 64 is of New Zealand
+home_nz : (digits : List ℕ) → home (nz ∷ []) 64 digits ≡ Some nz
+home_nz digits = rw id_nz
+
+kind_of_twelve : kind_of (nz ∷ []) twelve ≡ Unknown
+unfolding twelve
+kind_of_twelve = ap (λ o. option_map_or (λ (m : Metadata). type_of m (decimal 12)) o Unknown) (home_nz (decimal 12)) ∙ rw decimal_12
+
+region_of_twelve : region_of (nz ∷ []) twelve ≡ Some NZ
+unfolding twelve
+region_of_twelve = ap (λ o. option_and_then (λ (m : Metadata). option_and_then id_of m.id) o) (home_nz (decimal 12)) ∙ id_nz
+
+twelve_invalid : is_valid (nz ∷ []) twelve ≡ false
+unfolding twelve
+twelve_invalid = ap (λ o. option_map_or (λ (m : Metadata). is_known (type_of m (decimal 12))) o false) (home_nz (decimal 12)) ∙ rw decimal_12
+
+-- the line of a number by its fields
+abbrev line_with : (e i n r : List ℕ) → «Type» → Option Id → Bool → List ℕ
+line_with e i n r k region valid =
+    tabbed (codes "ok" ∷ e ∷ i ∷ n ∷ r ∷ codes "default" ∷ kind_word k ∷ region_word region ∷ validity_word valid ∷ [])
+
+e164 : text_by nz E164 None twelve ≡ codes "+6412"
+unfolding twelve
+e164 = rw (decimal_64, decimal_12)
+
+international : text_by nz International None twelve ≡ codes "+64 12"
+unfolding twelve
+international = rw (decimal_64, decimal_12)
+
+national : text_by nz National None twelve ≡ codes "12"
+unfolding twelve
+national = rw decimal_12
+
+rfc3966 : text_by nz Rfc3966 None twelve ≡ codes "tel:+64-12"
+unfolding twelve
+rfc3966 = rw (decimal_64, decimal_12, twelve_chars, encode_utf8_all-digits (codes "12") refl)
+
 line_of_twelve : number_line (nz ∷ []) nz twelve ≡ codes "ok\t+6412\t+64 12\t12\ttel:+64-12\tdefault\tUnknown\tNZ\tinvalid"
 unfolding twelve
-line_of_twelve = rw (decimal_64, decimal_12, id_nz)
+line_of_twelve =
+    let k = kind_of (nz ∷ []) twelve in
+    let o = region_of (nz ∷ []) twelve in
+    let v = is_valid (nz ∷ []) twelve in
+    let i = text_by nz International None twelve in
+    let n = text_by nz National None twelve in
+    let r = text_by nz Rfc3966 None twelve in
+    ap (λ x. line_with x i n r k o v) e164
+    ∙ ap (λ x. line_with (codes "+6412") x n r k o v) international
+    ∙ ap (λ x. line_with (codes "+6412") (codes "+64 12") x r k o v) national
+    ∙ ap (λ x. line_with (codes "+6412") (codes "+64 12") (codes "12") x k o v) rfc3966
+    ∙ ap (λ x. line_with (codes "+6412") (codes "+64 12") (codes "12") (codes "tel:+64-12") x o v) kind_of_twelve
+    ∙ ap (λ x. line_with (codes "+6412") (codes "+64 12") (codes "12") (codes "tel:+64-12") Unknown x v) region_of_twelve
+    ∙ ap (λ x. line_with (codes "+6412") (codes "+64 12") (codes "12") (codes "tel:+64-12") Unknown (Some NZ) x) twelve_invalid
 
 pub read : IsReportLine (nz ∷ []) (Some NZ) (codes "12") (codes "ok\t+6412\t+64 12\t12\ttel:+64-12\tdefault\tUnknown\tNZ\tinvalid")
+unfolding twelve
 read =
     subst (λ l. IsReportLine (nz ∷ []) (Some NZ) (codes "12") l) line_of_twelve
     (Reports.read twelve nz twelve_utf8 (subst (λ t. Reads (nz ∷ []) (Some NZ) t (Ok twelve)) (sym twelve_chars) reads_twelve) refl)

@@ -6,6 +6,7 @@ pub mod laws;
 pub mod metadata;
 mod parser;
 mod phone_number;
+pub mod rows;
 
 pub use formatter::{FormatError, Formatter, format_with};
 pub use metadata::Metadata;
