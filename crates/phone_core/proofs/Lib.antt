@@ -5,4 +5,5 @@ pub mod ReadBack
 pub mod Runs
 pub mod Signed
 pub mod Texts
+pub mod Trims
 pub mod Walks
