@@ -5,7 +5,7 @@ ghost use Rattle.phone_read.specs.Parts.{IsSlice};
 
 use crate::fronts::{begins_with, is_nothing};
 use phone_core::chars::{is_letter, is_nd, is_number, is_plus};
-use phone_core::cuts::{CharSet, after_run, before, split_first, split_last};
+use phone_core::cuts::{CharSet, after_run, before, split_first};
 
 /// Characters at which no number starts.
 struct BeforeStart;
@@ -58,14 +58,7 @@ fn trimmed(text: &str) -> &str
     ensures read { IsTrimmed (chars text.now) (chars result.now) }
     ensures front { (v : List ℕ) × (text.now ≡ result.now ++ v) }
 {
-    let mut rest = text;
-    while let Some((before, c)) = split_last(rest) {
-        if is_last(c) {
-            return rest;
-        }
-        rest = before;
-    }
-    rest
+    text.trim_end_matches(|c: char| !is_last(c))
 }
 
 /// The text up to the first mark of a second number, or all of it.
