@@ -63,7 +63,7 @@ module _ (p : ℕ → Bool) (R : List ℕ → Option ℕ → Type 0) (finds : (s
       at (c ∷ cs) e s = rw (none c (encode_utf8_all cs) (and_parts _ _ s).0 (sym e))
   unpeeled r (Some n) u e found = absurd (omega (arith, e, found.2.ends, len_utf8_bounds found.0))
 
-  after_front-trimmed : (s r : List ℕ) → IsUtf8 s → IsTrimStartMatches R s r → ((v : List ℕ) × (s ≡ v ++ r)) × (chars r ≡ after_front p (chars s))
+  pub after_front-trimmed : (s r : List ℕ) → IsUtf8 s → IsTrimStartMatches R s r → ((v : List ℕ) × (s ≡ v ++ r)) × (chars r ≡ after_front p (chars s))
   after_front-trimmed s r u h =
       let k = peels s h.0.0 r u h.0.1 in
       ((k.peeled, k.whole), sym (k.same ∙ unpeeled r h.1.0 k.text h.1.2 (finds r h.1.0 h.1.1)))

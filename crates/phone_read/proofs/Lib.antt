@@ -6,6 +6,7 @@ pub mod Endings
 pub mod HintCodes
 pub mod Likes
 pub mod NaturalRows
+pub mod Patterns
 pub mod Prefixes
 pub mod Runs
 pub mod Slices

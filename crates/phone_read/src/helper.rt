@@ -21,19 +21,6 @@ impl CharSet for BeforeStart {
     }
 }
 
-/// The space, U+0020, alone.
-struct Spaces;
-
-impl CharSet for Spaces {
-    ghost use Rattle.std.specs.Prelude.{◌==◌};
-
-    ghost members = { λ _ c. c == 32 };
-
-    fn has(&self, c: char) -> bool {
-        c == ' '
-    }
-}
-
 /// The part of a text that a number is read from: from its first plus sign or decimal digit on, without its longest
 /// end of characters that are neither letters nor numbers nor `#`, and cut before the first mark of a second number,
 /// a slash or backslash that any number of spaces and a small `x` follow (`508/x30`: two numbers that share a line).
@@ -80,8 +67,8 @@ fn first_number(text: &str) -> &str
 fn is_second_number(text: &str) -> bool
     ensures { result ≡ begins_second_number (chars text.now) }
 {
-    match split_first(text) {
-        Some((c, after)) => (c == '/' || c == '\\') && begins_with(after_run(after, &Spaces), 'x'),
+    match text.strip_prefix(['/', '\\']) {
+        Some(after) => begins_with(after.trim_start_matches(' '), 'x'),
         None => false,
     }
 }
