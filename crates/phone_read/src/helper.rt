@@ -1,5 +1,5 @@
 //! Cuts of a text before it is read.
-ghost use Rattle.std.specs.Prelude.{◌≡◌, ◌==◌, ℕ, List, ◌++◌, MatchOption, IfSome, chars};
+ghost use Rattle.std.specs.Prelude.{◌≡◌, ℕ, List, ◌++◌, MatchOption, IfSome, chars};
 ghost use Rattle.phone_read.specs.Cores.{IsCore, IsTrimmed, IsBeforeSecondNumber, is_last, begins_second_number};
 ghost use Rattle.phone_read.specs.Parts.{IsSlice};
 
