@@ -1,11 +1,14 @@
 -- Zeros at the front of a text, the number that follows them, and both read back.
-use Rattle.std.proofs.Common.{◌≡◌, ℕ, zero, suc, ◌+◌, ◌++◌, get_or, replicate, arith, add-one, ne_eqb, ◌^◌, ◌<◌, ◌≤◌, true, ◌==◌, ◌&&◌, nat_lt, List, [], ◌∷◌, length, drop, ap, ap₂, sym, ◌∙◌, Option, Some, None, Result, Ok, Err, MatchResult, refl, lt-ltb, ltb-true, eqb-true}
+use Rattle.std.proofs.Common.{◌≡◌, ℕ, zero, suc, ◌+◌, ◌-◌, ◌++◌, get_or, replicate, arith, add-one, ne_eqb, ◌^◌, ◌<◌, ◌≤◌, true, ◌==◌, ◌&&◌, nat_lt, List, [], ◌∷◌, length, drop, ap, ap₂, sym, ◌∙◌, Option, Some, None, IfSome, drop-drop, Result, Ok, Err, MatchResult, refl, lt-ltb, ltb-true, eqb-true}
 use Rattle.std.proofs.lemmas.Bool.{and_from, and_parts, cond-false, false_from_ne_true, le-ltb}
 use Rattle.std.proofs.lemmas.Fmt.{first_decimal, decimal_is_IsNumeral}
 use Rattle.std.proofs.lemmas.Str.Parse.{without_leading_plus_none}
+use Rattle.std.proofs.lemmas.Str.{len_utf8_bounds}
+use Rattle.std.proofs.lemmas.Str.Pattern.{drop_at_char, strip_prefix_char}
 use Rattle.std.specs.Fmt.{decimal}
 use Rattle.std.specs.Char.{is_digit}
 use Rattle.std.specs.List.{list_all}
+use Rattle.std.specs.Str.Pattern.{CutsPrefixes, FindsCharPrefix, IsTrimStartMatches}
 use Rattle.std.specs.Str.Parse.{AllDigits, IsNumeral, digits_value, without_leading_plus}
 use Rattle.phone_core.specs.declared.error.ParseError.{ParseError}
 use Rattle.phone_core.specs.declared.error.ParseError.TheVariants.{TooLong}
@@ -15,6 +18,37 @@ pub leading_zeros_none : (cs : List ℕ) → ((rest : List ℕ) → cs ≡ 48 �
 leading_zeros_none [] h = refl
 leading_zeros_none (c ∷ cs) h =
     cond-false (c == 48) _ _ (false_from_ne_true _ (λ t. let e : c ≡ 48 = eqb-true c 48 t in h cs (rw e)))
+
+-- what cuts of single zeros took off a text
+record IsPastZeros (s r : List ℕ) (n : ℕ) : Type 0 where
+  pub past : drop n s ≡ r
+  pub zeros : leading_zeros s ≡ n + leading_zeros r
+  pub long : n + length r ≡ length s
+
+past_zeros : (s : List ℕ) (ns : List ℕ) (r : List ℕ) → CutsPrefixes (FindsCharPrefix 48) s ns r → IsPastZeros s r (length ns)
+past_zeros s [] r e = record { past = sym e; zeros = omega (arith, ap leading_zeros e); long = omega (arith, ap length e) }
+past_zeros s (n ∷ ns) r (m, cuts, found, e) =
+    let h = past_zeros s ns m cuts in
+    let zero_then : m ≡ 48 ∷ r = drop_at_char 48 m 0 n found (omega arith) ∙ ap (λ t. 48 ∷ t) (sym e) in
+    let more : length ns + 1 ≡ length (n ∷ ns) = omega arith in
+    record {
+      past = ap (λ k. drop k s) (sym more) ∙ sym (drop-drop 1 (length ns) s) ∙ ap (drop 1) (h.past ∙ zero_then);
+      zeros = omega (arith, h.zeros, ap leading_zeros zero_then);
+      long = omega (arith, h.long, ap length zero_then);
+    }
+
+-- a text in whose front no zero is found has none there
+no_zeros : (r : List ℕ) (o : Option ℕ) → IfSome o (λ n. n ≡ 0) → FindsCharPrefix 48 r o → leading_zeros r ≡ 0
+no_zeros r None e none = leading_zeros_none r (strip_prefix_char 48 r None none (omega arith))
+no_zeros r (Some n) e found = absurd (omega (arith, e, found.ends, len_utf8_bounds 48))
+
+-- `trim_start_matches` at a zero leaves what follows the leading zeros
+pub leading_zeros-trimmed : (s r : List ℕ) → IsTrimStartMatches (FindsCharPrefix 48) s r →
+    (length s - length r ≡ leading_zeros s) × (r ≡ drop (leading_zeros s) s)
+leading_zeros-trimmed s r h =
+    let k = past_zeros s h.0.0 r h.0.1 in
+    let count : leading_zeros s ≡ length h.0.0 = omega (arith, k.zeros, no_zeros r h.1.0 h.1.2 h.1.1) in
+    (omega (arith, k.long, count), sym k.past ∙ ap (λ n. drop n s) (sym count))
 
 digits_pass : (ds : List ℕ) → AllDigits 10 ds → list_all (λ c. is_digit c 10) ds ≡ true
 digits_pass [] h = refl

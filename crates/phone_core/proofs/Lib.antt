@@ -6,4 +6,5 @@ pub mod Runs
 pub mod Signed
 pub mod Texts
 pub mod ViableRows
+pub mod Trims
 pub mod Walks

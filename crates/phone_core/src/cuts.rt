@@ -49,14 +49,7 @@ pub fn after_run<'a, S: CharSet>(text: &'a str, set: &S) -> &'a str
     ensures end { (v : List ℕ) × (text.now ≡ v ++ result.now) }
     ensures rest { chars result.now ≡ after_front (S.members set.now) (chars text.now) }
 {
-    let mut rest = text;
-    while let Some((c, after)) = split_first(rest) {
-        if !set.has(c) {
-            return rest;
-        }
-        rest = after;
-    }
-    rest
+    text.trim_start_matches(|c| set.has(c))
 }
 
 /// The longest front of characters of the set, and what follows it.

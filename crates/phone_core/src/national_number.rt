@@ -110,13 +110,8 @@ fn split_zeros(text: &str) -> (usize, &str)
     ensures count { result.0 ≡ leading_zeros text.now }
     ensures rest { result.1.now ≡ drop (leading_zeros text.now) text.now }
 {
-    let mut count = 0;
-    let mut rest = text;
-    while let Some(after) = rest.strip_prefix('0') {
-        count += 1;
-        rest = after;
-    }
-    (count, rest)
+    let rest = text.trim_start_matches('0');
+    (text.len() - rest.len(), rest)
 }
 
 impl FromStr for NationalNumber {

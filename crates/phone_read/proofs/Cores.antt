@@ -1,12 +1,13 @@
 -- The core of a text is one.
 use Rattle.std.proofs.Common.{take, IsUtf8, encode_utf8_all, ◌≡◌, ◌⊎◌, inl, inr, ⊎_elim, ℕ, ◌<◌, ◌≤◌, Bool, true, false, not, ◌||◌, List, [], ◌∷◌, ◌++◌, length, drop, refl, ap, sym, subst, ◌∙◌, arith, length-append, true≢false}
-use Rattle.std.proofs.lemmas.Bool.{cases_lt}
+use Rattle.std.proofs.lemmas.Bool.{cases_lt, and_parts, not-true, not-false}
 use Rattle.std.proofs.lemmas.List.{nil_from_length}
 use Rattle.std.proofs.lemmas.Str.{encodes-chars}
 use Rattle.std.specs.Str.{chars}
 use Rattle.std.proofs.lemmas.List.Folds.{list_any-append}
 use Rattle.std.proofs.Math.Seq.{drop-append_seam, take-append_seam}
-use Rattle.std.specs.List.{list_any}
+use Rattle.std.specs.List.{list_any, list_all}
+use Rattle.phone_core.proofs.Trims.{IsWithoutEnd}
 use Rattle.phone_core.specs.Cuts.{after_front}
 use Rattle.phone_read.specs.Cores.{IsCore, IsTrimmed, IsBeforeSecondNumber, is_start, is_last, begins_second_number}
 use Rattle.phone_read.specs.Texts.{begins, ends}
@@ -79,6 +80,22 @@ kept_same p (x ∷ a) (y ∷ b) s t e ns nt ea eb =
 
 pub trimmed_same : (text a b : List ℕ) → IsTrimmed text a → IsTrimmed text b → a ≡ b
 trimmed_same text a b g h = kept_same is_last a b g.trailing h.trailing (sym g.whole ∙ h.whole) g.no_last h.no_last g.trimmed h.trimmed
+
+-- where all fail a test none passes it
+none_passes : (p : ℕ → Bool) (xs : List ℕ) → list_all (λ x. not (p x)) xs ≡ true → list_any p xs ≡ false
+none_passes p [] h = refl
+none_passes p (x ∷ xs) h =
+    let parts = and_parts (not (p x)) (list_all (λ y. not (p y)) xs) h in
+    rw (not-true (p x) parts.0) (none_passes p xs parts.1)
+
+-- a text without its longest end of characters in which no number ends is trimmed
+pub trimmed_without_end : (text kept : List ℕ) → IsWithoutEnd (λ c. not (is_last c)) text kept → IsTrimmed (chars text) (chars kept)
+trimmed_without_end text kept h = record {
+  trailing = h.trailing;
+  whole = h.whole;
+  no_last = none_passes is_last h.trailing h.members;
+  trimmed = ⊎_elim inl (λ l. inr (ap (ends is_last) l.2 ∙ ends-push is_last l.0 l.1 ∙ not-false (is_last l.1) l.3)) h.last;
+}
 
 -- of two parts before the first mark none is the shorter
 not_shorter : (text a b : List ℕ) → IsBeforeSecondNumber text a → IsBeforeSecondNumber text b → ¬ (length a < length b)

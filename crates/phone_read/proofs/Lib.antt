@@ -12,6 +12,7 @@ pub mod NaturalOnes
 pub mod NaturalRows
 pub mod Openings
 pub mod OneForm
+pub mod Patterns
 pub mod Prefixes
 pub mod ReadingOnes
 pub mod ReadingSome

@@ -17,10 +17,7 @@ pub(crate) fn is_nothing(text: &str) -> bool
 pub(crate) fn begins_with(text: &str, c: char) -> bool
     ensures { result ≡ begins (λ d. d == c) (chars text.now) }
 {
-    match split_first(text) {
-        Some((first, _)) => first == c,
-        None => false,
-    }
+    text.starts_with(c)
 }
 
 /// What follows a front of the text that is like the word: each of its characters has the folding of the word's
@@ -48,8 +45,7 @@ pub(crate) fn strip_char(text: &str, c: char) -> Option<&str>
     ensures end { IfSome result (λ rest. (v : List ℕ) × (text.now ≡ v ++ rest.now)) }
     ensures shorter { IfSome result (λ rest. length rest.now < length text.now) }
 {
-    let (first, rest) = split_first(text)?;
-    if first == c { Some(rest) } else { None }
+    text.strip_prefix(c)
 }
 
 /// The text without its first character, where that is in the set; else all of it.
@@ -57,13 +53,5 @@ pub(crate) fn skip_one<'a, S: CharSet>(text: &'a str, set: &S) -> &'a str
     ensures read { chars result.now ≡ after_one (S.members set.now) (chars text.now) }
     ensures end { (v : List ℕ) × (text.now ≡ v ++ result.now) }
 {
-    match split_first(text) {
-        Some((c, rest)) => {
-            if set.has(c) {
-                return rest;
-            }
-            text
-        },
-        None => text,
-    }
+    text.strip_prefix(|c| set.has(c)).unwrap_or(text)
 }

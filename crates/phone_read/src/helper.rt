@@ -1,11 +1,11 @@
 //! Cuts of a text before it is read.
-ghost use Rattle.std.specs.Prelude.{◌≡◌, ◌==◌, ℕ, List, ◌++◌, MatchOption, IfSome, chars};
+ghost use Rattle.std.specs.Prelude.{◌≡◌, ℕ, List, ◌++◌, MatchOption, IfSome, chars};
 ghost use Rattle.phone_read.specs.Cores.{IsCore, IsTrimmed, IsBeforeSecondNumber, is_last, begins_second_number};
 ghost use Rattle.phone_read.specs.Parts.{IsSlice};
 
 use crate::fronts::{begins_with, is_nothing};
 use phone_core::chars::{is_letter, is_nd, is_number, is_plus};
-use phone_core::cuts::{CharSet, after_run, before, split_first, split_last};
+use phone_core::cuts::{CharSet, after_run, before, split_first};
 
 /// Characters at which no number starts.
 struct BeforeStart;
@@ -18,19 +18,6 @@ impl CharSet for BeforeStart {
 
     fn has(&self, c: char) -> bool {
         !(is_plus(c) || is_nd(c))
-    }
-}
-
-/// The space, U+0020, alone.
-struct Spaces;
-
-impl CharSet for Spaces {
-    ghost use Rattle.std.specs.Prelude.{◌==◌};
-
-    ghost members = { λ _ c. c == 32 };
-
-    fn has(&self, c: char) -> bool {
-        c == ' '
     }
 }
 
@@ -58,14 +45,7 @@ fn trimmed(text: &str) -> &str
     ensures read { IsTrimmed (chars text.now) (chars result.now) }
     ensures front { (v : List ℕ) × (text.now ≡ result.now ++ v) }
 {
-    let mut rest = text;
-    while let Some((before, c)) = split_last(rest) {
-        if is_last(c) {
-            return rest;
-        }
-        rest = before;
-    }
-    rest
+    text.trim_end_matches(|c: char| !is_last(c))
 }
 
 /// The text up to the first mark of a second number, or all of it.
@@ -87,8 +67,8 @@ fn first_number(text: &str) -> &str
 fn is_second_number(text: &str) -> bool
     ensures { result ≡ begins_second_number (chars text.now) }
 {
-    match split_first(text) {
-        Some((c, after)) => (c == '/' || c == '\\') && begins_with(after_run(after, &Spaces), 'x'),
+    match text.strip_prefix(['/', '\\']) {
+        Some(after) => begins_with(after.trim_start_matches(' '), 'x'),
         None => false,
     }
 }

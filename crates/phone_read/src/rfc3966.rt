@@ -8,11 +8,11 @@ ghost use Rattle.std.specs.Option.{option_or};
 ghost use Rattle.std.specs.List.{list_any};
 ghost use Rattle.std.specs.Cow.{cow_str_bytes};
 
-use crate::fronts::{is_nothing, strip_char, strip_like};
+use crate::fronts::{begins_with, is_nothing, strip_char, strip_like};
 use crate::number::Number;
 use crate::parameters::read_parameters;
 use phone_core::country::Source;
-use phone_core::cuts::{CharSet, split_first, split_run};
+use phone_core::cuts::{CharSet, split_run};
 use std::borrow::CowStr;
 
 /// What may stand between a plus sign and the national part.
@@ -78,7 +78,7 @@ pub fn phone_number(text: &str) -> Option<Number<'_>>
 fn has_space(text: &str) -> bool
     ensures { result ≡ list_any (λ c. c == 32) (chars text.now) }
 {
-    text.chars().any(|c| c == ' ')
+    text.contains(' ')
 }
 
 /// The text without `tel:`, in any case, at its front.
@@ -115,10 +115,7 @@ fn signed_run(text: &str) -> Option<(Option<&str>, &str)>
 fn is_tail(text: &str) -> bool
     ensures { IsTrue result ↔ ((chars text.now ≡ []) ⊎ (begins (λ c. c == 59) (chars text.now) ≡ true)) }
 {
-    match split_first(text) {
-        Some((c, _)) => c == ';',
-        None => true,
-    }
+    is_nothing(text) || begins_with(text, ';')
 }
 
 /// The prefix: the run after a plus sign, else the context without one plus sign.

@@ -162,10 +162,7 @@ fn is_suffix_start(c: char) -> bool
 fn begins_suffix(text: &str) -> bool
     ensures { result ≡ begins is_suffix_start (chars text.now) }
 {
-    match split_first(text) {
-        Some((c, _)) => is_suffix_start(c),
-        None => false,
-    }
+    text.starts_with(|c| is_suffix_start(c))
 }
 
 /// The longest end of a text that is an extension, with what stands before it; none where no end is one. It asks from

@@ -1,11 +1,11 @@
-use Rattle.std.proofs.Common.{◌++◌, encode_utf8, append_assoc, sym, rules}
-use Rattle.std.proofs.lemmas.Str.{chars-nil}
+use Rattle.std.proofs.Common.{rules}
+use Rattle.phone_core.proofs.Trims.{trim_start-answers}
 use Rattle.phone_core.proofs.cuts.after_run.Goals as goal
 
-pub loop-c-preserved : goal.loop-c-preserved
-loop-c-preserved g c =
-    let v = c.loop-c.invariant.1 in
-    (search rules, (v.0 ++ encode_utf8 c.in-Some.c, rw (v.1, c.in-Some.ensures.cut) (sym (append_assoc v.0 _ _))), rw (c.loop-c.invariant.2, c.in-Some.ensures.read, ← c.has.ensures, c.if-not-has.false))
+pub returns-clause-end : goal.returns-clause-end
+returns-clause-end g c =
+    (trim_start-answers _ _ (g.S.CharSet.members c.args.set.now) _ _ c.utf8.text c.trim_start_matches.ensures.matches (λ a r f k. search rules)).0
 
 pub returns-clause-rest : goal.returns-clause-rest
-returns-clause-rest g c = rw (c.loop-c.invariant.2, c.in_default.ensures.cut, chars-nil)
+returns-clause-rest g c =
+    (trim_start-answers _ _ (g.S.CharSet.members c.args.set.now) _ _ c.utf8.text c.trim_start_matches.ensures.matches (λ a r f k. search rules)).1

@@ -1,5 +1,10 @@
-use Rattle.std.proofs.lemmas.Str.{chars-nil}
+use Rattle.std.proofs.Common.{◌==◌}
+use Rattle.std.specs.Str.Pattern.{FindsCharPrefix}
+use Rattle.phone_read.proofs.Patterns.{one_char, strip-begins, stripped_char}
 use Rattle.phone_read.proofs.fronts.strip_char.Goals as goal
 
-pub returns-in_err-first-clause-read : goal.returns-in_err-first-clause-read
-returns-in_err-first-clause-read c = rw (c.from_residual.ensures, c.in_err-first.ensures.cut, chars-nil)
+pub returns-clause-read : goal.returns-clause-read
+returns-clause-read c =
+    let text = c.args.text.now in
+    stripped_char c.args.c text c.strip_prefix.result
+    (strip-begins (λ d. d == c.args.c) (FindsCharPrefix c.args.c) (one_char c.args.c) text c.strip_prefix.result c.utf8.text c.strip_prefix.ensures.cases)

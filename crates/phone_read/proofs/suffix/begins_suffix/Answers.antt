@@ -1,5 +1,7 @@
-use Rattle.std.proofs.lemmas.Str.{chars-nil}
+use Rattle.std.proofs.Common.{rules}
+use Rattle.phone_read.specs.Suffixes.{is_suffix_start}
+use Rattle.phone_read.proofs.Patterns.{starts-answers}
 use Rattle.phone_read.proofs.suffix.begins_suffix.Goals as goal
 
-pub returns-in-None : goal.returns-in-None
-returns-in-None c = rw (c.in-None.ensures.cut, chars-nil)
+pub returns : goal.returns
+returns c = starts-answers _ _ is_suffix_start _ _ c.utf8.text c.starts_with.ensures.cases (λ a r f k. search rules)
