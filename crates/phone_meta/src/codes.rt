@@ -79,7 +79,7 @@ impl Database {
     fn is_listed(&self, code: u16) -> bool
         ensures { result ≡ is_listed code self.now }
     {
-        !self.places(code).is_empty()
+        !self.places_of(code).is_empty()
     }
 }
 

@@ -27,7 +27,7 @@ pub struct Database {
     alloc: Global,
     territories: Vec<Metadata>,
     /// For each id the position of the last territory with it.
-    places: HashMap<String, usize>,
+    places_by_id: HashMap<String, usize>,
     /// For each calling code that has a territory the positions of its territories, in order of arrival.
     places_by_code: HashMap<u16, Vec<usize>>,
     first_group: Pattern,
@@ -45,7 +45,7 @@ impl Model for Database {
 
     ghost view = { λ d. d.territories.items };
 
-    ghost invariant = { λ d. ((id : List ℕ) → get_by_text d.places id ≡ last_place (has_id id) d.territories.items) × ((code : ℕ) → option_map (λ v. v.items) (get nat_eq d.places_by_code code) ≡ if_any (places_where (has_code code) d.territories.items)) × (d.first_group ≡ first_group_pattern) };
+    ghost invariant = { λ d. ((id : List ℕ) → get_by_text d.places_by_id id ≡ last_place (has_id id) d.territories.items) × ((code : ℕ) → option_map (λ v. v.items) (get nat_eq d.places_by_code code) ≡ if_any (places_where (has_code code) d.territories.items)) × (d.first_group ≡ first_group_pattern) };
 }
 
 /// The first group that a template names: a `$` and a digit.
@@ -64,14 +64,14 @@ impl Database {
             return Err(missing_value(alloc, missing)?);
         }
         let territories = metadata::compile_all(alloc, records)?;
-        let places = places_of(alloc, territories.as_slice())?;
+        let places_by_id = places_by_id(alloc, territories.as_slice())?;
         let places_by_code = places_by_code(alloc, territories.as_slice())?;
         let first_group = Text::from(String::from_str(alloc, FIRST_GROUP)?);
         let first_group = Pattern::new(alloc, first_group)?;
         Ok(Database {
             alloc,
             territories,
-            places,
+            places_by_id,
             places_by_code,
             first_group,
         })
@@ -100,12 +100,12 @@ impl Database {
     pub fn by_id(&self, id: &str) -> Option<&Metadata>
         ensures { option_copied result ≡ last_with id.now self.now }
     {
-        let place = *self.places.get(id)?;
+        let place = *self.places_by_id.get(id)?;
         self.territories.get(place)
     }
 
     /// The positions of the territories of a calling code, in order of arrival.
-    pub(crate) fn places(&self, code: u16) -> &[usize]
+    pub(crate) fn places_of(&self, code: u16) -> &[usize]
         ensures { result.now ≡ places_where (has_code code) self.now }
     {
         match self.places_by_code.get(&code) {
@@ -115,7 +115,10 @@ impl Database {
     }
 }
 
-fn places_of(alloc: Global, territories: &[Metadata]) -> Result<HashMap<String, usize>, AllocError>
+fn places_by_id(
+    alloc: Global,
+    territories: &[Metadata],
+) -> Result<HashMap<String, usize>, AllocError>
     ensures { IfOk result (λ m. (id : List ℕ) → get_by_text m id ≡ last_place (has_id id) territories.now) }
 {
     let mut places = HashMap::new(alloc);

@@ -48,7 +48,7 @@ impl Database {
         ensures { result ≡ filter (has_code code) self.now }
     {
         Placed {
-            places: self.places(code),
+            places: self.places_of(code),
             territories: self.territories(),
         }
     }
