@@ -1,5 +1,5 @@
 -- The first territory of a code, and numbers whose decimal text begins another's.
-use Rattle.std.proofs.Common.{map, option_map, ◌≡◌, ◌≢◌, ◌⊎◌, inl, inr, ℕ, ◌+◌, ◌<◌, ◌≤◌, ◌/◌, ◌%◌, ◌^◌, ◌==◌, not, nat_lt, Bool, true, false, cond, List, [], ◌∷◌, ◌++◌, length, take, filter, reverse, Option, None, Some, refl, ap, ap₂, sym, subst, ◌∙◌, arith, ltb-true, ne_eqb, length-append}
+use Rattle.std.proofs.Common.{map, option_map, ◌≡◌, ◌≢◌, ◌⊎◌, inl, inr, ℕ, ◌+◌, ◌<◌, ◌≤◌, ◌/◌, ◌%◌, ◌^◌, ◌==◌, ◌&&◌, not, nat_lt, Bool, true, false, cond, List, [], ◌∷◌, ◌++◌, length, take, filter, reverse, Option, None, Some, refl, ap, ap₂, sym, subst, ◌∙◌, arith, ltb-true, ne_eqb, length-append}
 use Rattle.std.proofs.Math.Seq.{take-append_seam}
 use Rattle.std.proofs.lemmas.Bool.{and_from, and_parts, false_from_ne_true, ltb-false}
 use Rattle.std.proofs.lemmas.Bool.Decides.{same_from_decides, nat_tests}
@@ -8,7 +8,7 @@ use Rattle.std.proofs.lemmas.List.{length-take, map-append, reverse-append, take
 use Rattle.std.proofs.lemmas.Slice.Eq.{bytes_eq-Decides}
 use Rattle.std.specs.Bool.{Decides}
 use Rattle.std.specs.Fmt.{decimal}
-use Rattle.std.specs.List.{find}
+use Rattle.std.specs.List.{find, last_or}
 use Rattle.std.specs.Option.{option_or}
 use Rattle.phone_meta.specs.Codes.{begins, first_of, if_any, is_main_of, is_other_of, territories}
 use Rattle.phone_meta.specs.declared.loader.Metadata.{Metadata}
@@ -33,6 +33,20 @@ find-append p (x ∷ xs) ys = step (p x) (find-append p xs ys)
     step true e = refl
     step false e = e
 
+-- what passes both
+pub filter-filter : {X : Type 0} (p q : X → Bool) (xs : List X) → filter q (filter p xs) ≡ filter (λ x. p x && q x) xs
+filter-filter p q [] = refl
+filter-filter p q (x ∷ xs) = step (p x) (filter-filter p q xs)
+  where
+    step : (b : Bool) → filter q (filter p xs) ≡ filter (λ x. p x && q x) xs →
+        filter q (cond b (x ∷ filter p xs) (filter p xs)) ≡ cond (b && q x) (x ∷ filter (λ x. p x && q x) xs) (filter (λ x. p x && q x) xs)
+    step true e = ap (λ ys. cond (q x) (x ∷ ys) ys) e
+    step false e = e
+
+-- the first of what passes one test that passes another
+pub find-filter : {X : Type 0} (p q : X → Bool) (xs : List X) → find q (filter p xs) ≡ find (λ x. p x && q x) xs
+find-filter p q xs = sym (first_of-filter q (filter p xs)) ∙ ap first_of (filter-filter p q xs) ∙ first_of-filter (λ x. p x && q x) xs
+
 option_or-none : {X : Type 0} (o : Option X) → option_or o None ≡ o
 option_or-none None = refl
 option_or-none (Some x) = refl
@@ -49,6 +63,29 @@ first_of-reverse p (x ∷ xs) =
     step : (b : Bool) → first_of (reverse (cond b (x ∷ filter p xs) (filter p xs))) ≡ option_or (first_of (reverse (filter p xs))) (cond b (Some x) None)
     step true = ap first_of (reverse-append (x ∷ []) (filter p xs)) ∙ first_of-append (reverse (filter p xs)) (x ∷ [])
     step false = sym (option_or-none (first_of (reverse (filter p xs))))
+
+option_or-assoc : {X : Type 0} (a b c : Option X) → option_or (option_or a b) c ≡ option_or a (option_or b c)
+option_or-assoc None b c = refl
+option_or-assoc (Some x) b c = refl
+
+-- the last of a list comes first in the reverse
+last_or-reverse : {X : Type 0} (o : Option X) (xs : List X) → last_or o xs ≡ option_or (first_of (reverse xs)) o
+last_or-reverse o [] = refl
+last_or-reverse o (x ∷ xs) =
+    last_or-reverse (Some x) xs
+    ∙ sym (option_or-assoc (first_of (reverse xs)) (Some x) o)
+    ∙ ap (λ a. option_or a o) (sym (ap first_of (reverse-append (x ∷ []) xs) ∙ first_of-append (reverse xs) (x ∷ [])))
+
+last_or-map : {X Y : Type 0} (f : X → Y) (o : Option X) (xs : List X) → option_map f (last_or o xs) ≡ last_or (option_map f o) (map f xs)
+last_or-map f o [] = refl
+last_or-map f o (x ∷ xs) = last_or-map f (Some x) xs
+
+-- the last of what passes, read off the items that were yielded
+pub last-find : {X Y : Type 0} (f : X → Y) (p : Y → Bool) (xs : List X) (ys : List Y) → map f xs ≡ filter p ys → option_map f (last_or None xs) ≡ find p (reverse ys)
+last-find f p xs ys e =
+    last_or-map f None xs ∙ ap (last_or None) e ∙ last_or-reverse None (filter p ys)
+    ∙ option_or-none (first_of (reverse (filter p ys)))
+    ∙ first_of-reverse p ys
 
 -- the first territory of a code: its latest main one, or else its earliest
 pub first_of-territories : (code : ℕ) (db : List Metadata) → option_or (find (is_main_of code) (reverse db)) (find (is_other_of code) db) ≡ first_of (territories code db)

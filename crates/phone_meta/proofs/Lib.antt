@@ -1,3 +1,4 @@
+pub mod Chains
 pub mod CodeLemmas
 pub mod Complete
 pub mod Lasts

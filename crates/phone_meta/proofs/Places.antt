@@ -1,12 +1,13 @@
 -- Places in a list.
 use Rattle.std.proofs.Common.{◌≡◌, ℕ, suc, Bool, true, false, cond, List, [], ◌∷◌, ◌++◌, length, Option, None, Some, option_map, MatchOption, refl, ap, sym, subst, ◌∙◌}
-use Rattle.std.proofs.Common.{Bor, ◌+◌, ◌<◌, take, get_or, length-take-le, arith}
-use Rattle.std.proofs.lemmas.List.{take_more}
+use Rattle.std.proofs.Common.{Bor, ne_eqb, not, ◌==◌, ◌||◌, filter, map, unwrap_or, ◌+◌, ◌<◌, take, get_or, length-take-le, arith}
+use Rattle.std.proofs.lemmas.List.{append-nil, append_assoc, length-map, map-append, take_more}
 use Rattle.std.proofs.lemmas.Option.{slice_get_past, slice_get-get_or}
-use Rattle.std.specs.Option.{option_or, option_copied}
+use Rattle.std.specs.Option.{option_or, option_copied, option_map_or}
 use Rattle.std.specs.Slice.{IsItemAt}
-use Rattle.std.specs.List.{slice_get}
-use Rattle.phone_meta.specs.Records.{last_where, last_place}
+use Rattle.std.specs.List.{cons_option, filter_map, list_any, slice_get}
+use Rattle.phone_meta.specs.Codes.{if_any}
+use Rattle.phone_meta.specs.Records.{last_where, last_place, places_where}
 
 one_more : (b : Bool) (n : ℕ) (o t : Option ℕ) → option_or (option_map suc (cond b (Some n) o)) t ≡ cond b (Some (suc n)) (option_or (option_map suc o) t)
 one_more true n o t = refl
@@ -50,3 +51,73 @@ pub last_place-take : {X : Type 0} (p : X → Bool) (xs : List X) (k : ℕ) (x :
 last_place-take p xs k x b m small at same before =
     let counted : length (take k xs) ≡ k = length-take-le k xs (omega arith) in
     rw (same, before, take_more xs k x small, ← at, last_place-push p (take k xs) x, counted)
+
+-- a place, if it is one
+abbrev pub one_if : Bool → ℕ → List ℕ
+one_if b k = cond b (k ∷ []) []
+
+map-one_if : (b : Bool) (k : ℕ) → map suc (one_if b k) ≡ one_if b (suc k)
+map-one_if true k = refl
+map-one_if false k = refl
+
+-- one more at the end of the places of those that pass
+pub places_where-push : {X : Type 0} (p : X → Bool) (xs : List X) (x : X) → places_where p (xs ++ x ∷ []) ≡ places_where p xs ++ one_if (p x) (length xs)
+places_where-push p [] x = append-nil (one_if (p x) 0)
+places_where-push p (y ∷ xs) x =
+    let here = one_if (p y) 0 in
+    ap (λ ks. here ++ map suc ks) (places_where-push p xs x)
+    ∙ ap (λ ks. here ++ ks) (map-append suc (places_where p xs) (one_if (p x) (length xs)) ∙ ap (λ ks. map suc (places_where p xs) ++ ks) (map-one_if (p x) (length xs)))
+    ∙ sym (append_assoc here (map suc (places_where p xs)) (one_if (p x) (suc (length xs))))
+
+-- a turn of a loop that writes these places down
+pub places_where-take : {X : Type 0} (p : X → Bool) (xs : List X) (k : ℕ) (x : X) (b : Bool) → k < length xs → x ≡ get_or xs k x → b ≡ p x →
+    places_where p (take (k + 1) xs) ≡ places_where p (take k xs) ++ one_if b k
+places_where-take p xs k x b small at same =
+    let counted : length (take k xs) ≡ k = length-take-le k xs (omega arith) in
+    rw (same, take_more xs k x small, ← at, places_where-push p (take k xs) x, counted)
+
+unwrap_or-map : {X : Type 0} (items : X → List ℕ) (o : Option X) → option_map_or items o [] ≡ unwrap_or (option_map items o) []
+unwrap_or-map items None = refl
+unwrap_or-map items (Some x) = refl
+
+-- a list, where it is kept just if it has something in it
+pub unwrap_or-if_any : (ks : List ℕ) → unwrap_or (if_any ks) [] ≡ ks
+unwrap_or-if_any [] = refl
+unwrap_or-if_any (k ∷ ks) = refl
+
+had : {X : Type 0} (items : X → List ℕ) (o : Option X) (ks : List ℕ) → option_map items o ≡ if_any ks → option_map_or items o [] ≡ ks
+had items o ks e = unwrap_or-map items o ∙ ap (λ m. unwrap_or m []) e ∙ unwrap_or-if_any ks
+
+if_any-push : (ks : List ℕ) (k : ℕ) → Some (ks ++ k ∷ []) ≡ if_any (ks ++ k ∷ [])
+if_any-push [] k = refl
+if_any-push (j ∷ ks) k = refl
+
+-- a turn of a loop that keeps such places for each key: the places of one key
+pub kept-take : {X : Type 0} (items : X → List ℕ) (old new : Option X) (ks : List ℕ) (k : ℕ) (b : Bool) → option_map items old ≡ if_any ks →
+    (b ≡ true → option_map items new ≡ Some (option_map_or items old [] ++ k ∷ [])) → (b ≡ false → new ≡ old) →
+    option_map items new ≡ if_any (ks ++ one_if b k)
+kept-take items old new ks k false before here other = ap (option_map items) (other refl) ∙ before ∙ ap if_any (sym (append-nil ks))
+kept-take items old new ks k true before here other = here refl ∙ ap (λ js. Some (js ++ k ∷ [])) (had items old ks before) ∙ if_any-push ks k
+
+later-places : {X : Type 0} (x : X) (xs : List X) (ks : List ℕ) → filter_map (slice_get (x ∷ xs)) (map suc ks) ≡ filter_map (slice_get xs) ks
+later-places x xs [] = refl
+later-places x xs (k ∷ ks) = ap (cons_option (slice_get xs k)) (later-places x xs ks)
+
+-- what stands at these places is what passes
+pub filter_map-places_where : {X : Type 0} (p : X → Bool) (xs : List X) → filter_map (slice_get xs) (places_where p xs) ≡ filter p xs
+filter_map-places_where p [] = refl
+filter_map-places_where p (x ∷ xs) =
+    step (p x) (places_where p xs) ∙ ap (λ ys. cond (p x) (x ∷ ys) ys) (filter_map-places_where p xs)
+  where
+    step : (b : Bool) (ks : List ℕ) → filter_map (slice_get (x ∷ xs)) (one_if b 0 ++ map suc ks) ≡ cond b (x ∷ filter_map (slice_get xs) ks) (filter_map (slice_get xs) ks)
+    step true ks = ap (λ ys. x ∷ ys) (later-places x xs ks)
+    step false ks = later-places x xs ks
+
+-- there is such a place just if something passes
+pub places_where-any : {X : Type 0} (p : X → Bool) (xs : List X) → not (length (places_where p xs) == 0) ≡ list_any p xs
+places_where-any p [] = refl
+places_where-any p (x ∷ xs) = step (p x) (places_where-any p xs)
+  where
+    step : (b : Bool) → not (length (places_where p xs) == 0) ≡ list_any p xs → not (length (one_if b 0 ++ map suc (places_where p xs)) == 0) ≡ (b || list_any p xs)
+    step true e = ap not (ne_eqb (suc (length (map suc (places_where p xs)))) 0 (omega arith))
+    step false e = ap (λ n. not (n == 0)) (length-map (places_where p xs) suc) ∙ e

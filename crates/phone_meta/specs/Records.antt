@@ -1,5 +1,5 @@
 -- What contracts see of a database: its records, in the order in which they were handed in.
-use Rattle.std.specs.Prelude.{ℕ, suc, ◌==◌, ◌&&◌, ◌||◌, Bool, if◌then◌else◌, List, [], ◌∷◌, length, Option, None, Some, option_map, unwrap_or, codes}
+use Rattle.std.specs.Prelude.{ℕ, suc, ◌==◌, ◌&&◌, ◌||◌, Bool, if◌then◌else◌, List, [], ◌∷◌, ◌++◌, map, length, Option, None, Some, option_map, unwrap_or, codes}
 use Rattle.std.specs.List.{list_any}
 use Rattle.std.specs.Option.{option_or}
 use Rattle.std.specs.Str.{bytes_eq}
@@ -28,6 +28,11 @@ last_where passes (x ∷ xs) = option_or (last_where passes xs) (if passes x the
 abbrev pub last_place : {X : Type 0} → (X → Bool) → List X → Option ℕ
 last_place passes [] = None
 last_place passes (x ∷ xs) = option_or (option_map suc (last_place passes xs)) (if passes x then Some 0 else None)
+
+-- the places of those that pass, in their order
+abbrev pub places_where : {X : Type 0} → (X → Bool) → List X → List ℕ
+places_where passes [] = []
+places_where passes (x ∷ xs) = (if passes x then 0 ∷ [] else []) ++ map suc (places_where passes xs)
 
 -- a territory's id and calling code; every territory of a database has both
 abbrev pub id_of : Metadata → List ℕ

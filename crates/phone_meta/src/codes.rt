@@ -4,32 +4,12 @@ ghost use Rattle.std.specs.Borrow.{Bor};
 ghost use Rattle.std.specs.List.{find, list_all, list_any};
 ghost use Rattle.std.specs.Option.{option_copied};
 ghost use Rattle.phone_meta.specs.Codes.{begins, first_of, front_number, if_any, is_listed, is_main_of, is_other_of, is_prefix_free, listed_front, regions, shortest, territories};
-ghost use Rattle.phone_meta.specs.Records.{code_of, has_code, id_of};
+ghost use Rattle.phone_meta.specs.Records.{code_of, id_of};
 ghost use Rattle.phone_meta.specs.declared.loader.Metadata as loader;
 
 use crate::database::Database;
 use crate::metadata::Metadata;
 use std::alloc::{AllocError, Global};
-
-impl Metadata {
-    fn has_code(&self, code: u16) -> bool
-        ensures { result ≡ has_code code self.now }
-    {
-        self.country_code() == code
-    }
-
-    fn is_main_of(&self, code: u16) -> bool
-        ensures { result ≡ is_main_of code self.now }
-    {
-        self.has_code(code) && self.is_main_country_for_code()
-    }
-
-    fn is_other_of(&self, code: u16) -> bool
-        ensures { result ≡ is_other_of code self.now }
-    {
-        self.has_code(code) && !self.is_main_country_for_code()
-    }
-}
 
 impl Database {
     /// The territories of a calling code: the main ones, latest first, then the others in order of arrival; none where
@@ -69,37 +49,37 @@ impl Database {
     fn mains(&self, code: u16) -> Result<Vec<&Metadata>, AllocError>
         ensures { IfOk result (λ v. map (λ (t : Bor loader.Metadata). t.now) v.items ≡ filter (is_main_of code) self.now) }
     {
-        self.territories()
-            .iter()
-            .filter(|t| t.is_main_of(code))
+        self.of_code(code)
+            .filter(|t| t.is_main_country_for_code())
             .collect(self.allocator())
     }
 
     fn others(&self, code: u16) -> Result<Vec<&Metadata>, AllocError>
         ensures { IfOk result (λ v. map (λ (t : Bor loader.Metadata). t.now) v.items ≡ filter (is_other_of code) self.now) }
     {
-        self.territories()
-            .iter()
-            .filter(|t| t.is_other_of(code))
+        self.of_code(code)
+            .filter(|t| !t.is_main_country_for_code())
             .collect(self.allocator())
     }
 
     fn last_main(&self, code: u16) -> Option<&Metadata>
         ensures { option_copied result ≡ find (is_main_of code) (reverse self.now) }
     {
-        self.territories().iter().rev().find(|t| t.is_main_of(code))
+        self.of_code(code)
+            .filter(|t| t.is_main_country_for_code())
+            .last()
     }
 
     fn first_other(&self, code: u16) -> Option<&Metadata>
         ensures { option_copied result ≡ find (is_other_of code) self.now }
     {
-        self.territories().iter().find(|t| t.is_other_of(code))
+        self.of_code(code).find(|t| !t.is_main_country_for_code())
     }
 
     fn is_listed(&self, code: u16) -> bool
         ensures { result ≡ is_listed code self.now }
     {
-        self.territories().iter().any(|t| t.has_code(code))
+        !self.places_of(code).is_empty()
     }
 }
 

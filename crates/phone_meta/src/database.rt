@@ -1,9 +1,11 @@
 //! A database: territories by id and by calling code.
-ghost use Rattle.std.specs.Prelude.{◌≡◌, ℕ, List, None, IfOk, IfErr};
+ghost use Rattle.std.specs.Prelude.{◌≡◌, ℕ, List, None, IfOk, IfErr, option_map};
+ghost use Rattle.std.specs.Bool.{nat_eq};
 ghost use Rattle.std.specs.Result.{IsOk};
-ghost use Rattle.std.specs.HashMap.{get_by_text};
+ghost use Rattle.std.specs.HashMap.{get, get_by_text};
 ghost use Rattle.std.specs.Option.{option_copied};
-ghost use Rattle.phone_meta.specs.Records.{last_with, last_place, has_id, first_group_pattern};
+ghost use Rattle.phone_meta.specs.Codes.{if_any};
+ghost use Rattle.phone_meta.specs.Records.{last_with, last_place, places_where, has_code, has_id, first_group_pattern};
 ghost use Rattle.phone_meta.specs.First.{IsPatternOf};
 ghost use Rattle.phone_meta.specs.Missing.{first_missing};
 ghost use Rattle.phone_meta.specs.Refusals.{IsRefusalOf, TellsMissing};
@@ -24,21 +26,26 @@ use std::marker::Model;
 pub struct Database {
     alloc: Global,
     territories: Vec<Metadata>,
-    places: HashMap<String, usize>,
+    /// For each id the position of the last territory with it.
+    places_by_id: HashMap<String, usize>,
+    /// For each calling code that has a territory the positions of its territories, in order of arrival.
+    places_by_code: HashMap<u16, Vec<usize>>,
     first_group: Pattern,
 }
 
 impl Model for Database {
-    ghost use Rattle.std.specs.Prelude.{◌≡◌, List, ℕ};
-    ghost use Rattle.std.specs.HashMap.{get_by_text};
-    ghost use Rattle.phone_meta.specs.Records.{last_place, has_id, first_group_pattern};
+    ghost use Rattle.std.specs.Prelude.{◌≡◌, List, ℕ, option_map};
+    ghost use Rattle.std.specs.Bool.{nat_eq};
+    ghost use Rattle.std.specs.HashMap.{get, get_by_text};
+    ghost use Rattle.phone_meta.specs.Codes.{if_any};
+    ghost use Rattle.phone_meta.specs.Records.{last_place, places_where, has_code, has_id, first_group_pattern};
     ghost use Rattle.phone_meta.specs.declared.loader.Metadata as loader;
 
     ghost Value = { List loader.Metadata };
 
     ghost view = { λ d. d.territories.items };
 
-    ghost invariant = { λ d. ((id : List ℕ) → get_by_text d.places id ≡ last_place (has_id id) d.territories.items) × (d.first_group ≡ first_group_pattern) };
+    ghost invariant = { λ d. ((id : List ℕ) → get_by_text d.places_by_id id ≡ last_place (has_id id) d.territories.items) × ((code : ℕ) → option_map (λ v. v.items) (get nat_eq d.places_by_code code) ≡ if_any (places_where (has_code code) d.territories.items)) × (d.first_group ≡ first_group_pattern) };
 }
 
 /// The first group that a template names: a `$` and a digit.
@@ -57,13 +64,15 @@ impl Database {
             return Err(missing_value(alloc, missing)?);
         }
         let territories = metadata::compile_all(alloc, records)?;
-        let places = places_of(alloc, territories.as_slice())?;
+        let places_by_id = places_by_id(alloc, territories.as_slice())?;
+        let places_by_code = places_by_code(alloc, territories.as_slice())?;
         let first_group = Text::from(String::from_str(alloc, FIRST_GROUP)?);
         let first_group = Pattern::new(alloc, first_group)?;
         Ok(Database {
             alloc,
             territories,
-            places,
+            places_by_id,
+            places_by_code,
             first_group,
         })
     }
@@ -91,17 +100,46 @@ impl Database {
     pub fn by_id(&self, id: &str) -> Option<&Metadata>
         ensures { option_copied result ≡ last_with id.now self.now }
     {
-        let place = *self.places.get(id)?;
+        let place = *self.places_by_id.get(id)?;
         self.territories.get(place)
+    }
+
+    /// The positions of the territories of a calling code, in order of arrival.
+    pub(crate) fn places_of(&self, code: u16) -> &[usize]
+        ensures { result.now ≡ places_where (has_code code) self.now }
+    {
+        match self.places_by_code.get(&code) {
+            Some(places) => places.as_slice(),
+            None => &[],
+        }
     }
 }
 
-fn places_of(alloc: Global, territories: &[Metadata]) -> Result<HashMap<String, usize>, AllocError>
+fn places_by_id(
+    alloc: Global,
+    territories: &[Metadata],
+) -> Result<HashMap<String, usize>, AllocError>
     ensures { IfOk result (λ m. (id : List ℕ) → get_by_text m id ≡ last_place (has_id id) territories.now) }
 {
     let mut places = HashMap::new(alloc);
     for (place, territory) in territories.iter().enumerate() {
         places.insert(String::from_str(alloc, territory.id())?, place)?;
+    }
+    Ok(places)
+}
+
+fn places_by_code(
+    alloc: Global,
+    territories: &[Metadata],
+) -> Result<HashMap<u16, Vec<usize>>, AllocError>
+    ensures { IfOk result (λ m. (code : ℕ) → option_map (λ v. v.items) (get nat_eq m code) ≡ if_any (places_where (has_code code) territories.now)) }
+{
+    let mut places: HashMap<u16, Vec<usize>> = HashMap::new(alloc);
+    for (place, territory) in territories.iter().enumerate() {
+        places
+            .entry(territory.country_code())?
+            .or_default()
+            .push(place)?;
     }
     Ok(places)
 }

@@ -12,6 +12,7 @@ pub mod loader;
 mod metadata;
 mod missing;
 mod pattern;
+mod placed;
 
 pub use database::Database;
 pub use descriptor::Descriptor;

@@ -3,7 +3,7 @@ use Rattle.std.proofs.lemmas.Map.Text.{hash_map_updates_text}
 use Rattle.std.specs.Str.{bytes_eq}
 use Rattle.phone_meta.specs.Records.{has_id}
 use Rattle.phone_meta.proofs.Places.{last_place-take}
-use Rattle.phone_meta.proofs.database.places_of.Goals as goal
+use Rattle.phone_meta.proofs.database.places_by_id.Goals as goal
 
 pub loop-place-preserved : goal.loop-place-preserved
 loop-place-preserved c = λ id.

@@ -1,0 +1,15 @@
+use Rattle.std.proofs.Common.{◌∙◌, Bor, List, filter, not, rules, tests}
+use Rattle.std.proofs.lemmas.Iterator.Consumers.{YieldsList-from_first}
+use Rattle.std.proofs.lemmas.Iterator.Search.{find_from_yields_List}
+use Rattle.phone_meta.specs.Records.{has_code}
+use Rattle.phone_meta.specs.declared.loader.Metadata.{Metadata}
+use Rattle.phone_meta.proofs.CodeLemmas.{find-filter}
+use Rattle.phone_meta.proofs.database.Database.first_other.Goals as goal
+
+pub returns : goal.returns
+returns c =
+    let test = λ (m : Metadata). not m.main_country_for_code in
+    let all = filter (has_code c.args.code) c.args.self.now in
+    let source = YieldsList-from_first (λ (t : Bor Metadata). t.now) (λ (ms : List Metadata). ms) all c.of_code.ensures in
+    find_from_yields_List test _ _ c.find.result c.find.ensures.ran source (λ x b q k. search (rules, tests))
+    ∙ find-filter (has_code c.args.code) test c.args.self.now
