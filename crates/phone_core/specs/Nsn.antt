@@ -1,5 +1,5 @@
 -- The national (significant) number that a text of digits gives.
-use Rattle.std.specs.Prelude.{ℕ, nat_lt, if◌then◌else◌, List, length, Result, Ok, Err}
+use Rattle.std.specs.Prelude.{ℕ, nat_lt, if◌then◌else◌, List, length, Result, Err}
 use Rattle.phone_core.specs.declared.error.ParseError.{ParseError}
 use Rattle.phone_core.specs.declared.error.ParseError.TheVariants.{TooShortNsn, TooLong}
 use Rattle.phone_core.specs.Numbers.{National, national_in}

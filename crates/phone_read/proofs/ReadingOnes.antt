@@ -1,16 +1,12 @@
 -- Each text has at most one reading, under each database and hint.
-use Rattle.std.proofs.Common.{◌≡◌, ℕ, List, Option, None, Some, Result, Ok, Err, refl, sym, ◌∙◌, ap, subst}
+use Rattle.std.proofs.Common.{◌≡◌, ℕ, List, Option, None, Some, Result, Ok, Err, refl, ap, subst}
 use Rattle.phone_core.specs.declared.country.Id.{Id}
 use Rattle.phone_core.specs.declared.error.ParseError.{ParseError}
 use Rattle.phone_core.specs.Viable.{IsViable}
 use Rattle.phone_meta.specs.declared.loader.Metadata.{Metadata}
-use Rattle.phone_read.specs.Codes.{code_of}
-use Rattle.phone_read.specs.Hints.{Coded}
-use Rattle.phone_read.specs.Naturals.{NaturalParts, IsNatural}
 use Rattle.phone_read.specs.Readings
 use Rattle.phone_read.specs.Readings.{HasParts, Reads, stripping_territory, stripped}
-use Rattle.phone_read.specs.Tel.{TelParts, IsTel}
-use Rattle.phone_read.specs.declared.natural.NoReading.{NoReading}
+use Rattle.phone_read.specs.Tel.{TelParts}
 use Rattle.phone_read.specs.declared.reading.Reading.{Reading}
 use Rattle.phone_read.proofs.NaturalOnes.{natural_unique}
 use Rattle.phone_read.proofs.Tels.{tel_unique}

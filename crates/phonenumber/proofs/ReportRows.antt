@@ -1,5 +1,5 @@
 -- Lines of the report, computed on their definition.
-use Rattle.std.proofs.Common.{◌≡◌, inl, ℕ, Bool, false, Option, List, [], ◌∷◌, ◌++◌, codes, Some, None, Ok, Err, true, refl, ap, sym, subst, ◌∙◌, true≢false, arith, IsUtf8, ◌==◌, encode_utf8_all}
+use Rattle.std.proofs.Common.{◌≡◌, inl, ℕ, Bool, false, Option, List, [], ◌∷◌, ◌++◌, codes, Some, None, Ok, Err, refl, ap, sym, subst, ◌∙◌, true≢false, arith, IsUtf8, ◌==◌}
 use Rattle.std.proofs.lemmas.Fmt.{decimal_digit, decimal_step}
 use Rattle.std.proofs.lemmas.Str.{IsUtf8-from_is_utf8, is_utf8-from_IsUtf8}
 use Rattle.std.specs.Fmt.{decimal}
@@ -17,7 +17,7 @@ use Rattle.phone_core.specs.declared.mode.Mode.TheVariants.{E164, International,
 use Rattle.phone_meta.specs.declared.loader.Metadata.{Metadata}
 use Rattle.phone_core.proofs.Texts.{id_of-name}
 use Rattle.phone_core.proofs.ViableRows.{not_viable}
-use Rattle.phone_read.specs.Hints.{Coded, code_by_hint}
+use Rattle.phone_read.specs.Hints.{code_by_hint}
 use Rattle.phone_read.specs.Readings.{Reads}
 use Rattle.phone_read.specs.Regions.{home, type_of, is_known}
 use Rattle.phone_read.specs.Samples.{nz}

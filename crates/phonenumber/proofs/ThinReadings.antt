@@ -8,7 +8,7 @@ use Rattle.phone_core.specs.Norm.{norm}
 use Rattle.phone_core.specs.Viable.{IsViable}
 use Rattle.phone_core.specs.declared.country.Id.{Id}
 use Rattle.phone_core.specs.declared.error.ParseError.{ParseError}
-use Rattle.phone_core.specs.declared.error.ParseError.TheVariants.{NoNumber, InvalidCountryCode}
+use Rattle.phone_core.specs.declared.error.ParseError.TheVariants.{InvalidCountryCode}
 use Rattle.phone_meta.specs.declared.loader.Metadata.{Metadata}
 use Rattle.phone_meta.specs.Empty.{no_metadata}
 use Rattle.phone_meta.specs.Records.{last_with, has_id}
@@ -25,7 +25,6 @@ use Rattle.phone_read.specs.Tel.{IsTel, TelParts, is_national}
 use Rattle.phone_read.specs.Texts.{begins, without_front}
 use Rattle.phone_read.specs.Verdicts.{verdict, is_too_short}
 use Rattle.phone_core.specs.declared.country.Source.TheVariants.{Default}
-use Rattle.phone_read.specs.declared.natural.NoReading.{NoReading}
 use Rattle.phone_read.specs.declared.natural.NoReading.TheVariants.{Error}
 use Rattle.phone_read.specs.declared.reading.Reading.{Reading}
 use Rattle.phone_read.proofs.ReadingOnes.{parts_same}

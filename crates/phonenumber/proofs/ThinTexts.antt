@@ -1,10 +1,10 @@
 -- Thin texts: what their characters are, and what both readers make of them.
-use Rattle.std.proofs.Common.{◌≡◌, ◌⊎◌, inl, inr, ⊎_elim, ℕ, zero, suc, ◌+◌, ◌<◌, ◌≤◌, nat_le, ◌==◌, eqb-true, eq-eqb, leb-true, Bool, true, false, not, ◌&&◌, ◌||◌, List, [], ◌∷◌, ◌++◌, length, drop, codes, Some, None, Ok, refl, ap, sym, ◌∙◌, true≢false, arith, append-nil}
+use Rattle.std.proofs.Common.{◌≡◌, inl, inr, ℕ, zero, suc, ◌+◌, ◌<◌, ◌≤◌, nat_le, ◌==◌, eqb-true, eq-eqb, leb-true, Bool, true, false, not, ◌&&◌, ◌||◌, List, [], ◌∷◌, ◌++◌, drop, None, Ok, refl, ap, sym, ◌∙◌, true≢false, arith, append-nil}
 use Rattle.std.proofs.lemmas.Bool.{and_parts, and_from}
 use Rattle.std.specs.List.{list_any, list_all}
 use Rattle.ucd_case.proofs.Computing.{ucd_case}
 use Rattle.ucd_category.proofs.Computing.{ucd_category}
-use Rattle.phone_core.specs.Characters.{is_digit, is_nd, is_number, is_one_of, is_plus}
+use Rattle.phone_core.specs.Characters.{is_digit, is_one_of, is_plus}
 use Rattle.phone_core.specs.Cuts.{after_front}
 use Rattle.phone_read.specs.Cores.{IsCore, begins_second_number, is_start, is_last}
 use Rattle.phone_read.specs.Naturals

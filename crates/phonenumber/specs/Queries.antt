@@ -1,5 +1,5 @@
 -- What a database tells of a number that was read.
-use Rattle.std.specs.Prelude.{ℕ, Bool, false, List, Option, Some, None}
+use Rattle.std.specs.Prelude.{Bool, false, List, Option}
 use Rattle.std.specs.Fmt.{decimal}
 use Rattle.std.specs.Option.{option_and_then, option_map_or}
 use Rattle.phone_core.specs.Ids.{id_of}
