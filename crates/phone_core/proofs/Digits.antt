@@ -25,6 +25,7 @@ record IsPastZeros (s r : List ℕ) (n : ℕ) : Type 0 where
   pub zeros : leading_zeros s ≡ n + leading_zeros r
   pub long : n + length r ≡ length s
 
+-- each cut takes one zero
 past_zeros : (s : List ℕ) (ns : List ℕ) (r : List ℕ) → CutsPrefixes (FindsCharPrefix 48) s ns r → IsPastZeros s r (length ns)
 past_zeros s [] r e = record { past = sym e; zeros = omega (arith, ap leading_zeros e); long = omega (arith, ap length e) }
 past_zeros s (n ∷ ns) r (m, cuts, found, e) =

@@ -32,6 +32,7 @@ IsUtf8-before r c u =
 
 -- a pattern that finds the characters of a set at the front cuts off the longest front of them
 module _ (p : ℕ → Bool) (R : List ℕ → Option ℕ → Type 0) (finds : (s : List ℕ) (o : Option ℕ) → R s o → FindsPrefixBy p s o) where
+  -- r is a text, and s is r behind characters that don't change what follows the longest front
   record IsPeeled (s r : List ℕ) : Type 0 where
     pub peeled : List ℕ
     pub whole : s ≡ peeled ++ r
@@ -50,6 +51,7 @@ module _ (p : ℕ → Bool) (R : List ℕ → Option ℕ → Type 0) (finds : (s
         same = h.same ∙ ap (after_front p) (chars_past_char m r c h.text cut) ∙ rw found.1 refl;
       }
 
+  -- and so many cuts take many
   peels : (s : List ℕ) (ns : List ℕ) (r : List ℕ) → IsUtf8 s → CutsPrefixes R s ns r → IsPeeled s r
   peels s [] r u e = record { peeled = []; whole = sym e; text = subst IsUtf8 (sym e) u; same = ap (λ t. after_front p (chars t)) (sym e) }
   peels s (n ∷ ns) r u (m, cuts, found, e) = peel s m r n (peels s ns m u cuts) (finds m (Some n) found) e
@@ -63,6 +65,7 @@ module _ (p : ℕ → Bool) (R : List ℕ → Option ℕ → Type 0) (finds : (s
       at (c ∷ cs) e s = rw (none c (encode_utf8_all cs) (and_parts _ _ s).0 (sym e))
   unpeeled r (Some n) u e found = absurd (omega (arith, e, found.2.ends, len_utf8_bounds found.0))
 
+  -- what is left is what follows the longest front
   pub after_front-trimmed : (s r : List ℕ) → IsUtf8 s → IsTrimStartMatches R s r → ((v : List ℕ) × (s ≡ v ++ r)) × (chars r ≡ after_front p (chars s))
   after_front-trimmed s r u h =
       let k = peels s h.0.0 r u h.0.1 in
@@ -88,12 +91,14 @@ pushed (c ∷ cs) = at (pushed cs)
     at (inl e) = inr ([], c, ap (λ t. c ∷ t) e)
     at (inr (ds, d, e)) = inr (c ∷ ds, d, ap (λ t. c ∷ t) e)
 
+-- the last of a text's characters is a character
 scalar_last : (cs : List ℕ) (c : ℕ) → all_scalars (cs ++ c ∷ []) ≡ true → all_scalars (c ∷ []) ≡ true
 scalar_last [] c h = h
 scalar_last (x ∷ cs) c h = scalar_last cs c (and_parts _ _ h).1
 
 -- a pattern that finds the characters of a set at the end cuts off the longest end of them
 module _ (p : ℕ → Bool) (R : List ℕ → Option ℕ → Type 0) (finds : (s : List ℕ) (o : Option ℕ) → R s o → FindsSuffixBy p s o) where
+  -- s is r and then characters of the set
   record IsCutBack (s r : List ℕ) : Type 0 where
     pub end : List ℕ
     pub cut : s ≡ r ++ end
@@ -121,6 +126,7 @@ module _ (p : ℕ → Bool) (R : List ℕ → Option ℕ → Type 0) (finds : (s
         members = rw found.1 h.members;
       }
 
+  -- and so many cuts take many
   cuts_back : (s : List ℕ) (ns : List ℕ) (r : List ℕ) → IsUtf8 s → CutsSuffixes R s ns r → IsCutBack s r
   cuts_back s [] r u e = record {
     end = [];
@@ -146,6 +152,7 @@ module _ (p : ℕ → Bool) (R : List ℕ → Option ℕ → Type 0) (finds : (s
           inr (cs, c, e, none c (encode_utf8_all cs) scalar ends)
   uncut r (Some n) u e found = absurd (omega (arith, e, found.2.ends, len_utf8_bounds found.0))
 
+  -- what is left is the text without its longest end
   IsWithoutEnd-trimmed : (s r : List ℕ) → IsUtf8 s → IsTrimEndMatches R s r → IsWithoutEnd p s r
   IsWithoutEnd-trimmed s r u h =
       let k = cuts_back s h.0.0 r u h.0.1 in
@@ -159,12 +166,15 @@ module _ (p : ℕ → Bool) (R : List ℕ → Option ℕ → Type 0) (finds : (s
 
 -- what a closure finds whose calls answer a set
 module _ {F : Type 0} (g : Mut F (ℕ × Unit {0}) Bool) (f : F) where
+  -- at the front of a text
   abbrev pub FindsFirst : List ℕ → Option ℕ → Type 0
   FindsFirst s o = (k : ℕ → Bool) → AlwaysReturns g (λ a r. r ≡ k a.0) f → FindsPrefixBy k s o
 
+  -- at its end
   abbrev pub FindsLast : List ℕ → Option ℕ → Type 0
   FindsLast s o = (k : ℕ → Bool) → AlwaysReturns g (λ a r. r ≡ k a.0) f → FindsSuffixBy k s o
 
+  -- each call answers the set and leaves the closure as it is
   abbrev pub Answers : (ℕ → Bool) → Type 0
   Answers p = (a : ℕ × Unit {0}) (r : Bool) (f' : F) → Called g f a r f' → (r ≡ p a.0) × (f' ≡ f)
 

@@ -29,9 +29,11 @@ abbrev pub IsStripped : (ℕ → Bool) → List ℕ → Option (Bor (List ℕ)) 
 IsStripped p s o = MatchOption o (begins p (chars s) ≡ false) (λ x. IsPastOne p s x.now)
 
 module _ (p : ℕ → Bool) (R : List ℕ → Option ℕ → Type 0) (finds : (s : List ℕ) (o : Option ℕ) → R s o → FindsPrefixBy p s o) where
+  -- where one is found the text begins with it
   past_one : (s : List ℕ) (n : ℕ) → IsUtf8 s → FindsPrefixBy p s (Some n) → IsPastOne p s (drop n s)
   past_one s n u found = record { c = found.0; member = found.1; cut = found.2.split; read = chars_past_char s (drop n s) found.0 u found.2.split }
 
+  -- where none is found it does not
   begins_none : (s : List ℕ) → IsUtf8 s → FindsPrefixBy p s None → begins p (chars s) ≡ false
   begins_none s u none = at (chars s) (encodes-chars s u) (scalars-chars s u)
     where
@@ -68,6 +70,7 @@ module _ {F : Type 0} (g : Mut F (ℕ × Unit {0}) Bool) (f : F) (p : ℕ → Bo
 abbrev pub FindsListed : List ℕ → List ℕ → Option ℕ → Type 0
 FindsListed members s o = (k : ℕ → Bool) → ((c : ℕ) → is_one_of members c ≡ k c) → FindsPrefixBy k s o
 
+-- so it finds what that set does
 pub one_listed : (members s : List ℕ) (o : Option ℕ) → FindsListed members s o → FindsPrefixBy (is_one_of members) s o
 one_listed members s o found = found (is_one_of members) (λ c. refl)
 
@@ -87,6 +90,7 @@ pub stripped_char : (c : ℕ) (s : List ℕ) (o : Option (Bor (List ℕ))) → I
 stripped_char c s None h = h
 stripped_char c s (Some x) h = h.read ∙ ap (λ d. d ∷ chars x.now) (eqb-true h.c c h.member)
 
+-- no character passes a test: by parts, and as one question
 none_pass : (p : ℕ → Bool) (cs : List ℕ) → NonePass p cs → list_any p cs ≡ false
 none_pass p [] h = refl
 none_pass p (c ∷ cs) h = rw h.0 (none_pass p cs h.1)
