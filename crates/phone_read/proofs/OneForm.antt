@@ -1,5 +1,5 @@
--- A text is an extension of the indicated form with at most one text of digits, and is then of neither of the other forms.
-use Rattle.std.proofs.Common.{◌≡◌, ◌⊎◌, inl, inr, ⊎_elim, ℕ, ◌==◌, Bool, true, false, not, ◌&&◌, ◌||◌, List, [], ◌∷◌, ◌++◌, length, codes, append_assoc, append-nil, eqb-true, refl, ap, sym, ◌∙◌, true≢false, arith}
+-- A text is an extension of at most one form, with one text of digits.
+use Rattle.std.proofs.Common.{◌≡◌, ◌⊎◌, inl, inr, ⊎_elim, ℕ, ◌≤◌, ◌==◌, Some, Bool, true, false, not, ◌&&◌, ◌||◌, List, [], ◌∷◌, ◌++◌, length, codes, append_assoc, append-nil, eqb-true, refl, ap, sym, ◌∙◌, true≢false, arith}
 use Rattle.std.proofs.lemmas.Bool.{and_parts, and_from, false_from_ne_true, not-true, not_from_false, or_cases, or_from, or_left, or_right}
 use Rattle.std.proofs.lemmas.List.{append_cancel_right}
 use Rattle.std.proofs.lemmas.List.Folds.{list_all-append}
@@ -8,10 +8,12 @@ use Rattle.ucd_case.proofs.Computing.{ucd_case}
 use Rattle.ucd_case.specs.CaseFolding.{simple_fold}
 use Rattle.ucd_category.proofs.Computing.{ucd_category}
 use Rattle.phone_core.specs.Characters.{is_nd, same_fold}
-use Rattle.phone_read.specs.Suffixes.{IsOptional, IsEnding, IsParameter, IsSigned, IsIndicated, indicators, is_lead, is_mark, is_gap, is_sign, is_dash}
+use Rattle.phone_read.specs.Suffixes.{IsSuffix, IsOptional, IsEnding, IsParameter, IsSigned, IsIndicated, indicators, is_lead, is_mark, is_gap, is_sign, is_dash}
 use Rattle.phone_read.specs.Texts.{begins, ends, is_like}
+use Rattle.phone_read.specs.declared.suffix.Form.{Form}
+use Rattle.phone_read.specs.declared.suffix.Form.TheVariants.{Parameter, Indicated, Signed}
 use Rattle.phone_read.proofs.Cores.{ends-push}
-use Rattle.phone_read.proofs.Endings.{AreApart, members_apart, apart_members, mark_nd, gap_nd, member_passes, is_35, nd_35, none_at_run, none_at_all}
+use Rattle.phone_read.proofs.Endings.{AreApart, members_apart, apart_members, mark_nd, gap_nd, member_passes, is_35, nd_35, none_at_run, none_at_all, parameter_cut, signed_cut}
 use Rattle.phone_read.proofs.Ends.{all_wider, ends_wider, ends-append, ends-append_run, no_run_at_end, ends-not, longest_end_same, cut_after_run}
 use Rattle.phone_read.proofs.Foldings.{IsFolded, nd_folded, not_in_folded, length-like, begins-folded, ends-folded, begins-like, ends-like, like_one}
 
@@ -317,3 +319,39 @@ indicated_not_parameter w d e g h = at_lead g.lead g.announced.word (sym b.whole
     at_lead (x ∷ lead) word f none announces =
         let first : b.first ≡ x = cc in
         true≢false (sym b.is_semicolon ∙ ap folds_to_semicolon first ∙ none)
+
+-- ---- the form is one, and so are its digits
+
+dash_semicolon : AreApart folds_to_semicolon is_dash
+unfolding ucd_case
+dash_semicolon = members_apart folds_to_semicolon (45 ∷ 32 ∷ []) refl
+
+begins_in_run : (p q : ℕ → Bool) → AreApart p q → (run rest : List ℕ) → list_all q run ≡ true → 1 ≤ length run → begins p (run ++ rest) ≡ false
+begins_in_run p q apart [] rest all some = absurd (omega arith)
+begins_in_run p q apart (c ∷ run) rest all some = apart c (and_parts (q c) (list_all q run) all).0
+
+-- no text is of the parameter's form and of the form with a number sign behind its digits
+signed_not_parameter : (w d e : List ℕ) → IsSigned w d → ¬ (IsParameter w e)
+signed_not_parameter w d e g h =
+    let b = begins_parameter h.name e h.named in
+    true≢false
+    (sym b.is_semicolon ∙ sym (ap (begins folds_to_semicolon) (h.whole ∙ b.whole)) ∙ ap (begins folds_to_semicolon) g.whole
+    ∙ begins_in_run folds_to_semicolon is_dash dash_semicolon g.lead (d ++ 35 ∷ []) g.leads g.some_lead)
+
+parameter_digits_same : (w d e : List ℕ) → IsParameter w d → IsParameter w e → d ≡ e
+parameter_digits_same w d e g h = let same : Some d ≡ Some e = sym (parameter_cut w d g) ∙ parameter_cut w e h in cc
+
+signed_digits_same : (w d e : List ℕ) → IsSigned w d → IsSigned w e → d ≡ e
+signed_digits_same w d e g h = (signed_cut w d g).middle ∙ sym (signed_cut w e h).middle
+
+-- an extension has one form, and one text of digits
+pub suffix_same : (w : List ℕ) (f g : Form) (d e : List ℕ) → IsSuffix w f d → IsSuffix w g e → (f ≡ g) × (d ≡ e)
+suffix_same w Parameter Parameter d e h k = (refl, parameter_digits_same w d e h k)
+suffix_same w Parameter Indicated d e h k = absurd (indicated_not_parameter w e d k h)
+suffix_same w Parameter Signed d e h k = absurd (signed_not_parameter w e d k h)
+suffix_same w Indicated Parameter d e h k = absurd (indicated_not_parameter w d e h k)
+suffix_same w Indicated Indicated d e h k = (refl, indicated_digits_same w d e h k)
+suffix_same w Indicated Signed d e h k = absurd (indicated_not_signed w d e h k)
+suffix_same w Signed Parameter d e h k = absurd (signed_not_parameter w d e h k)
+suffix_same w Signed Indicated d e h k = absurd (indicated_not_signed w e d k h)
+suffix_same w Signed Signed d e h k = (refl, signed_digits_same w d e h k)

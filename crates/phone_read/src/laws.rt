@@ -26,6 +26,11 @@ pub fn one_tel_reading()
     ensures { (text : List ℕ) (a b : TelParts) → IsTel text a → IsTel text b → a ≡ b }
 {}
 
+/// A text is an extension of at most one form, and with at most one text of digits.
+pub fn one_extension()
+    ensures { (text : List ℕ) (f g : Form) (d e : List ℕ) → IsSuffix text f d → IsSuffix text g e → (f ≡ g) × (d ≡ e) }
+{}
+
 /// A text is read in at most one way as free text.
 pub fn one_natural_reading()
     ensures { (text : List ℕ) (a b : Result NaturalParts NoReading) → IsNatural text a → IsNatural text b → a ≡ b }

@@ -1,6 +1,6 @@
 -- Thin texts: what their characters are, and what both readers make of them.
 use Rattle.std.proofs.Common.{◌≡◌, inl, inr, ℕ, zero, suc, ◌+◌, ◌<◌, ◌≤◌, nat_le, ◌==◌, eqb-true, eq-eqb, leb-true, Bool, true, false, not, ◌&&◌, ◌||◌, List, [], ◌∷◌, ◌++◌, drop, None, Ok, refl, ap, sym, ◌∙◌, true≢false, arith, append-nil}
-use Rattle.std.proofs.lemmas.Bool.{and_parts, and_from}
+use Rattle.std.proofs.lemmas.Bool.{and_parts, and_from, not-true}
 use Rattle.std.specs.List.{list_any, list_all}
 use Rattle.ucd_case.proofs.Computing.{ucd_case}
 use Rattle.ucd_category.proofs.Computing.{ucd_category}
@@ -13,6 +13,7 @@ use Rattle.phone_read.specs.Tel
 use Rattle.phone_read.specs.Tel.{IsTel, TelParts, is_national}
 use Rattle.phone_read.specs.Texts.{begins, ends}
 use Rattle.phone_read.proofs.Endings.{member_passes}
+use Rattle.phone_read.proofs.Ends.{all_wider, begins_wider, ends_wider}
 use Rattle.phone_read.proofs.Openings.{is_opening, no_suffix}
 use Rattle.phonenumber.specs.Thin.{is_thin, is_thin_char}
 
@@ -52,21 +53,12 @@ thin_passes q digits hyphen space c e = by_digit (is_digit c) refl
     by_digit true f = digit_passes q digits c f
     by_digit false f = by_hyphen (c == 45) refl (ap (λ b. (b || (c == 45)) || (c == 32)) (sym f) ∙ e)
 
--- where each character of a set is in another, so is each character of a text
-pub all_passes : (p q : ℕ → Bool) → ((c : ℕ) → p c ≡ true → q c ≡ true) → (t : List ℕ) → list_all p t ≡ true → list_all q t ≡ true
-all_passes p q f [] h = refl
-all_passes p q f (c ∷ cs) h = let both = and_parts (p c) (list_all p cs) h in and_from _ _ (f c both.0) (all_passes p q f cs both.1)
-
-not_true : (b : Bool) → not b ≡ true → b ≡ false
-not_true true e = absurd (true≢false (sym e))
-not_true false e = refl
-
 -- where no character of a set is in another, none of a text is
 pub none_passes : (p : ℕ → Bool) (t : List ℕ) → list_all (λ c. not (p c)) t ≡ true → list_any p t ≡ false
 none_passes p [] h = refl
 none_passes p (c ∷ cs) h =
     let both = and_parts (not (p c)) (list_all (λ x. not (p x)) cs) h in
-    rw (not_true (p c) both.0, none_passes p cs both.1)
+    rw (not-true (p c) both.0, none_passes p cs both.1)
 
 -- a thin text has no character that an extension must have
 thin_opens : (c : ℕ) → is_thin_char c ≡ true → not (is_opening c) ≡ true
@@ -90,7 +82,7 @@ unfolding ucd_category
 digit_lasts = digit_passes is_last refl
 
 pub digit_unsigned : (c : ℕ) → is_digit c ≡ true → is_plus c ≡ false
-digit_unsigned c e = not_true (is_plus c) (digit_passes (λ x. not (is_plus x)) refl c e)
+digit_unsigned c e = not-true (is_plus c) (digit_passes (λ x. not (is_plus x)) refl c e)
 
 no_slash_at : (k : ℕ) (t : List ℕ) → list_any slash t ≡ false → begins_second_number (drop k t) ≡ false
 unfolding slash
@@ -122,15 +114,6 @@ thin_text c cs h =
     let inner = and_parts (ends is_digit (c ∷ cs)) (list_all is_thin_char (c ∷ cs)) outer.1 in
     record { first = outer.0; last = inner.0; all = inner.1 }
 
-begins_passes : (p q : ℕ → Bool) → ((c : ℕ) → p c ≡ true → q c ≡ true) → (t : List ℕ) → begins p t ≡ true → begins q t ≡ true
-begins_passes p q f [] h = absurd (true≢false (sym h))
-begins_passes p q f (c ∷ cs) h = f c h
-
-ends_passes : (p q : ℕ → Bool) → ((c : ℕ) → p c ≡ true → q c ≡ true) → (t : List ℕ) → ends p t ≡ true → ends q t ≡ true
-ends_passes p q f [] h = absurd (true≢false (sym h))
-ends_passes p q f (c ∷ []) h = f c h
-ends_passes p q f (c ∷ d ∷ cs) h = ends_passes p q f (d ∷ cs) h
-
 some_text : (t : List ℕ) → begins is_digit t ≡ true → ¬ (t ≡ [])
 some_text [] h e = true≢false (sym h)
 some_text (c ∷ cs) h e = cc
@@ -143,13 +126,13 @@ thin_core t h = record {
   kept = t;
   whole = refl;
   no_start = refl;
-  starts = begins_passes is_digit is_start digit_starts t h.first;
-  trimmed = record { trailing = []; whole = sym (append-nil t); no_last = refl; trimmed = inr (ends_passes is_digit is_last digit_lasts t h.last) };
+  starts = begins_wider is_digit is_start digit_starts t h.first;
+  trimmed = record { trailing = []; whole = sym (append-nil t); no_last = refl; trimmed = inr (ends_wider is_digit is_last digit_lasts t h.last) };
   first = record {
     after = [];
     whole = sym (append-nil t);
     ended = inl refl;
-    earliest = λ k less. no_slash_at k t (none_passes slash t (all_passes is_thin_char (λ c. not (slash c)) thin_slash t h.all));
+    earliest = λ k less. no_slash_at k t (none_passes slash t (all_wider is_thin_char (λ c. not (slash c)) thin_slash t h.all));
   };
   not_empty = some_text t h.first;
 }
@@ -157,7 +140,7 @@ thin_core t h = record {
 -- and its own national part, as free text
 pub thin_natural : (t : List ℕ) → IsThinText t → IsNatural t (Ok (record { national = t; extension = None }))
 thin_natural t h =
-    Naturals.plain t (thin_core t h) (no_suffix t (none_passes is_opening t (all_passes is_thin_char (λ c. not (is_opening c)) thin_opens t h.all)))
+    Naturals.plain t (thin_core t h) (no_suffix t (none_passes is_opening t (all_wider is_thin_char (λ c. not (is_opening c)) thin_opens t h.all)))
 
 -- a thin character that is no space may stand in the national part of a `tel:` text
 national_or_space : ℕ → Bool
@@ -187,7 +170,7 @@ digit_national = digit_passes is_national refl
 
 no_plus_sign : (t : List ℕ) → begins is_digit t ≡ true → begins (λ c. c == 43) t ≡ false
 no_plus_sign [] h = refl
-no_plus_sign (c ∷ cs) h = not_true (c == 43) (digit_passes (λ x. not (x == 43)) refl c h)
+no_plus_sign (c ∷ cs) h = not-true (c == 43) (digit_passes (λ x. not (x == 43)) refl c h)
 
 -- without a space it has the `tel:` form, and is its own national part again
 pub thin_tel : (t : List ℕ) → IsThinText t → list_any (λ c. c == 32) t ≡ false → IsTel t (record { national = t; prefix = None; extension = None })
@@ -201,7 +184,7 @@ thin_tel t h none = record {
   whole = sym (append-nil t);
   is_scheme = inl refl;
   is_run = Tel.unsigned (ap (begins (λ c. c == 43)) (append-nil t) ∙ no_plus_sign t h.first);
-  some_national = begins_passes is_digit is_national digit_national t h.first;
+  some_national = begins_wider is_digit is_national digit_national t h.first;
   all_national = all_national t h.all none;
   longest = refl;
   is_tail = inl refl;
