@@ -648,9 +648,15 @@ impl FromStr for Id {
     }
 }
 
-impl Described for Id {}
+impl Described for Id {
+    ghost use Rattle.phone_core.specs.Ids.{name};
+    ghost use Rattle.serde.specs.Event.{Logs, text};
+
+    ghost writes = { λ id old new. Logs old new (text (name id)) };
+}
 
 impl Serialize for Id {
+    /// Writes the id's text.
     fn serialize<S: Serializer>(&self, out: &mut S) -> Result<(), S::Error> {
         self.as_str().serialize(out)
     }
