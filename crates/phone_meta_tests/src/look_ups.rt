@@ -64,6 +64,17 @@ fn shared(alloc: Global) -> Result<Database, LoadMetadata> {
     Database::from(alloc, records)
 }
 
+/// Two codes whose territories arrive in turn.
+fn in_turn(alloc: Global) -> Result<Database, LoadMetadata> {
+    let mut records = Vec::new(alloc);
+    records.push(territory(alloc, "BB", 1, "\\d{6}", [6])?)?;
+    records.push(main_territory(alloc, "FR", 33, "\\d{9}")?)?;
+    records.push(main_territory(alloc, "US", 1, "\\d{10}")?)?;
+    records.push(territory(alloc, "MF", 33, "\\d{8}", [8])?)?;
+    records.push(territory(alloc, "CA", 1, "\\d{7}", [7])?)?;
+    Database::from(alloc, records)
+}
+
 /// A database of two codes.
 fn of_codes(alloc: Global, first: u16, second: u16) -> Result<Database, LoadMetadata> {
     let mut records = Vec::new(alloc);
@@ -117,6 +128,22 @@ fn gives_the_territories_of_a_shared_code(rt: HostRuntime) -> Result<(), Fail> {
         (Asked::Id("gb"), "none", "small letters"),
     ] {
         assert_eq!(rt; ask(alloc, &db, asked)?.as_str(), answer, "{why}");
+    }
+    Ok(())
+}
+
+#[test]
+fn keeps_codes_apart_whose_territories_arrive_in_turn(rt: HostRuntime) -> Result<(), Fail> {
+    let alloc = rt.alloc();
+    let db = in_turn(alloc)?;
+    for (asked, answer) in [
+        (Asked::Code(1), "US/1/\\d{10} BB/1/\\d{6} CA/1/\\d{7}"),
+        (Asked::Region(33), "FR MF"),
+        (Asked::First(1), "US/1/\\d{10}"),
+        (Asked::First(33), "FR/33/\\d{9}"),
+        (Asked::Code(0), "none"),
+    ] {
+        assert_eq!(rt; ask(alloc, &db, asked)?.as_str(), answer);
     }
     Ok(())
 }
