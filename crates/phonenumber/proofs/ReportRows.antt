@@ -26,7 +26,7 @@ use Rattle.phone_read.specs.declared.reading.Reading.{Reading}
 use Rattle.phone_read.proofs.DigitTexts.{encode_utf8_all-digits}
 use Rattle.phone_read.proofs.HintCodes.{code_by_hint-other}
 use Rattle.phonenumber.specs.Reports
-use Rattle.phonenumber.specs.Queries.{kind_of, region_of, is_valid}
+use Rattle.phonenumber.specs.Queries.{kind_of_number, region_of_number, is_valid}
 use Rattle.phonenumber.specs.Reports.{IsReportLine, number_line, tabbed, kind_word, region_word, validity_word}
 use Rattle.phonenumber.specs.Texts.{text_by}
 use Rattle.phonenumber.specs.Thin
@@ -94,11 +94,11 @@ reads_twelve =
 home_nz : (digits : List ℕ) → home (nz ∷ []) 64 digits ≡ Some nz
 home_nz digits = rw id_nz
 
-kind_of_twelve : kind_of (nz ∷ []) twelve ≡ Unknown
+kind_of_twelve : kind_of_number (nz ∷ []) twelve ≡ Unknown
 unfolding twelve
 kind_of_twelve = ap (λ o. option_map_or (λ (m : Metadata). type_of m (decimal 12)) o Unknown) (home_nz (decimal 12)) ∙ rw decimal_12
 
-region_of_twelve : region_of (nz ∷ []) twelve ≡ Some NZ
+region_of_twelve : region_of_number (nz ∷ []) twelve ≡ Some NZ
 unfolding twelve
 region_of_twelve = ap (λ o. option_and_then (λ (m : Metadata). option_and_then id_of m.id) o) (home_nz (decimal 12)) ∙ id_nz
 
@@ -130,8 +130,8 @@ rfc3966 = rw (decimal_64, decimal_12, twelve_chars, encode_utf8_all-digits (code
 line_of_twelve : number_line (nz ∷ []) nz twelve ≡ codes "ok\t+6412\t+64 12\t12\ttel:+64-12\tdefault\tUnknown\tNZ\tinvalid"
 unfolding twelve
 line_of_twelve =
-    let k = kind_of (nz ∷ []) twelve in
-    let o = region_of (nz ∷ []) twelve in
+    let k = kind_of_number (nz ∷ []) twelve in
+    let o = region_of_number (nz ∷ []) twelve in
     let v = is_valid (nz ∷ []) twelve in
     let i = text_by nz International None twelve in
     let n = text_by nz National None twelve in

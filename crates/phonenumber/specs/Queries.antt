@@ -12,16 +12,16 @@ use Rattle.phone_read.specs.Regions.{home, is_known, type_of}
 use Rattle.phone_read.specs.declared.reading.Reading.{Reading}
 
 -- its territory: the home of its value, without leading zeros
-abbrev pub territory_of : List Metadata → Reading → Option Metadata
-territory_of db n = home db n.code.value (decimal n.national.value)
+abbrev pub territory_of_number : List Metadata → Reading → Option Metadata
+territory_of_number db n = home db n.code.value (decimal n.national.value)
 
 -- its region: the territory's id, where that is one of the known ids
-abbrev pub region_of : List Metadata → Reading → Option Id
-region_of db n = option_and_then (λ (m : Metadata). option_and_then id_of m.id) (territory_of db n)
+abbrev pub region_of_number : List Metadata → Reading → Option Id
+region_of_number db n = option_and_then (λ (m : Metadata). option_and_then id_of m.id) (territory_of_number db n)
 
 -- its kind: that of its value under its territory; unknown without one
-abbrev pub kind_of : List Metadata → Reading → «Type»
-kind_of db n = option_map_or (λ (m : Metadata). type_of m (decimal n.national.value)) (territory_of db n) Unknown
+abbrev pub kind_of_number : List Metadata → Reading → «Type»
+kind_of_number db n = option_map_or (λ (m : Metadata). type_of m (decimal n.national.value)) (territory_of_number db n) Unknown
 
 -- it is valid where its digits, this time with their leading zeros, have a home and are of a known kind there
 abbrev pub is_valid : List Metadata → Reading → Bool

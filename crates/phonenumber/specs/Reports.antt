@@ -15,7 +15,7 @@ use Rattle.phone_meta.specs.Codes.{first_of, territories}
 use Rattle.phone_meta.specs.declared.loader.Metadata.{Metadata}
 use Rattle.phone_read.specs.Readings.{Reads}
 use Rattle.phone_read.specs.declared.reading.Reading.{Reading}
-use Rattle.phonenumber.specs.Queries.{region_of, kind_of, is_valid}
+use Rattle.phonenumber.specs.Queries.{region_of_number, kind_of_number, is_valid}
 use Rattle.phonenumber.specs.Texts.{text_by}
 
 -- the fields, parted by tabs
@@ -73,7 +73,7 @@ refusal_fields Memory = codes "7" ∷ codes "out of memory" ∷ []
 abbrev pub number_line : List Metadata → Metadata → Reading → List ℕ
 number_line db m n = tabbed (
     codes "ok" ∷ text_by m E164 None n ∷ text_by m International None n ∷ text_by m National None n ∷ text_by m Rfc3966 None n ∷
-    source_word n.code.source ∷ kind_word (kind_of db n) ∷ region_word (region_of db n) ∷ validity_word (is_valid db n) ∷ [])
+    source_word n.code.source ∷ kind_word (kind_of_number db n) ∷ region_word (region_of_number db n) ∷ validity_word (is_valid db n) ∷ [])
 
 -- the line of a refusal
 abbrev pub refusal_line : ParseError → List ℕ
