@@ -30,7 +30,6 @@ in_range (suc n) a c low high = at (a == c) refl (λ apart. in_range n (suc a) c
     at true e more = refl
     at false e more = more (λ same. true≢false (sym (eq-eqb a c same) ∙ e))
 
-
 -- what holds of the ten digits holds of each digit
 pub digit_passes : (q : ℕ → Bool) → list_all q (from_on 48 10) ≡ true → (c : ℕ) → is_digit c ≡ true → q c ≡ true
 digit_passes q all c e =
