@@ -7,6 +7,7 @@ pub mod Ends
 pub mod Foldings
 pub mod HintCodes
 pub mod IndicatorRows
+pub mod Lengths
 pub mod Likes
 pub mod NaturalOnes
 pub mod NaturalRows
