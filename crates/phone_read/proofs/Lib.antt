@@ -25,3 +25,4 @@ pub mod SuffixTests
 pub mod TelRefusals
 pub mod TelRows
 pub mod Tels
+pub mod TriedKinds
