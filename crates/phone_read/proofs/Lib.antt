@@ -7,6 +7,7 @@ pub mod Ends
 pub mod Foldings
 pub mod HintCodes
 pub mod IndicatorRows
+pub mod Lengths
 pub mod Likes
 pub mod NaturalOnes
 pub mod NaturalRows
@@ -24,3 +25,4 @@ pub mod SuffixTests
 pub mod TelRefusals
 pub mod TelRows
 pub mod Tels
+pub mod TriedKinds

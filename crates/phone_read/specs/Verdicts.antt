@@ -2,8 +2,11 @@
 use Rattle.std.specs.Prelude.{ℕ, ◌==◌, nat_lt, nat_eq, length, Bool, true, false, if◌then◌else◌, List, [], ◌∷◌, Option, None, Some}
 use Rattle.std.specs.List.{list_any}
 use Rattle.std.specs.Option.{option_map_or}
+use Rattle.phone_core.specs.declared.kind.«Type».{«Type»}
+use Rattle.phone_core.specs.declared.kind.«Type».TheVariants.{Unknown}
 use Rattle.phone_core.specs.declared.validator.Validation.{Validation}
 use Rattle.phone_core.specs.declared.validator.Validation.TheVariants.{IsPossible, IsPossibleLocalOnly, TooShort, InvalidLength, TooLong}
+use Rattle.phone_meta.specs.Kinds.{kind_of, kinds_of}
 use Rattle.phone_meta.specs.declared.loader.Descriptor.{Descriptor}
 use Rattle.phone_meta.specs.declared.loader.Metadata.{Metadata}
 
@@ -33,9 +36,13 @@ verdict_of general (Some d) n = if nat_eq (length d.possible_length) 0 then Inva
 abbrev pub general_lengths : Metadata → List ℕ
 general_lengths m = option_map_or (λ (d : Descriptor). d.possible_length) m.general []
 
+-- the verdict on a number of a kind
+abbrev pub verdict_for : Metadata → «Type» → ℕ → Validation
+verdict_for m kind n = verdict_of (general_lengths m) (kind_of kind (kinds_of m)) n
+
 -- the verdict whatever the kind of the number
 abbrev pub verdict : Metadata → ℕ → Validation
-verdict m n = verdict_of (general_lengths m) m.general n
+verdict m n = verdict_for m Unknown n
 
 -- fewer digits than any number of the territory has
 abbrev pub is_too_short : Validation → Bool

@@ -11,6 +11,7 @@ mod reading;
 pub mod rfc3966;
 pub mod rows;
 mod suffix;
+pub mod validator;
 
 pub use number::Number;
 pub use reading::Reading;

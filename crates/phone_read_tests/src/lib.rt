@@ -1,5 +1,5 @@
-//! Tests of the two readers: tables of texts with their parts. They stand in a crate of their own, since a crate with
-//! tests is proved twice.
+//! Tests of the two readers, tables of texts with their parts, and of what a number's length, kind and region are on
+//! small databases. They stand in a crate of their own, since a crate with tests is proved twice.
 #![tactic(auto)]
 
 #[cfg(test)]
@@ -12,3 +12,5 @@ mod natural;
 mod number;
 #[cfg(test)]
 mod rfc3966;
+#[cfg(test)]
+mod validator;

@@ -1,4 +1,3 @@
-pub mod Lengths
 pub mod Thins
 pub mod ReportRows
 pub mod ThinReadings

@@ -1,13 +1,13 @@
 //! The reading of a text, as far as the first path goes: texts of digits, hyphens and spaces.
-ghost use Rattle.std.specs.Prelude.{◌≡◌, ◌⊎◌, ◌&&◌, ◌==◌, ◌++◌, ℕ, List, Ok, Err, IsTrue, IsNone, IfSome, IfOk, length, chars};
-ghost use Rattle.std.specs.List.{list_all, list_any};
+ghost use Rattle.std.specs.Prelude.{◌≡◌, ◌⊎◌, ◌&&◌, ◌++◌, ℕ, List, Ok, Err, IsTrue, IsNone, IfSome, IfOk, length, chars};
+ghost use Rattle.std.specs.List.{list_all};
 ghost use Rattle.std.specs.Option.{option_copied};
 ghost use Rattle.phone_core.specs.Characters.{is_digit};
 ghost use Rattle.phone_core.specs.Nsn.{nsn};
 ghost use Rattle.phone_core.specs.Validations.{is_possible};
 ghost use Rattle.phone_read.specs.Hints.{hinted, is_general, code_by_hint};
 ghost use Rattle.phone_read.specs.Texts.{ends, without_front};
-ghost use Rattle.phone_read.specs.Verdicts.{verdict, verdict_by, last_of};
+ghost use Rattle.phone_read.specs.Verdicts.{verdict};
 ghost use Rattle.phonenumber.specs.Thin.{IsThinDatabase, ThinReads, is_thin, is_thin_char, thin_reading, thin_rest};
 
 use crate::PhoneNumber;
@@ -15,8 +15,9 @@ use phone_core::chars::{is_digit, normalize};
 use phone_core::consts::{MAX_LENGTH_FOR_NSN, MIN_LENGTH_FOR_NSN};
 use phone_core::country::{Code, Id, Source};
 use phone_core::cuts::{split_first, split_last};
-use phone_core::{NationalNumber, ParseError, Validation, is_viable};
+use phone_core::{NationalNumber, ParseError, Type, Validation, is_viable};
 use phone_meta::{Database, Metadata};
+use phone_read::validator::length_of;
 use std::alloc::{AllocError, Global};
 use std::borrow::CowStr;
 
@@ -128,61 +129,7 @@ fn is_national(territory: &Metadata, digits: &str) -> Result<bool, AllocError>
     ensures { IfOk result (λ b. b ≡ (is_general territory.now digits.now && is_possible (verdict territory.now (length digits.now)))) }
 {
     let is_general = territory.descriptors().general().is_match(digits)?;
-    Ok(is_general && length(territory, digits.len()).is_possible())
-}
-
-/// What the length of a number of any kind says of it; the length is in bytes.
-fn length(territory: &Metadata, bytes: usize) -> Validation
-    ensures { result ≡ verdict territory.now bytes }
-{
-    let general = territory.descriptors().general();
-    verdict_by(
-        general.possible_length(),
-        general.possible_local_length(),
-        bytes,
-    )
-}
-
-/// What a length says by a list of lengths and a list of local ones.
-fn verdict_by(lengths: &[u16], local: &[u16], bytes: usize) -> Validation
-    ensures { result ≡ verdict_by lengths.now local.now bytes }
-{
-    let Some((least, more)) = lengths.split_first() else {
-        return Validation::InvalidLength;
-    };
-    let least = usize::from(*least);
-    if has_length(local, bytes) {
-        return Validation::IsPossibleLocalOnly;
-    }
-    if bytes == least {
-        return Validation::IsPossible;
-    }
-    if bytes < least {
-        return Validation::TooShort;
-    }
-    if bytes > last_of(least, more) {
-        return Validation::TooLong;
-    }
-    if has_length(more, bytes) {
-        return Validation::IsPossible;
-    }
-    Validation::InvalidLength
-}
-
-/// The last of the lengths; `least` where there is none.
-fn last_of(least: usize, lengths: &[u16]) -> usize
-    ensures { result ≡ last_of least lengths.now }
-{
-    match lengths.last() {
-        Some(last) => usize::from(*last),
-        None => least,
-    }
-}
-
-fn has_length(lengths: &[u16], bytes: usize) -> bool
-    ensures { result ≡ list_any (λ l. l == bytes) lengths.now }
-{
-    lengths.iter().any(|l| usize::from(*l) == bytes)
+    Ok(is_general && length_of(territory, digits.len(), Type::Unknown).is_possible())
 }
 
 /// The digits without their national prefix, cut off once more where it stands twice; all digits where too few would
@@ -192,7 +139,7 @@ fn strip<'a>(territory: &Metadata, digits: &'a str) -> &'a str
 {
     let once = without_front(territory.national_prefix(), digits);
     let rest = without_front(territory.national_prefix(), once);
-    match length(territory, rest.len()) {
+    match length_of(territory, rest.len(), Type::Unknown) {
         Validation::TooShort => digits,
         _ => rest,
     }

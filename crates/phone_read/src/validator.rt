@@ -1,0 +1,276 @@
+//! What the length of a number says of it, what kind it is of, and which region it belongs to.
+ghost use Rattle.std.specs.Prelude.{◌≡◌, ◌==◌, ℕ, List, Some, IfOk, if◌then◌else◌, codes, length, map};
+ghost use Rattle.std.specs.Borrow.{Bor};
+ghost use Rattle.std.specs.Cow.{cow_str_bytes};
+ghost use Rattle.std.specs.List.{find, list_any};
+ghost use Rattle.std.specs.Option.{option_copied};
+ghost use Rattle.std.specs.Str.{bytes_eq};
+ghost use Rattle.either.specs.declared.Either.TheVariants as either;
+ghost use Rattle.phone_meta.specs.First.{IsPatternOf, at_start};
+ghost use Rattle.phone_meta.specs.Kinds.{kind_of};
+ghost use Rattle.phone_read.specs.Regions.{belongs_to, is_known, is_of, is_of_region, is_one_pattern, line_or_mobile, region_among, region_named, region_of, type_of};
+ghost use Rattle.phone_read.specs.Verdicts.{verdict_for, verdict_by, last_of};
+
+use crate::number::Number;
+use either::{Either, Left, Right};
+use phone_core::country::Id;
+use phone_core::{Type, Validation};
+use phone_meta::{Database, Descriptor, Descriptors, Metadata};
+use regex::Regex;
+use std::alloc::{AllocError, Global};
+
+/// The kinds in the order in which they are tried.
+const TRIED: [Type; 10] = [
+    Type::PremiumRate,
+    Type::TollFree,
+    Type::SharedCost,
+    Type::Voip,
+    Type::PersonalNumber,
+    Type::Pager,
+    Type::Uan,
+    Type::Voicemail,
+    Type::FixedLine,
+    Type::Mobile,
+];
+
+/// What the length of a number's national part says of it as a number of this kind; `Unknown` is any kind, and
+/// `FixedLineOrMobile` counts as a fixed line. The length is in bytes of the part as it stands, and it is weighed by the
+/// lengths of numbers of any kind and by the local lengths of the kind. `InvalidLength` where the territory has no
+/// lengths, or none of the kind. No memory is taken.
+pub fn length(m: &Metadata, number: &Number<'_>, kind: Type) -> Validation
+    ensures { result ≡ verdict_for m.now kind (length (cow_str_bytes number.now.national)) }
+{
+    length_of(m, number.national.as_str().len(), kind)
+}
+
+/// What a length in bytes says of a number of this kind, as [`length`] has it. No memory is taken.
+pub fn length_of(m: &Metadata, bytes: usize, kind: Type) -> Validation
+    ensures { result ≡ verdict_for m.now kind bytes }
+{
+    let Some(descriptor) = m.descriptors().get(kind) else {
+        return Validation::InvalidLength;
+    };
+    if descriptor.possible_length().is_empty() {
+        return Validation::InvalidLength;
+    }
+    verdict_by(
+        m.descriptors().general().possible_length(),
+        descriptor.possible_local_length(),
+        bytes,
+    )
+}
+
+/// What a length says by a list of lengths and a list of local ones.
+fn verdict_by(lengths: &[u16], local: &[u16], bytes: usize) -> Validation
+    ensures { result ≡ verdict_by lengths.now local.now bytes }
+{
+    let Some((least, more)) = lengths.split_first() else {
+        return Validation::InvalidLength;
+    };
+    let least = usize::from(*least);
+    if has_length(local, bytes) {
+        return Validation::IsPossibleLocalOnly;
+    }
+    if bytes == least {
+        return Validation::IsPossible;
+    }
+    if bytes < least {
+        return Validation::TooShort;
+    }
+    if bytes > last_of(least, more) {
+        return Validation::TooLong;
+    }
+    if has_length(more, bytes) {
+        return Validation::IsPossible;
+    }
+    Validation::InvalidLength
+}
+
+/// The last of the lengths; `least` where there is none.
+fn last_of(least: usize, lengths: &[u16]) -> usize
+    ensures { result ≡ last_of least lengths.now }
+{
+    match lengths.last() {
+        Some(last) => usize::from(*last),
+        None => least,
+    }
+}
+
+fn has_length(lengths: &[u16], bytes: usize) -> bool
+    ensures { result ≡ list_any (λ l. l == bytes) lengths.now }
+{
+    lengths.iter().any(|l| usize::from(*l) == bytes)
+}
+
+/// What kind of number a text of digits is in a territory: the first kind whose descriptor matches, in the order premium
+/// rate, toll free, shared cost, voip, personal number, pager, uan, voicemail, fixed line, mobile. A fixed line is
+/// `FixedLineOrMobile` where both have one pattern or the mobile descriptor matches too. `Unknown` where no kind
+/// matches, or the general descriptor doesn't. Refused only for memory.
+pub fn number_type(m: &Metadata, text: &str) -> Result<Type, AllocError>
+    ensures { IfOk result (λ k. k ≡ type_of m.now text.now) }
+{
+    let kinds = m.descriptors();
+    if !kinds.general().is_match(text)? {
+        return Ok(Type::Unknown);
+    }
+    match first_kind(kinds, &TRIED, text)? {
+        Some(kind) => line_or_mobile(m, text, kind),
+        None => Ok(Type::Unknown),
+    }
+}
+
+/// The first of these kinds whose descriptor is there and matches.
+fn first_kind(kinds: &Descriptors, tried: &[Type], text: &str) -> Result<Option<Type>, AllocError>
+    ensures { IfOk result (λ k. k ≡ find (λ k. is_of (kind_of k kinds.now) text.now) tried.now) }
+{
+    for kind in tried {
+        if is_of(kinds.get(*kind), text)? {
+            return Ok(Some(*kind));
+        }
+    }
+    Ok(None)
+}
+
+/// Whether a descriptor is there and matches.
+fn is_of(descriptor: Option<&Descriptor>, text: &str) -> Result<bool, AllocError>
+    ensures { IfOk result (λ b. b ≡ is_of (option_copied descriptor.entry) text.now) }
+{
+    match descriptor {
+        Some(descriptor) => descriptor.is_match(text),
+        None => Ok(false),
+    }
+}
+
+/// The kind of a number, where a fixed line may as well be a mobile.
+fn line_or_mobile(m: &Metadata, text: &str, kind: Type) -> Result<Type, AllocError>
+    ensures { IfOk result (λ k. k ≡ line_or_mobile m.now text.now kind) }
+{
+    let Type::FixedLine = kind else {
+        return Ok(kind);
+    };
+    let kinds = m.descriptors();
+    if is_one_pattern(kinds.fixed_line(), kinds.mobile()) || is_of(kinds.mobile(), text)? {
+        return Ok(Type::FixedLineOrMobile);
+    }
+    Ok(Type::FixedLine)
+}
+
+/// Whether both descriptors are there and have one pattern.
+fn is_one_pattern(line: Option<&Descriptor>, mobile: Option<&Descriptor>) -> bool
+    ensures { result ≡ is_one_pattern (option_copied line.entry) (option_copied mobile.entry) }
+{
+    match (line, mobile) {
+        (Some(line), Some(mobile)) => line.pattern_text() == mobile.pattern_text(),
+        _ => false,
+    }
+}
+
+/// The region of a number with this calling code and these digits: of the ids of the code the first whose territory it
+/// belongs to, by the territory's leading digits where it has some, else by being of a known kind there. A sole id is
+/// the region whatever the digits are, and the sole id `001` stands for the code itself. None where the code isn't
+/// listed, where it has several ids and the number belongs to none of them, and where the id that was found is no
+/// region's. Refused only for memory.
+pub fn source_for(
+    db: &Database,
+    code: u16,
+    text: &str,
+) -> Result<Option<Either<Id, u16>>, AllocError>
+    ensures { IfOk result (λ r. r ≡ region_of db.now code text.now) }
+{
+    match db.region(&code)? {
+        Some(ids) => region_among(db, code, text, ids.as_slice()),
+        None => Ok(None),
+    }
+}
+
+/// The region by the ids of its code.
+fn region_among(
+    db: &Database,
+    code: u16,
+    text: &str,
+    ids: &[&str],
+) -> Result<Option<Either<Id, u16>>, AllocError>
+    ensures { IfOk result (λ r. r ≡ region_among db.now code text.now (map (λ (id : Bor (List ℕ)). id.now) ids.now)) }
+{
+    if let [id] = ids {
+        return Ok(sole(code, id));
+    }
+    match first_region(db, text, ids)? {
+        Some(id) => Ok(region_named(id)),
+        None => Ok(None),
+    }
+}
+
+/// The region by the sole id of a code.
+fn sole(code: u16, id: &str) -> Option<Either<Id, u16>>
+    ensures { result ≡ (if bytes_eq id.now (codes "001") then Some (either.Right code) else region_named id.now) }
+{
+    if id == "001" {
+        Some(Right(code))
+    } else {
+        region_named(id)
+    }
+}
+
+/// The region of this id; none where it is no region's.
+fn region_named(id: &str) -> Option<Either<Id, u16>>
+    ensures { result ≡ region_named id.now }
+{
+    match id.parse::<Id>() {
+        Ok(id) => Some(Left(id)),
+        Err(_) => None,
+    }
+}
+
+/// The first of these ids whose territory the number belongs to.
+fn first_region<'a>(
+    db: &Database,
+    text: &str,
+    ids: &[&'a str],
+) -> Result<Option<&'a str>, AllocError>
+    ensures { IfOk result (λ r. option_copied r ≡ find (is_of_region db.now text.now) (map (λ (id : Bor (List ℕ)). id.now) ids.now)) }
+{
+    for id in ids {
+        if is_of_region(db, text, id)? {
+            return Ok(Some(id));
+        }
+    }
+    Ok(None)
+}
+
+/// Whether the number belongs to the territory of this id.
+fn is_of_region(db: &Database, text: &str, id: &str) -> Result<bool, AllocError>
+    ensures { IfOk result (λ b. b ≡ is_of_region db.now text.now id.now) }
+{
+    match db.by_id(id) {
+        Some(m) => belongs_to(db.allocator(), text, m),
+        None => Ok(false),
+    }
+}
+
+/// Whether the number belongs to a territory.
+fn belongs_to(alloc: Global, text: &str, m: &Metadata) -> Result<bool, AllocError>
+    ensures { IfOk result (λ b. b ≡ belongs_to text.now m.now) }
+{
+    match m.leading_digits() {
+        Some(pattern) => is_at_start(alloc, pattern, text),
+        None => Ok(is_known(number_type(m, text)?)),
+    }
+}
+
+fn is_known(kind: Type) -> bool
+    ensures { result ≡ is_known kind }
+{
+    !matches!(kind, Type::Unknown)
+}
+
+/// Whether the first match of a pattern begins at the first byte; it need not reach the end.
+fn is_at_start(alloc: Global, pattern: &Regex, text: &str) -> Result<bool, AllocError>
+    ensures { IfOk result (λ b. (p : List ℕ) → IsPatternOf p pattern.now → b ≡ at_start p text.now) }
+{
+    let mut matcher = pattern.matcher(alloc)?;
+    match matcher.find(text) {
+        Some(found) => Ok(found.start() == 0),
+        None => Ok(false),
+    }
+}
