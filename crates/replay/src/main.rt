@@ -5,9 +5,11 @@
 
 mod core_calls;
 mod meta_calls;
+mod named;
 mod read_calls;
 mod table;
 mod tally;
+mod validator_calls;
 
 use anyhow::Result;
 use std::alloc::AllocGlobal;
@@ -23,6 +25,9 @@ fn answer<R: Files + AllocGlobal>(rt: &R, row: &Row) -> Result<Option<String>> {
         return Ok(Some(found));
     }
     if let Some(found) = read_calls::answer(alloc, row)? {
+        return Ok(Some(found));
+    }
+    if let Some(found) = validator_calls::answer(rt, row)? {
         return Ok(Some(found));
     }
     meta_calls::answer(rt, row)
