@@ -1,6 +1,7 @@
 //! Reading: from a text to its parts, from the parts to calling code and national number.
 #![tactic(auto)]
 
+mod calling_code;
 mod fronts;
 pub mod helper;
 pub mod laws;
