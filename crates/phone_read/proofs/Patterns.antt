@@ -1,9 +1,10 @@
 -- What `str`'s patterns of one character find in a text.
-use Rattle.std.proofs.Common.{◌≡◌, ℕ, ◌<◌, Bool, true, false, ◌==◌, List, [], ◌∷◌, ◌++◌, drop, Option, Some, None, MatchOption, MatchBool, IsUtf8, encode_utf8_all, encode_utf8, eqb-true, refl, ap, sym, subst, ◌∙◌, arith, Bor, unwrap_or}
+use Rattle.std.proofs.Common.{◌≡◌, ℕ, ◌<◌, Bool, true, false, ◌==◌, List, [], ◌∷◌, ◌++◌, drop, get_or, Option, Some, None, MatchOption, MatchBool, IsUtf8, encode_utf8_all, encode_utf8, eqb-true, true≢false, refl, ap, sym, subst, ◌∙◌, arith, Bor, unwrap_or}
 use Rattle.std.proofs.lemmas.Bool.{and_parts, eq-eqb, false_from_ne_true, or_parts}
 use Rattle.std.proofs.lemmas.Fn.{always_returns_same}
 use Rattle.std.proofs.lemmas.Str.{chars_past_char, chars_from_encodes, encodes-chars, scalars-chars, NoCharPasses-byte}
 use Rattle.std.proofs.lemmas.Str.Pattern.{contains_char}
+use Rattle.std.specs.Bool.{Decides}
 use Rattle.std.specs.List.{list_any}
 use Rattle.std.specs.Str.{NonePass, NoCharPasses, chars, all_scalars}
 use Rattle.std.specs.Str.Pattern.{FindsChar, FindsCharPrefix, FindsPrefixBy, HasMatch, HasPrefixMatch, StripsPrefix}
@@ -111,3 +112,12 @@ contains-list_any c s true small u h = at (list_any (λ d. d == c) (chars s)) re
         let place = (contains_char c s true h small).0 refl in
         let none : NoCharPasses (λ d. d == c) s = (chars s, encodes-chars s u, pass_none (λ d. d == c) (chars s) e) in
         sym (eq-eqb _ c place.2) ∙ NoCharPasses-byte (λ d. d == c) s place.0 none place.1 (omega (arith, place.2, small))
+
+-- a byte stands first or not
+pub begins_byte : (x : ℕ) (bs : List ℕ) (b : Bool) → Decides b (get_or bs 0 0 ≡ x) → 0 < x → b ≡ begins (λ d. d == x) bs
+begins_byte x [] b h some = false_from_ne_true b (λ t. absurd (omega (arith, h.0 t, some)))
+begins_byte x (d ∷ ds) b h some = by b h
+  where
+    by : (b : Bool) → Decides b (d ≡ x) → b ≡ (d == x)
+    by true h = sym (eq-eqb d x (h.0 refl))
+    by false h = sym (false_from_ne_true (d == x) (λ t. true≢false (sym (h.1 (eqb-true d x t)))))

@@ -1,7 +1,11 @@
 -- Which calling code a number has, and which digits follow it.
-use Rattle.std.specs.Prelude.{ℕ, ◌==◌, ◌&&◌, nat_le, not, Bool, true, false, if◌then◌else◌, List, length, drop, Option, None, Some, Result, Ok, Err, unwrap_or}
+use Rattle.std.specs.Prelude.{ℕ, ◌==◌, ◌&&◌, nat_le, not, Bool, true, false, if◌then◌else◌, List, length, drop, Option, None, Some, option_map, Result, Ok, Err, unwrap_or}
+use Rattle.std.specs.Borrow.{Bor}
 use Rattle.std.specs.Option.{option_and_then, option_map_or}
 use Rattle.std.specs.Fmt.{decimal}
+use Rattle.regex.specs.Patterns.{find_str, span}
+use Rattle.regex.specs.Strings.{regex_pattern}
+use Rattle.regex.specs.declared.string.regex.Regex.{Regex}
 use Rattle.phone_core.specs.Characters.{is_plus}
 use Rattle.phone_core.specs.Cuts.{after_front}
 use Rattle.phone_core.specs.Norm.{norm}
@@ -53,15 +57,43 @@ source_of true dropped = Plus
 source_of false (Some _) = Idd
 source_of false None = Default
 
+-- the digits of a national part, its leading plus signs dropped
+abbrev pub unsigned : List ℕ → List ℕ
+unsigned n = norm (after_front is_plus n)
+
+-- the span of the first match of a compiled pattern; without a pattern there is none
+abbrev pub found_by : Option (Bor Regex) → List ℕ → Option (ℕ × ℕ)
+found_by None digits = None
+found_by (Some re) digits = option_map span (find_str (regex_pattern re.now) digits 0)
+
+-- how a national part n with the reader's prefix tells its code, where matches of an international prefix are found so
+abbrev pub source_by : (List ℕ → Option (ℕ × ℕ)) → List ℕ → Option (List ℕ) → Source
+source_by found n (Some p) = Plus
+source_by found n None = source_of (is_signed n) (after_match (unsigned n) (found (unsigned n)))
+
+-- and which digits are left of it
+abbrev pub digits_by : (List ℕ → Option (ℕ × ℕ)) → List ℕ → Option (List ℕ) → List ℕ
+digits_by found n (Some p) = norm n
+digits_by found n None = unwrap_or (after_match (unsigned n) (found (unsigned n))) (unsigned n)
+
 -- the code by the source, from the digits
 abbrev pub code_from : List Metadata → Option Metadata → Source → List ℕ → Result Coded ParseError
 code_from db m Default digits = option_map_or (λ m. Ok (code_by_hint m digits)) m (Err InvalidCountryCode)
 code_from db m source digits = with_three digits (code_by_front db source digits)
 
+-- the code of an international number: by a prefix where there is one, else by the front of the digits
+abbrev pub code_by_sign : List Metadata → Source → Option (List ℕ) → List ℕ → Result Coded ParseError
+code_by_sign db source None digits = with_three digits (code_by_front db source digits)
+code_by_sign db source (Some p) digits = with_three digits (code_by_prefix db p digits)
+
 -- the code of a national part n with the reader's prefix p
 abbrev pub code_of : List Metadata → Option Id → List ℕ → Option (List ℕ) → Result Coded ParseError
 code_of db hint n (Some p) = with_three (norm n) (code_by_prefix db (norm p) (norm n))
 code_of db hint n None =
-    let digits = norm (after_front is_plus n) in
+    let digits = unsigned n in
     let dropped = after_dialling (hinted db hint) digits in
     code_from db (hinted db hint) (source_of (is_signed n) dropped) (unwrap_or dropped digits)
+
+-- the prefix of a number whose code is found: the reader's, normalised, else the code in decimal
+abbrev pub prefix_of : Option (List ℕ) → ℕ → List ℕ
+prefix_of p code = option_map_or norm p (decimal code)
