@@ -1,5 +1,5 @@
 -- The calling code by the hint, case by case.
-use Rattle.std.proofs.Common.{◌≡◌, ℕ, Bool, refl, ◌&&◌, not, true, false, List, ◌++◌, length, drop, Some, unwrap_or, ap, ◌∙◌}
+use Rattle.std.proofs.Common.{◌≡◌, ℕ, Bool, refl, ◌&&◌, not, true, false, List, ◌++◌, length, drop, Some, unwrap_or, ap, ap₂, sym, ◌∙◌}
 use Rattle.std.proofs.Math.Seq.{drop-append_seam}
 use Rattle.std.proofs.lemmas.Bool.{and_from, cond-true, cond-false}
 use Rattle.std.specs.Fmt.{decimal}
@@ -23,6 +23,9 @@ module _ (m : Metadata) (digits text : List ℕ) (code : ℕ) (given : m.country
   is_code : code_of_territory m ≡ code
   is_code = ap (λ c. unwrap_or c 0) given
 
+  written : decimal (code_of_territory m) ≡ text
+  written = ap decimal is_code ∙ sym is_text
+
   -- they begin with the code, and do not look so
   pub code_by_hint-cut : (rest : List ℕ) → digits ≡ text ++ rest → looks_national m digits ≡ false →
       code_by_hint m digits ≡ record { source = Number; value = code; rest = rest }
@@ -41,3 +44,16 @@ module _ (m : Metadata) (digits text : List ℕ) (code : ℕ) (given : m.country
   code_by_hint-other other =
       let front : is_front (decimal (code_of_territory m)) digits ≡ false = rw (is_code, ← is_text) (is_front-no text digits other) in
       cond-false _ _ _ (ap (λ b. b && not (looks_national m digits)) front) ∙ rw is_code
+
+  -- the same by one test: the code is cut off or not
+  pub code_by_hint-apart : true ≡ (is_front text digits && not (looks_national m digits)) →
+      code_by_hint m digits ≡ record { source = Number; value = code; rest = drop (length text) digits }
+  code_by_hint-apart h =
+      cond-true _ _ _ (ap (λ t. is_front t digits && not (looks_national m digits)) written ∙ sym h)
+      ∙ ap₂ (λ v t. record { source = Number; value = v; rest = drop (length t) digits }) is_code written
+
+  pub code_by_hint-kept : false ≡ (is_front text digits && not (looks_national m digits)) →
+      code_by_hint m digits ≡ record { source = Default; value = code; rest = digits }
+  code_by_hint-kept h =
+      cond-false _ _ _ (ap (λ t. is_front t digits && not (looks_national m digits)) written ∙ sym h)
+      ∙ ap (λ v. record { source = Default; value = v; rest = digits }) is_code

@@ -5,10 +5,12 @@ pub mod DigitTexts
 pub mod Endings
 pub mod Ends
 pub mod Foldings
+pub mod FoundCodes
 pub mod HintCodes
 pub mod IndicatorRows
 pub mod Lengths
 pub mod Likes
+pub mod ListedFronts
 pub mod NaturalOnes
 pub mod NaturalRows
 pub mod Openings

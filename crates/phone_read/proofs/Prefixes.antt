@@ -21,3 +21,8 @@ is_front-no front text none = false_from_ne_true _ (λ t.
 
 pub without_front-no : (front text : List ℕ) → ((rest : List ℕ) → ¬ (text ≡ front ++ rest)) → without_front (Some front) text ≡ text
 without_front-no front text none = cond-false _ _ _ (is_front-no front text none)
+
+-- a text that has the front is the front, and what follows so many bytes
+pub is_front-drop : (front text : List ℕ) → is_front front text ≡ true → text ≡ front ++ drop (length front) text
+is_front-drop front text h =
+    sym (take-append-drop (length front) text) ∙ ap (λ xs. xs ++ drop (length front) text) ((bytes_eq-Decides (take (length front) text) front).0 h)

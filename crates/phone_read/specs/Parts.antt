@@ -1,9 +1,10 @@
 -- The parts of a number as texts, and where they stand.
-use Rattle.std.specs.Prelude.{ℕ, List, ◌≡◌, ◌++◌, IfSome, chars}
+use Rattle.std.specs.Prelude.{ℕ, List, Option, Some, ◌≡◌, ◌++◌, IfSome, chars}
 use Rattle.std.specs.Option.{option_map}
 use Rattle.std.specs.Cow.{cow_str_bytes, IsBorrowedStr}
 use Rattle.std.specs.declared.borrow.CowStr.{CowStr}
 use Rattle.phone_read.specs.declared.number.Number.{Number}
+use Rattle.phone_read.specs.Hints.{Coded}
 use Rattle.phone_read.specs.Tel.{TelParts}
 
 -- the part stands in the text; both are told by their bytes
@@ -38,3 +39,11 @@ tel_parts n = record {
   prefix = option_map (λ p. chars (cow_str_bytes p)) n.prefix;
   extension = option_map (λ e. chars (cow_str_bytes e)) n.extension;
 }
+
+-- the number r has the source and the digits of this code, one text as prefix and perhaps one as extension, and the carrier of n
+pub record HasCode (c : Coded) (before : List ℕ) (after : Option (List ℕ)) (n r : Number) : Type 0 where
+  pub country : r.country ≡ c.source
+  pub national : cow_str_bytes r.national ≡ c.rest
+  pub prefix : option_map cow_str_bytes r.prefix ≡ Some before
+  pub extension : option_map cow_str_bytes r.extension ≡ after
+  pub carrier : r.carrier ≡ n.carrier

@@ -1,17 +1,31 @@
 //! The calling code of a number: what tells it, and the digits that follow it.
-ghost use Rattle.std.specs.Prelude.{◌≡◌, ◌==◌, drop, string_bytes, IsCharBoundary, IfOk, IfSome, None, option_map, chars};
+ghost use Rattle.std.specs.Prelude.{◌≡◌, ◌↔◌, ◌⊎◌, ◌==◌, ◌&&◌, ◌++◌, IsTrue, ℕ, List, not, Ok, Err, drop, length, string_bytes, IsCharBoundary, IfOk, IfErr, IfSome, None, Some, option_map, unwrap_or, chars};
 ghost use Rattle.std.specs.Cow.{cow_str_bytes, IsBorrowedStr};
+ghost use Rattle.std.specs.Fmt.{decimal};
+ghost use Rattle.std.specs.Option.{option_and_then, option_copied};
+ghost use Rattle.std.specs.Result.{result_map_both};
 ghost use Rattle.phone_core.specs.Characters.{is_plus};
 ghost use Rattle.phone_core.specs.Cuts.{after_front};
 ghost use Rattle.phone_core.specs.Norm.{norm};
-ghost use Rattle.phone_read.specs.Codes.{after_match, digits_by, found_by, is_signed, source_by};
-ghost use Rattle.phone_read.specs.Parts.{tel_parts};
-ghost use Rattle.phone_read.specs.Texts.{begins};
+ghost use Rattle.phone_core.specs.Validations.{is_possible};
+ghost use Rattle.phone_core.specs.declared.country.Source.TheVariants.{Plus, Default};
+ghost use Rattle.phone_meta.specs.Codes.{shortest};
+ghost use Rattle.phone_meta.specs.First.{IsLentPattern};
+ghost use Rattle.phone_meta.specs.declared.loader.Metadata as loader;
+ghost use Rattle.phone_read.specs.Codes.{after_match, code_by_prefix, code_by_sign, code_from, code_of, digits_by, found_by, is_signed, prefix_of, source_by};
+ghost use Rattle.phone_read.specs.Hints.{Coded, hinted, is_general};
+ghost use Rattle.phone_read.specs.Parts.{HasCode, tel_parts};
+ghost use Rattle.phone_read.specs.Texts.{begins, is_front};
+ghost use Rattle.phone_read.specs.Verdicts.{verdict};
 
 use crate::number::Number;
+use crate::validator::length_of;
 use phone_core::chars::{is_plus, normalize};
-use phone_core::country::Source;
+use phone_core::consts::MIN_LENGTH_FOR_NSN;
+use phone_core::country::{Id, Source};
 use phone_core::cuts::{CharSet, after_run};
+use phone_core::{ParseError, Type};
+use phone_meta::{Database, Metadata};
 use regex::Regex;
 use std::alloc::{AllocError, Global};
 use std::borrow::CowStr;
@@ -43,9 +57,9 @@ fn drop_front(text: String, at: usize) -> String
 }
 
 /// Plus signs.
-struct Plus;
+struct PlusSigns;
 
-impl CharSet for Plus {
+impl CharSet for PlusSigns {
     ghost use Rattle.phone_core.specs.Characters.{is_plus};
 
     ghost members = { λ _ c. is_plus c };
@@ -88,6 +102,32 @@ pub fn international_prefix<'a>(
         extension: digits_if_any(alloc, extension)?,
         carrier,
     })
+}
+
+/// A number with its calling code: its source, what is left of its digits, and as prefix the reader's one or the code in
+/// decimal, after [`international_prefix`] with the pattern of the hint's territory. After a plus sign or a dialled
+/// prefix the code is the number of the reader's prefix, else the shortest listed code at the front of the digits,
+/// which is cut off. Otherwise it is the code of the hint's territory; where the digits begin with it and, as they stand,
+/// don't look like a number of the territory or have no possible length, it is cut off and the source is `Number`.
+///
+/// `TooShortNsn` where at most two digits follow a sign or a dialled prefix; then `MalformedInteger` for a prefix that
+/// is no number below 65536; `InvalidCountryCode` where the code isn't listed, none is at the front, or there is no hint
+/// or no record of it; `Memory` where memory was refused.
+pub fn country_code<'a>(
+    db: &Database,
+    hint: Option<Id>,
+    number: Number<'a>,
+) -> Result<Number<'a>, ParseError>
+    ensures coded { IfOk result (λ n. (c : Coded) × (code_of db.now hint (tel_parts number.entry).national (tel_parts number.entry).prefix ≡ Ok c) ×
+        HasCode c (prefix_of (tel_parts number.entry).prefix c.value) (option_map norm (tel_parts number.entry).extension) number.entry n) }
+    ensures refused { IfErr result (λ e. (e ≡ ParseError.Memory) ⊎ (code_of db.now hint (tel_parts number.entry).national (tel_parts number.entry).prefix ≡ Err e)) }
+{
+    let territory = hinted(db, hint);
+    let number = international_prefix(db.allocator(), dialling_pattern(territory), number)?;
+    match number.country {
+        Source::Default => by_hint(db, territory, number),
+        _ => by_sign(db, number),
+    }
 }
 
 /// The digits of a part.
@@ -149,7 +189,7 @@ fn is_signed(text: &str) -> bool
 fn without_signs(text: CowStr<'_>) -> CowStr<'_>
     ensures { chars (cow_str_bytes result) ≡ after_front is_plus (chars (cow_str_bytes text.entry)) }
 {
-    let at = text.as_str().len() - after_run(text.as_str(), &Plus).len();
+    let at = text.as_str().len() - after_run(text.as_str(), &PlusSigns).len();
     trim(text, at)
 }
 
@@ -182,4 +222,154 @@ fn begins_with_zero(digits: &str) -> bool
     ensures { result ≡ begins (λ d. d == 48) digits.now }
 {
     digits.starts_with('0')
+}
+
+/// The territory of the hint: the last record with its id.
+fn hinted(db: &Database, hint: Option<Id>) -> Option<&Metadata>
+    ensures { option_copied result ≡ hinted db.now hint }
+{
+    match hint {
+        Some(id) => db.by_id(id.as_str()),
+        None => None,
+    }
+}
+
+/// The pattern of what is dialled before a calling code in a territory.
+fn dialling_pattern(territory: Option<&Metadata>) -> Option<&Regex>
+    ensures { IsLentPattern (option_and_then (λ (m : loader.Metadata). m.international_prefix) (option_copied territory.entry)) result }
+{
+    match territory {
+        Some(territory) => territory.international_prefix(),
+        None => None,
+    }
+}
+
+/// A number that a plus sign, a dialled prefix or the reader's prefix tells to be international, with its code.
+fn by_sign<'a>(db: &Database, number: Number<'a>) -> Result<Number<'a>, ParseError>
+    ensures coded { IfOk result (λ n. (c : Coded) × (code_by_sign db.now number.entry.country (option_map cow_str_bytes number.entry.prefix) (cow_str_bytes number.entry.national) ≡ Ok c) ×
+        HasCode c (unwrap_or (option_map cow_str_bytes number.entry.prefix) (decimal c.value)) (option_map cow_str_bytes number.entry.extension) number.entry n) }
+    ensures refused { IfErr result (λ e. (e ≡ ParseError.Memory) ⊎
+        (code_by_sign db.now number.entry.country (option_map cow_str_bytes number.entry.prefix) (cow_str_bytes number.entry.national) ≡ Err e)) }
+{
+    if number.national.as_str().len() <= MIN_LENGTH_FOR_NSN {
+        return Err(ParseError::TooShortNsn);
+    }
+    let Number {
+        country,
+        national,
+        prefix,
+        extension,
+        carrier,
+    } = number;
+    let Some(prefix) = prefix else {
+        let (prefix, national) = by_front(db, national)?;
+        return Ok(Number {
+            country,
+            national,
+            prefix: Some(prefix),
+            extension,
+            carrier,
+        });
+    };
+    listed(db, prefix.as_str())?;
+    Ok(Number {
+        country: Source::Plus,
+        national,
+        prefix: Some(prefix),
+        extension,
+        carrier,
+    })
+}
+
+/// The number of a reader's prefix, which is to be listed.
+fn listed(db: &Database, prefix: &str) -> Result<u16, ParseError>
+    ensures { (digits : List ℕ) → code_by_prefix db.now prefix.now digits ≡ result_map_both (λ code. record { source = Plus; value = code; rest = digits }) (λ e. e) result }
+{
+    let Ok(code) = prefix.parse::<u16>() else {
+        return Err(ParseError::MalformedInteger);
+    };
+    match db.first_by_code(&code) {
+        Some(_) => Ok(code),
+        None => Err(ParseError::InvalidCountryCode),
+    }
+}
+
+/// The shortest listed code at the front of digits, in decimal, and the digits after it.
+fn by_front<'a>(db: &Database, digits: CowStr<'a>) -> Result<(CowStr<'a>, CowStr<'a>), ParseError>
+    ensures coded { IfOk result (λ r. (code : ℕ) × (shortest db.now (cow_str_bytes digits.entry) ≡ Some code) ×
+        (cow_str_bytes r.0 ≡ decimal code) × (cow_str_bytes r.1 ≡ drop (length (decimal code)) (cow_str_bytes digits.entry))) }
+    ensures refused { IfErr result (λ e. (e ≡ ParseError.Memory) ⊎ ((e ≡ ParseError.InvalidCountryCode) × (shortest db.now (cow_str_bytes digits.entry) ≡ None))) }
+{
+    let Some(code) = db.shortest(digits.as_str()) else {
+        return Err(ParseError::InvalidCountryCode);
+    };
+    let prefix = format!(in db.allocator(); "{code}")?;
+    let rest = trim(digits, prefix.as_str().len());
+    Ok((CowStr::Owned(prefix), rest))
+}
+
+/// A number with the code of the hint's territory.
+fn by_hint<'a>(
+    db: &Database,
+    territory: Option<&Metadata>,
+    number: Number<'a>,
+) -> Result<Number<'a>, ParseError>
+    ensures coded { IfOk result (λ n. (c : Coded) × (code_from db.now (option_copied territory.entry) Default (cow_str_bytes number.entry.national) ≡ Ok c) ×
+        HasCode c (decimal c.value) (option_map cow_str_bytes number.entry.extension) number.entry n) }
+    ensures refused { IfErr result (λ e. (e ≡ ParseError.Memory) ⊎ (code_from db.now (option_copied territory.entry) Default (cow_str_bytes number.entry.national) ≡ Err e)) }
+{
+    let Some(territory) = territory else {
+        return Err(ParseError::InvalidCountryCode);
+    };
+    let code = territory.country_code();
+    let prefix = format!(in db.allocator(); "{code}")?;
+    let is_apart = is_code_apart(territory, prefix.as_str(), number.national.as_str())?;
+    let Number {
+        national,
+        extension,
+        carrier,
+        ..
+    } = number;
+    if is_apart {
+        let rest = trim(national, prefix.as_str().len());
+        return Ok(Number {
+            country: Source::Number,
+            national: rest,
+            prefix: Some(CowStr::Owned(prefix)),
+            extension,
+            carrier,
+        });
+    }
+    Ok(Number {
+        country: Source::Default,
+        national,
+        prefix: Some(CowStr::Owned(prefix)),
+        extension,
+        carrier,
+    })
+}
+
+/// Whether digits begin with the territory's code in decimal, and the code is no part of a national number.
+fn is_code_apart(territory: &Metadata, code: &str, digits: &str) -> Result<bool, AllocError>
+    ensures { IfOk result (λ b. b ≡ (is_front code.now digits.now && not (is_general territory.now digits.now && is_possible (verdict territory.now (length digits.now))))) }
+{
+    if !has_front(digits, code) {
+        return Ok(false);
+    }
+    Ok(!is_national(territory, digits)?)
+}
+
+/// Whether the text begins with this front.
+fn has_front(text: &str, front: &str) -> bool
+    ensures { IsTrue result ↔ ((rest : List ℕ) × (text.now ≡ front.now ++ rest)) }
+{
+    text.starts_with(front)
+}
+
+/// Whether the digits as they stand look like a number of the territory, and have a possible length.
+fn is_national(territory: &Metadata, digits: &str) -> Result<bool, AllocError>
+    ensures { IfOk result (λ b. b ≡ (is_general territory.now digits.now && is_possible (verdict territory.now (length digits.now)))) }
+{
+    let is_general = territory.descriptors().general().is_match(digits)?;
+    Ok(is_general && length_of(territory, digits.len(), Type::Unknown).is_possible())
 }

@@ -3,7 +3,7 @@ ghost use Rattle.std.specs.Prelude.{◌≡◌, ℕ, List, ◌++◌, MatchOption,
 ghost use Rattle.phone_read.specs.Cores.{IsCore, IsTrimmed, IsBeforeSecondNumber, is_last, begins_second_number};
 ghost use Rattle.phone_read.specs.Parts.{IsSlice};
 
-pub use crate::calling_code::{international_prefix, trim};
+pub use crate::calling_code::{country_code, international_prefix, trim};
 use crate::fronts::{begins_with, is_nothing};
 use phone_core::chars::{is_letter, is_nd, is_number, is_plus};
 use phone_core::cuts::{CharSet, after_run, before, split_first};
