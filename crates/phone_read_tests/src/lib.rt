@@ -1,7 +1,9 @@
-//! Tests of the two readers, tables of texts with their parts, and of what a number's length, kind and region are on
-//! small databases. They stand in a crate of their own, since a crate with tests is proved twice.
+//! Tests of the two readers, tables of texts with their parts, and of what a number's calling code, length, kind and
+//! region are on small databases. They stand in a crate of their own, since a crate with tests is proved twice.
 #![tactic(auto)]
 
+#[cfg(test)]
+mod calling_code;
 #[cfg(test)]
 mod extract;
 #[cfg(test)]
