@@ -19,8 +19,8 @@ use Rattle.phone_meta.specs.declared.loader.Metadata.{Metadata}
 use Rattle.phone_meta.proofs.Matches.{find-first_span}
 use Rattle.phone_read.specs.Codes.{after_dialling, after_match, code_by_prefix, code_by_sign, code_from, code_of, digits_by, found_by, is_signed, prefix_of, source_by, source_of, unsigned}
 use Rattle.phone_read.specs.Hints.{Coded, hinted}
-use Rattle.phone_read.specs.Parts.{HasCode}
-use Rattle.phone_read.specs.declared.number.Number.{Number as Parts}
+use Rattle.phone_parts.specs.Parts.{HasCode}
+use Rattle.phone_parts.specs.declared.number.Number.{Number as Parts}
 
 -- digits are bytes
 digit_bytes : (ds : List ℕ) → list_all is_digit ds ≡ true → (k : ℕ) → get_or ds k 0 < 256

@@ -7,9 +7,9 @@ use Rattle.phone_core.specs.Validations.{is_possible}
 use Rattle.phone_core.specs.declared.country.Source.TheVariants.{Number, Default}
 use Rattle.phone_meta.specs.declared.loader.Metadata.{Metadata}
 use Rattle.phone_read.specs.Hints.{code_by_hint, code_of_territory, is_general}
-use Rattle.phone_read.specs.Texts.{is_front}
+use Rattle.phone_parts.specs.Texts.{is_front}
 use Rattle.phone_read.specs.Verdicts.{verdict}
-use Rattle.phone_read.proofs.Prefixes.{is_front-append, is_front-no}
+use Rattle.phone_parts.proofs.Prefixes.{is_front-append, is_front-no}
 
 -- the digits look like a number of the territory, and have a possible length
 abbrev pub looks_national : Metadata → List ℕ → Bool

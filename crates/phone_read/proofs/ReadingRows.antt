@@ -11,21 +11,22 @@ use Rattle.phone_core.specs.declared.country.Source.TheVariants.{Plus, Default}
 use Rattle.phone_core.proofs.Signed.{signed_of_walk}
 use Rattle.phone_read.specs.Codes.{code_of}
 use Rattle.phone_read.specs.Hints.{Coded}
-use Rattle.phone_read.specs.Naturals
-use Rattle.phone_read.specs.Naturals.{IsNatural}
+use Rattle.phone_parts.specs.Naturals
+use Rattle.phone_parts.specs.Naturals.{IsNatural}
 use Rattle.phone_read.specs.Readings
 use Rattle.phone_read.specs.Readings.{HasParts, Reads}
 use Rattle.phone_read.specs.Samples.{nz}
-use Rattle.phone_read.specs.Tel
-use Rattle.phone_read.specs.Tel.{IsTel, TelParts}
-use Rattle.phone_read.specs.Texts.{begins}
+use Rattle.phone_parts.specs.Tel
+use Rattle.phone_parts.specs.Parts.{Parts}
+use Rattle.phone_parts.specs.Tel.{IsTel}
+use Rattle.phone_parts.specs.Texts.{begins}
 use Rattle.phone_read.specs.declared.reading.Reading.{Reading}
-use Rattle.phone_read.proofs.CoreRows.{no_mark}
+use Rattle.phone_parts.proofs.CoreRows.{no_mark}
 use Rattle.phone_read.proofs.HintCodes.{code_by_hint-other}
-use Rattle.phone_read.proofs.NaturalRows.{own_core}
-use Rattle.phone_read.proofs.SuffixTests.{fails_at, no_suffix}
-use Rattle.phone_read.proofs.TelRefusals.{spaced}
-use Rattle.phone_read.proofs.TelRows.{no_parameters}
+use Rattle.phone_parts.proofs.NaturalRows.{own_core}
+use Rattle.phone_parts.proofs.SuffixTests.{fails_at, no_suffix}
+use Rattle.phone_parts.proofs.TelRefusals.{spaced}
+use Rattle.phone_parts.proofs.TelRows.{no_parameters}
 
 decimal_64 : decimal 64 ≡ codes "64"
 decimal_64 = decimal_step 64 (omega arith) (omega arith) ∙ ap (λ t. t ++ 52 ∷ []) (decimal_digit 6 (omega arith))
@@ -39,12 +40,12 @@ sample source = record {
   carrier = None;
 }
 
-home_text : IsNatural (codes "03-331 6005") (Ok (record { national = codes "03-331 6005"; extension = None }))
+home_text : IsNatural (codes "03-331 6005") (Ok (record { national = codes "03-331 6005"; prefix = None; extension = None }))
 unfolding ucd_case ucd_category no_mark fails_at
 home_text = Naturals.plain (codes "03-331 6005") (own_core (codes "03-331 6005") refl refl refl (λ e. cc)) (no_suffix (codes "03-331 6005") refl)
 
 home_parts : HasParts (codes "03-331 6005") (Some (record { national = codes "03-331 6005"; prefix = None; extension = None }))
-home_parts = Readings.as_natural (record { national = codes "03-331 6005"; extension = None }) (spaced (codes "03-331 6005") refl) home_text
+home_parts = Readings.as_natural (record { national = codes "03-331 6005"; prefix = None; extension = None }) (spaced (codes "03-331 6005") refl) home_text
 
 home_viable : IsViable (codes "03-331 6005")
 home_viable = inr (signed_of_walk (codes "03-331 6005") refl)

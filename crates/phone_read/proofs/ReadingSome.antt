@@ -11,10 +11,10 @@ use Rattle.phone_read.specs.Hints.{Coded}
 use Rattle.phone_read.specs.Numbering.{reading_of}
 use Rattle.phone_read.specs.Readings
 use Rattle.phone_read.specs.Readings.{HasParts, Reads, stripping_territory, stripped}
-use Rattle.phone_read.specs.Tel.{TelParts}
+use Rattle.phone_parts.specs.Parts.{Parts}
 use Rattle.phone_read.specs.declared.reading.Reading.{Reading}
 
-pub some_of_parts : (db : List Metadata) (hint : Option Id) (t : List ℕ) (p : TelParts) → HasParts t (Some p) → (viable : Bool) →
+pub some_of_parts : (db : List Metadata) (hint : Option Id) (t : List ℕ) (p : Parts) → HasParts t (Some p) → (viable : Bool) →
     (IsTrue viable ↔ IsViable p.national) → (r : Result Reading ParseError) × Reads db hint t r
 some_of_parts db hint t p h false told = (Err NoNumber, Readings.not_viable p h (λ v. true≢false (sym (told.1 v))))
 some_of_parts db hint t p h true told = by_code (code_of db hint p.national p.prefix) refl

@@ -19,7 +19,7 @@ use Rattle.phone_meta.specs.First.{first_span}
 use Rattle.phone_meta.specs.Codes.{is_listed, shortest}
 use Rattle.phone_meta.specs.declared.loader.Metadata.{Metadata}
 use Rattle.phone_read.specs.Hints.{Coded, hinted, code_by_hint}
-use Rattle.phone_read.specs.Texts.{begins}
+use Rattle.phone_parts.specs.Texts.{begins}
 
 -- after a plus sign or a dialling prefix: the shortest front of the digits that is a listed code
 abbrev pub code_by_front : List Metadata → Source → List ℕ → Result Coded ParseError
@@ -97,3 +97,11 @@ code_of db hint n None =
 -- the prefix of a number whose code is found: the reader's, normalised, else the code in decimal
 abbrev pub prefix_of : Option (List ℕ) → ℕ → List ℕ
 prefix_of p code = option_map_or norm p (decimal code)
+
+-- the number r has the source and the digits of this code, one text as prefix and perhaps one as extension, and the carrier of n
+pub record HasCode (c : Coded) (before : List ℕ) (after : Option (List ℕ)) (n r : Number) : Type 0 where
+  pub country : r.country ≡ c.source
+  pub national : cow_str_bytes r.national ≡ c.rest
+  pub prefix : option_map cow_str_bytes r.prefix ≡ Some before
+  pub extension : option_map cow_str_bytes r.extension ≡ after
+  pub carrier : r.carrier ≡ n.carrier

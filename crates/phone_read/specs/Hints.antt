@@ -10,7 +10,7 @@ use Rattle.phone_core.specs.declared.country.Source.TheVariants.{Number, Default
 use Rattle.phone_meta.specs.Records.{last_with, matches}
 use Rattle.phone_meta.specs.declared.loader.Descriptor.{Descriptor}
 use Rattle.phone_meta.specs.declared.loader.Metadata.{Metadata}
-use Rattle.phone_read.specs.Texts.{is_front}
+use Rattle.phone_parts.specs.Texts.{is_front}
 use Rattle.phone_read.specs.Verdicts.{verdict}
 
 -- a calling code, how it was found, and the digits that follow it

@@ -1,14 +1,8 @@
 pub mod Codes
-pub mod Cores
 pub mod Hints
-pub mod Naturals
 pub mod Numbering
-pub mod Parts
 pub mod Readings
 pub mod Regions
 pub mod Samples
 pub mod Strips
-pub mod Suffixes
-pub mod Tel
-pub mod Texts
 pub mod Verdicts

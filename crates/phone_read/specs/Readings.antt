@@ -7,22 +7,14 @@ use Rattle.phone_core.specs.declared.country.Id.{Id}
 use Rattle.phone_core.specs.declared.error.ParseError.{ParseError}
 use Rattle.phone_core.specs.declared.error.ParseError.TheVariants.{NoNumber}
 use Rattle.phone_meta.specs.declared.loader.Metadata.{Metadata}
+use Rattle.phone_parts.specs.Parts.{Parts}
+use Rattle.phone_parts.specs.Readers.{HasParts}
 use Rattle.phone_read.specs.Codes.{code_of}
 use Rattle.phone_read.specs.Hints.{Coded, hinted}
-use Rattle.phone_read.specs.Naturals.{NaturalParts, IsNatural}
 use Rattle.phone_read.specs.Numbering.{reading_of}
 use Rattle.phone_read.specs.Regions.{home}
 use Rattle.phone_read.specs.Strips.{Stripped, strip}
-use Rattle.phone_read.specs.Tel.{TelParts, IsTel}
-use Rattle.phone_read.specs.declared.natural.NoReading.{NoReading}
 use Rattle.phone_read.specs.declared.reading.Reading.{Reading}
-
--- the parts of a text: those of the `tel:` form where it has that form, else those of free text
-pub data HasParts (t : List ℕ) : Option TelParts → Type 0 where
-  as_tel : (p : TelParts) → IsTel t p → HasParts t (Some p)
-  as_natural : (p : NaturalParts) → ((q : TelParts) → ¬ (IsTel t q)) → IsNatural t (Ok p) →
-      HasParts t (Some (record { national = p.national; prefix = None; extension = p.extension }))
-  as_neither : (e : NoReading) → ((q : TelParts) → ¬ (IsTel t q)) → IsNatural t (Err e) → HasParts t None
 
 -- digits without their leading zeros
 abbrev pub without_zeros : List ℕ → List ℕ
@@ -41,8 +33,8 @@ stripped (Some m) digits = strip m digits
 -- what a text is read as under a database and a hint
 pub data Reads (db : List Metadata) (hint : Option Id) (t : List ℕ) : Result Reading ParseError → Type 0 where
   no_parts : HasParts t None → Reads db hint t (Err NoNumber)
-  not_viable : (p : TelParts) → HasParts t (Some p) → ¬ (IsViable p.national) → Reads db hint t (Err NoNumber)
-  no_code : (p : TelParts) (e : ParseError) → HasParts t (Some p) → IsViable p.national →
+  not_viable : (p : Parts) → HasParts t (Some p) → ¬ (IsViable p.national) → Reads db hint t (Err NoNumber)
+  no_code : (p : Parts) (e : ParseError) → HasParts t (Some p) → IsViable p.national →
       code_of db hint p.national p.prefix ≡ Err e → Reads db hint t (Err e)
-  coded : (p : TelParts) (c : Coded) → HasParts t (Some p) → IsViable p.national → code_of db hint p.national p.prefix ≡ Ok c →
+  coded : (p : Parts) (c : Coded) → HasParts t (Some p) → IsViable p.national → code_of db hint p.national p.prefix ≡ Ok c →
       Reads db hint t (reading_of c (option_map norm p.extension) (stripped (stripping_territory db hint c) c.rest))

@@ -4,7 +4,7 @@ use Rattle.regex.specs.Replace.{bytes_of}
 use Rattle.phone_meta.specs.First.{Seen, first_match, names_in, group_in, with_first_replaced}
 use Rattle.phone_meta.specs.declared.loader.Metadata.{Metadata}
 use Rattle.phone_read.specs.Hints.{is_general}
-use Rattle.phone_read.specs.Texts.{without_front}
+use Rattle.phone_parts.specs.Texts.{without_front}
 use Rattle.phone_read.specs.Verdicts.{verdict, is_too_short}
 
 -- the digits that are left, and the carrier that was named

@@ -12,13 +12,12 @@ ghost use Rattle.phone_core.specs.declared.country.Source.TheVariants.{Plus, Def
 ghost use Rattle.phone_meta.specs.Codes.{shortest};
 ghost use Rattle.phone_meta.specs.First.{IsLentPattern};
 ghost use Rattle.phone_meta.specs.declared.loader.Metadata as loader;
-ghost use Rattle.phone_read.specs.Codes.{after_match, code_by_prefix, code_by_sign, code_from, code_of, digits_by, found_by, is_signed, prefix_of, source_by};
+ghost use Rattle.phone_read.specs.Codes.{HasCode, after_match, code_by_prefix, code_by_sign, code_from, code_of, digits_by, found_by, is_signed, prefix_of, source_by};
 ghost use Rattle.phone_read.specs.Hints.{Coded, hinted, is_general};
-ghost use Rattle.phone_read.specs.Parts.{HasCode, tel_parts};
-ghost use Rattle.phone_read.specs.Texts.{begins, is_front};
+ghost use Rattle.phone_parts.specs.Parts.{parts_of};
+ghost use Rattle.phone_parts.specs.Texts.{begins, is_front};
 ghost use Rattle.phone_read.specs.Verdicts.{verdict};
 
-use crate::number::Number;
 use crate::validator::length_of;
 use phone_core::chars::{is_plus, normalize};
 use phone_core::consts::MIN_LENGTH_FOR_NSN;
@@ -26,6 +25,7 @@ use phone_core::country::{Id, Source};
 use phone_core::cuts::{CharSet, after_run};
 use phone_core::{ParseError, Type};
 use phone_meta::{Database, Metadata};
+use phone_parts::Number;
 use regex::Regex;
 use std::alloc::{AllocError, Global};
 use std::borrow::CowStr;
@@ -78,10 +78,10 @@ pub fn international_prefix<'a>(
     pattern: Option<&Regex>,
     number: Number<'a>,
 ) -> Result<Number<'a>, AllocError>
-    ensures source { IfOk result (λ n. n.country ≡ source_by (found_by pattern.entry) (tel_parts number.entry).national (tel_parts number.entry).prefix) }
-    ensures national { IfOk result (λ n. cow_str_bytes n.national ≡ digits_by (found_by pattern.entry) (tel_parts number.entry).national (tel_parts number.entry).prefix) }
-    ensures prefix { IfOk result (λ n. option_map cow_str_bytes n.prefix ≡ option_map norm (tel_parts number.entry).prefix) }
-    ensures extension { IfOk result (λ n. option_map cow_str_bytes n.extension ≡ option_map norm (tel_parts number.entry).extension) }
+    ensures source { IfOk result (λ n. n.country ≡ source_by (found_by pattern.entry) (parts_of number.entry).national (parts_of number.entry).prefix) }
+    ensures national { IfOk result (λ n. cow_str_bytes n.national ≡ digits_by (found_by pattern.entry) (parts_of number.entry).national (parts_of number.entry).prefix) }
+    ensures prefix { IfOk result (λ n. option_map cow_str_bytes n.prefix ≡ option_map norm (parts_of number.entry).prefix) }
+    ensures extension { IfOk result (λ n. option_map cow_str_bytes n.extension ≡ option_map norm (parts_of number.entry).extension) }
     ensures carrier { IfOk result (λ n. n.carrier ≡ number.entry.carrier) }
 {
     let Number {
@@ -118,9 +118,9 @@ pub fn country_code<'a>(
     hint: Option<Id>,
     number: Number<'a>,
 ) -> Result<Number<'a>, ParseError>
-    ensures coded { IfOk result (λ n. (c : Coded) × (code_of db.now hint (tel_parts number.entry).national (tel_parts number.entry).prefix ≡ Ok c) ×
-        HasCode c (prefix_of (tel_parts number.entry).prefix c.value) (option_map norm (tel_parts number.entry).extension) number.entry n) }
-    ensures refused { IfErr result (λ e. (e ≡ ParseError.Memory) ⊎ (code_of db.now hint (tel_parts number.entry).national (tel_parts number.entry).prefix ≡ Err e)) }
+    ensures coded { IfOk result (λ n. (c : Coded) × (code_of db.now hint (parts_of number.entry).national (parts_of number.entry).prefix ≡ Ok c) ×
+        HasCode c (prefix_of (parts_of number.entry).prefix c.value) (option_map norm (parts_of number.entry).extension) number.entry n) }
+    ensures refused { IfErr result (λ e. (e ≡ ParseError.Memory) ⊎ (code_of db.now hint (parts_of number.entry).national (parts_of number.entry).prefix ≡ Err e)) }
 {
     let territory = hinted(db, hint);
     let number = international_prefix(db.allocator(), dialling_pattern(territory), number)?;

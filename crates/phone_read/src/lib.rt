@@ -1,18 +1,12 @@
-//! Reading: from a text to its parts, from the parts to calling code and national number.
+//! Reading: from the parts of a text to calling code and national number.
 #![tactic(auto)]
 
 mod calling_code;
-mod fronts;
 pub mod helper;
 pub mod laws;
-pub mod natural;
-mod number;
-mod parameters;
 mod reading;
-pub mod rfc3966;
 pub mod rows;
-mod suffix;
 pub mod validator;
 
-pub use number::Number;
+pub use phone_parts::{Number, natural, rfc3966};
 pub use reading::Reading;

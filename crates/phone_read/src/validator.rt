@@ -11,11 +11,11 @@ ghost use Rattle.phone_meta.specs.Kinds.{kind_of};
 ghost use Rattle.phone_read.specs.Regions.{belongs_to, is_known, is_of, is_of_region, is_one_pattern, line_or_mobile, region_among, region_named, region_of, type_of};
 ghost use Rattle.phone_read.specs.Verdicts.{verdict_for, verdict_by, last_of};
 
-use crate::number::Number;
 use either::{Either, Left, Right};
 use phone_core::country::Id;
 use phone_core::{Type, Validation};
 use phone_meta::{Database, Descriptor, Descriptors, Metadata};
+use phone_parts::Number;
 use regex::Regex;
 use std::alloc::{AllocError, Global};
 

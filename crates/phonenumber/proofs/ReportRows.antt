@@ -21,7 +21,7 @@ use Rattle.phone_read.specs.Hints.{code_by_hint}
 use Rattle.phone_read.specs.Readings.{Reads}
 use Rattle.phone_read.specs.Regions.{home, type_of, is_known}
 use Rattle.phone_read.specs.Samples.{nz}
-use Rattle.phone_read.specs.Texts.{begins}
+use Rattle.phone_parts.specs.Texts.{begins}
 use Rattle.phone_read.specs.declared.reading.Reading.{Reading}
 use Rattle.phone_read.proofs.DigitTexts.{encode_utf8_all-digits}
 use Rattle.phone_read.proofs.HintCodes.{code_by_hint-other}

@@ -13,19 +13,20 @@ use Rattle.phone_meta.specs.declared.loader.Metadata.{Metadata}
 use Rattle.phone_meta.specs.Empty.{no_metadata}
 use Rattle.phone_meta.specs.Records.{last_with, has_id}
 use Rattle.phone_read.specs.Codes.{code_of, code_from, after_dialling, is_signed}
-use Rattle.phone_read.specs.Cores.{IsCore, is_start}
+use Rattle.phone_parts.specs.Cores.{IsCore, is_start}
 use Rattle.phone_read.specs.Hints.{Coded, hinted, code_by_hint}
-use Rattle.phone_read.specs.Naturals
-use Rattle.phone_read.specs.Naturals.{NaturalParts, IsNatural}
+use Rattle.phone_parts.specs.Naturals
+use Rattle.phone_parts.specs.Naturals.{IsNatural}
 use Rattle.phone_read.specs.Numbering.{reading_of}
 use Rattle.phone_read.specs.Readings
 use Rattle.phone_read.specs.Readings.{HasParts, Reads, stripped, stripping_territory}
 use Rattle.phone_read.specs.Strips.{Stripped, strip}
-use Rattle.phone_read.specs.Tel.{IsTel, TelParts, is_national}
-use Rattle.phone_read.specs.Texts.{begins, without_front}
+use Rattle.phone_parts.specs.Parts.{Parts}
+use Rattle.phone_parts.specs.Tel.{IsTel, is_national}
+use Rattle.phone_parts.specs.Texts.{begins, without_front}
 use Rattle.phone_read.specs.Verdicts.{verdict, is_too_short}
 use Rattle.phone_core.specs.declared.country.Source.TheVariants.{Default}
-use Rattle.phone_read.specs.declared.natural.NoReading.TheVariants.{Error}
+use Rattle.phone_parts.specs.declared.natural.NoReading.TheVariants.{Error}
 use Rattle.phone_read.specs.declared.reading.Reading.{Reading}
 use Rattle.phone_read.proofs.ReadingOnes.{parts_same}
 use Rattle.phonenumber.specs.Thin
@@ -33,7 +34,7 @@ use Rattle.phonenumber.specs.Thin.{IsThinDatabase, ThinReads, is_thin, thin_read
 use Rattle.phonenumber.proofs.ThinTexts.{IsThinText, thin_text, thin_natural, thin_tel, digit_unsigned}
 
 -- a text that is its own national part
-abbrev whole_part : List ℕ → TelParts
+abbrev whole_part : List ℕ → Parts
 whole_part t = record { national = t; prefix = None; extension = None }
 
 -- both readers leave a thin text whole
@@ -43,7 +44,7 @@ thin_parts t h = by_space (list_any (λ c. c == 32) t) refl
     by_space : (b : Bool) → list_any (λ c. c == 32) t ≡ b → HasParts t (Some (whole_part t))
     by_space false e = Readings.as_tel (whole_part t) (thin_tel t h e)
     by_space true e =
-        Readings.as_natural (record { national = t; extension = None }) (λ q g. true≢false (sym e ∙ g.no_space)) (thin_natural t h)
+        Readings.as_natural (record { national = t; prefix = None; extension = None }) (λ q g. true≢false (sym e ∙ g.no_space)) (thin_natural t h)
 
 unsigned : (t : List ℕ) → begins is_digit t ≡ true → is_signed t ≡ false
 unsigned [] h = refl
@@ -90,7 +91,7 @@ thin_strip_of : (db : List Metadata) (h : IsThinDatabase db) (m : Metadata) → 
 thin_strip_of db h m same digits =
     subst (λ x. strip x digits ≡ record { national = thin_rest x digits; carrier = None }) (sym same) (thin_strip db h digits)
 
-not_tel_nil : (q : TelParts) → ¬ (IsTel [] q)
+not_tel_nil : (q : Parts) → ¬ (IsTel [] q)
 not_tel_nil q h = nothing q.national h.scheme h.signed_run h.tail h.whole h.some_national
   where
     nothing : (n s r t : List ℕ) → [] ≡ s ++ (r ++ (n ++ t)) → begins is_national n ≡ true → ⊥
@@ -155,7 +156,7 @@ abbrev numbered : List Metadata → Option Id → Coded → Result Reading Parse
 numbered db hint c = reading_of c None (stripped (stripping_territory db hint c) c.rest)
 
 -- the parts of a thin text are these
-part_of : (t : List ℕ) (thin : IsThinText t) (p : TelParts) → HasParts t (Some p) → p ≡ whole_part t
+part_of : (t : List ℕ) (thin : IsThinText t) (p : Parts) → HasParts t (Some p) → p ≡ whole_part t
 part_of t thin p g =
     let same : Some p ≡ Some (whole_part t) = parts_same t (Some p) (Some (whole_part t)) g (thin_parts t thin) in cc
 
@@ -163,10 +164,10 @@ some_part : (t : List ℕ) (thin : IsThinText t) → ¬ (HasParts t None)
 some_part t thin g =
     apart None (whole_part t) refl (parts_same t None (Some (whole_part t)) g (thin_parts t thin))
   where
-    apart : (o : Option TelParts) (p : TelParts) → o ≡ None → o ≡ Some p → ⊥
+    apart : (o : Option Parts) (p : Parts) → o ≡ None → o ≡ Some p → ⊥
     apart o p e f = cc
 
-none_of_nil : (p : TelParts) → ¬ (HasParts [] (Some p))
+none_of_nil : (p : Parts) → ¬ (HasParts [] (Some p))
 none_of_nil p g = let same : Some p ≡ None = parts_same [] (Some p) None g nil_parts in cc
 
 -- a viable thin text is read by its code
@@ -194,16 +195,16 @@ by_code db h (Some id) t thin v r e = at (hinted db (Some id)) refl
 back_text : (db : List Metadata) → IsThinDatabase db → (hint : Option Id) (t : List ℕ) → IsThinText t → (r : Result Reading ParseError) → Reads db hint t r → ThinReads db hint t r
 back_text db h hint t thin r (Readings.no_parts g) = absurd (some_part t thin g)
 back_text db h hint t thin r (Readings.not_viable p g n) =
-    Thin.not_viable (subst (λ (x : TelParts). ¬ (IsViable x.national)) (part_of t thin p g) n)
+    Thin.not_viable (subst (λ (x : Parts). ¬ (IsViable x.national)) (part_of t thin p g) n)
 back_text db h hint t thin r (Readings.no_code p e g v c) =
     let same = part_of t thin p g in
-    by_code db h hint t thin (subst (λ (x : TelParts). IsViable x.national) same v) (Err e)
-    (subst (λ (x : TelParts). code_of db hint x.national x.prefix ≡ Err e) same c)
+    by_code db h hint t thin (subst (λ (x : Parts). IsViable x.national) same v) (Err e)
+    (subst (λ (x : Parts). code_of db hint x.national x.prefix ≡ Err e) same c)
 back_text db h hint t thin r (Readings.coded p c g v e) =
     let same = part_of t thin p g in
-    subst (λ (x : TelParts). ThinReads db hint t (reading_of c (option_map norm x.extension) (stripped (stripping_territory db hint c) c.rest))) (sym same)
-    (by_code db h hint t thin (subst (λ (x : TelParts). IsViable x.national) same v) (Ok c)
-    (subst (λ (x : TelParts). code_of db hint x.national x.prefix ≡ Ok c) same e))
+    subst (λ (x : Parts). ThinReads db hint t (reading_of c (option_map norm x.extension) (stripped (stripping_territory db hint c) c.rest))) (sym same)
+    (by_code db h hint t thin (subst (λ (x : Parts). IsViable x.national) same v) (Ok c)
+    (subst (λ (x : Parts). code_of db hint x.national x.prefix ≡ Ok c) same e))
 
 -- and each reading of a thin text is that one
 pub thin_reads_back : (db : List Metadata) → IsThinDatabase db → (hint : Option Id) (t : List ℕ) → is_thin t ≡ true → (r : Result Reading ParseError) →

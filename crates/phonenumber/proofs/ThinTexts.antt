@@ -6,15 +6,16 @@ use Rattle.ucd_case.proofs.Computing.{ucd_case}
 use Rattle.ucd_category.proofs.Computing.{ucd_category}
 use Rattle.phone_core.specs.Characters.{is_digit, is_one_of, is_plus}
 use Rattle.phone_core.specs.Cuts.{after_front}
-use Rattle.phone_read.specs.Cores.{IsCore, begins_second_number, is_start, is_last}
-use Rattle.phone_read.specs.Naturals
-use Rattle.phone_read.specs.Naturals.{IsNatural}
-use Rattle.phone_read.specs.Tel
-use Rattle.phone_read.specs.Tel.{IsTel, TelParts, is_national}
-use Rattle.phone_read.specs.Texts.{begins, ends}
-use Rattle.phone_read.proofs.Endings.{member_passes}
-use Rattle.phone_read.proofs.Ends.{all_wider, begins_wider, ends_wider}
-use Rattle.phone_read.proofs.Openings.{is_opening, no_suffix}
+use Rattle.phone_parts.specs.Cores.{IsCore, begins_second_number, is_start, is_last}
+use Rattle.phone_parts.specs.Naturals
+use Rattle.phone_parts.specs.Naturals.{IsNatural}
+use Rattle.phone_parts.specs.Tel
+use Rattle.phone_parts.specs.Parts.{Parts}
+use Rattle.phone_parts.specs.Tel.{IsTel, is_national}
+use Rattle.phone_parts.specs.Texts.{begins, ends}
+use Rattle.phone_parts.proofs.Endings.{member_passes}
+use Rattle.phone_parts.proofs.Ends.{all_wider, begins_wider, ends_wider}
+use Rattle.phone_parts.proofs.Openings.{is_opening, no_suffix}
 use Rattle.phonenumber.specs.Thin.{is_thin, is_thin_char}
 
 -- n numbers from one on
@@ -137,7 +138,7 @@ thin_core t h = record {
 }
 
 -- and its own national part, as free text
-pub thin_natural : (t : List ℕ) → IsThinText t → IsNatural t (Ok (record { national = t; extension = None }))
+pub thin_natural : (t : List ℕ) → IsThinText t → IsNatural t (Ok (record { national = t; prefix = None; extension = None }))
 thin_natural t h =
     Naturals.plain t (thin_core t h) (no_suffix t (none_passes is_opening t (all_wider is_thin_char (λ c. not (is_opening c)) thin_opens t h.all)))
 

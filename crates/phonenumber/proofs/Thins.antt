@@ -2,7 +2,7 @@
 use Rattle.std.proofs.Common.{◌≡◌, ℕ, Bool, ◌&&◌, List, [], ◌∷◌, ◌++◌, refl}
 use Rattle.std.specs.List.{list_all}
 use Rattle.phone_core.specs.Characters.{is_digit}
-use Rattle.phone_read.specs.Texts.{ends}
+use Rattle.phone_parts.specs.Texts.{ends}
 use Rattle.phonenumber.specs.Thin.{is_thin, is_thin_char}
 
 pub ends-push : (p : ℕ → Bool) (xs : List ℕ) (x : ℕ) → ends p (xs ++ x ∷ []) ≡ p x

@@ -6,7 +6,7 @@ ghost use Rattle.phone_core.specs.Characters.{is_digit};
 ghost use Rattle.phone_core.specs.Nsn.{nsn};
 ghost use Rattle.phone_core.specs.Validations.{is_possible};
 ghost use Rattle.phone_read.specs.Hints.{hinted, is_general, code_by_hint};
-ghost use Rattle.phone_read.specs.Texts.{ends, without_front};
+ghost use Rattle.phone_parts.specs.Texts.{ends, without_front};
 ghost use Rattle.phone_read.specs.Verdicts.{verdict};
 ghost use Rattle.phonenumber.specs.Thin.{IsThinDatabase, ThinReads, is_thin, is_thin_char, thin_reading, thin_rest};
 

@@ -1,6 +1,6 @@
 use Rattle.std.proofs.Common.{arith}
 use Rattle.std.proofs.lemmas.Str.Pattern.{starts_char}
-use Rattle.phone_read.proofs.Patterns.{begins_byte}
+use Rattle.phone_parts.proofs.Patterns.{begins_byte}
 use Rattle.phone_read.proofs.calling_code.begins_with_zero.Goals as goal
 
 pub returns : goal.returns

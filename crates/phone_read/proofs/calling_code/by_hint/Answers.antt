@@ -6,10 +6,10 @@ use Rattle.std.specs.Option.{option_copied, option_map_or}
 use Rattle.phone_core.specs.declared.country.Source.TheVariants.{Number, Default}
 use Rattle.phone_core.specs.declared.error.ParseError.TheVariants.{InvalidCountryCode}
 use Rattle.phone_read.specs.Hints.{code_by_hint}
-use Rattle.phone_read.specs.Texts.{is_front}
+use Rattle.phone_parts.specs.Texts.{is_front}
 use Rattle.phone_read.proofs.HintCodes.{looks_national, code_by_hint-apart, code_by_hint-kept}
 use Rattle.phone_read.proofs.ListedFronts.{border_after}
-use Rattle.phone_read.proofs.Prefixes.{is_front-drop}
+use Rattle.phone_parts.proofs.Prefixes.{is_front-drop}
 use Rattle.phone_read.proofs.calling_code.by_hint.Goals as goal
 
 pub trim-rest-requires : goal.trim-rest-requires

@@ -1,7 +1,7 @@
 use Rattle.std.proofs.Common.{◌≡◌, ◌&&◌, not, true, refl, ap, sym, ◌∙◌, true≢false}
-use Rattle.phone_read.specs.Texts.{is_front}
+use Rattle.phone_parts.specs.Texts.{is_front}
 use Rattle.phone_read.proofs.HintCodes.{looks_national}
-use Rattle.phone_read.proofs.Prefixes.{is_front-append, is_front-no}
+use Rattle.phone_parts.proofs.Prefixes.{is_front-append, is_front-no}
 use Rattle.phone_read.proofs.calling_code.is_code_apart.Goals as goal
 
 pub returns-then-not-has_front : goal.returns-then-not-has_front

@@ -1,6 +1,6 @@
 use Rattle.std.proofs.Common.{rules}
 use Rattle.phone_core.specs.Characters.{is_plus}
-use Rattle.phone_read.proofs.Patterns.{starts-answers}
+use Rattle.phone_parts.proofs.Patterns.{starts-answers}
 use Rattle.phone_read.proofs.calling_code.is_signed.Goals as goal
 
 pub returns : goal.returns

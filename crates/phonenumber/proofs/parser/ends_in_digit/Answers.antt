@@ -2,7 +2,7 @@ use Rattle.std.proofs.Common.{ap, sym, ◌∙◌}
 use Rattle.std.proofs.lemmas.Str.{chars-nil}
 use Rattle.std.specs.Str.{chars}
 use Rattle.phone_core.specs.Characters.{is_digit}
-use Rattle.phone_read.specs.Texts.{ends}
+use Rattle.phone_parts.specs.Texts.{ends}
 use Rattle.phonenumber.proofs.Thins.{ends-push}
 use Rattle.phonenumber.proofs.parser.ends_in_digit.Goals as goal
 

@@ -1,5 +1,5 @@
 use Rattle.std.proofs.Common.{sym, refl}
-use Rattle.phone_read.proofs.Prefixes.{without_front-append, without_front-no}
+use Rattle.phone_parts.proofs.Prefixes.{without_front-append, without_front-no}
 use Rattle.phonenumber.proofs.parser.without_front.Goals as goal
 
 pub returns-in-Some-after_front : goal.returns-in-Some-after_front

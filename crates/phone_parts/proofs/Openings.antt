@@ -1,0 +1,86 @@
+-- Which characters every extension has: without them a text has none.
+use Rattle.std.proofs.Common.{◌≡◌, ℕ, Bool, true, false, ◌||◌, zero, suc, List, [], ◌∷◌, ◌++◌, drop, codes, eqb-true, refl, ap, sym, ◌∙◌, true≢false}
+use Rattle.std.proofs.lemmas.Bool.{and_parts}
+use Rattle.std.proofs.lemmas.List.Folds.{list_any-append}
+use Rattle.std.specs.List.{list_any, list_all}
+use Rattle.ucd_case.proofs.Computing.{ucd_case}
+use Rattle.ucd_case.specs.CaseFolding.{simple_fold}
+use Rattle.phone_core.specs.Characters.{is_one_of, same_fold}
+use Rattle.phone_parts.specs.Suffixes.{IsSuffix, HasNoSuffix, indicators}
+use Rattle.phone_parts.specs.declared.suffix.Form.{Form}
+use Rattle.phone_parts.specs.declared.suffix.Form.TheVariants.{Parameter, Indicated, Signed}
+use Rattle.phone_parts.specs.Texts.{begins, is_like}
+
+-- what an indicator begins with: `,`, `;`, `#`, `~`, `x`, `e`, `i`, `a`, and the fullwidth `#`, `~`, `x`, `e`, `i`
+abbrev pub openings : List ℕ
+openings = 44 ∷ 59 ∷ 35 ∷ 126 ∷ 120 ∷ 101 ∷ 105 ∷ 97 ∷ 0xFF03 ∷ 0xFF5E ∷ 0xFF58 ∷ 0xFF45 ∷ 0xFF49 ∷ []
+
+-- the character folds to one of them
+abbrev pub is_opening : ℕ → Bool
+is_opening c = is_one_of openings (simple_fold c)
+
+indicators_open : list_all (begins is_opening) indicators ≡ true
+unfolding ucd_case
+indicators_open = refl
+
+parameter_opens : begins is_opening (codes ";ext=") ≡ true
+unfolding ucd_case
+parameter_opens = refl
+
+sign_opens : is_opening 35 ≡ true
+unfolding ucd_case
+sign_opens = refl
+
+or_true : (b : Bool) → (b || true) ≡ true
+or_true true = refl
+or_true false = refl
+
+-- a text has such a character where its end has one
+any_after : (p : ℕ → Bool) (xs ys : List ℕ) → list_any p ys ≡ true → list_any p (xs ++ ys) ≡ true
+any_after p xs ys h = list_any-append p xs ys ∙ (ap (λ b. list_any p xs || b) h ∙ or_true (list_any p xs))
+
+-- a text that is like a word that begins so has one
+like_opens : (name word rest : List ℕ) → is_like name word ≡ true → begins is_opening word ≡ true → list_any is_opening (name ++ rest) ≡ true
+like_opens [] [] rest h b = absurd (true≢false (sym b))
+like_opens [] (w ∷ ws) rest h b = absurd (true≢false (sym h))
+like_opens (c ∷ cs) [] rest h b = absurd (true≢false (sym b))
+like_opens (c ∷ cs) (w ∷ ws) rest h b =
+    ap (λ x. x || list_any is_opening (cs ++ rest))
+    (ap (is_one_of openings) (eqb-true (simple_fold c) (simple_fold w) (and_parts (same_fold c w) (is_like cs ws) h).0) ∙ b)
+
+any_like_opens : (name : List ℕ) (words : List (List ℕ)) (rest : List ℕ) → list_any (is_like name) words ≡ true →
+    list_all (begins is_opening) words ≡ true → list_any is_opening (name ++ rest) ≡ true
+any_like_opens name [] rest h all = absurd (true≢false (sym h))
+any_like_opens name (w ∷ ws) rest h all =
+    at_head (is_like name w) refl h (and_parts (begins is_opening w) (list_all (begins is_opening) ws) all) (any_like_opens name ws rest)
+  where
+    at_head : (b : Bool) → is_like name w ≡ b → (b || list_any (is_like name) ws) ≡ true →
+        (begins is_opening w ≡ true) × (list_all (begins is_opening) ws ≡ true) →
+        (list_any (is_like name) ws ≡ true → list_all (begins is_opening) ws ≡ true → list_any is_opening (name ++ rest) ≡ true) →
+        list_any is_opening (name ++ rest) ≡ true
+    at_head true e f parts g = like_opens name w rest e parts.0
+    at_head false e f parts g = g f parts.1
+
+-- every extension has one
+pub suffix_opens : (w : List ℕ) (f : Form) (d : List ℕ) → IsSuffix w f d → list_any is_opening w ≡ true
+suffix_opens w Parameter d h = ap (list_any is_opening) h.whole ∙ like_opens h.name (codes ";ext=") d h.named parameter_opens
+suffix_opens w Indicated d h =
+    ap (list_any is_opening) h.whole
+    ∙ any_after is_opening h.lead h.rest
+    (ap (list_any is_opening) h.announced.whole ∙ any_like_opens h.announced.word indicators h.announced.ending h.announced.announces indicators_open)
+suffix_opens w Signed d h =
+    ap (list_any is_opening) h.whole ∙ any_after is_opening h.lead _ (any_after is_opening d (35 ∷ []) (ap (λ b. b || false) sign_opens))
+
+-- what no character of a text is, none of an end of it is
+none_in_end : (p : ℕ → Bool) (k : ℕ) (text : List ℕ) → list_any p text ≡ false → list_any p (drop k text) ≡ false
+none_in_end p zero text h = h
+none_in_end p (suc k) [] h = refl
+none_in_end p (suc k) (c ∷ cs) h = none_in_end p k cs (tail_none (p c) h)
+  where
+    tail_none : (b : Bool) → (b || list_any p cs) ≡ false → list_any p cs ≡ false
+    tail_none true e = absurd (true≢false e)
+    tail_none false e = e
+
+-- so a text without them has no extension
+pub no_suffix : (c : List ℕ) → list_any is_opening c ≡ false → HasNoSuffix c
+no_suffix c none k f d h = true≢false (sym (suffix_opens (drop k c) f d h) ∙ none_in_end is_opening k c none)

@@ -1,0 +1,7 @@
+pub mod Cores
+pub mod Naturals
+pub mod Parts
+pub mod Readers
+pub mod Suffixes
+pub mod Tel
+pub mod Texts

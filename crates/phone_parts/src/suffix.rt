@@ -1,0 +1,339 @@
+//! The extension at the end of a text, in its three forms.
+ghost use Rattle.std.specs.Prelude.{◌≡◌, ℕ, List, ◌∷◌, ◌++◌, ◌&&◌, [], nat_le, length, MatchOption, IfSome, IsTrue, chars, map};
+ghost use Rattle.std.specs.Borrow.{Bor};
+ghost use Rattle.std.specs.List.{list_all};
+ghost use Rattle.phone_core.specs.Characters.{is_nd};
+ghost use Rattle.phone_parts.specs.Parts.{IsSlice};
+ghost use Rattle.phone_parts.specs.Texts.{begins};
+ghost use Rattle.phone_parts.specs.Suffixes.{IsParameter, IsSigned, IsIndicated, IsAnnounced, IsEnding, IsSuffix, is_lead, is_suffix_start, HasNoSuffix, HasLongestSuffix};
+
+use crate::fronts::{is_nothing, skip_one, strip_char, strip_like};
+use phone_core::chars::is_nd;
+use phone_core::cuts::{CharSet, after_run, before, split_first, split_run};
+use unicode::case::simple_fold;
+
+/// What announces an extension: `xt` with or without `e`, `ensio` (its `o` with or without an accent) and `n`; the
+/// same in wide letters; a sign; `int`, `anexo`.
+const INDICATORS: [&str; 31] = [
+    "xt",
+    "xtn",
+    "xtensio",
+    "xtension",
+    "xtensio\u{301}",
+    "xtensio\u{301}n",
+    "xtensi\u{F3}",
+    "xtensi\u{F3}n",
+    "ext",
+    "extn",
+    "extensio",
+    "extension",
+    "extensio\u{301}",
+    "extensio\u{301}n",
+    "extensi\u{F3}",
+    "extensi\u{F3}n",
+    "\u{FF58}\u{FF54}",
+    "\u{FF58}\u{FF54}\u{FF4E}",
+    "\u{FF45}\u{FF58}\u{FF54}",
+    "\u{FF45}\u{FF58}\u{FF54}\u{FF4E}",
+    ",",
+    ";",
+    "x",
+    "\u{FF58}",
+    "#",
+    "\u{FF03}",
+    "~",
+    "\u{FF5E}",
+    "int",
+    "anexo",
+    "\u{FF49}\u{FF4E}\u{FF54}",
+];
+
+/// The forms of an extension.
+#[derive(Clone, Copy, PartialEq, Eq, Debug)]
+pub enum Form {
+    /// `;ext=` before the digits.
+    Parameter,
+    /// An indicator before the digits, as in ` ext. 5`.
+    Indicated,
+    /// A number sign behind the digits, as in ` 5#`.
+    Signed,
+}
+
+/// An extension: its form, and its digits.
+#[derive(Clone, Copy)]
+pub(crate) struct Suffix<'a> {
+    pub(crate) form: Form,
+    pub(crate) digits: &'a str,
+}
+
+struct Marks;
+
+impl CharSet for Marks {
+    ghost use Rattle.phone_parts.specs.Suffixes.{is_mark};
+
+    ghost members = { λ _ c. is_mark c };
+
+    fn has(&self, c: char) -> bool {
+        matches!(c, ':' | '.' | '\u{FF0E}')
+    }
+}
+
+struct Gaps;
+
+impl CharSet for Gaps {
+    ghost use Rattle.phone_parts.specs.Suffixes.{is_gap};
+
+    ghost members = { λ _ c. is_gap c };
+
+    fn has(&self, c: char) -> bool {
+        matches!(c, ' ' | '\u{A0}' | '\t' | ',' | '-')
+    }
+}
+
+struct Digits;
+
+impl CharSet for Digits {
+    ghost use Rattle.phone_core.specs.Characters.{is_nd};
+
+    ghost members = { λ _ c. is_nd c };
+
+    fn has(&self, c: char) -> bool {
+        is_nd(c)
+    }
+}
+
+struct Dashes;
+
+impl CharSet for Dashes {
+    ghost use Rattle.phone_parts.specs.Suffixes.{is_dash};
+
+    ghost members = { λ _ c. is_dash c };
+
+    fn has(&self, c: char) -> bool {
+        c == '-' || c == ' '
+    }
+}
+
+struct Sign;
+
+impl CharSet for Sign {
+    ghost use Rattle.phone_parts.specs.Suffixes.{is_sign};
+
+    ghost members = { λ _ c. is_sign c };
+
+    fn has(&self, c: char) -> bool {
+        c == '#'
+    }
+}
+
+/// Whether the character may stand before an indicator.
+fn is_lead(c: char) -> bool
+    ensures { result ≡ is_lead c }
+{
+    matches!(c, ' ' | '\u{A0}' | '\t' | ',')
+}
+
+/// Whether an extension may begin with this character.
+fn is_suffix_start(c: char) -> bool
+    ensures { result ≡ is_suffix_start c }
+{
+    matches!(
+        simple_fold(c),
+        ' ' | '\t'
+            | '\u{A0}'
+            | ','
+            | '-'
+            | ';'
+            | '#'
+            | '~'
+            | 'x'
+            | 'e'
+            | 'i'
+            | 'a'
+            | '\u{FF03}'
+            | '\u{FF5E}'
+            | '\u{FF58}'
+            | '\u{FF45}'
+            | '\u{FF49}'
+    )
+}
+
+/// Whether the text begins as an extension may.
+fn begins_suffix(text: &str) -> bool
+    ensures { result ≡ begins is_suffix_start (chars text.now) }
+{
+    text.starts_with(|c| is_suffix_start(c))
+}
+
+/// The longest end of a text that is an extension, with what stands before it; none where no end is one. It asks from
+/// the left, at each border between characters, whether an extension begins there, and passes at once a border whose
+/// character can't begin one. Where a run of spaces, tabs and commas is followed by no indicator, that is found out once,
+/// at the front of the run. So the cost is linear in the text, but for runs of spaces, hyphens and commas: at most the
+/// square of such a run's length.
+pub(crate) fn find_suffix(text: &str) -> Option<(&str, Suffix<'_>)>
+    ensures read { MatchOption result (HasNoSuffix (chars text.now)) (λ p. HasLongestSuffix (chars text.now) (chars p.0.now) p.1.form (chars p.1.digits.now)) }
+    ensures front { IfSome result (λ p. (v : List ℕ) × (text.now ≡ p.0.now ++ v)) }
+    ensures slice { IfSome result (λ p. IsSlice text.now p.1.digits.now) }
+{
+    let mut rest = text;
+    let mut in_lead = false;
+    while let Some((c, after)) = split_first(rest) {
+        if let Some(found) = read_suffix(rest, in_lead) {
+            return Some((before(text, rest), found));
+        }
+        in_lead = is_lead(c);
+        rest = after;
+    }
+    None
+}
+
+/// The text as an extension. It may be known that the text has no indicator: then that form isn't tried.
+fn read_suffix(text: &str, no_indicator: bool) -> Option<Suffix<'_>>
+    requires { IsTrue no_indicator → (d : List ℕ) → ¬ (IsIndicated (chars text.now) d) }
+    ensures read { MatchOption result ((f : Form) (d : List ℕ) → ¬ (IsSuffix (chars text.now) f d)) (λ s. IsSuffix (chars text.now) s.form (chars s.digits.now)) }
+    ensures slice { IfSome result (λ s. IsSlice text.now s.digits.now) }
+{
+    if !begins_suffix(text) {
+        return None;
+    }
+    if let Some(digits) = parameter(text) {
+        return Some(Suffix {
+            form: Form::Parameter,
+            digits,
+        });
+    }
+    if let Some(digits) = indicated_unless(text, no_indicator) {
+        return Some(Suffix {
+            form: Form::Indicated,
+            digits,
+        });
+    }
+    let digits = signed(text)?;
+    Some(Suffix {
+        form: Form::Signed,
+        digits,
+    })
+}
+
+/// The digits of an extension with an indicator, unless it is known that the text is none.
+fn indicated_unless(text: &str, no_indicator: bool) -> Option<&str>
+    requires { IsTrue no_indicator → (d : List ℕ) → ¬ (IsIndicated (chars text.now) d) }
+    ensures read { MatchOption result ((d : List ℕ) → ¬ (IsIndicated (chars text.now) d)) (λ d. IsIndicated (chars text.now) (chars d.now)) }
+    ensures slice { IfSome result (λ d. IsSlice text.now d.now) }
+{
+    if no_indicator { None } else { indicated(text) }
+}
+
+/// Whether the text is digits of any script, and no more of them than this.
+fn are_digits(text: &str, most: usize) -> bool
+    ensures { result ≡ (list_all is_nd (chars text.now) && nat_le (length (chars text.now)) most) }
+{
+    only_digits(text) && count_chars(text) <= most
+}
+
+fn only_digits(text: &str) -> bool
+    ensures { result ≡ list_all is_nd (chars text.now) }
+{
+    text.chars().all(|c| is_nd(c))
+}
+
+fn count_chars(text: &str) -> usize
+    ensures { result ≡ length (chars text.now) }
+{
+    text.chars().count()
+}
+
+/// The digits of `;ext=5`.
+fn parameter(text: &str) -> Option<&str>
+    ensures read { MatchOption result ((d : List ℕ) → ¬ (IsParameter (chars text.now) d)) (λ d. IsParameter (chars text.now) (chars d.now)) }
+    ensures slice { IfSome result (λ d. IsSlice text.now d.now) }
+{
+    let digits = strip_like(text, ";ext=")?;
+    if !are_digits(digits, 7) {
+        return None;
+    }
+    Some(digits)
+}
+
+/// The digits of ` 5#`.
+fn signed(text: &str) -> Option<&str>
+    ensures read { MatchOption result ((d : List ℕ) → ¬ (IsSigned (chars text.now) d)) (λ d. IsSigned (chars text.now) (chars d.now)) }
+    ensures slice { IfSome result (λ d. IsSlice text.now d.now) }
+{
+    let (lead, rest) = split_run(text, &Dashes);
+    let (digits, sign) = split_run(rest, &Digits);
+    if is_nothing(lead) {
+        return None;
+    }
+    if is_nothing(digits) {
+        return None;
+    }
+    if !are_digits(digits, 5) {
+        return None;
+    }
+    let end = strip_char(sign, '#')?;
+    if !is_nothing(end) {
+        return None;
+    }
+    Some(digits)
+}
+
+/// The digits of an extension with an indicator.
+fn indicated(text: &str) -> Option<&str>
+    ensures read { MatchOption result ((d : List ℕ) → ¬ (IsIndicated (chars text.now) d)) (λ d. IsIndicated (chars text.now) (chars d.now)) }
+    ensures slice { IfSome result (λ d. IsSlice text.now d.now) }
+{
+    let mut rest = text;
+    while let Some((c, after)) = split_first(rest) {
+        if let Some(digits) = announced(rest, &INDICATORS) {
+            return Some(digits);
+        }
+        if !is_lead(c) {
+            return None;
+        }
+        rest = after;
+    }
+    None
+}
+
+/// The digits of an ending after one of the words.
+fn announced<'a>(text: &'a str, words: &[&str]) -> Option<&'a str>
+    ensures read { MatchOption result
+        ((d : List ℕ) → ¬ (IsAnnounced (map (λ (w : Bor (List ℕ)). chars w.now) words.now) (chars text.now) d))
+        (λ d. IsAnnounced (map (λ (w : Bor (List ℕ)). chars w.now) words.now) (chars text.now) (chars d.now)) }
+    ensures slice { IfSome result (λ d. IsSlice text.now d.now) }
+{
+    for word in words {
+        if let Some(digits) = after_word(text, word) {
+            return Some(digits);
+        }
+    }
+    None
+}
+
+/// The digits of an ending after this word.
+fn after_word<'a>(text: &'a str, word: &str) -> Option<&'a str>
+    ensures read { MatchOption result
+        ((d : List ℕ) → ¬ (IsAnnounced (chars word.now ∷ []) (chars text.now) d))
+        (λ d. IsAnnounced (chars word.now ∷ []) (chars text.now) (chars d.now)) }
+    ensures slice { IfSome result (λ d. IsSlice text.now d.now) }
+{
+    let rest = strip_like(text, word)?;
+    ending(rest)
+}
+
+/// The digits of what may follow an indicator.
+fn ending(text: &str) -> Option<&str>
+    ensures read { MatchOption result ((d : List ℕ) → ¬ (IsEnding (chars text.now) d)) (λ d. IsEnding (chars text.now) (chars d.now)) }
+    ensures slice { IfSome result (λ d. IsSlice text.now d.now) }
+{
+    let from = after_run(skip_one(text, &Marks), &Gaps);
+    let (digits, sign) = split_run(from, &Digits);
+    if !is_nothing(skip_one(sign, &Sign)) {
+        return None;
+    }
+    if !are_digits(digits, 7) {
+        return None;
+    }
+    Some(digits)
+}

@@ -1,5 +1,0 @@
-use Rattle.phone_read.proofs.NaturalRows.{parameter, signed, word, wide_word, sign, other_word}
-use Rattle.phone_read.proofs.rows.extension_rows.Goals as goal
-
-pub returns : goal.returns
-returns c = record { parameter = parameter; signed = signed; word = word; wide_word = wide_word; sign = sign; other_word = other_word }

@@ -1,5 +1,0 @@
-use Rattle.phone_read.proofs.CoreRows.{no_start, sign_alone, nothing}
-use Rattle.phone_read.proofs.rows.no_core_rows.Goals as goal
-
-pub returns : goal.returns
-returns c = record { no_start = no_start; sign_alone = sign_alone; nothing = nothing }
