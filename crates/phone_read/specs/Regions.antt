@@ -11,15 +11,10 @@ use Rattle.phone_core.specs.declared.kind.«Type».{«Type»}
 use Rattle.phone_core.specs.declared.kind.«Type».TheVariants.{FixedLine, Mobile, FixedLineOrMobile, TollFree, PremiumRate, SharedCost, PersonalNumber, Voip, Pager, Uan, Voicemail, Unknown}
 use Rattle.phone_meta.specs.First.{at_start}
 use Rattle.phone_meta.specs.Codes.{first_of, regions, territories}
-use Rattle.phone_meta.specs.Records.{last_with, matches, pattern_of}
+use Rattle.phone_meta.specs.Records.{last_with, pattern_of}
 use Rattle.phone_meta.specs.declared.loader.Descriptor.{Descriptor}
 use Rattle.phone_meta.specs.declared.loader.Metadata.{Metadata}
-use Rattle.phone_read.specs.Hints.{is_general}
-
--- the descriptor is there and matches
-abbrev pub is_of : Option Descriptor → List ℕ → Bool
-is_of None digits = false
-is_of (Some d) digits = matches d digits
+use Rattle.phone_read.specs.Hints.{is_of}
 
 -- the kinds in the order in which they are tried, each with its descriptor
 abbrev pub tried_kinds : Metadata → List («Type» × Option Descriptor)
@@ -41,7 +36,7 @@ line_or_mobile m digits kind = kind
 -- the kind of a number of a territory: the first that matches, where the general descriptor does
 abbrev pub type_of : Metadata → List ℕ → «Type»
 type_of m digits =
-    if is_general m digits
+    if is_of m.general digits
     then option_map_or (λ (k : «Type» × Option Descriptor). line_or_mobile m digits k.0) (find (λ (k : «Type» × Option Descriptor). is_of k.1 digits) (tried_kinds m)) Unknown
     else Unknown
 

@@ -1,3 +1,6 @@
-//! Cuts of a text before it is read, and the calling code of what was read.
-pub use crate::calling_code::{country_code, international_prefix, trim};
+//! The steps from a text to a number, each by itself.
+pub use crate::calling_code::country_code;
+pub use crate::dialled::international_prefix;
+pub use crate::stripping::national_number;
+pub use crate::trims::trim;
 pub use phone_parts::helper::extract;

@@ -2,11 +2,15 @@
 #![tactic(auto)]
 
 mod calling_code;
+mod dialled;
 pub mod helper;
+mod hints;
 pub mod laws;
 mod reading;
 pub mod rows;
+mod stripping;
+mod trims;
 pub mod validator;
 
 pub use phone_parts::{Number, natural, rfc3966};
-pub use reading::Reading;
+pub use reading::{Reading, read};

@@ -1,6 +1,25 @@
-//! What the reading of a text gives.
-use phone_core::country::Code;
-use phone_core::{Carrier, Extension, NationalNumber};
+//! The reading of a text: the way from its characters to a number.
+ghost use Rattle.std.specs.Prelude.{◌≡◌, ◌⊎◌, ◌==◌, ℕ, List, Ok, Err, IfOk, IfErr, chars, option_map, string_bytes};
+ghost use Rattle.std.specs.Cow.{cow_str_bytes};
+ghost use Rattle.std.specs.Option.{option_copied};
+ghost use Rattle.phone_core.specs.Cuts.{after_front};
+ghost use Rattle.phone_core.specs.Nsn.{nsn};
+ghost use Rattle.phone_read.specs.Hints.{Coded, hinted};
+ghost use Rattle.phone_read.specs.Numbering.{reading_of};
+ghost use Rattle.phone_read.specs.Readings.{Reads, stripped, stripping_territory, without_zeros};
+ghost use Rattle.phone_read.specs.Regions.{home};
+
+use crate::calling_code::{CodedNumber, coded};
+use crate::hints::hinted;
+use crate::stripping::stripped;
+use crate::validator::home;
+use phone_core::consts::{MAX_LENGTH_FOR_NSN, MIN_LENGTH_FOR_NSN};
+use phone_core::country::{Code, Id};
+use phone_core::{Carrier, Extension, NationalNumber, ParseError, is_viable};
+use phone_meta::{Database, Metadata};
+use phone_parts::parts;
+use std::alloc::{AllocError, Global};
+use std::borrow::CowStr;
 
 /// The parts of a number that was read.
 #[derive(PartialEq, Eq, Debug, Drop)]
@@ -13,4 +32,89 @@ pub struct Reading {
     pub extension: Option<Extension>,
     /// The carrier's selection code, where one was dialled.
     pub carrier: Option<Carrier>,
+}
+
+/// Reads a text as a number under a database. The hint is the region whose rules count where the text doesn't tell its
+/// calling code, and by whose rules the national number is stripped; without a hint it is stripped by those of the
+/// territory that the number belongs to.
+///
+/// `NoNumber` for a text that neither reader takes, or whose national part isn't viable; then the refusals of
+/// [`country_code`](crate::helper::country_code); then `TooShortNsn` for fewer than 2 digits, `TooLong` for more than
+/// 17, for a value from 2^56 on and for more than 255 leading zeros, `MalformedInteger` for a national text that is no
+/// number, as that of zeros alone. `Memory` where memory was refused, and nowhere else.
+pub fn read(db: &Database, hint: Option<Id>, text: &str) -> Result<Reading, ParseError>
+    ensures { (result ≡ Err ParseError.Memory) ⊎ Reads db.now hint (chars text.now) result }
+{
+    let Some(parts) = parts(text) else {
+        return Err(ParseError::NoNumber);
+    };
+    if !is_viable(parts.national.as_str()) {
+        return Err(ParseError::NoNumber);
+    }
+    let coded = coded(db, hint, parts)?;
+    let territory = stripping_territory(db, hint, &coded)?;
+    numbered(db.allocator(), territory, coded)
+}
+
+/// The territory whose rules strip the digits: the hint's, or without a hint the one that the number belongs to.
+fn stripping_territory<'a>(
+    db: &'a Database,
+    hint: Option<Id>,
+    coded: &CodedNumber<'_>,
+) -> Result<Option<&'a Metadata>, AllocError>
+    ensures { (source : Source) → IfOk result (λ m. option_copied m ≡ stripping_territory db.entry.now hint (record { source = source; value = coded.now.code; rest = cow_str_bytes coded.now.number.national })) }
+{
+    if hint.is_some() {
+        return Ok(hinted(db, hint));
+    }
+    home(db, coded.code, without_zeros(coded.number.national.as_str()))
+}
+
+/// Digits without their leading zeros.
+fn without_zeros(digits: &str) -> &str
+    ensures { result.now ≡ without_zeros digits.now }
+{
+    digits.trim_start_matches('0')
+}
+
+/// The number of a code and the digits that stripping by a territory leaves.
+fn numbered(
+    alloc: Global,
+    territory: Option<&Metadata>,
+    coded: CodedNumber<'_>,
+) -> Result<Reading, ParseError>
+    ensures { (result ≡ Err ParseError.Memory) ⊎ (result ≡ reading_of
+        (record { source = coded.entry.number.country; value = coded.entry.code; rest = cow_str_bytes coded.entry.number.national })
+        (option_map cow_str_bytes coded.entry.number.extension)
+        (stripped (option_copied territory.entry) (cow_str_bytes coded.entry.number.national))) }
+{
+    let stripped = stripped(territory, coded.number.national.as_str())?;
+    let national = nsn(stripped.national.as_str())?;
+    let carrier = match stripped.carrier {
+        Some(carrier) => Some(Carrier::from(carrier.into_owned(alloc)?)),
+        None => None,
+    };
+    let extension = match coded.number.extension {
+        Some(extension) => Some(Extension::from(extension.into_owned(alloc)?)),
+        None => None,
+    };
+    Ok(Reading {
+        code: Code::new(coded.code, coded.number.country),
+        national,
+        extension,
+        carrier,
+    })
+}
+
+/// The national number that a text of 2 to 17 bytes gives.
+fn nsn(text: &str) -> Result<NationalNumber, ParseError>
+    ensures { result ≡ nsn text.now }
+{
+    if text.len() < MIN_LENGTH_FOR_NSN {
+        return Err(ParseError::TooShortNsn);
+    }
+    if text.len() > MAX_LENGTH_FOR_NSN {
+        return Err(ParseError::TooLong);
+    }
+    text.parse::<NationalNumber>()
 }

@@ -6,9 +6,8 @@ ghost use Rattle.std.specs.List.{find, list_any};
 ghost use Rattle.std.specs.Option.{option_copied};
 ghost use Rattle.std.specs.Str.{bytes_eq};
 ghost use Rattle.either.specs.declared.Either.TheVariants as either;
-ghost use Rattle.phone_meta.specs.First.{IsPatternOf, at_start};
 ghost use Rattle.phone_meta.specs.Kinds.{kind_of};
-ghost use Rattle.phone_read.specs.Regions.{belongs_to, is_known, is_of, is_of_region, is_one_pattern, line_or_mobile, region_among, region_named, region_of, type_of};
+ghost use Rattle.phone_read.specs.Regions.{belongs_to, home, is_known, is_of, is_of_region, is_one_pattern, line_or_mobile, region_among, region_named, region_of, type_of};
 ghost use Rattle.phone_read.specs.Verdicts.{verdict_for, verdict_by, last_of};
 
 use either::{Either, Left, Right};
@@ -16,8 +15,7 @@ use phone_core::country::Id;
 use phone_core::{Type, Validation};
 use phone_meta::{Database, Descriptor, Descriptors, Metadata};
 use phone_parts::Number;
-use regex::Regex;
-use std::alloc::{AllocError, Global};
+use std::alloc::AllocError;
 
 /// The kinds in the order in which they are tried.
 const TRIED: [Type; 10] = [
@@ -243,17 +241,17 @@ fn is_of_region(db: &Database, text: &str, id: &str) -> Result<bool, AllocError>
     ensures { IfOk result (λ b. b ≡ is_of_region db.now text.now id.now) }
 {
     match db.by_id(id) {
-        Some(m) => belongs_to(db.allocator(), text, m),
+        Some(m) => belongs_to(text, m),
         None => Ok(false),
     }
 }
 
 /// Whether the number belongs to a territory.
-fn belongs_to(alloc: Global, text: &str, m: &Metadata) -> Result<bool, AllocError>
+fn belongs_to(text: &str, m: &Metadata) -> Result<bool, AllocError>
     ensures { IfOk result (λ b. b ≡ belongs_to text.now m.now) }
 {
-    match m.leading_digits() {
-        Some(pattern) => is_at_start(alloc, pattern, text),
+    match m.leading_digits_pattern() {
+        Some(pattern) => pattern.is_at_start(text),
         None => Ok(is_known(number_type(m, text)?)),
     }
 }
@@ -264,13 +262,14 @@ fn is_known(kind: Type) -> bool
     !matches!(kind, Type::Unknown)
 }
 
-/// Whether the first match of a pattern begins at the first byte; it need not reach the end.
-fn is_at_start(alloc: Global, pattern: &Regex, text: &str) -> Result<bool, AllocError>
-    ensures { IfOk result (λ b. (p : List ℕ) → IsPatternOf p pattern.now → b ≡ at_start p text.now) }
+/// The territory that a number of a calling code belongs to: the last record of its region, or the first territory of
+/// the code where that has no region; none where it belongs to none. Refused only for memory.
+pub fn home<'a>(db: &'a Database, code: u16, text: &str) -> Result<Option<&'a Metadata>, AllocError>
+    ensures { IfOk result (λ m. option_copied m ≡ home db.entry.now code text.now) }
 {
-    let mut matcher = pattern.matcher(alloc)?;
-    match matcher.find(text) {
-        Some(found) => Ok(found.start() == 0),
-        None => Ok(false),
+    match source_for(db, code, text)? {
+        Some(Left(id)) => Ok(db.by_id(id.as_str())),
+        Some(Right(code)) => Ok(db.first_by_code(&code)),
+        None => Ok(None),
     }
 }

@@ -1,0 +1,221 @@
+//! How a number was dialled: by a plus sign, an international prefix, or neither.
+ghost use Rattle.std.specs.Prelude.{◌≡◌, ◌==◌, ℕ, List, Option, drop, IsCharBoundary, IfOk, IfSome, None, option_map, chars};
+ghost use Rattle.std.specs.Cow.{cow_str_bytes};
+ghost use Rattle.phone_core.specs.Characters.{is_plus};
+ghost use Rattle.phone_core.specs.Cuts.{after_front};
+ghost use Rattle.phone_core.specs.Norm.{norm};
+ghost use Rattle.phone_meta.specs.First.{IsCut};
+ghost use Rattle.phone_parts.specs.Parts.{parts_of};
+ghost use Rattle.phone_parts.specs.Texts.{begins};
+ghost use Rattle.phone_read.specs.Codes.{after_match, dialled, found_by};
+
+use crate::trims::trim;
+use phone_core::chars::{is_plus, normalize};
+use phone_core::country::Source;
+use phone_core::cuts::{CharSet, after_run};
+use phone_meta::Pattern;
+use phone_parts::Number;
+use regex::Regex;
+use std::alloc::{AllocError, Global};
+use std::borrow::CowStr;
+
+/// What finds an international prefix in digits. Contracts see the span that it finds in each text.
+pub(crate) trait Finder {
+    ghost found: { Self → List ℕ → Option (ℕ × ℕ) };
+
+    /// The first match, by the bytes where it begins and ends.
+    fn find(&self, digits: &str) -> Result<Option<(usize, usize)>, AllocError>
+        ensures span { IfOk result (λ span. span ≡ found self.now digits.now) }
+        ensures cut { IfOk result (λ span. IfSome span (IsCut digits.now)) };
+}
+
+/// A compiled pattern that was handed in, or none.
+struct Handed<'p> {
+    alloc: Global,
+    pattern: Option<&'p Regex>,
+}
+
+impl Finder for Handed<'_> {
+    ghost use Rattle.phone_read.specs.Codes.{found_by};
+
+    ghost found = { λ h. found_by h.pattern };
+
+    fn find(&self, digits: &str) -> Result<Option<(usize, usize)>, AllocError> {
+        let Some(pattern) = self.pattern else {
+            return Ok(None);
+        };
+        let mut matcher = pattern.matcher(self.alloc)?;
+        match matcher.find(digits) {
+            Some(found) => Ok(Some((found.start(), found.end()))),
+            None => Ok(None),
+        }
+    }
+}
+
+/// A territory's international prefix, or none.
+pub(crate) struct OfTerritory<'p> {
+    pub(crate) pattern: Option<&'p Pattern>,
+}
+
+impl Finder for OfTerritory<'_> {
+    ghost use Rattle.std.specs.Option.{option_copied};
+    ghost use Rattle.phone_read.specs.Codes.{found_in};
+
+    ghost found = { λ t. found_in (option_copied t.pattern) };
+
+    fn find(&self, digits: &str) -> Result<Option<(usize, usize)>, AllocError> {
+        match self.pattern {
+            Some(pattern) => pattern.first_span(digits),
+            None => Ok(None),
+        }
+    }
+}
+
+/// Plus signs.
+struct PlusSigns;
+
+impl CharSet for PlusSigns {
+    ghost use Rattle.phone_core.specs.Characters.{is_plus};
+
+    ghost members = { λ _ c. is_plus c };
+
+    fn has(&self, c: char) -> bool {
+        is_plus(c)
+    }
+}
+
+/// A number whose parts are digits, as `normalize` gives them, and how its calling code is told. With a prefix from
+/// the reader the source is `Plus`. Without one, leading plus signs are dropped and give `Plus`, none give `Default`;
+/// and where the pattern's first match is at the front of the digits and no `0` follows it, the match is dropped, and
+/// the source becomes `Idd` unless it is `Plus`. The carrier stays as it is. Refused only for memory.
+pub fn international_prefix<'a>(
+    alloc: Global,
+    pattern: Option<&Regex>,
+    number: Number<'a>,
+) -> Result<Number<'a>, AllocError>
+    ensures source { IfOk result (λ n. n.country ≡ (dialled (found_by pattern.entry) (parts_of number.entry).national (parts_of number.entry).prefix).source) }
+    ensures national { IfOk result (λ n. cow_str_bytes n.national ≡ (dialled (found_by pattern.entry) (parts_of number.entry).national (parts_of number.entry).prefix).digits) }
+    ensures prefix { IfOk result (λ n. option_map cow_str_bytes n.prefix ≡ option_map norm (parts_of number.entry).prefix) }
+    ensures extension { IfOk result (λ n. option_map cow_str_bytes n.extension ≡ option_map norm (parts_of number.entry).extension) }
+    ensures carrier { IfOk result (λ n. n.carrier ≡ number.entry.carrier) }
+{
+    dialled(alloc, &Handed { alloc, pattern }, number)
+}
+
+/// How a number was dialled, by what finds an international prefix; its parts as digits.
+pub(crate) fn dialled<'a, F: Finder>(
+    alloc: Global,
+    finder: &F,
+    number: Number<'a>,
+) -> Result<Number<'a>, AllocError>
+    ensures source { IfOk result (λ n. n.country ≡ (dialled (F.found finder.now) (parts_of number.entry).national (parts_of number.entry).prefix).source) }
+    ensures national { IfOk result (λ n. cow_str_bytes n.national ≡ (dialled (F.found finder.now) (parts_of number.entry).national (parts_of number.entry).prefix).digits) }
+    ensures prefix { IfOk result (λ n. option_map cow_str_bytes n.prefix ≡ option_map norm (parts_of number.entry).prefix) }
+    ensures extension { IfOk result (λ n. option_map cow_str_bytes n.extension ≡ option_map norm (parts_of number.entry).extension) }
+    ensures carrier { IfOk result (λ n. n.carrier ≡ number.entry.carrier) }
+{
+    let Number {
+        national,
+        prefix,
+        extension,
+        carrier,
+        ..
+    } = number;
+    let (country, national) = match &prefix {
+        Some(_) => (Source::Plus, digits(alloc, national)?),
+        None => dialled_alone(alloc, finder, national)?,
+    };
+    Ok(Number {
+        country,
+        national,
+        prefix: digits_if_any(alloc, prefix)?,
+        extension: digits_if_any(alloc, extension)?,
+        carrier,
+    })
+}
+
+/// The source of a national part that the reader gave no prefix for, and its digits after plus signs and
+/// international prefix.
+fn dialled_alone<'a, F: Finder>(
+    alloc: Global,
+    finder: &F,
+    national: CowStr<'a>,
+) -> Result<(Source, CowStr<'a>), AllocError>
+    ensures source { IfOk result (λ r. r.0 ≡ (dialled (F.found finder.now) (chars (cow_str_bytes national.entry)) None).source) }
+    ensures digits { IfOk result (λ r. cow_str_bytes r.1 ≡ (dialled (F.found finder.now) (chars (cow_str_bytes national.entry)) None).digits) }
+{
+    let has_plus = begins_with_plus(national.as_str());
+    let digits = digits(alloc, without_plus_signs(national))?;
+    match place_after(finder, digits.as_str())? {
+        Some(at) => Ok((
+            if has_plus { Source::Plus } else { Source::Idd },
+            trim(digits, at),
+        )),
+        None => Ok((
+            if has_plus {
+                Source::Plus
+            } else {
+                Source::Default
+            },
+            digits,
+        )),
+    }
+}
+
+/// The digits of a part. A part that is digits alone takes no memory.
+fn digits(alloc: Global, part: CowStr<'_>) -> Result<CowStr<'_>, AllocError>
+    ensures { IfOk result (λ d. cow_str_bytes d ≡ norm (chars (cow_str_bytes part.entry))) }
+{
+    let digits = normalize(alloc, part)?;
+    Ok(digits)
+}
+
+/// The digits of a part, if it is there.
+fn digits_if_any<'a>(
+    alloc: Global,
+    part: Option<CowStr<'a>>,
+) -> Result<Option<CowStr<'a>>, AllocError>
+    ensures { IfOk result (λ d. option_map cow_str_bytes d ≡ option_map norm (option_map (λ p. chars (cow_str_bytes p)) part.entry)) }
+{
+    match part {
+        Some(part) => Ok(Some(digits(alloc, part)?)),
+        None => Ok(None),
+    }
+}
+
+/// Whether the text begins with a plus sign.
+fn begins_with_plus(text: &str) -> bool
+    ensures { result ≡ begins is_plus (chars text.now) }
+{
+    text.starts_with(|c| is_plus(c))
+}
+
+/// The text without its leading plus signs.
+fn without_plus_signs(text: CowStr<'_>) -> CowStr<'_>
+    ensures { chars (cow_str_bytes result) ≡ after_front is_plus (chars (cow_str_bytes text.entry)) }
+{
+    let at = text.as_str().len() - after_run(text.as_str(), &PlusSigns).len();
+    trim(text, at)
+}
+
+/// Where digits go on after an international prefix at their front that no `0` follows.
+fn place_after<F: Finder>(finder: &F, digits: &str) -> Result<Option<usize>, AllocError>
+    ensures place { IfOk result (λ at. option_map (λ n. drop n digits.now) at ≡ after_match digits.now (F.found finder.now digits.now)) }
+    ensures border { IfOk result (λ at. IfSome at (λ n. IsCharBoundary digits.now n)) }
+{
+    let Some((start, end)) = finder.find(digits)? else {
+        return Ok(None);
+    };
+    if start == 0 && !begins_with_zero(&digits[end..]) {
+        Ok(Some(end))
+    } else {
+        Ok(None)
+    }
+}
+
+/// Whether the digits begin with `0`.
+fn begins_with_zero(digits: &str) -> bool
+    ensures { result ≡ begins (λ d. d == 48) digits.now }
+{
+    digits.starts_with('0')
+}

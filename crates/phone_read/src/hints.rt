@@ -1,0 +1,28 @@
+//! The hint: the region whose rules count where a text doesn't tell its calling code.
+ghost use Rattle.std.specs.Prelude.{◌≡◌, IfOk};
+ghost use Rattle.std.specs.Option.{option_copied};
+ghost use Rattle.phone_read.specs.Hints.{hinted, looks_national};
+
+use crate::validator::length_of;
+use phone_core::Type;
+use phone_core::country::Id;
+use phone_meta::{Database, Metadata};
+use std::alloc::AllocError;
+
+/// The territory of the hint: the last record with its id.
+pub(crate) fn hinted(db: &Database, hint: Option<Id>) -> Option<&Metadata>
+    ensures { option_copied result ≡ hinted db.now hint }
+{
+    match hint {
+        Some(id) => db.by_id(id.as_str()),
+        None => None,
+    }
+}
+
+/// Whether the digits as they stand look like a number of the territory, and have a possible length.
+pub(crate) fn looks_national(territory: &Metadata, digits: &str) -> Result<bool, AllocError>
+    ensures { IfOk result (λ b. b ≡ looks_national territory.now digits.now) }
+{
+    let is_general = territory.descriptors().general().is_match(digits)?;
+    Ok(is_general && length_of(territory, digits.len(), Type::Unknown).is_possible())
+}

@@ -1,0 +1,166 @@
+//! What is cut off the digits after the calling code: national prefix and carrier code.
+ghost use Rattle.std.specs.Prelude.{◌≡◌, ◌==◌, ℕ, List, IfOk, IfSome, IsOk, None, Some, drop, option_map, true};
+ghost use Rattle.std.specs.Cow.{cow_str_bytes};
+ghost use Rattle.std.specs.Option.{option_copied};
+ghost use Rattle.phone_meta.specs.First.{AreCuts, IsCut, captured};
+ghost use Rattle.phone_meta.specs.declared.loader.Metadata as loader;
+ghost use Rattle.phone_read.specs.Readings.{stripped};
+ghost use Rattle.phone_read.specs.Strips.{Stripped, by_match, by_rule, held, once_more, step, strip, transformed};
+
+use crate::trims::{part, trim, without_front};
+use crate::validator::length_of;
+use phone_core::{Type, Validation};
+use phone_meta::{Captured, Metadata, Pattern};
+use phone_parts::Number;
+use std::alloc::{AllocError, Global};
+use std::borrow::CowStr;
+
+/// A number without what is dialled before its national number inside a territory, its carrier as it is named there.
+/// Without a parsing pattern the territory's national prefix is cut off, where the digits begin with it. With one its
+/// first match counts, where that is at the first byte: it is cut off, and the last group names the carrier (the whole
+/// match where the pattern has no group, none where the group took no part); but where the territory has a transform
+/// rule and that group took part, the rule writes the digits anew, and group 1 names the carrier. Where the digits were
+/// of the territory's general kind and would no longer be, nothing changes.
+///
+/// Refused only for memory, and never under a territory without a parsing pattern.
+pub fn national_number<'a>(m: &Metadata, number: Number<'a>) -> Result<Number<'a>, AllocError>
+    ensures national { IfOk result (λ n. cow_str_bytes n.national ≡ (step m.now (cow_str_bytes number.entry.national) (option_map cow_str_bytes number.entry.carrier)).national) }
+    ensures carrier { IfOk result (λ n. option_map cow_str_bytes n.carrier ≡ (step m.now (cow_str_bytes number.entry.national) (option_map cow_str_bytes number.entry.carrier)).carrier) }
+    ensures country { IfOk result (λ n. n.country ≡ number.entry.country) }
+    ensures prefix { IfOk result (λ n. n.prefix ≡ number.entry.prefix) }
+    ensures extension { IfOk result (λ n. n.extension ≡ number.entry.extension) }
+    ensures no_pattern { m.now.national_prefix_for_parsing ≡ None → IsOk result }
+{
+    let Some(pattern) = m.national_prefix_for_parsing_pattern() else {
+        let national = without_front(m.national_prefix(), number.national);
+        return Ok(Number { national, ..number });
+    };
+    match pattern.captured(number.national.as_str())? {
+        Some(found) => at_match(m, pattern, found, number),
+        None => Ok(number),
+    }
+}
+
+/// A number by the first match of the parsing pattern, which counts where it is at the front.
+fn at_match<'a>(
+    m: &Metadata,
+    pattern: &Pattern,
+    found: Captured,
+    number: Number<'a>,
+) -> Result<Number<'a>, AllocError>
+    requires { AreCuts (cow_str_bytes number.national) found }
+    ensures national { IfOk result (λ n. cow_str_bytes n.national ≡ (by_match m.now pattern.now (cow_str_bytes number.entry.national) (option_map cow_str_bytes number.entry.carrier) (Some found)).national) }
+    ensures carrier { IfOk result (λ n. option_map cow_str_bytes n.carrier ≡ (by_match m.now pattern.now (cow_str_bytes number.entry.national) (option_map cow_str_bytes number.entry.carrier) (Some found)).carrier) }
+    ensures country { IfOk result (λ n. n.country ≡ number.entry.country) }
+    ensures prefix { IfOk result (λ n. n.prefix ≡ number.entry.prefix) }
+    ensures extension { IfOk result (λ n. n.extension ≡ number.entry.extension) }
+{
+    if found.span.0 != 0 {
+        return Ok(number);
+    }
+    match (m.national_prefix_transform_rule(), found.last) {
+        (Some(rule), Some(_)) => transformed(m, pattern, rule, found, number),
+        (_, last) => cut(m, found, last, number),
+    }
+}
+
+/// A number without the match at its front, whose last group names the carrier.
+fn cut<'a>(
+    m: &Metadata,
+    found: Captured,
+    last: Option<(usize, usize)>,
+    number: Number<'a>,
+) -> Result<Number<'a>, AllocError>
+    requires { AreCuts (cow_str_bytes number.national) found }
+    requires { IfSome last (IsCut (cow_str_bytes number.national)) }
+    ensures national { IfOk result (λ n. cow_str_bytes n.national ≡ drop found.span.1 (cow_str_bytes number.entry.national)) }
+    ensures carrier { IfOk result (λ n. option_map cow_str_bytes n.carrier ≡ held (cow_str_bytes number.entry.national) last) }
+    ensures country { IfOk result (λ n. n.country ≡ number.entry.country) }
+    ensures prefix { IfOk result (λ n. n.prefix ≡ number.entry.prefix) }
+    ensures extension { IfOk result (λ n. n.extension ≡ number.entry.extension) }
+{
+    let carrier = part_if_any(m.allocator(), &number.national, last)?;
+    Ok(Number {
+        national: trim(number.national, found.span.1),
+        carrier,
+        country: number.country,
+        prefix: number.prefix,
+        extension: number.extension,
+    })
+}
+
+/// The part of a text that a group holds, where it took part.
+fn part_if_any<'a>(
+    alloc: Global,
+    text: &CowStr<'a>,
+    group: Option<(usize, usize)>,
+) -> Result<Option<CowStr<'a>>, AllocError>
+    requires { IfSome group (IsCut (cow_str_bytes text.now)) }
+    ensures { IfOk result (λ p. option_map cow_str_bytes p ≡ held (cow_str_bytes text.now) group) }
+{
+    match group {
+        Some(span) => Ok(Some(part(alloc, text, span)?)),
+        None => Ok(None),
+    }
+}
+
+/// A number that the transform rule writes anew, unless it would leave the territory's general kind.
+fn transformed<'a>(
+    m: &Metadata,
+    pattern: &Pattern,
+    rule: &str,
+    found: Captured,
+    number: Number<'a>,
+) -> Result<Number<'a>, AllocError>
+    requires { AreCuts (cow_str_bytes number.national) found }
+    ensures national { IfOk result (λ n. cow_str_bytes n.national ≡ (transformed m.now pattern.now rule.now (cow_str_bytes number.entry.national) (option_map cow_str_bytes number.entry.carrier) found).national) }
+    ensures carrier { IfOk result (λ n. option_map cow_str_bytes n.carrier ≡ (transformed m.now pattern.now rule.now (cow_str_bytes number.entry.national) (option_map cow_str_bytes number.entry.carrier) found).carrier) }
+    ensures country { IfOk result (λ n. n.country ≡ number.entry.country) }
+    ensures prefix { IfOk result (λ n. n.prefix ≡ number.entry.prefix) }
+    ensures extension { IfOk result (λ n. n.extension ≡ number.entry.extension) }
+{
+    let anew = pattern.replaced(rule, number.national.as_str())?;
+    let general = m.descriptors().general();
+    let was = general.is_match(number.national.as_str())?;
+    let is = general.is_match(anew.as_str())?;
+    if was && !is {
+        return Ok(number);
+    }
+    let carrier = part_if_any(m.allocator(), &number.national, found.first)?;
+    Ok(Number {
+        national: CowStr::Owned(anew),
+        carrier,
+        country: number.country,
+        prefix: number.prefix,
+        extension: number.extension,
+    })
+}
+
+/// The digits that stripping by a territory leaves, with the carrier that was named: [`national_number`], then the
+/// national prefix once more; but the digits as they are where too few would be left. They are lent where they can be.
+pub(crate) fn strip<'b>(m: &Metadata, digits: &'b str) -> Result<Number<'b>, AllocError>
+    ensures national { IfOk result (λ n. cow_str_bytes n.national ≡ (strip m.now digits.entry.now).national) }
+    ensures carrier { IfOk result (λ n. option_map cow_str_bytes n.carrier ≡ (strip m.now digits.entry.now).carrier) }
+{
+    let stepped = national_number(m, Number::of(digits))?;
+    let national = without_front(m.national_prefix(), stepped.national);
+    match length_of(m, national.as_str().len(), Type::Unknown) {
+        Validation::TooShort => Ok(Number::of(digits)),
+        _ => Ok(Number {
+            national,
+            carrier: stepped.carrier,
+            ..Number::of(digits)
+        }),
+    }
+}
+
+/// The digits that stripping leaves; all of them without a territory.
+pub(crate) fn stripped<'b>(m: Option<&Metadata>, digits: &'b str) -> Result<Number<'b>, AllocError>
+    ensures national { IfOk result (λ n. cow_str_bytes n.national ≡ (stripped (option_copied m.entry) digits.entry.now).national) }
+    ensures carrier { IfOk result (λ n. option_map cow_str_bytes n.carrier ≡ (stripped (option_copied m.entry) digits.entry.now).carrier) }
+{
+    match m {
+        Some(m) => strip(m, digits),
+        None => Ok(Number::of(digits)),
+    }
+}
