@@ -1,5 +1,5 @@
 -- A front that a text begins with or not.
-use Rattle.std.proofs.Common.{◌≡◌, ℕ, true, false, List, ◌++◌, length, take, drop, Some, ap, sym, ◌∙◌}
+use Rattle.std.proofs.Common.{◌≡◌, ◌↔◌, ℕ, Bool, true, false, IsTrue, true≢false, List, ◌++◌, length, take, drop, Some, refl, ap, sym, ◌∙◌}
 use Rattle.std.proofs.Math.Seq.{drop-append_seam, take-append_seam}
 use Rattle.std.proofs.lemmas.Bool.{false_from_ne_true, cond-false, cond-true}
 use Rattle.std.proofs.lemmas.List.{take-append-drop}
@@ -26,3 +26,8 @@ without_front-no front text none = cond-false _ _ _ (is_front-no front text none
 pub is_front-drop : (front text : List ℕ) → is_front front text ≡ true → text ≡ front ++ drop (length front) text
 is_front-drop front text h =
     sym (take-append-drop (length front) text) ∙ ap (λ xs. xs ++ drop (length front) text) ((bytes_eq-Decides (take (length front) text) front).0 h)
+
+-- what tells whether a text begins with the front
+pub is_front-decided : (front text : List ℕ) (b : Bool) → (IsTrue b ↔ ((rest : List ℕ) × (text ≡ front ++ rest))) → b ≡ is_front front text
+is_front-decided front text true told = let at = told.0 refl in sym (ap (is_front front) at.1 ∙ is_front-append front at.0)
+is_front-decided front text false told = sym (is_front-no front text (λ rest e. true≢false (sym (told.1 (rest, e)))))

@@ -1,6 +1,6 @@
 -- A listed code: at the front of a text, and as the number of a prefix.
 use Rattle.std.proofs.Common.{◌≡◌, ◌⊎◌, inl, inr, ℕ, zero, suc, ◌+◌, ◌<◌, ◌≤◌, ◌&&◌, ◌||◌, Bool, true, false, not, nat_le, nat_lt, if◌then◌else◌, cond, List, [], ◌∷◌, ◌++◌, length, take, drop, filter, reverse, get_or, codes, Option, Some, None, Result, Ok, Err, IsUtf8, IsCharBoundary, refl, ap, sym, subst, ◌∙◌, arith, lt-ltb, leb-true, true≢false, length-append}
-use Rattle.std.proofs.lemmas.Bool.{and_parts, cond-true, cond-false}
+use Rattle.std.proofs.lemmas.Bool.{and_parts, cond-true, cond-false, false_from_ne_true}
 use Rattle.std.proofs.lemmas.Fmt.{decimal-digits_value}
 use Rattle.std.proofs.lemmas.List.{length-take, length-reverse, take-append-drop}
 use Rattle.std.proofs.lemmas.Slice.Eq.{bytes_eq-Decides}
@@ -19,7 +19,7 @@ use Rattle.phone_core.proofs.Runs.{IsUtf8-after}
 use Rattle.phone_meta.specs.Codes.{first_of, front_number, is_listed, is_main_of, is_other_of, listed_front, listed_if_some, shortest, territories}
 use Rattle.phone_meta.specs.Records.{has_code}
 use Rattle.phone_meta.specs.declared.loader.Metadata.{Metadata}
-use Rattle.phone_read.specs.Codes.{code_by_prefix}
+use Rattle.phone_read.specs.Codes.{code_by_prefix, with_three}
 use Rattle.phone_read.specs.Hints.{Coded}
 
 -- a text may be cut behind a front
@@ -139,3 +139,7 @@ prefix_listed db prefix digits code e l = ap (by_number db digits) e ∙ cond-tr
 pub prefix_unlisted : (db : List Metadata) (prefix digits : List ℕ) (code : ℕ) → number_in 16 prefix ≡ Some code → is_listed code db ≡ false →
     code_by_prefix db prefix digits ≡ Err InvalidCountryCode
 prefix_unlisted db prefix digits code e l = ap (by_number db digits) e ∙ cond-false _ _ _ l
+
+-- more than two digits are enough to look for a code
+pub more_than_two : (digits : List ℕ) (r : Result Coded ParseError) → 2 < length digits → with_three digits r ≡ r
+more_than_two digits r more = cond-false _ _ _ (false_from_ne_true _ (λ t. let few : length digits ≤ 2 = leb-true (length digits) 2 t in absurd (omega (arith, few, more))))

@@ -1,5 +1,5 @@
 -- Each text has at most one reading, under each database and hint.
-use Rattle.std.proofs.Common.{◌≡◌, ℕ, List, Option, None, Some, Result, Ok, Err, refl, ap, subst}
+use Rattle.std.proofs.Common.{◌≡◌, ℕ, List, Option, None, Some, Result, refl, subst}
 use Rattle.phone_core.specs.declared.country.Id.{Id}
 use Rattle.phone_core.specs.declared.error.ParseError.{ParseError}
 use Rattle.phone_core.specs.Viable.{IsViable}

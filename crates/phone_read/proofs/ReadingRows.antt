@@ -13,11 +13,12 @@ use Rattle.phone_read.specs.Codes.{code_of}
 use Rattle.phone_read.specs.Hints.{Coded}
 use Rattle.phone_parts.specs.Naturals
 use Rattle.phone_parts.specs.Naturals.{IsNatural}
+use Rattle.phone_parts.specs.Readers
+use Rattle.phone_parts.specs.Readers.{HasParts}
 use Rattle.phone_read.specs.Readings
-use Rattle.phone_read.specs.Readings.{HasParts, Reads}
+use Rattle.phone_read.specs.Readings.{Reads}
 use Rattle.phone_read.specs.Samples.{nz}
 use Rattle.phone_parts.specs.Tel
-use Rattle.phone_parts.specs.Parts.{Parts}
 use Rattle.phone_parts.specs.Tel.{IsTel}
 use Rattle.phone_parts.specs.Texts.{begins}
 use Rattle.phone_read.specs.declared.reading.Reading.{Reading}
@@ -45,7 +46,7 @@ unfolding ucd_case ucd_category no_mark fails_at
 home_text = Naturals.plain (codes "03-331 6005") (own_core (codes "03-331 6005") refl refl refl (λ e. cc)) (no_suffix (codes "03-331 6005") refl)
 
 home_parts : HasParts (codes "03-331 6005") (Some (record { national = codes "03-331 6005"; prefix = None; extension = None }))
-home_parts = Readings.as_natural (record { national = codes "03-331 6005"; prefix = None; extension = None }) (spaced (codes "03-331 6005") refl) home_text
+home_parts = Readers.as_natural (record { national = codes "03-331 6005"; prefix = None; extension = None }) (spaced (codes "03-331 6005") refl) home_text
 
 home_viable : IsViable (codes "03-331 6005")
 home_viable = inr (signed_of_walk (codes "03-331 6005") refl)
@@ -96,4 +97,4 @@ pub by_prefix : Reads (nz ∷ []) (Some NZ) (codes "tel:+64-3-331-6005") (Ok (sa
 unfolding tel_coded
 by_prefix =
     Readings.coded (record { national = codes "-3-331-6005"; prefix = Some (codes "64"); extension = None }) tel_coded
-    (Readings.as_tel _ tel_text) tel_viable tel_code
+    (Readers.as_tel _ tel_text) tel_viable tel_code

@@ -9,8 +9,9 @@ use Rattle.phone_meta.specs.declared.loader.Metadata.{Metadata}
 use Rattle.phone_read.specs.Codes.{code_of}
 use Rattle.phone_read.specs.Hints.{Coded}
 use Rattle.phone_read.specs.Numbering.{reading_of}
+use Rattle.phone_parts.specs.Readers.{HasParts}
 use Rattle.phone_read.specs.Readings
-use Rattle.phone_read.specs.Readings.{HasParts, Reads, stripping_territory, stripped}
+use Rattle.phone_read.specs.Readings.{Reads, stripping_territory, stripped}
 use Rattle.phone_parts.specs.Parts.{Parts}
 use Rattle.phone_read.specs.declared.reading.Reading.{Reading}
 

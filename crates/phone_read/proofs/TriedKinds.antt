@@ -7,8 +7,8 @@ use Rattle.phone_core.specs.declared.kind.«Type».TheVariants.{Unknown}
 use Rattle.phone_meta.specs.Kinds.{kind_of, kinds_of}
 use Rattle.phone_meta.specs.declared.loader.Descriptor.{Descriptor}
 use Rattle.phone_meta.specs.declared.loader.Metadata.{Metadata}
-use Rattle.phone_read.specs.Hints.{is_general}
-use Rattle.phone_read.specs.Regions.{is_of, line_or_mobile, type_of}
+use Rattle.phone_read.specs.Hints.{is_of}
+use Rattle.phone_read.specs.Regions.{line_or_mobile, type_of}
 use Rattle.phone_read.specs.declared.validator.TheConstants.{TRIED}
 
 passed_on : {X Y : Type 0} (f : X → Y) (x : X) (b : Bool) (o : Option Y) (u : Option X) → o ≡ option_map f u → cond b (Some (f x)) o ≡ option_map f (cond b (Some x) u)
@@ -31,15 +31,15 @@ is_of_kind m digits k = is_of (kind_of k (kinds_of m)) digits
 
 -- the kind is told by the first of those tried
 type_of-tried : (m : Metadata) (digits : List ℕ) →
-    type_of m digits ≡ (if is_general m digits then option_map_or (line_or_mobile m digits) (find (is_of_kind m digits) TRIED) Unknown else Unknown)
+    type_of m digits ≡ (if is_of m.general digits then option_map_or (line_or_mobile m digits) (find (is_of_kind m digits) TRIED) Unknown else Unknown)
 type_of-tried m digits =
     let with_descriptor : «Type» → «Type» × Option Descriptor = λ k. (k, kind_of k (kinds_of m)) in
     let told = λ (k : «Type» × Option Descriptor). line_or_mobile m digits k.0 in
-    ap (λ (o : Option («Type» × Option Descriptor)). if is_general m digits then option_map_or told o Unknown else Unknown)
+    ap (λ (o : Option («Type» × Option Descriptor)). if is_of m.general digits then option_map_or told o Unknown else Unknown)
     (find-map with_descriptor (λ (k : «Type» × Option Descriptor). is_of k.1 digits) TRIED)
-    ∙ ap (λ k. if is_general m digits then k else Unknown) (option_map_or-option_map with_descriptor told (find (is_of_kind m digits) TRIED) Unknown)
+    ∙ ap (λ k. if is_of m.general digits then k else Unknown) (option_map_or-option_map with_descriptor told (find (is_of_kind m digits) TRIED) Unknown)
 
-module _ (m : Metadata) (digits : List ℕ) (general : is_general m digits ≡ true) where
+module _ (m : Metadata) (digits : List ℕ) (general : is_of m.general digits ≡ true) where
   -- by the first that matches
   pub type_of-found : (k : «Type») → Some k ≡ find (is_of_kind m digits) TRIED → type_of m digits ≡ line_or_mobile m digits k
   type_of-found k found =

@@ -1,5 +1,5 @@
 //! The calling code of a number, and the digits that follow it.
-ghost use Rattle.std.specs.Prelude.{◌≡◌, ◌⊎◌, ◌&&◌, ℕ, List, not, Ok, Err, drop, length, string_bytes, IfOk, IfErr, None, Some, option_map};
+ghost use Rattle.std.specs.Prelude.{◌≡◌, ◌⊎◌, ◌&&◌, ℕ, List, not, true, Ok, Err, drop, length, string_bytes, IfOk, IfErr, None, Some, option_map};
 ghost use Rattle.std.specs.Cow.{cow_str_bytes};
 ghost use Rattle.std.specs.Fmt.{decimal};
 ghost use Rattle.std.specs.Option.{option_and_then, option_copied};
@@ -14,7 +14,7 @@ ghost use Rattle.phone_read.specs.Hints.{Coded, looks_national};
 
 use crate::dialled::{OfTerritory, dialled};
 use crate::hints::{hinted, looks_national};
-use crate::trims::{has_front, trim};
+use crate::trims::{has_front, past_front};
 use phone_core::ParseError;
 use phone_core::consts::MIN_LENGTH_FOR_NSN;
 use phone_core::country::{Id, Source};
@@ -110,7 +110,7 @@ fn code_by_prefix(db: &Database, prefix: &str, digits: &str) -> Result<u16, Pars
 
 /// The shortest listed code at the front of more than two digits. No memory is taken.
 fn code_by_front(db: &Database, digits: &str) -> Result<u16, ParseError>
-    ensures { (source : Source) → with_three digits.now (code_by_front db.now source digits.now) ≡ result_map_both (λ code. record { source = source; value = code; rest = drop (length (decimal code)) digits.now }) (λ e. e) result }
+    ensures code { (source : Source) → with_three digits.now (code_by_front db.now source digits.now) ≡ result_map_both (λ code. record { source = source; value = code; rest = drop (length (decimal code)) digits.now }) (λ e. e) result }
     ensures front { IfOk result (λ code. is_front (decimal code) digits.now ≡ true) }
 {
     if digits.len() <= MIN_LENGTH_FOR_NSN {
@@ -137,13 +137,13 @@ fn by_front<'a>(db: &Database, number: Number<'a>) -> Result<CodedNumber<'a>, Pa
 
 /// A number whose digits begin with its code in decimal, which is cut off and becomes the prefix.
 fn cut_off<'a>(code: u16, prefix: String, country: Source, number: Number<'a>) -> CodedNumber<'a>
-    requires { is_front (string_bytes prefix) (cow_str_bytes number.national) ≡ true }
-    requires { string_bytes prefix ≡ decimal code }
+    requires front { is_front (string_bytes prefix) (cow_str_bytes number.national) ≡ true }
+    requires decimal { string_bytes prefix ≡ decimal code }
     ensures code { result.code ≡ code }
     ensures coded { HasCode (record { source = country; value = code; rest = drop (length (decimal code)) (cow_str_bytes number.entry.national) })
         (decimal code) (option_map cow_str_bytes number.entry.extension) number.entry result.number }
 {
-    let national = trim(number.national, prefix.as_str().len());
+    let national = past_front(prefix.as_str(), number.national);
     CodedNumber {
         code,
         number: Number {
@@ -175,12 +175,20 @@ fn by_hint<'a>(
     if is_apart {
         return Ok(cut_off(code, prefix, Source::Number, number));
     }
+    let Number {
+        national,
+        extension,
+        carrier,
+        ..
+    } = number;
     Ok(CodedNumber {
         code,
         number: Number {
             country: Source::Default,
+            national,
             prefix: Some(CowStr::Owned(prefix)),
-            ..number
+            extension,
+            carrier,
         },
     })
 }

@@ -30,6 +30,7 @@ pub(crate) trait Finder {
 }
 
 /// A compiled pattern that was handed in, or none.
+#[derive(Clone, Copy)]
 struct Handed<'p> {
     alloc: Global,
     pattern: Option<&'p Regex>,
@@ -53,6 +54,7 @@ impl Finder for Handed<'_> {
 }
 
 /// A territory's international prefix, or none.
+#[derive(Clone, Copy)]
 pub(crate) struct OfTerritory<'p> {
     pub(crate) pattern: Option<&'p Pattern>,
 }

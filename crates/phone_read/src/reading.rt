@@ -2,8 +2,8 @@
 ghost use Rattle.std.specs.Prelude.{◌≡◌, ◌⊎◌, ◌==◌, ℕ, List, Ok, Err, IfOk, IfErr, chars, option_map, string_bytes};
 ghost use Rattle.std.specs.Cow.{cow_str_bytes};
 ghost use Rattle.std.specs.Option.{option_copied};
-ghost use Rattle.phone_core.specs.Cuts.{after_front};
 ghost use Rattle.phone_core.specs.Nsn.{nsn};
+ghost use Rattle.phone_core.specs.declared.country.Source.{Source};
 ghost use Rattle.phone_read.specs.Hints.{Coded, hinted};
 ghost use Rattle.phone_read.specs.Numbering.{reading_of};
 ghost use Rattle.phone_read.specs.Readings.{Reads, stripped, stripping_territory, without_zeros};
@@ -12,12 +12,13 @@ ghost use Rattle.phone_read.specs.Regions.{home};
 use crate::calling_code::{CodedNumber, coded};
 use crate::hints::hinted;
 use crate::stripping::stripped;
+use crate::trims::without_zeros;
 use crate::validator::home;
 use phone_core::consts::{MAX_LENGTH_FOR_NSN, MIN_LENGTH_FOR_NSN};
 use phone_core::country::{Code, Id};
 use phone_core::{Carrier, Extension, NationalNumber, ParseError, is_viable};
 use phone_meta::{Database, Metadata};
-use phone_parts::parts;
+use phone_parts::{Number, parts};
 use std::alloc::{AllocError, Global};
 use std::borrow::CowStr;
 
@@ -67,14 +68,11 @@ fn stripping_territory<'a>(
     if hint.is_some() {
         return Ok(hinted(db, hint));
     }
-    home(db, coded.code, without_zeros(coded.number.national.as_str()))
-}
-
-/// Digits without their leading zeros.
-fn without_zeros(digits: &str) -> &str
-    ensures { result.now ≡ without_zeros digits.now }
-{
-    digits.trim_start_matches('0')
+    home(
+        db,
+        coded.code,
+        without_zeros(coded.number.national.as_str()),
+    )
 }
 
 /// The number of a code and the digits that stripping by a territory leaves.
@@ -88,22 +86,41 @@ fn numbered(
         (option_map cow_str_bytes coded.entry.number.extension)
         (stripped (option_copied territory.entry) (cow_str_bytes coded.entry.number.national))) }
 {
-    let stripped = stripped(territory, coded.number.national.as_str())?;
-    let national = nsn(stripped.national.as_str())?;
-    let carrier = match stripped.carrier {
-        Some(carrier) => Some(Carrier::from(carrier.into_owned(alloc)?)),
-        None => None,
-    };
-    let extension = match coded.number.extension {
-        Some(extension) => Some(Extension::from(extension.into_owned(alloc)?)),
-        None => None,
-    };
-    Ok(Reading {
-        code: Code::new(coded.code, coded.number.country),
+    let CodedNumber { code, number } = coded;
+    let Number {
+        country,
         national,
         extension,
-        carrier,
+        ..
+    } = number;
+    let left = stripped(territory, national.as_str())?;
+    let national_number = nsn(left.national.as_str())?;
+    Ok(Reading {
+        code: Code::new(code, country),
+        national: national_number,
+        extension: extension_of(alloc, extension)?,
+        carrier: carrier_of(alloc, left.carrier)?,
     })
+}
+
+/// The extension of a text, if there is one.
+fn extension_of(alloc: Global, text: Option<CowStr<'_>>) -> Result<Option<Extension>, AllocError>
+    ensures { IfOk result (λ e. e ≡ option_map cow_str_bytes text.entry) }
+{
+    match text {
+        Some(text) => Ok(Some(Extension::from(text.into_owned(alloc)?))),
+        None => Ok(None),
+    }
+}
+
+/// The carrier of a text, if there is one.
+fn carrier_of(alloc: Global, text: Option<CowStr<'_>>) -> Result<Option<Carrier>, AllocError>
+    ensures { IfOk result (λ c. c ≡ option_map cow_str_bytes text.entry) }
+{
+    match text {
+        Some(text) => Ok(Some(Carrier::from(text.into_owned(alloc)?))),
+        None => Ok(None),
+    }
 }
 
 /// The national number that a text of 2 to 17 bytes gives.

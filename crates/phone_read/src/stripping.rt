@@ -71,8 +71,8 @@ fn cut<'a>(
     last: Option<(usize, usize)>,
     number: Number<'a>,
 ) -> Result<Number<'a>, AllocError>
-    requires { AreCuts (cow_str_bytes number.national) found }
-    requires { IfSome last (IsCut (cow_str_bytes number.national)) }
+    requires found { AreCuts (cow_str_bytes number.national) found }
+    requires last { IfSome last (IsCut (cow_str_bytes number.national)) }
     ensures national { IfOk result (λ n. cow_str_bytes n.national ≡ drop found.span.1 (cow_str_bytes number.entry.national)) }
     ensures carrier { IfOk result (λ n. option_map cow_str_bytes n.carrier ≡ held (cow_str_bytes number.entry.national) last) }
     ensures country { IfOk result (λ n. n.country ≡ number.entry.country) }

@@ -1,8 +1,9 @@
 //! Fronts that are cut off a text, and parts that are taken out of it.
-ghost use Rattle.std.specs.Prelude.{◌≡◌, ◌↔◌, ◌++◌, ℕ, List, IsTrue, drop, string_bytes, IsCharBoundary, IfOk, Some};
+ghost use Rattle.std.specs.Prelude.{◌≡◌, ◌==◌, drop, string_bytes, IsCharBoundary, IfOk, Some};
 ghost use Rattle.std.specs.Cow.{cow_str_bytes, IsBorrowedStr};
 ghost use Rattle.std.specs.Option.{option_copied};
 ghost use Rattle.regex.specs.Replace.{bytes_of};
+ghost use Rattle.phone_core.specs.Cuts.{after_front};
 ghost use Rattle.phone_meta.specs.First.{IsCut};
 ghost use Rattle.phone_parts.specs.Texts.{is_front, without_front};
 
@@ -47,14 +48,33 @@ pub(crate) fn without_front<'a>(front: Option<&str>, text: CowStr<'a>) -> CowStr
     ensures text { cow_str_bytes result ≡ without_front (option_copied front.entry) (cow_str_bytes text.entry) }
     ensures borrowed { IsBorrowedStr text.entry → IsBorrowedStr result }
 {
-    let Some(front) = front else {
-        return text;
-    };
+    match front {
+        Some(front) => past_front(front, text),
+        None => text,
+    }
+}
+
+/// The text without a front, where it begins with it; no memory is taken.
+pub(crate) fn past_front<'a>(front: &str, text: CowStr<'a>) -> CowStr<'a>
+    ensures text { cow_str_bytes result ≡ without_front (Some front.now) (cow_str_bytes text.entry) }
+    ensures borrowed { IsBorrowedStr text.entry → IsBorrowedStr result }
+{
     if has_front(text.as_str(), front) {
         trim(text, front.len())
     } else {
         text
     }
+}
+
+/// The text without the zeros at its front.
+pub(crate) fn without_zeros(text: &str) -> &str
+    ensures { result.now ≡ after_front (λ d. d == 48) text.now }
+{
+    let mut rest = text;
+    while let Some(after) = rest.strip_prefix('0') {
+        rest = after;
+    }
+    rest
 }
 
 /// The part of a text between two places; of a borrowed text a slice, of an owned one a copy.

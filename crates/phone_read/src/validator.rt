@@ -7,7 +7,8 @@ ghost use Rattle.std.specs.Option.{option_copied};
 ghost use Rattle.std.specs.Str.{bytes_eq};
 ghost use Rattle.either.specs.declared.Either.TheVariants as either;
 ghost use Rattle.phone_meta.specs.Kinds.{kind_of};
-ghost use Rattle.phone_read.specs.Regions.{belongs_to, home, is_known, is_of, is_of_region, is_one_pattern, line_or_mobile, region_among, region_named, region_of, type_of};
+ghost use Rattle.phone_read.specs.Hints.{is_of};
+ghost use Rattle.phone_read.specs.Regions.{belongs_to, home, is_known, is_of_region, is_one_pattern, line_or_mobile, region_among, region_named, region_of, type_of};
 ghost use Rattle.phone_read.specs.Verdicts.{verdict_for, verdict_by, last_of};
 
 use either::{Either, Left, Right};

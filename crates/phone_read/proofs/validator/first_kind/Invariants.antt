@@ -2,7 +2,7 @@ use Rattle.std.proofs.Common.{◌≡◌, drop}
 use Rattle.std.specs.List.{find}
 use Rattle.phone_core.specs.declared.kind.«Type».{«Type»}
 use Rattle.phone_meta.specs.Kinds.{kind_of}
-use Rattle.phone_read.specs.Regions.{is_of}
+use Rattle.phone_read.specs.Hints.{is_of}
 use Rattle.phone_read.proofs.validator.first_kind.Given as goal
 
 abbrev pub invariant-loop-kind : goal.invariant-loop-kind

@@ -1,7 +1,7 @@
 use Rattle.std.proofs.Common.{◌≡◌, ◌-◌, ◌++◌, IsCharBoundary, length, arith, length-append, ap, sym, ◌∙◌, subst}
 use Rattle.std.proofs.lemmas.Str.{IsCharBoundary-at_seam}
 use Rattle.std.specs.Cow.{cow_str_bytes}
-use Rattle.phone_read.proofs.calling_code.without_signs.Goals as goal
+use Rattle.phone_read.proofs.dialled.without_plus_signs.Goals as goal
 
 -- the text is plus signs, and then the rest
 parted : (c : goal.After-after_run) → cow_str_bytes c.args.text ≡ c.after_run.ensures.end.0 ++ c.after_run.result.now

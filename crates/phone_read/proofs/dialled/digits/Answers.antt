@@ -2,7 +2,7 @@ use Rattle.std.proofs.Common.{◌∙◌}
 use Rattle.std.specs.Cow.{cow_str_bytes}
 use Rattle.std.specs.Str.{chars}
 use Rattle.phone_read.proofs.DigitTexts.{encode_utf8_all-norm}
-use Rattle.phone_read.proofs.calling_code.digits.Goals as goal
+use Rattle.phone_read.proofs.dialled.digits.Goals as goal
 
 pub returns : goal.returns
 returns c = c.in_ok-digits.ensures.text ∙ encode_utf8_all-norm (chars (cow_str_bytes c.args.part))

@@ -1,7 +1,7 @@
 use Rattle.std.proofs.Common.{◌≡◌, drop, string_bytes, arith}
 use Rattle.std.proofs.lemmas.Grind.{common_steps}
 use Rattle.std.proofs.lemmas.Str.{IsUtf8-drop, IsUtf8-string_bytes}
-use Rattle.phone_read.proofs.calling_code.drop_front.Goals as goal
+use Rattle.phone_read.proofs.trims.drop_front.Goals as goal
 
 pub from_utf8_unchecked-requires : goal.from_utf8_unchecked-requires
 from_utf8_unchecked-requires c =

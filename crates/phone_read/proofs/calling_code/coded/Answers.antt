@@ -1,0 +1,62 @@
+use Rattle.std.proofs.Common.{◌≡◌, inl, inr, ⊎_elim, Some, None, option_map, refl, ap, sym, ◌∙◌}
+use Rattle.std.specs.Cow.{cow_str_bytes}
+use Rattle.std.specs.Option.{option_copied}
+use Rattle.std.specs.Str.{chars}
+use Rattle.phone_core.specs.Norm.{norm}
+use Rattle.phone_core.specs.declared.country.Source.TheVariants.{Plus}
+use Rattle.phone_read.specs.Codes.{code_by_prefix, found_in, with_three}
+use Rattle.phone_read.proofs.FoundCodes.{code_of-dialled, plus_by_prefix, prefix_some, prefix_none, code_by-front, ok_again, err_again, has_code_again}
+use Rattle.phone_read.proofs.calling_code.coded.Goals as goal
+
+pub returns-in-Some-clause-coded : goal.returns-in-Some-clause-coded
+returns-in-Some-clause-coded c =
+    let number = c.in_ok-number.number in
+    let n = chars (cow_str_bytes c.args.number.national) in
+    let p = option_map (λ p. chars (cow_str_bytes p)) c.args.number.prefix in
+    let m = option_copied c.hinted-territory.result in
+    let digits = cow_str_bytes number.national in
+    let x = cow_str_bytes c.in-Some.prefix in
+    let some : option_map norm p ≡ Some x = sym c.in_ok-number.ensures.prefix ∙ ap (option_map cow_str_bytes) c.in-Some.is in
+    let told =
+    code_of-dialled c.args.db.now c.args.hint m (option_copied c.prefix_pattern.result) n p (Some x) number.country digits
+    c.hinted-territory.ensures c.prefix_pattern.ensures (sym some) c.in_ok-number.ensures.source c.in_ok-number.ensures.national in
+    let read =
+    ap (λ t. with_three t (code_by_prefix c.args.db.now x t)) (sym c.as_str-in-Some.ensures.value)
+    ∙ ap (λ t. with_three c.as_str-in-Some.result.now (code_by_prefix c.args.db.now t c.as_str-in-Some.result.now)) (sym c.as_str.ensures.value)
+    ∙ c.in_ok-code.ensures in (
+      record { source = Plus; value = c.in_ok-code.code; rest = c.as_str-in-Some.result.now },
+      told ∙ read,
+      refl,
+      record {
+        country = c.in_ok-number.ensures.source ∙ plus_by_prefix (found_in (option_copied c.prefix_pattern.result)) n p x some;
+        national = sym c.as_str-in-Some.ensures.value;
+        prefix = c.in_ok-number.ensures.prefix ∙ prefix_some p x c.in_ok-code.code some;
+        extension = c.in_ok-number.ensures.extension;
+        carrier = c.in_ok-number.ensures.carrier;
+      },
+    )
+
+pub returns-in_default-country : goal.returns-in_default-country
+returns-in_default-country c =
+    let number = c.in_ok-number.number in
+    let n = chars (cow_str_bytes c.args.number.national) in
+    let p = option_map (λ p. chars (cow_str_bytes p)) c.args.number.prefix in
+    let m = option_copied c.hinted-territory.result in
+    let digits = cow_str_bytes number.national in
+    let none : option_map norm p ≡ None = sym c.in_ok-number.ensures.prefix ∙ ap (option_map cow_str_bytes) c.in_default.is in
+    let told =
+    code_of-dialled c.args.db.now c.args.hint m (option_copied c.prefix_pattern.result) n p None number.country digits
+    c.hinted-territory.ensures c.prefix_pattern.ensures (sym none) c.in_ok-number.ensures.source c.in_ok-number.ensures.national
+    ∙ code_by-front c.args.db.now m number.country digits c.in_default-country.not-Default in
+    record {
+      coded = ok_again c.by_front.result _ _
+          (λ r h. (
+            h.0,
+            told ∙ h.1,
+            h.2,
+            has_code_again h.0 _ _ _ _ number c.args.number r.number (prefix_none p h.0.value none) c.in_ok-number.ensures.extension
+                c.in_ok-number.ensures.carrier h.3,
+          ))
+          c.by_front.ensures.coded;
+      refused = err_again c.by_front.result _ _ (λ e h. ⊎_elim (λ f. inl f) (λ f. inr (told ∙ f)) h) c.by_front.ensures.refused;
+    }
