@@ -1,5 +1,5 @@
 //! A text's digits: what is left of it once each character is read as a digit or dialled on a keypad.
-ghost use Rattle.std.specs.Prelude.{◌≡◌, string_bytes, encode_utf8_all, IfOk, IsTrue, chars};
+ghost use Rattle.std.specs.Prelude.{◌≡◌, string_bytes, encode_utf8_all, IfOk, Ok, IsTrue, chars};
 ghost use Rattle.std.specs.Cow.{cow_str_bytes, IsBorrowedStr};
 ghost use Rattle.std.specs.List.{list_all};
 ghost use Rattle.std.specs.Option.{option_or};
@@ -39,6 +39,7 @@ pub(crate) fn has_digits_alone(text: &str) -> bool
 /// it is, and takes no memory; so a borrowed one stays borrowed. Refused only for memory.
 pub fn normalize(alloc: Global, text: CowStr<'_>) -> Result<CowStr<'_>, AllocError>
     ensures text { IfOk result (λ out. cow_str_bytes out ≡ encode_utf8_all (norm (chars (cow_str_bytes text.entry)))) }
+    ensures no_memory { IsTrue (list_all is_digit (chars (cow_str_bytes text.entry))) → result ≡ Ok text.entry }
     ensures borrowed { IfOk result (λ out. IsBorrowedStr text.entry →
         IsTrue (list_all is_digit (chars (cow_str_bytes text.entry))) → IsBorrowedStr out) }
 {
