@@ -3,6 +3,7 @@ ghost use Rattle.std.specs.Prelude.{◌≡◌};
 ghost use Rattle.std.specs.List.{find};
 ghost use Rattle.phone_core.specs.Characters.{is_digit, is_alpha, is_plus, is_star, is_punctuation, is_separator, is_nd, is_number, is_letter, same_fold, as_dec_digit, keypad, is_in_run};
 
+use crate::consts::{PLUS_SIGN, STAR_SIGN};
 pub use crate::norm::normalize;
 pub use crate::valid::is_viable;
 use unicode::case::simple_fold;
@@ -61,14 +62,14 @@ pub fn is_digit(c: char) -> bool
 pub fn is_plus(c: char) -> bool
     ensures { result ≡ is_plus c }
 {
-    c == '+' || c == '\u{FF0B}'
+    c == PLUS_SIGN || c == '\u{FF0B}'
 }
 
 /// Whether the character is the star of a keypad, `*`.
 pub fn is_star(c: char) -> bool
     ensures { result ≡ is_star c }
 {
-    c == '*'
+    c == STAR_SIGN
 }
 
 /// Whether the character parts the groups of a number's digits: punctuation, or the wide full stop, U+FF0E.
