@@ -9,8 +9,8 @@ pub use crate::valid::is_viable;
 use unicode::case::simple_fold;
 use unicode::properties::{GeneralCategory, GeneralCategoryGroup};
 
-/// Whether the character may stand between the digits of a number: one of 32 dashes, spaces, brackets, dots,
-/// slashes and tildes, plain and wide, and the small `x`, which is often written for a carrier's place.
+/// Whether the character may stand between the digits of a number: one of 31 dashes, spaces, brackets, dots,
+/// slashes and tildes, plain and wide, or the small `x`, which is often written for a carrier's place.
 pub fn is_punctuation(c: char) -> bool
     ensures { result ≡ is_punctuation c }
 {
@@ -116,7 +116,7 @@ pub fn same_fold(a: char, b: char) -> bool
     simple_fold(a) == simple_fold(b)
 }
 
-/// The zeros of the fifteen scripts whose digits are read, in the order of their code points.
+/// The zeros of the fifteen runs of ten digits that are read beside ASCII's, in the order of their code points.
 const SCRIPT_ZEROS: [u32; 15] = [
     0x660, 0x6F0, 0x7C0, 0x966, 0x9E6, 0xA66, 0xAE6, 0xB66, 0xBE6, 0xC66, 0xCE6, 0xD66, 0xE50,
     0xED0, 0xFF10,
@@ -133,7 +133,8 @@ fn find_zero(zeros: &[u32], c: u32) -> Option<u32>
 }
 
 /// The digit from `0` to `9` that the character stands for as a digit: an ASCII digit itself, a digit of one of
-/// fifteen other scripts (U+FF10 to U+FF19 among them) the digit of its place; none for all others.
+/// fifteen other runs (that of the wide digits, U+FF10 to U+FF19, among them) the digit of its place; none for all
+/// others.
 pub fn as_dec_digit(c: char) -> Option<char>
     ensures { result ≡ as_dec_digit c }
 {

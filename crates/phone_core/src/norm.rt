@@ -34,6 +34,14 @@ pub(crate) fn has_digits_alone(text: &str) -> bool
     text.chars().all(|c| is_digit(c))
 }
 
+/// Whether a text is digits from `0` to `9` alone, and so is its own digits.
+fn is_normal(text: &str) -> bool
+    ensures digits { result ≡ list_all is_digit (chars text.now) }
+    ensures own { IsTrue result → encode_utf8_all (norm (chars text.now)) ≡ text.now }
+{
+    has_digits_alone(text)
+}
+
 /// The digits of a text: for each character the digit that `as_dec_digit` gives it, else the one of its key on a
 /// telephone (`keypad`), else nothing. A text of digits from `0` to `9` alone, also the empty one, is given back as
 /// it is, and takes no memory; so a borrowed one stays borrowed. Refused only for memory.
@@ -43,7 +51,7 @@ pub fn normalize(alloc: Global, text: CowStr<'_>) -> Result<CowStr<'_>, AllocErr
     ensures borrowed { IfOk result (λ out. IsBorrowedStr text.entry →
         IsTrue (list_all is_digit (chars (cow_str_bytes text.entry))) → IsBorrowedStr out) }
 {
-    if has_digits_alone(text.as_str()) {
+    if is_normal(text.as_str()) {
         return Ok(text);
     }
     Ok(CowStr::Owned(digits(alloc, text.as_str())?))
