@@ -1,8 +1,19 @@
--- An id is read back from its text.
-use Rattle.std.proofs.Common.{◌≡◌, Some, refl}
+-- An id is read back from its text, and read from no other.
+use Rattle.std.proofs.Common.{◌≡◌, ℕ, List, true, Some, IfSome, refl, sym, subst}
+use Rattle.std.proofs.lemmas.Slice.Eq.{bytes_eq-Decides}
+use Rattle.std.specs.Str.{bytes_eq}
 use Rattle.phone_core.specs.declared.country.Id.{Id}
 use Rattle.phone_core.specs.declared.country.Id.TheVariants.{AC, AD, AE, AF, AG, AI, AL, AM, AO, AR, AS, AT, AU, AW, AX, AZ, BA, BB, BD, BE, BF, BG, BH, BI, BJ, BL, BM, BN, BO, BQ, BR, BS, BT, BW, BY, BZ, CA, CC, CD, CF, CG, CH, CI, CK, CL, CM, CN, CO, CR, CU, CV, CW, CX, CY, CZ, DE, DJ, DK, DM, DO, DZ, EC, EE, EG, EH, ER, ES, ET, FI, FJ, FK, FM, FO, FR, GA, GB, GD, GE, GF, GG, GH, GI, GL, GM, GN, GP, GQ, GR, GT, GU, GW, GY, HK, HN, HR, HT, HU, ID, IE, IL, IM, IN, IO, IQ, IR, IS, IT, JE, JM, JO, JP, KE, KG, KH, KI, KM, KN, KP, KR, KW, KY, KZ, LA, LB, LC, LI, LK, LR, LS, LT, LU, LV, LY, MA, MC, MD, ME, MF, MG, MH, MK, ML, MM, MN, MO, MP, MQ, MR, MS, MT, MU, MV, MW, MX, MY, MZ, NA, NC, NE, NF, NG, NI, NL, NO, NP, NR, NU, NZ, OM, PA, PE, PF, PG, PH, PK, PL, PM, PR, PS, PT, PW, PY, QA, RE, RO, RS, RU, RW, SA, SB, SC, SD, SE, SG, SH, SI, SJ, SK, SL, SM, SN, SO, SR, SS, ST, SV, SX, SY, SZ, TA, TC, TD, TG, TH, TJ, TK, TL, TM, TN, TO, TR, TT, TV, TW, TZ, UA, UG, US, UY, UZ, VA, VC, VE, VG, VI, VN, VU, WF, WS, XK, YE, YT, ZA, ZM, ZW}
+use Rattle.phone_core.specs.declared.country.TheConstants.{ALL}
 use Rattle.phone_core.specs.Ids.{name, id_of}
+use Rattle.phone_core.proofs.Finds.{IfSome-find}
+
+pub name-id_of : (t : List ℕ) (i : Id) → id_of t ≡ Some i → t ≡ name i
+unfolding id_of
+name-id_of t i e =
+    let found : (bytes_eq (name i) t ≡ true) × (true ≡ true) =
+    subst (λ o. IfSome o (λ i. (bytes_eq (name i) t ≡ true) × (true ≡ true))) e (IfSome-find (λ id. bytes_eq (name id) t) (λ id. true) ALL refl) in
+    sym ((bytes_eq-Decides (name i) t).0 found.0)
 
 pub id_of-name : (id : Id) → id_of (name id) ≡ Some id
 unfolding id_of

@@ -59,7 +59,7 @@ is_letter c = in_group Letter (general_category c)
 abbrev pub same_fold : ℕ → ℕ → Bool
 same_fold a b = simple_fold a == simple_fold b
 
--- fifteen scripts whose digits are read; each is a run of ten from its zero on
+-- the zeros of fifteen runs of digits beside ASCII's; each run is the ten characters from its zero on
 abbrev pub script_zeros : List ℕ
 script_zeros =
     0x660 ∷ 0x6F0 ∷ 0x7C0 ∷ 0x966 ∷ 0x9E6 ∷ 0xA66 ∷ 0xAE6 ∷ 0xB66 ∷ 0xBE6 ∷ 0xC66 ∷ 0xCE6 ∷ 0xD66 ∷ 0xE50 ∷ 0xED0 ∷ 0xFF10 ∷ []
@@ -68,7 +68,7 @@ script_zeros =
 abbrev pub is_in_run : ℕ → ℕ → Bool
 is_in_run first c = nat_le first c && nat_lt c (first + 10)
 
--- the ASCII digit that c stands for: itself, or that of its place in its script's run
+-- the ASCII digit that c stands for: itself, or that of its place in its run
 abbrev pub as_dec_digit : ℕ → Option ℕ
 as_dec_digit c =
     if is_digit c then Some c else option_map (λ first. 48 + (c - first)) (find (λ first. is_in_run first c) script_zeros)

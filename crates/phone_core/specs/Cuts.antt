@@ -1,5 +1,9 @@
--- Where a text is cut: its longest front of characters of a set, and what follows it. Texts are lists of characters.
-use Rattle.std.specs.Prelude.{ℕ, Bool, if◌then◌else◌, List, [], ◌∷◌}
+-- Where a text is cut: an end of it, its longest front of characters of a set, and what follows that front.
+use Rattle.std.specs.Prelude.{◌≡◌, ℕ, Bool, if◌then◌else◌, List, [], ◌∷◌, ◌++◌}
+
+-- the text is something, and then this end of it
+abbrev pub IsEnd : List ℕ → List ℕ → Type 0
+IsEnd text rest = (v : List ℕ) × (text ≡ v ++ rest)
 
 -- the longest front of characters that are in the set
 abbrev pub front : (ℕ → Bool) → List ℕ → List ℕ

@@ -3,13 +3,14 @@ ghost use Rattle.std.specs.Prelude.{◌≡◌};
 ghost use Rattle.std.specs.List.{find};
 ghost use Rattle.phone_core.specs.Characters.{is_digit, is_alpha, is_plus, is_star, is_punctuation, is_separator, is_nd, is_number, is_letter, same_fold, as_dec_digit, keypad, is_in_run};
 
+use crate::consts::{PLUS_SIGN, STAR_SIGN};
 pub use crate::norm::normalize;
 pub use crate::valid::is_viable;
 use unicode::case::simple_fold;
 use unicode::properties::{GeneralCategory, GeneralCategoryGroup};
 
-/// Whether the character may stand between the digits of a number: one of 32 dashes, spaces, brackets, dots,
-/// slashes and tildes, plain and wide, and the small `x`, which is often written for a carrier's place.
+/// Whether the character may stand between the digits of a number: one of 31 dashes, spaces, brackets, dots,
+/// slashes and tildes, plain and wide, or the small `x`, which is often written for a carrier's place.
 pub fn is_punctuation(c: char) -> bool
     ensures { result ≡ is_punctuation c }
 {
@@ -61,14 +62,14 @@ pub fn is_digit(c: char) -> bool
 pub fn is_plus(c: char) -> bool
     ensures { result ≡ is_plus c }
 {
-    c == '+' || c == '\u{FF0B}'
+    c == PLUS_SIGN || c == '\u{FF0B}'
 }
 
 /// Whether the character is the star of a keypad, `*`.
 pub fn is_star(c: char) -> bool
     ensures { result ≡ is_star c }
 {
-    c == '*'
+    c == STAR_SIGN
 }
 
 /// Whether the character parts the groups of a number's digits: punctuation, or the wide full stop, U+FF0E.
@@ -115,7 +116,7 @@ pub fn same_fold(a: char, b: char) -> bool
     simple_fold(a) == simple_fold(b)
 }
 
-/// The zeros of the fifteen scripts whose digits are read, in the order of their code points.
+/// The zeros of the fifteen runs of ten digits that are read beside ASCII's, in the order of their code points.
 const SCRIPT_ZEROS: [u32; 15] = [
     0x660, 0x6F0, 0x7C0, 0x966, 0x9E6, 0xA66, 0xAE6, 0xB66, 0xBE6, 0xC66, 0xCE6, 0xD66, 0xE50,
     0xED0, 0xFF10,
@@ -132,7 +133,8 @@ fn find_zero(zeros: &[u32], c: u32) -> Option<u32>
 }
 
 /// The digit from `0` to `9` that the character stands for as a digit: an ASCII digit itself, a digit of one of
-/// fifteen other scripts (U+FF10 to U+FF19 among them) the digit of its place; none for all others.
+/// fifteen other runs (that of the wide digits, U+FF10 to U+FF19, among them) the digit of its place; none for all
+/// others.
 pub fn as_dec_digit(c: char) -> Option<char>
     ensures { result ≡ as_dec_digit c }
 {

@@ -3,7 +3,7 @@
 /// The least number of digits of a national number.
 pub const MIN_LENGTH_FOR_NSN: usize = 2;
 
-/// The largest number of digits of a national number, as ITU's 15 and two more for numbers in use.
+/// The largest number of digits of a national number: ITU's 15, and two more for longer numbers that are in use.
 pub const MAX_LENGTH_FOR_NSN: usize = 17;
 
 /// The largest number of digits of a calling code.

@@ -7,7 +7,6 @@ ghost use Rattle.phone_core.specs.declared.country.Id.{Id};
 
 use serde::{Described, Deserialize, Deserializer, Format, Serialize, Serializer};
 use std::alloc::Global;
-use std::borrow::CowStr;
 use std::marker::Model;
 use std::str::FromStr;
 use thiserror::Error;
@@ -663,11 +662,19 @@ impl Serialize for Id {
 }
 
 impl<'de> Deserialize<'de> for Id {
+    ghost use Rattle.std.specs.Prelude.{IfOk};
+    ghost use Rattle.serde.specs.Event.{text};
+    ghost use Rattle.serde.specs.Steps.{Gives};
+
+    /// Reads a text, all of which is the id's name. A text that is no id's name is an error; memory is taken for the text
+    /// alone.
     fn deserialize<F: Format>(
         alloc: Global,
         from: &mut Deserializer<'de, '_, F>,
-    ) -> Result<Id, F::Error> {
-        let text = CowStr::deserialize(alloc, from)?;
+    ) -> Result<Id, F::Error>
+        ensures { IfOk result (λ id. Gives F.gives from.old (text (name id)) from.new) }
+    {
+        let text = from.string(alloc)?;
         match text.as_str().parse::<Id>() {
             Ok(id) => Ok(id),
             Err(_) => Err(from.custom("unknown region")),

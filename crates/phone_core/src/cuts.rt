@@ -1,7 +1,7 @@
 //! Cuts of a text between two of its characters: what all readers of texts stand on.
 //! No cut copies; each part is lent from the text.
 ghost use Rattle.std.specs.Prelude.{◌≡◌, ℕ, ◌<◌, Bool, List, [], ◌∷◌, ◌++◌, length, IfSome, MatchOption, encode_utf8, chars};
-ghost use Rattle.phone_core.specs.Cuts.{front, after_front};
+ghost use Rattle.phone_core.specs.Cuts.{IsEnd, front, after_front};
 
 /// The first character of a text, and what follows it; none for the empty text.
 pub fn split_first(text: &str) -> Option<(char, &str)>
@@ -25,13 +25,17 @@ pub fn split_last(text: &str) -> Option<(&str, char)>
     Some((rest.as_str(), c))
 }
 
-/// What stands before an end of the text; the end may be all of it, or empty.
+/// What stands before an end of the text; the end may be all of it, or empty. Where the other text is no end of this
+/// one, the answer is some front of this one. It is found by the texts' lengths in bytes, so its cost does not grow with
+/// them.
 pub fn before<'a>(text: &'a str, rest: &str) -> &'a str
-    requires { (v : List ℕ) × (text.now ≡ v ++ rest.now) }
-    ensures cut { text.now ≡ result.now ++ rest.now }
-    ensures read { chars text.now ≡ chars result.now ++ chars rest.now }
+    ensures before { (v : List ℕ) → text.now ≡ v ++ rest.now → result.now ≡ v }
+    ensures front { (w : List ℕ) × (text.now ≡ result.now ++ w) }
+    ensures cut { IsEnd text.now rest.now → text.now ≡ result.now ++ rest.now }
+    ensures read { IsEnd text.now rest.now → chars text.now ≡ chars result.now ++ chars rest.now }
 {
-    &text[..text.len() - rest.len()]
+    text.get(..text.len().saturating_sub(rest.len()))
+        .unwrap_or(text)
 }
 
 /// A set of characters. Contracts see its members.
@@ -46,7 +50,7 @@ pub trait CharSet {
 /// What follows the longest front of characters of the set. The answer is an end of the text, and empty where all
 /// its characters are in the set.
 pub fn after_run<'a, S: CharSet>(text: &'a str, set: &S) -> &'a str
-    ensures end { (v : List ℕ) × (text.now ≡ v ++ result.now) }
+    ensures end { IsEnd text.now result.now }
     ensures rest { chars result.now ≡ after_front (S.members set.now) (chars text.now) }
 {
     text.trim_start_matches(|c| set.has(c))

@@ -1,5 +1,5 @@
-//! Equality of the values is equality of all that they hold, and equal values have equal hashes: `==` and `Hash` of
-//! each type, with contracts that say so.
+//! Equality of the values is equality of all that they hold: `==` of each type, with a contract that says so. Those that
+//! have a hash have equal ones where they are equal.
 ghost use Rattle.std.specs.Prelude.{◌≡◌, ◌↔◌, IsTrue, fold};
 ghost use Rattle.std.specs.Hash.DefaultHasher as sip;
 ghost use Rattle.phone_core.specs.Errors.{told};

@@ -24,7 +24,7 @@ pub enum ParseError {
     #[error("the number is too short after the country code")]
     TooShortNsn,
 
-    /// More digits than a national number may have, or a value past 56 bits.
+    /// More digits than a national number may have, more than 255 zeros before its value, or a value past 56 bits.
     #[error("the number is too long")]
     TooLong,
 

@@ -27,6 +27,6 @@ pub enum Type {
     Carrier,
     /// A number that can't be dialled from abroad.
     NoInternational,
-    /// No kind's pattern fits.
+    /// None of the others: the digits fit no kind's pattern, or are no number of the territory.
     Unknown,
 }

@@ -1,6 +1,6 @@
-//! What is true of the values for every text and every number: laws over their definitions alone. A law is a
-//! function without arguments that does nothing; its contract is the law. Rows of single texts are computed on the
-//! definitions in the same way.
+//! What is true of the values for every text and every number: laws over their definitions alone, rows of single texts
+//! that are computed on the definitions, and what the constants are. A law is a function without arguments whose
+//! contract is the law; all but `default_source` do nothing.
 ghost use Rattle.std.specs.Prelude.{◌≡◌, ◌<◌, ◌^◌, ◌↔◌, ℕ, List, [], ◌∷◌, ◌++◌, true, not, Some, Ok, chars, codes, encode_utf8_all};
 ghost use Rattle.std.specs.List.{list_all};
 ghost use Rattle.std.specs.Str.Parse.{digits_value};
@@ -9,6 +9,7 @@ ghost use Rattle.phone_core.specs.Ids.{id_of, name};
 ghost use Rattle.phone_core.specs.Norm.{norm};
 ghost use Rattle.phone_core.specs.Validations.{is_possible, is_invalid, is_invalid_length};
 ghost use Rattle.phone_core.specs.Viable.{IsViable};
+ghost use Rattle.phone_core.specs.declared.consts.TheConstants as consts;
 ghost use Rattle.phone_core.specs.declared.country.Id.{Id};
 ghost use Rattle.phone_core.specs.declared.country.Source.TheVariants as source;
 ghost use Rattle.phone_core.specs.declared.validator.Validation.{Validation};
@@ -95,4 +96,23 @@ pub fn not_viable_rows()
     ensures one_and_letters { ¬ (IsViable (codes "8-PIZZA")) }
     ensures date { ¬ (IsViable (codes "12. March")) }
     ensures address { ¬ (IsViable (codes "1110@gmail.com")) }
+{}
+
+/// The published constants: the least and the largest number of digits, and the signs and marks as they are written.
+pub fn published_constants()
+    ensures least_digits { consts.MIN_LENGTH_FOR_NSN ≡ 2 }
+    ensures most_digits { consts.MAX_LENGTH_FOR_NSN ≡ 17 }
+    ensures most_code_digits { consts.MAX_LENGTH_FOR_COUNTRY_CODE ≡ 3 }
+    ensures plus_sign { consts.PLUS_SIGN ∷ [] ≡ codes "+" }
+    ensures star_sign { consts.STAR_SIGN ∷ [] ≡ codes "*" }
+    ensures number_sign { consts.SHARP_SIGN ∷ [] ≡ codes "#" }
+    ensures extension_parameter { consts.RFC3966_EXTN_PREFIX.now ≡ codes ";ext=" }
+    ensures scheme { consts.RFC3966_PREFIX.now ≡ codes "tel:" }
+    ensures context_parameter { consts.RFC3966_PHONE_CONTEXT.now ≡ codes ";phone-context=" }
+    ensures subaddress_parameter { consts.RFC3966_ISDN_SUBADDRESS.now ≡ codes ";isub=" }
+    ensures no_region { consts.REGION_CODE_FOR_NON_GEO_ENTITY.now ≡ codes "001" }
+    ensures extension_mark { consts.DEFAULT_EXTN_PREFIX.now ≡ codes " ext. " }
+    ensures national_prefix_mark { consts.NP.now ≡ codes "$NP" }
+    ensures first_group_mark { consts.FG.now ≡ codes "$FG" }
+    ensures carrier_mark { consts.CC.now ≡ codes "$CC" }
 {}

@@ -1,5 +1,5 @@
 //! A text's digits: what is left of it once each character is read as a digit or dialled on a keypad.
-ghost use Rattle.std.specs.Prelude.{◌≡◌, string_bytes, encode_utf8_all, IfOk, IsTrue, chars};
+ghost use Rattle.std.specs.Prelude.{◌≡◌, string_bytes, encode_utf8_all, IfOk, Ok, IsTrue, chars};
 ghost use Rattle.std.specs.Cow.{cow_str_bytes, IsBorrowedStr};
 ghost use Rattle.std.specs.List.{list_all};
 ghost use Rattle.std.specs.Option.{option_or};
@@ -34,15 +34,24 @@ pub(crate) fn has_digits_alone(text: &str) -> bool
     text.chars().all(|c| is_digit(c))
 }
 
+/// Whether a text is digits from `0` to `9` alone, and so is its own digits.
+fn is_normal(text: &str) -> bool
+    ensures digits { result ≡ list_all is_digit (chars text.now) }
+    ensures own { IsTrue result → encode_utf8_all (norm (chars text.now)) ≡ text.now }
+{
+    has_digits_alone(text)
+}
+
 /// The digits of a text: for each character the digit that `as_dec_digit` gives it, else the one of its key on a
 /// telephone (`keypad`), else nothing. A text of digits from `0` to `9` alone, also the empty one, is given back as
 /// it is, and takes no memory; so a borrowed one stays borrowed. Refused only for memory.
 pub fn normalize(alloc: Global, text: CowStr<'_>) -> Result<CowStr<'_>, AllocError>
     ensures text { IfOk result (λ out. cow_str_bytes out ≡ encode_utf8_all (norm (chars (cow_str_bytes text.entry)))) }
+    ensures no_memory { IsTrue (list_all is_digit (chars (cow_str_bytes text.entry))) → result ≡ Ok text.entry }
     ensures borrowed { IfOk result (λ out. IsBorrowedStr text.entry →
         IsTrue (list_all is_digit (chars (cow_str_bytes text.entry))) → IsBorrowedStr out) }
 {
-    if has_digits_alone(text.as_str()) {
+    if is_normal(text.as_str()) {
         return Ok(text);
     }
     Ok(CowStr::Owned(digits(alloc, text.as_str())?))

@@ -5,22 +5,22 @@ ghost use Rattle.phone_core.specs.Validations.{is_possible, is_invalid, is_inval
 /// The verdict on a number's length.
 #[derive(Clone, Copy, PartialEq, Eq, Debug)]
 pub enum Validation {
-    /// The number has a length that whole numbers have.
+    /// Numbers of the territory have this length.
     IsPossible,
 
-    /// The number has a length that only numbers dialled within their area have.
+    /// Numbers of this kind have this length where they are dialled within their area.
     IsPossibleLocalOnly,
 
     /// The calling code is listed nowhere. No call gives it.
     InvalidCountryCode,
 
-    /// The number is shorter than all numbers of its kind.
+    /// The number is shorter than the first length that the territory lists.
     TooShort,
 
-    /// The number has a length between those of its kind, or its kind has no length.
+    /// The length stands between those that the territory lists, or none is listed, be it of the territory or of the kind.
     InvalidLength,
 
-    /// The number is longer than all numbers of its kind.
+    /// The number is longer than the last length that the territory lists.
     TooLong,
 }
 
@@ -35,14 +35,14 @@ impl Validation {
         )
     }
 
-    /// Whether no number is of this kind: an unknown calling code, or a length that no number has.
+    /// Whether the verdict is against the number: an unknown calling code, or a length that is invalid.
     pub fn is_invalid(&self) -> bool
         ensures { result ≡ is_invalid self.now }
     {
         matches!(self, Validation::InvalidCountryCode) || self.is_invalid_length()
     }
 
-    /// Whether the length is one that no number has.
+    /// Whether the length is too short, too long, or between those that are listed.
     pub fn is_invalid_length(&self) -> bool
         ensures { result ≡ is_invalid_length self.now }
     {

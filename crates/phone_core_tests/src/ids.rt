@@ -13,6 +13,8 @@ fn takes_exactly_the_names(rt: HostRuntime) {
         ("001", Err(UnknownId), "a territory that is no region"),
         ("", Err(UnknownId), "nothing"),
         ("NZ ", Err(UnknownId), "a space behind"),
+        (" NZ", Err(UnknownId), "a space before"),
+        ("Nz", Err(UnknownId), "one small letter"),
     ] {
         assert_eq!(rt; text.parse::<Id>(), id, "{text:?}: {why}");
     }

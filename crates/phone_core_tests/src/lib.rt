@@ -7,6 +7,8 @@ mod characters;
 #[cfg(test)]
 mod constants;
 #[cfg(test)]
+mod cuts;
+#[cfg(test)]
 mod errors;
 #[cfg(test)]
 mod ids;

@@ -36,25 +36,25 @@ fn refuses_texts_without_a_number_and_numbers_without_room(rt: HostRuntime) {
     }
 }
 
-/// A text of this many zeros, and then a 1.
-fn one_after_zeros(alloc: Global, count: usize) -> Result<String, AllocError> {
+/// A text of this many zeros, and then these digits.
+fn after_zeros(alloc: Global, count: usize, digits: &str) -> Result<String, AllocError> {
     let mut text = String::new(alloc);
     for _ in 0..count {
         text.push('0')?;
     }
-    text.push('1')?;
+    text.push_str(digits)?;
     Ok(text)
 }
 
 #[test]
 fn counts_up_to_255_zeros(rt: HostRuntime) -> Result<(), Fail> {
     let alloc = rt.alloc();
-    let most = one_after_zeros(alloc, 255)?;
+    let most = after_zeros(alloc, 255, "1")?;
     assert_eq!(rt;
         most.as_str().parse::<NationalNumber>(),
         NationalNumber::new(1, 255)
     );
-    let more = one_after_zeros(alloc, 256)?;
+    let more = after_zeros(alloc, 256, "1")?;
     assert_eq!(rt;
         more.as_str().parse::<NationalNumber>(),
         Err(ParseError::TooLong)
@@ -87,6 +87,25 @@ fn prints_its_zeros_and_its_value(rt: HostRuntime) -> Result<(), Fail> {
         };
         assert_eq!(rt; number.to_string(alloc)?.as_str(), text);
         assert_eq!(rt; (number.value(), number.zeros()), (value, zeros));
+    }
+    Ok(())
+}
+
+#[test]
+fn prints_more_zeros_than_a_number_has_digits(rt: HostRuntime) -> Result<(), Fail> {
+    let alloc = rt.alloc();
+    for (value, zeros, digits) in [
+        (1, 17, "1"),
+        (0, 18, "0"),
+        (5, 100, "5"),
+        (72057594037927935, 255, "72057594037927935"),
+    ] {
+        let Ok(number) = NationalNumber::new(value, zeros) else {
+            assert!(rt; false, "{value}");
+            continue;
+        };
+        let text = after_zeros(alloc, usize::from(zeros), digits)?;
+        assert_eq!(rt; number.to_string(alloc)?.as_str(), text.as_str());
     }
     Ok(())
 }

@@ -1,5 +1,5 @@
 //! What serde writes of the values, and that it reads it back.
-use phone_core::country::{Code, Id, Source};
+use phone_core::country::{self, Code, Id, Source};
 use phone_core::{Carrier, Extension, NationalNumber, Type};
 use std::test::Fail;
 
@@ -36,7 +36,53 @@ fn an_id_is_written_as_its_text(rt: HostRuntime) -> Result<(), Fail> {
     assert_eq!(rt; serde_json::to_string(alloc, &Id::NZ)?.as_str(), "\"NZ\"");
     let back: Id = serde_json::from_str(alloc, "\"NZ\"")?;
     assert_eq!(rt; back, Id::NZ);
-    assert!(rt; serde_json::from_str::<Id>(alloc, "\"nz\"").is_err());
+    let escaped: Id = serde_json::from_str(alloc, "\"\\u004eZ\"")?;
+    assert_eq!(rt; escaped, Id::NZ);
+    Ok(())
+}
+
+#[test]
+fn each_id_is_read_back(rt: HostRuntime) -> Result<(), Fail> {
+    let alloc = rt.alloc();
+    for id in &country::ALL {
+        let text = serde_json::to_string(alloc, id)?;
+        let back: Id = serde_json::from_str(alloc, text.as_str())?;
+        assert_eq!(rt; back, *id);
+    }
+    Ok(())
+}
+
+#[test]
+fn an_id_is_read_from_no_other_text(rt: HostRuntime) {
+    for (json, why) in [
+        ("\"nz\"", "small letters"),
+        ("\"Nz\"", "one small letter"),
+        ("\" NZ\"", "a space before"),
+        ("\"NZ \"", "a space behind"),
+        ("\"NZ\\n\"", "a line's end behind"),
+        ("\"N\"", "half of a name"),
+        ("\"001\"", "a territory that is no region"),
+        ("\"\"", "nothing"),
+        ("64", "a number"),
+        ("null", "no text"),
+    ] {
+        assert!(rt;
+            serde_json::from_str::<Id>(rt.alloc(), json).is_err(),
+            "{json}: {why}"
+        );
+    }
+}
+
+#[test]
+fn a_code_has_sixteen_bits(rt: HostRuntime) -> Result<(), Fail> {
+    let alloc = rt.alloc();
+    let code = Code::new(65535, Source::Number);
+    let text = serde_json::to_string(alloc, &code)?;
+    assert_eq!(rt; text.as_str(), "{\"value\":65535,\"source\":\"number\"}");
+    let back: Code = serde_json::from_str(alloc, text.as_str())?;
+    assert_eq!(rt; back, code);
+    let more = "{\"value\":65536,\"source\":\"number\"}";
+    assert!(rt; serde_json::from_str::<Code>(alloc, more).is_err());
     Ok(())
 }
 

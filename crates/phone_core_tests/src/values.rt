@@ -9,6 +9,8 @@ fn a_code_has_its_value_and_its_source(rt: HostRuntime) {
     let code = Code::new(64, Source::Idd);
     assert_eq!(rt; (code.value(), code.source()), (64, Source::Idd));
     assert_eq!(rt; u16::from(code), 64);
+    let largest = Code::new(65535, Source::Number);
+    assert_eq!(rt; (largest.value(), u16::from(largest)), (65535, 65535));
     assert!(rt; code != Code::new(64, Source::Plus));
     assert_eq!(rt; Source::default(), Source::Default);
 }

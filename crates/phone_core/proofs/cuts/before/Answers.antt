@@ -1,17 +1,24 @@
-use Rattle.std.proofs.Common.{◌≡◌, ◌-◌, ◌++◌, length, ap, ◌∙◌, arith, length-append}
-use Rattle.std.proofs.lemmas.Grind.{common_steps}
-use Rattle.std.proofs.lemmas.Str.{IsCharBoundary-at_seam, chars-append}
+use Rattle.std.proofs.Common.{◌++◌, ap, sym, ◌∙◌, arith}
+use Rattle.std.proofs.lemmas.Str.{chars-append}
 use Rattle.std.specs.Str.{chars}
+use Rattle.phone_core.proofs.Runs.{front_of_end, gets_front}
 use Rattle.phone_core.proofs.cuts.before.Goals as goal
 
-pub range-requires-clause-end_boundary : goal.range-requires-clause-end_boundary
-range-requires-clause-end_boundary c =
-    let v = c.requires.0 in
-    let n : length c.args.text.now - length c.args.rest.now ≡ length v =
-    omega (arith, ap length c.requires.1, length-append v c.args.rest.now) in
-    rw n (IsCharBoundary-at_seam _ v _ c.requires.1 c.utf8.rest)
+is_before : goal.returns-clause-before
+is_before c v whole = ap (λ r. r.now) c.unwrap_or.ensures
+    ∙ front_of_end c.args.text c.args.rest.now v c.saturating_sub.result (omega (arith, c.saturating_sub.ensures)) whole c.utf8.text c.utf8.rest c.get.result c.get.ensures.cases
+
+is_cut : goal.returns-clause-cut
+is_cut c end = end.1 ∙ ap (λ v. v ++ c.args.rest.now) (sym (is_before c end.0 end.1))
+
+pub returns-clause-before : goal.returns-clause-before
+returns-clause-before = is_before
+
+pub returns-clause-front : goal.returns-clause-front
+returns-clause-front c = rw c.unwrap_or.ensures (gets_front c.args.text c.saturating_sub.result c.get.result c.get.ensures.cases)
+
+pub returns-clause-cut : goal.returns-clause-cut
+returns-clause-cut = is_cut
 
 pub returns-clause-read : goal.returns-clause-read
-returns-clause-read c =
-    let e : c.args.text.now ≡ c.range.result.now ++ c.args.rest.now = grind (arith, common_steps) in
-    ap chars e ∙ chars-append _ _ c.range.utf8
+returns-clause-read c end = ap chars (is_cut c end) ∙ chars-append _ _ c.unwrap_or.utf8
