@@ -56,7 +56,7 @@ fn first_line(rt: &(impl Input + AllocGlobal)) -> io::Result<String> {
 /// The answer for a text.
 fn answer_to(alloc: Global, text: &str) -> Result<Answer, Silence> {
     let database = new_zealand(alloc)?;
-    match parse_with(alloc, &database, Some(Id::NZ), text) {
+    match parse_with(&database, Some(Id::NZ), text) {
         Ok(number) => Ok(Answer {
             line: number.to_string(alloc)?,
             status: 0,

@@ -1,4 +1,3 @@
-pub mod Thins
 pub mod ReportRows
 pub mod ThinReadings
 pub mod ThinTexts

@@ -12,14 +12,16 @@ use Rattle.phone_core.specs.declared.error.ParseError.TheVariants.{InvalidCountr
 use Rattle.phone_meta.specs.declared.loader.Metadata.{Metadata}
 use Rattle.phone_meta.specs.Empty.{no_metadata}
 use Rattle.phone_meta.specs.Records.{last_with, has_id}
-use Rattle.phone_read.specs.Codes.{code_of, code_from, after_dialling, is_signed}
+use Rattle.phone_read.specs.Codes.{code_by, code_of, found_in, international_prefix_of}
 use Rattle.phone_parts.specs.Cores.{IsCore, is_start}
 use Rattle.phone_read.specs.Hints.{Coded, hinted, code_by_hint}
 use Rattle.phone_parts.specs.Naturals
 use Rattle.phone_parts.specs.Naturals.{IsNatural}
 use Rattle.phone_read.specs.Numbering.{reading_of}
 use Rattle.phone_read.specs.Readings
-use Rattle.phone_read.specs.Readings.{HasParts, Reads, stripped, stripping_territory}
+use Rattle.phone_parts.specs.Readers
+use Rattle.phone_parts.specs.Readers.{HasParts}
+use Rattle.phone_read.specs.Readings.{Reads, stripped, stripping_territory}
 use Rattle.phone_read.specs.Strips.{Stripped, strip}
 use Rattle.phone_parts.specs.Parts.{Parts}
 use Rattle.phone_parts.specs.Tel.{IsTel, is_national}
@@ -28,7 +30,7 @@ use Rattle.phone_read.specs.Verdicts.{verdict, is_too_short}
 use Rattle.phone_core.specs.declared.country.Source.TheVariants.{Default}
 use Rattle.phone_parts.specs.declared.natural.NoReading.TheVariants.{Error}
 use Rattle.phone_read.specs.declared.reading.Reading.{Reading}
-use Rattle.phone_read.proofs.ReadingOnes.{parts_same}
+use Rattle.phone_parts.proofs.OneParts.{parts_same}
 use Rattle.phonenumber.specs.Thin
 use Rattle.phonenumber.specs.Thin.{IsThinDatabase, ThinReads, is_thin, thin_reading, thin_rest}
 use Rattle.phonenumber.proofs.ThinTexts.{IsThinText, thin_text, thin_natural, thin_tel, digit_unsigned}
@@ -42,11 +44,11 @@ thin_parts : (t : List ℕ) → IsThinText t → HasParts t (Some (whole_part t)
 thin_parts t h = by_space (list_any (λ c. c == 32) t) refl
   where
     by_space : (b : Bool) → list_any (λ c. c == 32) t ≡ b → HasParts t (Some (whole_part t))
-    by_space false e = Readings.as_tel (whole_part t) (thin_tel t h e)
+    by_space false e = Readers.as_tel (whole_part t) (thin_tel t h e)
     by_space true e =
-        Readings.as_natural (record { national = t; prefix = None; extension = None }) (λ q g. true≢false (sym e ∙ g.no_space)) (thin_natural t h)
+        Readers.as_natural (record { national = t; prefix = None; extension = None }) (λ q g. true≢false (sym e ∙ g.no_space)) (thin_natural t h)
 
-unsigned : (t : List ℕ) → begins is_digit t ≡ true → is_signed t ≡ false
+unsigned : (t : List ℕ) → begins is_digit t ≡ true → begins is_plus t ≡ false
 unsigned [] h = refl
 unsigned (c ∷ cs) h = digit_unsigned c h
 
@@ -68,7 +70,7 @@ thin_hinted db h id m e = found (has_id (name id) (the_record db h)) (the_record
 
 -- without an international prefix the digits are all there, and the hint tells the code
 thin_code : (db : List Metadata) (hint : Option Id) (t : List ℕ) (o : Option Metadata) → begins is_digit t ≡ true → hinted db hint ≡ o →
-    after_dialling o (norm t) ≡ None → code_of db hint t None ≡ code_from db o Default (norm t)
+    found_in (international_prefix_of o) (norm t) ≡ None → code_of db hint t None ≡ code_by db o None Default (norm t)
 thin_code db hint t o first e none = rw (no_signs t first, unsigned t first, e, none)
 
 -- without a parsing pattern the national prefix is cut off twice
@@ -110,7 +112,7 @@ no_core_nil c h = nothing h.before h.from h.whole h.starts
 
 -- the empty text has no parts
 nil_parts : HasParts [] None
-nil_parts = Readings.as_neither Error not_tel_nil (Naturals.nothing no_core_nil)
+nil_parts = Readers.as_neither Error not_tel_nil (Naturals.nothing no_core_nil)
 
 not_viable_nil : ¬ (IsViable [])
 not_viable_nil v = ⊎_elim (λ two. apart 0 refl two.two) (λ signed. few signed.signs signed.body signed.whole signed.three_digits) v
@@ -133,7 +135,7 @@ of_text db h None t thin r (Thin.by_hint m v e) = absurd (nowhere e)
     nowhere f = cc
 of_text db h (Some id) t thin r (Thin.by_hint m v e) =
     let same : m ≡ the_record db h = thin_hinted db h id m e in
-    let dialled : after_dialling (Some m) (norm t) ≡ None = rw same in
+    let dialled : found_in (international_prefix_of (Some m)) (norm t) ≡ None = rw same in
     let c = code_by_hint m (norm t) in
     let cut : stripped (hinted db (Some id)) c.rest ≡ record { national = thin_rest m c.rest; carrier = None } = ap (λ o. stripped o c.rest) e ∙ thin_strip_of db h m same c.rest in
     subst (λ s. Reads db (Some id) t (reading_of c None s)) cut
@@ -185,7 +187,7 @@ by_code db h (Some id) t thin v r e = at (hinted db (Some id)) refl
         subst (λ x. ThinReads db (Some id) t (read_with (numbered db (Some id)) x)) (sym told) (Thin.no_territory v f)
     at (Some m) f =
         let same : m ≡ the_record db h = thin_hinted db h id m f in
-        let dialled : after_dialling (Some m) (norm t) ≡ None = rw same in
+        let dialled : found_in (international_prefix_of (Some m)) (norm t) ≡ None = rw same in
         let c = code_by_hint m (norm t) in
         let told : r ≡ Ok c = sym e ∙ thin_code db (Some id) t (Some m) thin.first f dialled in
         let cut : stripped (hinted db (Some id)) c.rest ≡ record { national = thin_rest m c.rest; carrier = None } = ap (λ o. stripped o c.rest) f ∙ thin_strip_of db h m same c.rest in

@@ -1,5 +1,5 @@
--- The first path through the reading: texts without signs, letters or extension, under one territory that has no
--- pattern but the general one.
+-- The first path, kept as a small picture of the whole reading: texts without signs, letters or extension, under one
+-- territory that has no pattern but the general one. On these it is the reading relation.
 use Rattle.std.specs.Prelude.{◌≡◌, ℕ, ◌==◌, ◌||◌, ◌&&◌, Bool, true, if◌then◌else◌, List, [], ◌∷◌, length, Option, None, Some, Result, Err}
 use Rattle.std.specs.List.{list_all}
 use Rattle.phone_core.specs.Characters.{is_digit}

@@ -50,7 +50,7 @@ fn number(source: Source, zeros: u8, value: u64) -> Result<PhoneNumber, ParseErr
 fn reads_a_national_number_and_cuts_its_prefix_off(rt: HostRuntime) -> Result<(), Fail> {
     let alloc = rt.alloc();
     let database = new_zealand(alloc)?;
-    let read = parse_with(alloc, &database, Some(Id::NZ), "03-331 6005")?;
+    let read = parse_with(&database, Some(Id::NZ), "03-331 6005")?;
     assert_eq!(rt; read, number(Source::Default, 0, 33316005)?);
     assert_eq!(rt; read.to_string(alloc)?.as_str(), "+6433316005");
     Ok(())
@@ -62,7 +62,7 @@ fn cuts_the_hints_code_off_where_the_digits_are_too_many_with_it(
 ) -> Result<(), Fail> {
     let alloc = rt.alloc();
     let database = new_zealand(alloc)?;
-    let read = parse_with(alloc, &database, Some(Id::NZ), "6433316005")?;
+    let read = parse_with(&database, Some(Id::NZ), "6433316005")?;
     assert_eq!(rt; read, number(Source::Number, 0, 33316005)?);
     assert_eq!(rt; read.to_string(alloc)?.as_str(), "+6433316005");
     Ok(())
@@ -72,7 +72,7 @@ fn cuts_the_hints_code_off_where_the_digits_are_too_many_with_it(
 fn keeps_the_code_at_the_front_of_a_national_number(rt: HostRuntime) -> Result<(), Fail> {
     let alloc = rt.alloc();
     let database = new_zealand(alloc)?;
-    let read = parse_with(alloc, &database, Some(Id::NZ), "64-123 456")?;
+    let read = parse_with(&database, Some(Id::NZ), "64-123 456")?;
     assert_eq!(rt; read, number(Source::Default, 0, 64123456)?);
     Ok(())
 }
@@ -81,7 +81,7 @@ fn keeps_the_code_at_the_front_of_a_national_number(rt: HostRuntime) -> Result<(
 fn cuts_the_national_prefix_off_twice(rt: HostRuntime) -> Result<(), Fail> {
     let alloc = rt.alloc();
     let database = new_zealand(alloc)?;
-    let read = parse_with(alloc, &database, Some(Id::NZ), "0033316005")?;
+    let read = parse_with(&database, Some(Id::NZ), "0033316005")?;
     assert_eq!(rt; read, number(Source::Default, 0, 33316005)?);
     Ok(())
 }
@@ -90,10 +90,10 @@ fn cuts_the_national_prefix_off_twice(rt: HostRuntime) -> Result<(), Fail> {
 fn keeps_leading_zeros_where_too_few_digits_would_be_left(rt: HostRuntime) -> Result<(), Fail> {
     let alloc = rt.alloc();
     let database = new_zealand(alloc)?;
-    let read = parse_with(alloc, &database, Some(Id::NZ), "12")?;
+    let read = parse_with(&database, Some(Id::NZ), "12")?;
     assert_eq!(rt; read, number(Source::Default, 0, 12)?);
     assert_eq!(rt; read.to_string(alloc)?.as_str(), "+6412");
-    let read = parse_with(alloc, &database, Some(Id::NZ), "012")?;
+    let read = parse_with(&database, Some(Id::NZ), "012")?;
     assert_eq!(rt; read, number(Source::Default, 1, 12)?);
     assert_eq!(rt; read.to_string(alloc)?.as_str(), "+64012");
     Ok(())
@@ -103,7 +103,7 @@ fn keeps_leading_zeros_where_too_few_digits_would_be_left(rt: HostRuntime) -> Re
 fn reads_up_to_seventeen_digits(rt: HostRuntime) -> Result<(), Fail> {
     let alloc = rt.alloc();
     let database = new_zealand(alloc)?;
-    let read = parse_with(alloc, &database, Some(Id::NZ), "33333333333333333")?;
+    let read = parse_with(&database, Some(Id::NZ), "33333333333333333")?;
     assert_eq!(rt; read, number(Source::Default, 0, 33333333333333333)?);
     Ok(())
 }
@@ -115,7 +115,7 @@ fn refusal(
     text: &str,
 ) -> Result<Option<ParseError>, LoadMetadata> {
     let database = new_zealand(alloc)?;
-    match parse_with(alloc, &database, hint, text) {
+    match parse_with(&database, hint, text) {
         Ok(_) => Ok(None),
         Err(ParseError::Memory) => Err(LoadMetadata::Memory),
         Err(error) => Ok(Some(error)),
