@@ -4,7 +4,7 @@ use Rattle.std.specs.List.{list_all, list_any}
 use Rattle.phone_core.specs.Characters.{is_nd, is_one_of}
 use Rattle.phone_parts.specs.Texts.{is_like}
 use Rattle.phone_parts.specs.declared.suffix.Form.{Form}
-use Rattle.phone_parts.specs.declared.suffix.Form.TheVariants.{Parameter, Indicated, Signed}
+use Rattle.phone_parts.specs.declared.suffix.Form.TheVariants.{Parameter, Indicated, NumberSign}
 use Rattle.ucd_case.specs.CaseFolding.{simple_fold}
 
 -- every text of the first list followed by every text of the second
@@ -103,7 +103,7 @@ pub record IsIndicated (w d : List ℕ) : Type 0 where
   pub announced : IsAnnounced indicators rest d
 
 -- hyphens and spaces, one to five digits, a number sign
-pub record IsSigned (w d : List ℕ) : Type 0 where
+pub record IsNumberSigned (w d : List ℕ) : Type 0 where
   pub lead : List ℕ
   pub whole : w ≡ lead ++ (d ++ 35 ∷ [])
   pub leads : list_all is_dash lead ≡ true
@@ -115,7 +115,7 @@ pub record IsSigned (w d : List ℕ) : Type 0 where
 abbrev pub IsSuffix : List ℕ → Form → List ℕ → Type 0
 IsSuffix w Parameter d = IsParameter w d
 IsSuffix w Indicated d = IsIndicated w d
-IsSuffix w Signed d = IsSigned w d
+IsSuffix w NumberSign d = IsNumberSigned w d
 
 -- an extension begins with one of these, or with a character that folds to one
 abbrev pub suffix_starts : List ℕ

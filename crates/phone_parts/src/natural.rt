@@ -41,7 +41,7 @@ pub fn phone_number(text: &str) -> Result<Number<'_>, NoReading>
     match found.form {
         Form::Indicated => Ok(extended(national, found.digits)),
         Form::Parameter => Err(NoReading::Failure),
-        Form::Signed => Err(NoReading::Failure),
+        Form::NumberSign => Err(NoReading::Failure),
     }
 }
 

@@ -5,7 +5,7 @@ ghost use Rattle.std.specs.List.{list_all};
 ghost use Rattle.phone_core.specs.Characters.{is_nd};
 ghost use Rattle.phone_parts.specs.Parts.{IsSlice};
 ghost use Rattle.phone_parts.specs.Texts.{begins};
-ghost use Rattle.phone_parts.specs.Suffixes.{IsParameter, IsSigned, IsIndicated, IsAnnounced, IsEnding, IsSuffix, is_lead, is_suffix_start, HasNoSuffix, HasLongestSuffix};
+ghost use Rattle.phone_parts.specs.Suffixes.{IsParameter, IsNumberSigned, IsIndicated, IsAnnounced, IsEnding, IsSuffix, is_lead, is_suffix_start, HasNoSuffix, HasLongestSuffix};
 
 use crate::fronts::{is_nothing, skip_one, strip_char, strip_like};
 use phone_core::chars::is_nd;
@@ -56,7 +56,7 @@ pub enum Form {
     /// An indicator before the digits, as in ` ext. 5`.
     Indicated,
     /// A number sign behind the digits, as in ` 5#`.
-    Signed,
+    NumberSign,
 }
 
 /// An extension: its form, and its digits.
@@ -208,9 +208,9 @@ fn read_suffix(text: &str, no_indicator: bool) -> Option<Suffix<'_>>
             digits,
         });
     }
-    let digits = signed(text)?;
+    let digits = number_signed(text)?;
     Some(Suffix {
-        form: Form::Signed,
+        form: Form::NumberSign,
         digits,
     })
 }
@@ -256,8 +256,8 @@ fn parameter(text: &str) -> Option<&str>
 }
 
 /// The digits of ` 5#`.
-fn signed(text: &str) -> Option<&str>
-    ensures read { MatchOption result ((d : List ℕ) → ¬ (IsSigned (chars text.now) d)) (λ d. IsSigned (chars text.now) (chars d.now)) }
+fn number_signed(text: &str) -> Option<&str>
+    ensures read { MatchOption result ((d : List ℕ) → ¬ (IsNumberSigned (chars text.now) d)) (λ d. IsNumberSigned (chars text.now) (chars d.now)) }
     ensures slice { IfSome result (λ d. IsSlice text.now d.now) }
 {
     let (lead, rest) = split_run(text, &Dashes);
