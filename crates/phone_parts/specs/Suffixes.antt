@@ -58,15 +58,18 @@ is_dash c = is_one_of (45 ∷ 32 ∷ []) c
 abbrev pub is_sign : ℕ → Bool
 is_sign c = c == 35
 
+-- at most n characters, all of the set
+pub record IsFew (p : ℕ → Bool) (n : ℕ) (t : List ℕ) : Type 0 where
+  pub only : list_all p t ≡ true
+  pub few : length t ≤ n
+
 -- digits of any script, at most n
-pub record IsDigits (n : ℕ) (d : List ℕ) : Type 0 where
-  pub only : list_all is_nd d ≡ true
-  pub few : length d ≤ n
+abbrev pub IsDigits : ℕ → List ℕ → Type 0
+IsDigits n d = IsFew is_nd n d
 
 -- one character of the set, or nothing
-pub record IsOptional (p : ℕ → Bool) (t : List ℕ) : Type 0 where
-  pub only : list_all p t ≡ true
-  pub few : length t ≤ 1
+abbrev pub IsOptional : (ℕ → Bool) → List ℕ → Type 0
+IsOptional p t = IsFew p 1 t
 
 -- `;ext=` and at most seven digits
 pub record IsParameter (w d : List ℕ) : Type 0 where
@@ -85,6 +88,10 @@ pub record IsEnding (w d : List ℕ) : Type 0 where
   pub gaps : list_all is_gap gap ≡ true
   pub digits : IsDigits 7 d
   pub signs : IsOptional is_sign sign
+
+-- such a text, whatever its digits
+abbrev pub IsSomeEnding : List ℕ → Type 0
+IsSomeEnding w = (d : List ℕ) × IsEnding w d
 
 -- one of the words, and such an ending
 pub record IsAnnounced (words : List (List ℕ)) (w d : List ℕ) : Type 0 where
@@ -110,6 +117,10 @@ pub record IsNumberSigned (w d : List ℕ) : Type 0 where
   pub some_lead : 1 ≤ length lead
   pub digits : IsDigits 5 d
   pub some_digits : 1 ≤ length d
+
+-- such a text, whatever its digits
+abbrev pub IsSomeNumberSigned : List ℕ → Type 0
+IsSomeNumberSigned w = (d : List ℕ) × IsNumberSigned w d
 
 -- w is an extension of this form, with these digits
 abbrev pub IsSuffix : List ℕ → Form → List ℕ → Type 0

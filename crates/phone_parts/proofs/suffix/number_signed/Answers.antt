@@ -1,4 +1,4 @@
-use Rattle.std.proofs.Common.{◌≡◌, ◌==◌, ◌∷◌, [], length, ap, sym, ◌∙◌, true≢false, arith}
+use Rattle.std.proofs.Common.{◌≡◌, ◌==◌, ◌∷◌, [], length, refl, ap, sym, ◌∙◌, true≢false, arith}
 use Rattle.std.specs.Str.{chars}
 use Rattle.phone_core.specs.Characters.{is_nd}
 use Rattle.phone_core.specs.Cuts.{front, after_front}
@@ -44,3 +44,6 @@ returns-clause-read c =
     (c.in_ok-end.ensures.read ∙ ap (λ t. 35 ∷ t) (c.is_nothing-3.ensures.nothing c.if-not-is_nothing.false))
     (c.is_nothing.ensures.something c.if-is_nothing.false) (c.is_nothing-2.ensures.something c.if-is_nothing-2.false)
     (digits_of_test 5 _ (sym c.are_digits.ensures ∙ c.if-not-are_digits.false))
+
+pub returns-then-text-limit-clause-read : goal.returns-then-text-limit-clause-read
+returns-then-text-limit-clause-read c = λ d h. absurd (omega (arith, c.requires [] c.args.text.now refl c.utf8.text (d, h), c.if-text-limit.true))
