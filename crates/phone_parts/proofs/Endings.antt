@@ -6,7 +6,7 @@ use Rattle.std.specs.Str.{chars}
 use Rattle.ucd_category.proofs.Computing.{ucd_category}
 use Rattle.phone_core.specs.Characters.{is_nd, is_one_of}
 use Rattle.phone_core.specs.Cuts.{front, after_front}
-use Rattle.phone_parts.specs.Suffixes.{IsAnnounced, IsOptional, IsDigits, IsEnding, IsParameter, IsSigned, is_mark, is_gap, is_sign, is_dash}
+use Rattle.phone_parts.specs.Suffixes.{IsAnnounced, IsOptional, IsDigits, IsEnding, IsParameter, IsNumberSigned, is_mark, is_gap, is_sign, is_dash}
 use Rattle.phone_parts.specs.Texts.{begins, after_one, after_like, is_like}
 use Rattle.phone_parts.proofs.Likes.{after_like_front, after_like_parts}
 use Rattle.phone_parts.proofs.Runs.{all_in_front, run_whole, front_of_run, after_front_of_run}
@@ -125,13 +125,13 @@ pub after_sign : (sign : List ℕ) → IsOptional is_sign sign → after_one is_
 after_sign sign h = ap (after_one is_sign) (sym (append-nil sign)) ∙ after_optional is_sign sign [] h refl
 
 -- the parts of an extension with a number sign behind its digits
-pub record SignedCut (lead digits end w : List ℕ) : Type 0 where
+pub record NumberSignedCut (lead digits end w : List ℕ) : Type 0 where
   pub dashes : lead ≡ front is_dash w
   pub middle : digits ≡ front is_nd (after_front is_dash w)
   pub back : end ≡ after_front is_nd (after_front is_dash w)
 
-pub signed_cut : (w d : List ℕ) (h : IsSigned w d) → SignedCut h.lead d (35 ∷ []) w
-signed_cut w d h =
+pub number_signed_cut : (w d : List ℕ) (h : IsNumberSigned w d) → NumberSignedCut h.lead d (35 ∷ []) w
+number_signed_cut w d h =
     let dash_at_digits : begins is_dash (d ++ 35 ∷ []) ≡ false = none_at_run is_dash is_nd dash_nd d (35 ∷ []) h.digits.only refl in
     let rest : after_front is_dash w ≡ d ++ 35 ∷ [] = ap (after_front is_dash) h.whole ∙ after_front_of_run is_dash h.lead (d ++ 35 ∷ []) h.leads dash_at_digits in
     record {
@@ -224,9 +224,9 @@ length_some : (t : List ℕ) → ¬ (t ≡ []) → 1 ≤ length t
 length_some [] h = absurd (h refl)
 length_some (x ∷ t) h = omega arith
 
-pub signed_of : (w lead d end : List ℕ) → lead ≡ front is_dash w → d ≡ front is_nd (after_front is_dash w) → end ≡ after_front is_nd (after_front is_dash w) →
-    end ≡ 35 ∷ [] → ¬ (lead ≡ []) → ¬ (d ≡ []) → IsDigits 5 d → IsSigned w d
-signed_of w lead d end e f g sign some_lead some_digits digits =
+pub number_signed_of : (w lead d end : List ℕ) → lead ≡ front is_dash w → d ≡ front is_nd (after_front is_dash w) → end ≡ after_front is_nd (after_front is_dash w) →
+    end ≡ 35 ∷ [] → ¬ (lead ≡ []) → ¬ (d ≡ []) → IsDigits 5 d → IsNumberSigned w d
+number_signed_of w lead d end e f g sign some_lead some_digits digits =
     let rest = after_front is_dash w in
     record {
       lead = lead;

@@ -1,11 +1,14 @@
 pub mod Borders
+pub mod Closings
 pub mod CoreRows
 pub mod Cores
 pub mod Endings
 pub mod Ends
+pub mod FirstLetters
 pub mod Foldings
 pub mod IndicatorRows
 pub mod Likes
+pub mod Longest
 pub mod NaturalOnes
 pub mod NaturalRows
 pub mod OneForm

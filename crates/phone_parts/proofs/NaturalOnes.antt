@@ -10,9 +10,9 @@ use Rattle.phone_parts.specs.Suffixes.{IsSuffix, HasNoSuffix, HasLongestSuffix}
 use Rattle.phone_parts.specs.declared.natural.NoReading.{NoReading}
 use Rattle.phone_parts.specs.declared.natural.NoReading.TheVariants.{Error, Failure}
 use Rattle.phone_parts.specs.declared.suffix.Form.{Form}
-use Rattle.phone_parts.specs.declared.suffix.Form.TheVariants.{Parameter, Indicated, Signed}
+use Rattle.phone_parts.specs.declared.suffix.Form.TheVariants.{Parameter, Indicated, NumberSign}
 use Rattle.phone_parts.proofs.Cores.{core_unique}
-use Rattle.phone_parts.proofs.OneForm.{indicated_digits_same, indicated_not_signed, indicated_not_parameter}
+use Rattle.phone_parts.proofs.OneForm.{indicated_digits_same, indicated_not_number_signed, indicated_not_parameter}
 
 -- ---- the longest extension is one
 
@@ -59,19 +59,19 @@ longest_same c a b f g d e h k =
 -- what a national part and an extension of a form make
 abbrev outcome : List ℕ → Form → List ℕ → Result Parts NoReading
 outcome n Parameter d = Err Failure
-outcome n Signed d = Err Failure
+outcome n NumberSign d = Err Failure
 outcome n Indicated d = Ok (record { national = n; prefix = None; extension = Some d })
 
 -- what is made of two extensions that are one text is the same
 outcome_same : (n w : List ℕ) (f g : Form) (d e : List ℕ) → IsSuffix w f d → IsSuffix w g e → outcome n f d ≡ outcome n g e
 outcome_same n w Parameter Parameter d e h k = refl
-outcome_same n w Parameter Signed d e h k = refl
+outcome_same n w Parameter NumberSign d e h k = refl
 outcome_same n w Parameter Indicated d e h k = absurd (indicated_not_parameter w e d k h)
-outcome_same n w Signed Parameter d e h k = refl
-outcome_same n w Signed Signed d e h k = refl
-outcome_same n w Signed Indicated d e h k = absurd (indicated_not_signed w e d k h)
+outcome_same n w NumberSign Parameter d e h k = refl
+outcome_same n w NumberSign NumberSign d e h k = refl
+outcome_same n w NumberSign Indicated d e h k = absurd (indicated_not_number_signed w e d k h)
 outcome_same n w Indicated Parameter d e h k = absurd (indicated_not_parameter w d e h k)
-outcome_same n w Indicated Signed d e h k = absurd (indicated_not_signed w d e h k)
+outcome_same n w Indicated NumberSign d e h k = absurd (indicated_not_number_signed w d e h k)
 outcome_same n w Indicated Indicated d e h k = ap (outcome n Indicated) (indicated_digits_same w d e h k)
 
 -- the three ways to a reading: without a core, of a core without an extension, of a core with one
@@ -101,7 +101,7 @@ ways t r (Naturals.plain c core none) = inr (inl (record { core = c; is_core = c
 ways t r (Naturals.with_parameter c n d core longest) =
     inr (inr (record { core = c; national = n; form = Parameter; digits = d; is_core = core; longest = longest; is = refl }))
 ways t r (Naturals.with_sign c n d core longest) =
-    inr (inr (record { core = c; national = n; form = Signed; digits = d; is_core = core; longest = longest; is = refl }))
+    inr (inr (record { core = c; national = n; form = NumberSign; digits = d; is_core = core; longest = longest; is = refl }))
 ways t r (Naturals.extended c n d core longest) =
     inr (inr (record { core = c; national = n; form = Indicated; digits = d; is_core = core; longest = longest; is = refl }))
 

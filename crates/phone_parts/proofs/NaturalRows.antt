@@ -11,7 +11,7 @@ use Rattle.phone_parts.specs.Naturals.{IsNatural}
 use Rattle.phone_parts.specs.Suffixes.{IsSuffix, indicators, is_lead, is_mark, is_gap, is_sign}
 use Rattle.phone_parts.specs.Texts.{begins, ends, is_like}
 use Rattle.phone_parts.specs.declared.natural.NoReading.TheVariants.{Error, Failure}
-use Rattle.phone_parts.specs.declared.suffix.Form.TheVariants.{Parameter, Indicated, Signed}
+use Rattle.phone_parts.specs.declared.suffix.Form.TheVariants.{Parameter, Indicated, NumberSign}
 use Rattle.phone_parts.proofs.CoreRows.{no_second, no_mark, no_start, sign_alone}
 use Rattle.phone_parts.proofs.SuffixTests.{fails_at, no_suffix, no_suffix_before}
 
@@ -46,9 +46,9 @@ pub parameter : IsSuffix (codes ";EXT=12") Parameter (codes "12")
 unfolding ucd_case ucd_category
 parameter = record { name = codes ";EXT="; whole = refl; named = refl; digits = record { only = refl; few = omega arith } }
 
-pub signed : IsSuffix (codes " - 12#") Signed (codes "12")
+pub number_signed : IsSuffix (codes " - 12#") NumberSign (codes "12")
 unfolding ucd_category
-signed = record { lead = codes " - "; whole = refl; leads = refl; some_lead = omega arith; digits = record { only = refl; few = omega arith }; some_digits = omega arith }
+number_signed = record { lead = codes " - "; whole = refl; leads = refl; some_lead = omega arith; digits = record { only = refl; few = omega arith }; some_digits = omega arith }
 
 pub word : IsSuffix (codes ", Exten" ++ 0x17F ∷ codes "ion. 12#") Indicated (codes "12")
 unfolding ucd_case ucd_category

@@ -8,12 +8,12 @@ use Rattle.ucd_case.proofs.Computing.{ucd_case}
 use Rattle.ucd_case.specs.CaseFolding.{simple_fold}
 use Rattle.ucd_category.proofs.Computing.{ucd_category}
 use Rattle.phone_core.specs.Characters.{is_nd, same_fold}
-use Rattle.phone_parts.specs.Suffixes.{IsSuffix, IsOptional, IsEnding, IsParameter, IsSigned, IsIndicated, indicators, is_lead, is_mark, is_gap, is_sign, is_dash}
+use Rattle.phone_parts.specs.Suffixes.{IsSuffix, IsOptional, IsEnding, IsParameter, IsNumberSigned, IsIndicated, indicators, is_lead, is_mark, is_gap, is_sign, is_dash}
 use Rattle.phone_parts.specs.Texts.{begins, ends, is_like}
 use Rattle.phone_parts.specs.declared.suffix.Form.{Form}
-use Rattle.phone_parts.specs.declared.suffix.Form.TheVariants.{Parameter, Indicated, Signed}
+use Rattle.phone_parts.specs.declared.suffix.Form.TheVariants.{Parameter, Indicated, NumberSign}
 use Rattle.phone_parts.proofs.Cores.{ends-push}
-use Rattle.phone_parts.proofs.Endings.{AreApart, members_apart, apart_members, mark_nd, gap_nd, member_passes, is_35, nd_35, none_at_run, none_at_all, parameter_cut, signed_cut}
+use Rattle.phone_parts.proofs.Endings.{AreApart, members_apart, apart_members, mark_nd, gap_nd, member_passes, is_35, nd_35, none_at_run, none_at_all, parameter_cut, number_signed_cut}
 use Rattle.phone_parts.proofs.Ends.{all_wider, ends_wider, ends-append, ends-append_run, no_run_at_end, ends-not, longest_end_same, cut_after_run}
 use Rattle.phone_parts.proofs.Foldings.{IsFolded, nd_folded, not_in_folded, length-like, begins-folded, ends-folded, begins-like, ends-like, like_one}
 
@@ -186,21 +186,21 @@ cut_digits_same w d e g h = at g.signs h.signs
     whole : g.before ++ (d ++ g.sign) ≡ h.before ++ (e ++ h.sign)
     whole = sym g.whole ∙ h.whole
 
-    unsigned : (before digits sign : List ℕ) → sign ≡ [] → before ++ (digits ++ sign) ≡ before ++ digits
-    unsigned before digits sign e = ap (λ t. before ++ (digits ++ t)) e ∙ ap (λ t. before ++ t) (append-nil digits)
+    without_sign : (before digits sign : List ℕ) → sign ≡ [] → before ++ (digits ++ sign) ≡ before ++ digits
+    without_sign before digits sign e = ap (λ t. before ++ (digits ++ t)) e ∙ ap (λ t. before ++ t) (append-nil digits)
 
-    signed : (before digits sign : List ℕ) → sign ≡ 35 ∷ [] → before ++ (digits ++ sign) ≡ (before ++ digits) ++ 35 ∷ []
-    signed before digits sign e = ap (λ t. before ++ (digits ++ t)) e ∙ sym (append_assoc before digits (35 ∷ []))
+    number_signed : (before digits sign : List ℕ) → sign ≡ 35 ∷ [] → before ++ (digits ++ sign) ≡ (before ++ digits) ++ 35 ∷ []
+    number_signed before digits sign e = ap (λ t. before ++ (digits ++ t)) e ∙ sym (append_assoc before digits (35 ∷ []))
 
     cut_same : g.before ++ d ≡ h.before ++ e → d ≡ e
     cut_same same = longest_end_same is_nd g.before h.before d e same g.digits h.digits g.no_digit h.no_digit
 
     at : (g.sign ≡ []) ⊎ (g.sign ≡ 35 ∷ []) → (h.sign ≡ []) ⊎ (h.sign ≡ 35 ∷ []) → d ≡ e
-    at (inl s) (inl t) = cut_same (sym (unsigned g.before d g.sign s) ∙ whole ∙ unsigned h.before e h.sign t)
-    at (inl s) (inr t) = no_digits_by_sign w d e g h (sym (unsigned g.before d g.sign s) ∙ whole ∙ signed h.before e h.sign t)
-    at (inr s) (inl t) = sym (no_digits_by_sign w e d h g (sym (unsigned h.before e h.sign t) ∙ sym whole ∙ signed g.before d g.sign s))
+    at (inl s) (inl t) = cut_same (sym (without_sign g.before d g.sign s) ∙ whole ∙ without_sign h.before e h.sign t)
+    at (inl s) (inr t) = no_digits_by_sign w d e g h (sym (without_sign g.before d g.sign s) ∙ whole ∙ number_signed h.before e h.sign t)
+    at (inr s) (inl t) = sym (no_digits_by_sign w e d h g (sym (without_sign h.before e h.sign t) ∙ sym whole ∙ number_signed g.before d g.sign s))
     at (inr s) (inr t) =
-        cut_same (append_cancel_right (g.before ++ d) (h.before ++ e) (35 ∷ []) (sym (signed g.before d g.sign s) ∙ whole ∙ signed h.before e h.sign t))
+        cut_same (append_cancel_right (g.before ++ d) (h.before ++ e) (35 ∷ []) (sym (number_signed g.before d g.sign s) ∙ whole ∙ number_signed h.before e h.sign t))
 
 pub indicated_digits_same : (w d e : List ℕ) → IsIndicated w d → IsIndicated w e → d ≡ e
 indicated_digits_same w d e g h = cut_digits_same w d e (indicated_cut w d g) (indicated_cut w e h)
@@ -210,9 +210,9 @@ indicated_digits_same w d e g h = cut_digits_same w d e (indicated_cut w d g) (i
 abbrev is_dash_or_digit : ℕ → Bool
 is_dash_or_digit c = is_dash c || is_nd c
 
--- no text is of the indicated and of the signed form
-pub indicated_not_signed : (w d e : List ℕ) → IsIndicated w d → ¬ (IsSigned w e)
-indicated_not_signed w d e g h = at g.announced.word refl
+-- no text is of the indicated and of the number_signed form
+pub indicated_not_number_signed : (w d e : List ℕ) → IsIndicated w d → ¬ (IsNumberSigned w e)
+indicated_not_number_signed w d e g h = at g.announced.word refl
   where
     run : List ℕ
     run = h.lead ++ e
@@ -331,8 +331,8 @@ begins_in_run p q apart [] rest all some = absurd (omega arith)
 begins_in_run p q apart (c ∷ run) rest all some = apart c (and_parts (q c) (list_all q run) all).0
 
 -- no text is of the parameter's form and of the form with a number sign behind its digits
-signed_not_parameter : (w d e : List ℕ) → IsSigned w d → ¬ (IsParameter w e)
-signed_not_parameter w d e g h =
+number_signed_not_parameter : (w d e : List ℕ) → IsNumberSigned w d → ¬ (IsParameter w e)
+number_signed_not_parameter w d e g h =
     let b = begins_parameter h.name e h.named in
     true≢false
     (sym b.is_semicolon ∙ sym (ap (begins folds_to_semicolon) (h.whole ∙ b.whole)) ∙ ap (begins folds_to_semicolon) g.whole
@@ -341,17 +341,17 @@ signed_not_parameter w d e g h =
 parameter_digits_same : (w d e : List ℕ) → IsParameter w d → IsParameter w e → d ≡ e
 parameter_digits_same w d e g h = let same : Some d ≡ Some e = sym (parameter_cut w d g) ∙ parameter_cut w e h in cc
 
-signed_digits_same : (w d e : List ℕ) → IsSigned w d → IsSigned w e → d ≡ e
-signed_digits_same w d e g h = (signed_cut w d g).middle ∙ sym (signed_cut w e h).middle
+number_signed_digits_same : (w d e : List ℕ) → IsNumberSigned w d → IsNumberSigned w e → d ≡ e
+number_signed_digits_same w d e g h = (number_signed_cut w d g).middle ∙ sym (number_signed_cut w e h).middle
 
 -- an extension has one form, and one text of digits
 pub suffix_same : (w : List ℕ) (f g : Form) (d e : List ℕ) → IsSuffix w f d → IsSuffix w g e → (f ≡ g) × (d ≡ e)
 suffix_same w Parameter Parameter d e h k = (refl, parameter_digits_same w d e h k)
 suffix_same w Parameter Indicated d e h k = absurd (indicated_not_parameter w e d k h)
-suffix_same w Parameter Signed d e h k = absurd (signed_not_parameter w e d k h)
+suffix_same w Parameter NumberSign d e h k = absurd (number_signed_not_parameter w e d k h)
 suffix_same w Indicated Parameter d e h k = absurd (indicated_not_parameter w d e h k)
 suffix_same w Indicated Indicated d e h k = (refl, indicated_digits_same w d e h k)
-suffix_same w Indicated Signed d e h k = absurd (indicated_not_signed w d e h k)
-suffix_same w Signed Parameter d e h k = absurd (signed_not_parameter w d e h k)
-suffix_same w Signed Indicated d e h k = absurd (indicated_not_signed w e d k h)
-suffix_same w Signed Signed d e h k = (refl, signed_digits_same w d e h k)
+suffix_same w Indicated NumberSign d e h k = absurd (indicated_not_number_signed w d e h k)
+suffix_same w NumberSign Parameter d e h k = absurd (number_signed_not_parameter w d e h k)
+suffix_same w NumberSign Indicated d e h k = absurd (indicated_not_number_signed w e d k h)
+suffix_same w NumberSign NumberSign d e h k = (refl, number_signed_digits_same w d e h k)

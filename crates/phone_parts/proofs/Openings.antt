@@ -8,7 +8,7 @@ use Rattle.ucd_case.specs.CaseFolding.{simple_fold}
 use Rattle.phone_core.specs.Characters.{is_one_of, same_fold}
 use Rattle.phone_parts.specs.Suffixes.{IsSuffix, HasNoSuffix, indicators}
 use Rattle.phone_parts.specs.declared.suffix.Form.{Form}
-use Rattle.phone_parts.specs.declared.suffix.Form.TheVariants.{Parameter, Indicated, Signed}
+use Rattle.phone_parts.specs.declared.suffix.Form.TheVariants.{Parameter, Indicated, NumberSign}
 use Rattle.phone_parts.specs.Texts.{begins, is_like}
 
 -- what an indicator begins with: `,`, `;`, `#`, `~`, `x`, `e`, `i`, `a`, and the fullwidth `#`, `~`, `x`, `e`, `i`
@@ -68,7 +68,7 @@ suffix_opens w Indicated d h =
     ap (list_any is_opening) h.whole
     ∙ any_after is_opening h.lead h.rest
     (ap (list_any is_opening) h.announced.whole ∙ any_like_opens h.announced.word indicators h.announced.ending h.announced.announces indicators_open)
-suffix_opens w Signed d h =
+suffix_opens w NumberSign d h =
     ap (list_any is_opening) h.whole ∙ any_after is_opening h.lead _ (any_after is_opening d (35 ∷ []) (ap (λ b. b || false) sign_opens))
 
 -- what no character of a text is, none of an end of it is

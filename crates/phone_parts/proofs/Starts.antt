@@ -7,7 +7,7 @@ use Rattle.ucd_case.specs.CaseFolding.{simple_fold}
 use Rattle.phone_core.specs.Characters.{is_one_of, same_fold}
 use Rattle.phone_parts.specs.Suffixes.{IsAnnounced, IsIndicated, IsSuffix, is_lead, is_dash, is_suffix_start, suffix_starts, indicators}
 use Rattle.phone_parts.specs.declared.suffix.Form.{Form}
-use Rattle.phone_parts.specs.declared.suffix.Form.TheVariants.{Parameter, Indicated, Signed}
+use Rattle.phone_parts.specs.declared.suffix.Form.TheVariants.{Parameter, Indicated, NumberSign}
 use Rattle.phone_parts.specs.Texts.{begins, is_like}
 use Rattle.phone_parts.proofs.Endings.{member_passes}
 
@@ -66,7 +66,7 @@ suffix_begins w Parameter d h = ap (begins is_suffix_start) h.whole ∙ like_beg
 suffix_begins w Indicated d h =
     ap (begins is_suffix_start) h.whole
     ∙ run_start is_lead h.lead h.rest (λ c. member_passes is_suffix_start (32 ∷ 0xA0 ∷ 9 ∷ 44 ∷ []) c leads_begin) h.leads (λ _. announced_begins h.rest d h.announced)
-suffix_begins w Signed d h =
+suffix_begins w NumberSign d h =
     ap (begins is_suffix_start) h.whole
     ∙ run_start is_dash h.lead (d ++ 35 ∷ []) (λ c. member_passes is_suffix_start (45 ∷ 32 ∷ []) c dashes_begin) h.leads (λ e. absurd (omega (arith, h.some_lead, ap length e)))
 

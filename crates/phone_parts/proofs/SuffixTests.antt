@@ -12,8 +12,8 @@ use Rattle.phone_core.specs.Cuts.{front, after_front}
 use Rattle.phone_parts.specs.Suffixes.{IsSuffix, IsAnnounced, IsEnding, HasNoSuffix, indicators, is_lead, is_mark, is_gap, is_sign, is_dash, is_suffix_start}
 use Rattle.phone_parts.specs.Texts.{begins, after_like, after_one, is_like}
 use Rattle.phone_parts.specs.declared.suffix.Form.{Form}
-use Rattle.phone_parts.specs.declared.suffix.Form.TheVariants.{Parameter, Indicated, Signed}
-use Rattle.phone_parts.proofs.Endings.{ending_cut, after_sign, signed_cut, parameter_cut}
+use Rattle.phone_parts.specs.declared.suffix.Form.TheVariants.{Parameter, Indicated, NumberSign}
+use Rattle.phone_parts.proofs.Endings.{ending_cut, after_sign, number_signed_cut, parameter_cut}
 use Rattle.phone_parts.proofs.Likes.{after_like_front}
 use Rattle.phone_parts.proofs.Starts.{suffix_begins, not_announced_nil}
 
@@ -88,9 +88,9 @@ suffix_passes w Parameter d h =
 suffix_passes w Indicated d h =
     and_from _ _ (suffix_begins w Indicated d h)
     (or_right _ _ (or_right _ _ (ap may_indicate h.whole ∙ lead_passes h.lead h.rest d h.leads h.announced)))
-suffix_passes w Signed d h =
-    and_from _ _ (suffix_begins w Signed d h)
-    (or_right _ _ (or_left _ _ ((bytes_eq-Decides (after_front is_nd (after_front is_dash w)) (35 ∷ [])).1 (sym (signed_cut w d h).back))))
+suffix_passes w NumberSign d h =
+    and_from _ _ (suffix_begins w NumberSign d h)
+    (or_right _ _ (or_left _ _ ((bytes_eq-Decides (after_front is_nd (after_front is_dash w)) (35 ∷ [])).1 (sym (number_signed_cut w d h).back))))
 
 -- no extension begins at border k
 unfoldable pub fails_at : List ℕ → ℕ → Bool

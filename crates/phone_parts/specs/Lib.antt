@@ -1,4 +1,5 @@
 pub mod Cores
+pub mod Longest
 pub mod Naturals
 pub mod Parts
 pub mod Readers

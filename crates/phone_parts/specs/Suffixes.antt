@@ -4,7 +4,7 @@ use Rattle.std.specs.List.{list_all, list_any}
 use Rattle.phone_core.specs.Characters.{is_nd, is_one_of}
 use Rattle.phone_parts.specs.Texts.{is_like}
 use Rattle.phone_parts.specs.declared.suffix.Form.{Form}
-use Rattle.phone_parts.specs.declared.suffix.Form.TheVariants.{Parameter, Indicated, Signed}
+use Rattle.phone_parts.specs.declared.suffix.Form.TheVariants.{Parameter, Indicated, NumberSign}
 use Rattle.ucd_case.specs.CaseFolding.{simple_fold}
 
 -- every text of the first list followed by every text of the second
@@ -58,15 +58,18 @@ is_dash c = is_one_of (45 ∷ 32 ∷ []) c
 abbrev pub is_sign : ℕ → Bool
 is_sign c = c == 35
 
+-- at most n characters, all of the set
+pub record IsFew (p : ℕ → Bool) (n : ℕ) (t : List ℕ) : Type 0 where
+  pub only : list_all p t ≡ true
+  pub few : length t ≤ n
+
 -- digits of any script, at most n
-pub record IsDigits (n : ℕ) (d : List ℕ) : Type 0 where
-  pub only : list_all is_nd d ≡ true
-  pub few : length d ≤ n
+abbrev pub IsDigits : ℕ → List ℕ → Type 0
+IsDigits n d = IsFew is_nd n d
 
 -- one character of the set, or nothing
-pub record IsOptional (p : ℕ → Bool) (t : List ℕ) : Type 0 where
-  pub only : list_all p t ≡ true
-  pub few : length t ≤ 1
+abbrev pub IsOptional : (ℕ → Bool) → List ℕ → Type 0
+IsOptional p t = IsFew p 1 t
 
 -- `;ext=` and at most seven digits
 pub record IsParameter (w d : List ℕ) : Type 0 where
@@ -86,6 +89,10 @@ pub record IsEnding (w d : List ℕ) : Type 0 where
   pub digits : IsDigits 7 d
   pub signs : IsOptional is_sign sign
 
+-- such a text, whatever its digits
+abbrev pub IsSomeEnding : List ℕ → Type 0
+IsSomeEnding w = (d : List ℕ) × IsEnding w d
+
 -- one of the words, and such an ending
 pub record IsAnnounced (words : List (List ℕ)) (w d : List ℕ) : Type 0 where
   pub word : List ℕ
@@ -103,7 +110,7 @@ pub record IsIndicated (w d : List ℕ) : Type 0 where
   pub announced : IsAnnounced indicators rest d
 
 -- hyphens and spaces, one to five digits, a number sign
-pub record IsSigned (w d : List ℕ) : Type 0 where
+pub record IsNumberSigned (w d : List ℕ) : Type 0 where
   pub lead : List ℕ
   pub whole : w ≡ lead ++ (d ++ 35 ∷ [])
   pub leads : list_all is_dash lead ≡ true
@@ -111,11 +118,15 @@ pub record IsSigned (w d : List ℕ) : Type 0 where
   pub digits : IsDigits 5 d
   pub some_digits : 1 ≤ length d
 
+-- such a text, whatever its digits
+abbrev pub IsSomeNumberSigned : List ℕ → Type 0
+IsSomeNumberSigned w = (d : List ℕ) × IsNumberSigned w d
+
 -- w is an extension of this form, with these digits
 abbrev pub IsSuffix : List ℕ → Form → List ℕ → Type 0
 IsSuffix w Parameter d = IsParameter w d
 IsSuffix w Indicated d = IsIndicated w d
-IsSuffix w Signed d = IsSigned w d
+IsSuffix w NumberSign d = IsNumberSigned w d
 
 -- an extension begins with one of these, or with a character that folds to one
 abbrev pub suffix_starts : List ℕ

@@ -3,6 +3,7 @@
 
 mod fronts;
 pub mod helper;
+mod indicators;
 pub mod laws;
 pub mod natural;
 mod number;
@@ -10,7 +11,9 @@ mod parameters;
 mod readers;
 pub mod rfc3966;
 pub mod rows;
+mod sets;
 mod suffix;
+mod tails;
 
 pub use number::Number;
 pub use readers::parts;

@@ -9,7 +9,7 @@ ghost use Rattle.phone_parts.specs.Parts.{Parts};
 ghost use Rattle.phone_parts.specs.Tel.{IsTel};
 ghost use Rattle.phone_parts.specs.Texts.{is_like};
 ghost use Rattle.phone_parts.specs.declared.natural.NoReading.TheVariants.{Error, Failure};
-ghost use Rattle.phone_parts.specs.declared.suffix.Form.TheVariants.{Parameter, Indicated, Signed};
+ghost use Rattle.phone_parts.specs.declared.suffix.Form.TheVariants.{Parameter, Indicated, NumberSign};
 
 /// Cores: what stands before the first digit or plus sign and what stands after the last letter, number or `#` is cut.
 pub fn core_rows()
@@ -51,7 +51,7 @@ pub fn not_tel_rows()
 /// Extensions: one of each form, and for the indicated form one of each kind of indicator.
 pub fn extension_rows()
     ensures parameter { IsSuffix (codes ";EXT=12") Parameter (codes "12") }
-    ensures signed { IsSuffix (codes " - 12#") Signed (codes "12") }
+    ensures number_signed { IsSuffix (codes " - 12#") NumberSign (codes "12") }
     ensures word { IsSuffix (codes ", Exten" ++ 0x17F ∷ codes "ion. 12#") Indicated (codes "12") }
     ensures wide_word { IsSuffix (0xFF38 ∷ 0xFF34 ∷ 0xFF4E ∷ 0x661 ∷ []) Indicated (0x661 ∷ []) }
     ensures sign { IsSuffix (codes ",;") Indicated [] }

@@ -3,50 +3,18 @@ ghost use Rattle.std.specs.Prelude.{◌≡◌, ℕ, List, ◌∷◌, ◌++◌, �
 ghost use Rattle.std.specs.Borrow.{Bor};
 ghost use Rattle.std.specs.List.{list_all};
 ghost use Rattle.phone_core.specs.Characters.{is_nd};
+ghost use Rattle.phone_parts.specs.Longest.{AreEndsUpTo, AreEndsWithin};
 ghost use Rattle.phone_parts.specs.Parts.{IsSlice};
 ghost use Rattle.phone_parts.specs.Texts.{begins};
-ghost use Rattle.phone_parts.specs.Suffixes.{IsParameter, IsSigned, IsIndicated, IsAnnounced, IsEnding, IsSuffix, is_lead, is_suffix_start, HasNoSuffix, HasLongestSuffix};
+ghost use Rattle.phone_parts.specs.Suffixes.{IsParameter, IsNumberSigned, IsSomeNumberSigned, IsIndicated, IsAnnounced, IsEnding, IsSomeEnding, IsSuffix, indicators, is_lead, is_suffix_start, HasNoSuffix, HasLongestSuffix};
 
 use crate::fronts::{is_nothing, skip_one, strip_char, strip_like};
+use crate::indicators::indicators_from;
+use crate::sets::{Dashes, Digits, Gaps, Marks, Sign};
+use crate::tails::{ending_limit, number_sign_limit};
 use phone_core::chars::is_nd;
-use phone_core::cuts::{CharSet, after_run, before, split_first, split_run};
+use phone_core::cuts::{after_run, before, split_first, split_run};
 use unicode::case::simple_fold;
-
-/// What announces an extension: `xt` with or without `e`, `ensio` (its `o` with or without an accent) and `n`; the
-/// same in wide letters; a sign; `int`, `anexo`.
-const INDICATORS: [&str; 31] = [
-    "xt",
-    "xtn",
-    "xtensio",
-    "xtension",
-    "xtensio\u{301}",
-    "xtensio\u{301}n",
-    "xtensi\u{F3}",
-    "xtensi\u{F3}n",
-    "ext",
-    "extn",
-    "extensio",
-    "extension",
-    "extensio\u{301}",
-    "extensio\u{301}n",
-    "extensi\u{F3}",
-    "extensi\u{F3}n",
-    "\u{FF58}\u{FF54}",
-    "\u{FF58}\u{FF54}\u{FF4E}",
-    "\u{FF45}\u{FF58}\u{FF54}",
-    "\u{FF45}\u{FF58}\u{FF54}\u{FF4E}",
-    ",",
-    ";",
-    "x",
-    "\u{FF58}",
-    "#",
-    "\u{FF03}",
-    "~",
-    "\u{FF5E}",
-    "int",
-    "anexo",
-    "\u{FF49}\u{FF4E}\u{FF54}",
-];
 
 /// The forms of an extension.
 #[derive(Clone, Copy, PartialEq, Eq, Debug)]
@@ -56,7 +24,7 @@ pub enum Form {
     /// An indicator before the digits, as in ` ext. 5`.
     Indicated,
     /// A number sign behind the digits, as in ` 5#`.
-    Signed,
+    NumberSign,
 }
 
 /// An extension: its form, and its digits.
@@ -64,66 +32,6 @@ pub enum Form {
 pub(crate) struct Suffix<'a> {
     pub(crate) form: Form,
     pub(crate) digits: &'a str,
-}
-
-struct Marks;
-
-impl CharSet for Marks {
-    ghost use Rattle.phone_parts.specs.Suffixes.{is_mark};
-
-    ghost members = { λ _ c. is_mark c };
-
-    fn has(&self, c: char) -> bool {
-        matches!(c, ':' | '.' | '\u{FF0E}')
-    }
-}
-
-struct Gaps;
-
-impl CharSet for Gaps {
-    ghost use Rattle.phone_parts.specs.Suffixes.{is_gap};
-
-    ghost members = { λ _ c. is_gap c };
-
-    fn has(&self, c: char) -> bool {
-        matches!(c, ' ' | '\u{A0}' | '\t' | ',' | '-')
-    }
-}
-
-struct Digits;
-
-impl CharSet for Digits {
-    ghost use Rattle.phone_core.specs.Characters.{is_nd};
-
-    ghost members = { λ _ c. is_nd c };
-
-    fn has(&self, c: char) -> bool {
-        is_nd(c)
-    }
-}
-
-struct Dashes;
-
-impl CharSet for Dashes {
-    ghost use Rattle.phone_parts.specs.Suffixes.{is_dash};
-
-    ghost members = { λ _ c. is_dash c };
-
-    fn has(&self, c: char) -> bool {
-        c == '-' || c == ' '
-    }
-}
-
-struct Sign;
-
-impl CharSet for Sign {
-    ghost use Rattle.phone_parts.specs.Suffixes.{is_sign};
-
-    ghost members = { λ _ c. is_sign c };
-
-    fn has(&self, c: char) -> bool {
-        c == '#'
-    }
 }
 
 /// Whether the character may stand before an indicator.
@@ -165,20 +73,35 @@ fn begins_suffix(text: &str) -> bool
     text.starts_with(|c| is_suffix_start(c))
 }
 
-/// The longest end of a text that is an extension, with what stands before it; none where no end is one. It asks from
-/// the left, at each border between characters, whether an extension begins there, and passes at once a border whose
-/// character can't begin one. Where a run of spaces, tabs and commas is followed by no indicator, that is found out once,
-/// at the front of the run. So the cost is linear in the text, but for runs of spaces, hyphens and commas: at most the
-/// square of such a run's length.
+/// How many bytes the ends of a text may have that end an extension.
+#[derive(Clone, Copy)]
+struct Limits {
+    /// An end that may follow an indicator: each end with no more bytes is one.
+    ending: usize,
+
+    /// An extension with a number sign behind its digits: none has more bytes.
+    number_sign: usize,
+}
+
+/// The longest end of a text that is an extension, with what stands before it; none where no end is one. What an
+/// extension ends in is found out once, from the right. Then it is asked from the left, at each border between
+/// characters, whether an extension begins there, and a border whose character can't begin one is passed at once. The
+/// indicators are tried only where the character begins one, and what follows is compared by its length alone. Where a
+/// run of spaces, tabs and commas is followed by no indicator, that is found out once, at the front of the run. So the
+/// time is linear in the text.
 pub(crate) fn find_suffix(text: &str) -> Option<(&str, Suffix<'_>)>
     ensures read { MatchOption result (HasNoSuffix (chars text.now)) (λ p. HasLongestSuffix (chars text.now) (chars p.0.now) p.1.form (chars p.1.digits.now)) }
     ensures front { IfSome result (λ p. (v : List ℕ) × (text.now ≡ p.0.now ++ v)) }
     ensures slice { IfSome result (λ p. IsSlice text.now p.1.digits.now) }
 {
+    let limits = Limits {
+        ending: ending_limit(text),
+        number_sign: number_sign_limit(text),
+    };
     let mut rest = text;
     let mut in_lead = false;
     while let Some((c, after)) = split_first(rest) {
-        if let Some(found) = read_suffix(rest, in_lead) {
+        if let Some(found) = read_suffix(rest, limits, in_lead) {
             return Some((before(text, rest), found));
         }
         in_lead = is_lead(c);
@@ -188,8 +111,10 @@ pub(crate) fn find_suffix(text: &str) -> Option<(&str, Suffix<'_>)>
 }
 
 /// The text as an extension. It may be known that the text has no indicator: then that form isn't tried.
-fn read_suffix(text: &str, no_indicator: bool) -> Option<Suffix<'_>>
-    requires { IsTrue no_indicator → (d : List ℕ) → ¬ (IsIndicated (chars text.now) d) }
+fn read_suffix(text: &str, limits: Limits, no_indicator: bool) -> Option<Suffix<'_>>
+    requires unindicated { IsTrue no_indicator → (d : List ℕ) → ¬ (IsIndicated (chars text.now) d) }
+    requires ending { AreEndsUpTo IsSomeEnding limits.ending text.now }
+    requires number_sign { AreEndsWithin IsSomeNumberSigned limits.number_sign text.now }
     ensures read { MatchOption result ((f : Form) (d : List ℕ) → ¬ (IsSuffix (chars text.now) f d)) (λ s. IsSuffix (chars text.now) s.form (chars s.digits.now)) }
     ensures slice { IfSome result (λ s. IsSlice text.now s.digits.now) }
 {
@@ -202,26 +127,31 @@ fn read_suffix(text: &str, no_indicator: bool) -> Option<Suffix<'_>>
             digits,
         });
     }
-    if let Some(digits) = indicated_unless(text, no_indicator) {
+    if let Some(digits) = indicated_unless(text, limits.ending, no_indicator) {
         return Some(Suffix {
             form: Form::Indicated,
             digits,
         });
     }
-    let digits = signed(text)?;
+    let digits = number_signed(text, limits.number_sign)?;
     Some(Suffix {
-        form: Form::Signed,
+        form: Form::NumberSign,
         digits,
     })
 }
 
 /// The digits of an extension with an indicator, unless it is known that the text is none.
-fn indicated_unless(text: &str, no_indicator: bool) -> Option<&str>
-    requires { IsTrue no_indicator → (d : List ℕ) → ¬ (IsIndicated (chars text.now) d) }
+fn indicated_unless(text: &str, limit: usize, no_indicator: bool) -> Option<&str>
+    requires unindicated { IsTrue no_indicator → (d : List ℕ) → ¬ (IsIndicated (chars text.now) d) }
+    requires limit { AreEndsUpTo IsSomeEnding limit text.now }
     ensures read { MatchOption result ((d : List ℕ) → ¬ (IsIndicated (chars text.now) d)) (λ d. IsIndicated (chars text.now) (chars d.now)) }
     ensures slice { IfSome result (λ d. IsSlice text.now d.now) }
 {
-    if no_indicator { None } else { indicated(text) }
+    if no_indicator {
+        None
+    } else {
+        indicated(text, limit)
+    }
 }
 
 /// Whether the text is digits of any script, and no more of them than this.
@@ -255,11 +185,15 @@ fn parameter(text: &str) -> Option<&str>
     Some(digits)
 }
 
-/// The digits of ` 5#`.
-fn signed(text: &str) -> Option<&str>
-    ensures read { MatchOption result ((d : List ℕ) → ¬ (IsSigned (chars text.now) d)) (λ d. IsSigned (chars text.now) (chars d.now)) }
+/// The digits of ` 5#`, where the text is no longer than such an extension may be.
+fn number_signed(text: &str, limit: usize) -> Option<&str>
+    requires { AreEndsWithin IsSomeNumberSigned limit text.now }
+    ensures read { MatchOption result ((d : List ℕ) → ¬ (IsNumberSigned (chars text.now) d)) (λ d. IsNumberSigned (chars text.now) (chars d.now)) }
     ensures slice { IfSome result (λ d. IsSlice text.now d.now) }
 {
+    if text.len() > limit {
+        return None;
+    }
     let (lead, rest) = split_run(text, &Dashes);
     let (digits, sign) = split_run(rest, &Digits);
     if is_nothing(lead) {
@@ -279,13 +213,14 @@ fn signed(text: &str) -> Option<&str>
 }
 
 /// The digits of an extension with an indicator.
-fn indicated(text: &str) -> Option<&str>
+fn indicated(text: &str, limit: usize) -> Option<&str>
+    requires { AreEndsUpTo IsSomeEnding limit text.now }
     ensures read { MatchOption result ((d : List ℕ) → ¬ (IsIndicated (chars text.now) d)) (λ d. IsIndicated (chars text.now) (chars d.now)) }
     ensures slice { IfSome result (λ d. IsSlice text.now d.now) }
 {
     let mut rest = text;
     while let Some((c, after)) = split_first(rest) {
-        if let Some(digits) = announced(rest, &INDICATORS) {
+        if let Some(digits) = announced(rest, limit) {
             return Some(digits);
         }
         if !is_lead(c) {
@@ -296,15 +231,27 @@ fn indicated(text: &str) -> Option<&str>
     None
 }
 
+/// The digits of an indicator at the front of the text, and what may follow one. Only the indicators are tried that
+/// begin with the text's first character.
+fn announced(text: &str, limit: usize) -> Option<&str>
+    requires { AreEndsUpTo IsSomeEnding limit text.now }
+    ensures read { MatchOption result ((d : List ℕ) → ¬ (IsAnnounced indicators (chars text.now) d)) (λ d. IsAnnounced indicators (chars text.now) (chars d.now)) }
+    ensures slice { IfSome result (λ d. IsSlice text.now d.now) }
+{
+    let (c, _) = split_first(text)?;
+    after_some_word(text, indicators_from(c), limit)
+}
+
 /// The digits of an ending after one of the words.
-fn announced<'a>(text: &'a str, words: &[&str]) -> Option<&'a str>
+fn after_some_word<'a>(text: &'a str, words: &[&str], limit: usize) -> Option<&'a str>
+    requires { AreEndsUpTo IsSomeEnding limit text.now }
     ensures read { MatchOption result
         ((d : List ℕ) → ¬ (IsAnnounced (map (λ (w : Bor (List ℕ)). chars w.now) words.now) (chars text.now) d))
         (λ d. IsAnnounced (map (λ (w : Bor (List ℕ)). chars w.now) words.now) (chars text.now) (chars d.now)) }
     ensures slice { IfSome result (λ d. IsSlice text.now d.now) }
 {
     for word in words {
-        if let Some(digits) = after_word(text, word) {
+        if let Some(digits) = after_word(text, word, limit) {
             return Some(digits);
         }
     }
@@ -312,13 +259,17 @@ fn announced<'a>(text: &'a str, words: &[&str]) -> Option<&'a str>
 }
 
 /// The digits of an ending after this word.
-fn after_word<'a>(text: &'a str, word: &str) -> Option<&'a str>
+fn after_word<'a>(text: &'a str, word: &str, limit: usize) -> Option<&'a str>
+    requires { AreEndsUpTo IsSomeEnding limit text.now }
     ensures read { MatchOption result
         ((d : List ℕ) → ¬ (IsAnnounced (chars word.now ∷ []) (chars text.now) d))
         (λ d. IsAnnounced (chars word.now ∷ []) (chars text.now) (chars d.now)) }
     ensures slice { IfSome result (λ d. IsSlice text.now d.now) }
 {
     let rest = strip_like(text, word)?;
+    if rest.len() > limit {
+        return None;
+    }
     ending(rest)
 }
 

@@ -47,10 +47,10 @@ returns-in-Parameter-clause-read c =
     Naturals.with_parameter core national digits c.in-Some.ensures.core
     (subst (λ f. HasLongestSuffix core national f digits) c.in-Parameter.is c.in-Some-find_suffix.ensures.read)
 
-pub returns-in-Signed-clause-read : goal.returns-in-Signed-clause-read
-returns-in-Signed-clause-read c =
+pub returns-in-NumberSign-clause-read : goal.returns-in-NumberSign-clause-read
+returns-in-NumberSign-clause-read c =
     let core = chars c.in-Some.core.now in
     let national = chars c.in-Some-find_suffix.national.now in
     let digits = chars c.in-Some-find_suffix.found.digits.now in
     Naturals.with_sign core national digits c.in-Some.ensures.core
-    (subst (λ f. HasLongestSuffix core national f digits) c.in-Signed.is c.in-Some-find_suffix.ensures.read)
+    (subst (λ f. HasLongestSuffix core national f digits) c.in-NumberSign.is c.in-Some-find_suffix.ensures.read)

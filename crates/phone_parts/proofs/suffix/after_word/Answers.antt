@@ -1,4 +1,4 @@
-use Rattle.std.proofs.Common.{◌∷◌, [], List, ℕ, Option, Some, None, MatchOption, Bor}
+use Rattle.std.proofs.Common.{◌∷◌, [], List, ℕ, Option, Some, None, MatchOption, Bor, IsUtf8, rules, arith}
 use Rattle.std.specs.Str.{chars}
 use Rattle.phone_parts.specs.Suffixes.{IsAnnounced, IsEnding}
 use Rattle.phone_parts.proofs.Endings.{after_announced, announced_of, not_announced}
@@ -20,3 +20,10 @@ pub returns-clause-slice : goal.returns-clause-slice
 returns-clause-slice c =
     let e = c.in_ok-rest.ensures.end in
     within c.args.text.now e.0 c.in_ok-rest.rest.now e.1 c.ending.result c.ending.ensures.slice
+
+pub returns-then-rest-limit-clause-read : goal.returns-then-rest-limit-clause-read
+returns-then-rest-limit-clause-read c = λ d a.
+    let e = c.in_ok-rest.ensures.end in
+    let is_text : IsUtf8 c.in_ok-rest.rest.now = search rules in
+    let le = (c.requires e.0 c.in_ok-rest.rest.now e.1 is_text).0 (d, after_announced _ _ _ d c.in_ok-rest.ensures.read a) in
+    absurd (omega (arith, le, c.if-rest-limit.true))

@@ -3,10 +3,11 @@ use Rattle.std.proofs.lemmas.Bool.{cases_lt}
 use Rattle.std.proofs.lemmas.List.{append_cancel_right, nil_from_length}
 use Rattle.std.proofs.lemmas.Str.{chars-nil}
 use Rattle.std.specs.Str.{chars}
-use Rattle.phone_parts.specs.Suffixes.{IsSuffix}
+use Rattle.phone_parts.specs.Suffixes.{IsSomeEnding, IsSomeNumberSigned, IsSuffix}
 use Rattle.phone_parts.specs.declared.suffix.Form.{Form}
 use Rattle.phone_parts.specs.declared.suffix.Form.TheVariants.{Indicated}
 use Rattle.phone_parts.proofs.Borders.{borders_more}
+use Rattle.phone_parts.proofs.Longest.{up_to_of_end, within_of_end}
 use Rattle.phone_parts.proofs.Slices.{slice_of_end}
 use Rattle.phone_parts.proofs.Starts.{suffix_begins, not_indicated_after_lead}
 use Rattle.phone_parts.proofs.suffix.find_suffix.Goals as goal
@@ -56,3 +57,13 @@ returns-clause-read c = λ k f d h.
     let nil : drop k text ≡ [] = nil_from_length (drop k text) (omega (arith, length-drop k text)) in
     true≢false (sym (suffix_begins [] f d (subst (λ t. IsSuffix t f d) nil h))))
     (cases_lt k (length text))
+
+pub read_suffix-requires-clause-ending : goal.read_suffix-requires-clause-ending
+read_suffix-requires-clause-ending c =
+    let v = c.loop-c.invariant.1 in
+    up_to_of_end IsSomeEnding _ c.args.text.now v.0 c.loop-c.rest.now v.1 c.ending_limit.ensures
+
+pub read_suffix-requires-clause-number_sign : goal.read_suffix-requires-clause-number_sign
+read_suffix-requires-clause-number_sign c =
+    let v = c.loop-c.invariant.1 in
+    within_of_end IsSomeNumberSigned _ c.args.text.now v.0 c.loop-c.rest.now v.1 c.number_sign_limit.ensures

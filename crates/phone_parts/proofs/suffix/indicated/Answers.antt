@@ -2,7 +2,8 @@ use Rattle.std.proofs.Common.{ℕ, ◌∷◌, [], ◌++◌, List, encode_utf8, r
 use Rattle.std.proofs.lemmas.List.Folds.{list_all-append}
 use Rattle.std.proofs.lemmas.Str.{chars-nil}
 use Rattle.std.specs.Str.{chars}
-use Rattle.phone_parts.specs.Suffixes.{IsAnnounced, IsIndicated, is_lead, indicators}
+use Rattle.phone_parts.specs.Suffixes.{IsAnnounced, IsIndicated, IsSomeEnding, is_lead, indicators}
+use Rattle.phone_parts.proofs.Longest.{up_to_of_end}
 use Rattle.phone_parts.proofs.Slices.{slice_of_end}
 use Rattle.phone_parts.proofs.Starts.{indicated_rest, not_indicated_nil}
 use Rattle.phone_parts.proofs.suffix.indicated.Goals as goal
@@ -54,3 +55,8 @@ loop-c-preserved c =
 pub returns-clause-read : goal.returns-clause-read
 returns-clause-read c = λ d h.
     not_indicated_nil d (subst (λ t. IsIndicated t d) (ap chars c.in_default.ensures.cut ∙ chars-nil) (c.loop-c.invariant.3 d h))
+
+pub announced-requires : goal.announced-requires
+announced-requires c =
+    let v = c.loop-c.invariant.1 in
+    up_to_of_end IsSomeEnding c.args.limit c.args.text.now v.0 c.loop-c.rest.now v.1 c.requires

@@ -1,0 +1,43 @@
+use Rattle.std.proofs.Common.{◌++◌, ◌∷◌, [], length, refl, ap, sym, ◌∙◌, encode_utf8, arith}
+use Rattle.std.specs.Str.{chars}
+use Rattle.phone_parts.specs.Suffixes.{IsSomeNumberSigned}
+use Rattle.phone_parts.proofs.Closings.{ends_in_sign, front_of_front, lead_before, lead_le, some_digits, whole_front}
+use Rattle.phone_parts.proofs.Longest.{chars_cut, ends_within}
+use Rattle.phone_parts.proofs.tails.number_sign_limit.Goals as goal
+
+pub returns-then-last-ne35 : goal.returns-then-last-ne35
+returns-then-last-ne35 c = λ before end cut is_end k.
+    let whole = chars_cut c.args.text.now before end c.utf8.text cut is_end in
+    absurd (c.if-last-ne35.true (ends_in_sign (chars c.in-Some.without_sign.now) c.in-Some.last (chars before) (chars end) k.0 (sym c.in-Some.ensures.read ∙ whole) k.1))
+
+pub returns-then-without_digits-without_sign : goal.returns-then-without_digits-without_sign
+returns-then-without_digits-without_sign c = λ before end cut is_end k.
+    let whole = chars_cut c.args.text.now before end c.utf8.text cut is_end in
+    let signed = c.in-Some.ensures.read ∙ ap (λ x. chars c.in-Some.without_sign.now ++ x ∷ []) c.if-last-ne35.false in
+    let less = some_digits (chars c.args.text.now) (chars c.in-Some.without_sign.now) (chars c.before_few-without_digits.result.now) signed
+    c.before_few-without_digits.ensures.read (chars before) (chars end) k.0 whole k.1 in
+    let same = whole_front c.in-Some.without_sign.now c.before_few-without_digits.result.now c.before_few-without_digits.ensures.front c.if-without_digits-without_sign.true in
+    absurd (omega (arith, less, ap (λ t. length (chars t)) same))
+
+pub returns-then-left-without_digits : goal.returns-then-left-without_digits
+returns-then-left-without_digits c = λ before end cut is_end k.
+    let whole = chars_cut c.args.text.now before end c.utf8.text cut is_end in
+    let signed = c.in-Some.ensures.read ∙ ap (λ x. chars c.in-Some.without_sign.now ++ x ∷ []) c.if-last-ne35.false in
+    let less = lead_before (chars c.args.text.now) (chars c.in-Some.without_sign.now) (chars c.before_few-without_digits.result.now) signed
+    c.before_few-without_digits.ensures.read (chars before) (chars end) k.0 whole k.1 in
+    let far = lead_le (chars c.args.text.now) (chars c.in-Some.without_sign.now) (chars c.before_few-without_digits.result.now) signed
+    c.before_few-without_digits.ensures.read (chars c.before_run-left.result.now) (chars before) (chars end) k.0 c.before_run-left.ensures.read whole k.1 in
+    let same = whole_front c.before_few-without_digits.result.now c.before_run-left.result.now c.before_run-left.ensures.front c.if-left-without_digits.true in
+    absurd (omega (arith, less, far, ap (λ t. length (chars t)) same))
+
+pub returns : goal.returns
+returns c =
+    let text = c.args.text.now in
+    let signed = c.in-Some.ensures.read ∙ ap (λ x. chars c.in-Some.without_sign.now ++ x ∷ []) c.if-last-ne35.false in
+    let cut = front_of_front text _ _ (front_of_front text _ _ (encode_utf8 c.in-Some.last, c.in-Some.ensures.cut) c.before_few-without_digits.ensures.front)
+    c.before_run-left.ensures.front in
+    ends_within IsSomeNumberSigned text c.before_run-left.result.now cut.0 c.utf8.text c.before_run-left.utf8 cut.1
+    (λ before w whole k.
+    lead_le (chars text) (chars c.in-Some.without_sign.now) (chars c.before_few-without_digits.result.now) signed c.before_few-without_digits.ensures.read
+    (chars c.before_run-left.result.now) before w k.0 c.before_run-left.ensures.read whole k.1)
+    _ refl
