@@ -26,10 +26,10 @@ returns-then-is_second_number-clause-read c =
     let i = c.loop-after.invariant.2 in
     let first = chars c.before-then-is_second_number.result.now in
     let rest = chars c.loop-after.rest.now in
-    let same : i.0 ≡ first = append_cancel_right i.0 first rest (sym i.1 ∙ c.before-then-is_second_number.ensures.read) in
+    let same : i.0 ≡ first = append_cancel_right i.0 first rest (sym i.1 ∙ c.before-then-is_second_number.ensures.read c.loop-after.invariant.1) in
     record {
       after = rest;
-      whole = c.before-then-is_second_number.ensures.read;
+      whole = c.before-then-is_second_number.ensures.read c.loop-after.invariant.1;
       ended = inr (sym c.is_second_number.ensures ∙ c.if-is_second_number.true);
       earliest = subst (λ t. (k : ℕ) → k < length t → begins_second_number (drop k (chars c.args.text.now)) ≡ false) same i.2;
     }

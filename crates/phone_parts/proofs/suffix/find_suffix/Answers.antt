@@ -23,10 +23,10 @@ returns-in-Some-read_suffix-clause-read c =
     let text = chars c.args.text.now in
     let rest = chars c.loop-c.rest.now in
     let first = chars c.before-in-Some-read_suffix.result.now in
-    let same : i.0 ≡ first = append_cancel_right i.0 first rest (sym i.1 ∙ c.before-in-Some-read_suffix.ensures.read) in
+    let same : i.0 ≡ first = append_cancel_right i.0 first rest (sym i.1 ∙ c.before-in-Some-read_suffix.ensures.read c.loop-c.invariant.1) in
     record {
       suffix = rest;
-      whole = c.before-in-Some-read_suffix.ensures.read;
+      whole = c.before-in-Some-read_suffix.ensures.read c.loop-c.invariant.1;
       is_suffix = c.in-Some-read_suffix.ensures.read;
       longest = λ k f d less. subst (λ t. (j : ℕ) → j < length t → (g : Form) (e : List ℕ) → ¬ (IsSuffix (drop j text) g e)) same i.2 k less f d;
     }
