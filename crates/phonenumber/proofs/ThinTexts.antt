@@ -10,7 +10,6 @@ use Rattle.phone_parts.specs.Cores.{IsCore, begins_second_number, is_start, is_l
 use Rattle.phone_parts.specs.Naturals
 use Rattle.phone_parts.specs.Naturals.{IsNatural}
 use Rattle.phone_parts.specs.Tel
-use Rattle.phone_parts.specs.Parts.{Parts}
 use Rattle.phone_parts.specs.Tel.{IsTel, is_national}
 use Rattle.phone_parts.specs.Texts.{begins, ends}
 use Rattle.phone_parts.proofs.Endings.{member_passes}
