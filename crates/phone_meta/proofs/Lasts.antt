@@ -1,11 +1,12 @@
 -- The territories that an iteration gives are the last ones of their ids.
-use Rattle.std.proofs.Common.{◌≡◌, ◌⊎◌, inl, inr, ℕ, Bool, true, false, cond, List, [], ◌∷◌, ◌||◌, Option, None, Some, refl, ap, sym, subst, ◌∙◌, arith}
-use Rattle.std.proofs.lemmas.Bool.{true≢false}
+use Rattle.std.proofs.Common.{◌≡◌, ◌⊎◌, inl, inr, ℕ, Bool, true, false, cond, List, [], ◌∷◌, ◌||◌, map, Option, None, Some, refl, ap, sym, subst, ◌∙◌, arith}
+use Rattle.std.proofs.lemmas.Bool.{false_from_ne_true, true≢false}
 use Rattle.std.proofs.lemmas.List.Elements.{Contains-append_left, Contains-append_right, Contains-append_cases, Contains-push, Contains-push_cases}
 use Rattle.std.proofs.lemmas.Option.{none-some}
 use Rattle.std.proofs.lemmas.Slice.Eq.{bytes_eq-Decides}
-use Rattle.std.specs.List.{Contains, list_any}
+use Rattle.std.specs.List.{AllByRecursion, Contains, IsDistinct, list_any}
 use Rattle.std.specs.Option.{option_or, unwrap_or}
+use Rattle.std.specs.Str.{bytes_eq}
 use Rattle.phone_meta.specs.Records.{has_id, id_of, last_where, last_with, lasts}
 use Rattle.phone_meta.specs.declared.loader.Metadata.{Metadata}
 
@@ -64,6 +65,32 @@ lasts-last (x ∷ xs) m h = step (list_any (has_id (id_of x)) xs) refl (lasts-la
     step : (b : Bool) → list_any (has_id (id_of x)) xs ≡ b → (Contains (lasts xs) m → last_with (id_of m) xs ≡ Some m) → Contains (cond b (lasts xs) (x ∷ lasts xs)) m → last_with (id_of m) (x ∷ xs) ≡ Some m
     step true e f h = later (f h)
     step false e f h = cases e f (uncons x m (lasts xs) h)
+
+-- no item given is of an id
+abbrev NoneGiven : List ℕ → List Metadata → Type 0
+NoneGiven id ms = AllByRecursion (λ other. bytes_eq id other ≡ false) (map id_of ms)
+
+none_given : (id : List ℕ) (db : List Metadata) → list_any (has_id id) db ≡ false → NoneGiven id (lasts db)
+none_given id [] e = tt
+none_given id (x ∷ xs) e = step (has_id id x) refl (list_any (has_id (id_of x)) xs) e (none_given id xs)
+  where
+    apart : has_id id x ≡ false → bytes_eq id (id_of x) ≡ false
+    apart other = false_from_ne_true _ (λ t. true≢false (sym ((bytes_eq-Decides (id_of x) id).1 (sym ((bytes_eq-Decides id (id_of x)).0 t))) ∙ other))
+
+    step : (b : Bool) → has_id id x ≡ b → (c : Bool) → (b || list_any (has_id id) xs) ≡ false → (list_any (has_id id) xs ≡ false → NoneGiven id (lasts xs)) → NoneGiven id (cond c (lasts xs) (x ∷ lasts xs))
+    step true has c e f = absurd (true≢false e)
+    step false has true e f = f e
+    step false has false e f = (apart has, f e)
+
+-- no two that are given have one id
+pub distinct-lasts : (db : List Metadata) → IsDistinct bytes_eq (map id_of (lasts db))
+unfolding IsDistinct
+distinct-lasts [] = tt
+distinct-lasts (x ∷ xs) = step (list_any (has_id (id_of x)) xs) refl (distinct-lasts xs)
+  where
+    step : (b : Bool) → list_any (has_id (id_of x)) xs ≡ b → IsDistinct bytes_eq (map id_of (lasts xs)) → IsDistinct bytes_eq (map id_of (cond b (lasts xs) (x ∷ lasts xs)))
+    step true e d = d
+    step false e d = (none_given (id_of x) xs e, d)
 
 -- the last of an id is given
 pub last-lasts : (id : List ℕ) (db : List Metadata) (m : Metadata) → last_with id db ≡ Some m → Contains (lasts db) m

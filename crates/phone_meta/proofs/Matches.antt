@@ -3,7 +3,7 @@ use Rattle.std.proofs.Common.{◌≡◌, ◌==◌, false, ℕ, zero, suc, ◌-�
 use Rattle.std.proofs.Math.Nat.{sub-zero}
 use Rattle.std.proofs.lemmas.Bool.{cond-false}
 use Rattle.std.proofs.lemmas.List.{get_or_default}
-use Rattle.std.specs.Option.{option_and_then, option_map_or, unwrap_or}
+use Rattle.std.specs.Option.{IsSome, option_and_then, option_map_or, unwrap_or}
 use Rattle.std.specs.Str.{chars}
 use Rattle.regex.specs.Patterns.{Re, Match, Reads, SameCaptures, find_str, find_all_str, span}
 use Rattle.regex.specs.Replace.{group_bytes, replaced_by}
@@ -16,7 +16,7 @@ use Rattle.regex_hir.specs.Find.{matches_from}
 use Rattle.regex_syntax.specs.Grammar.{read, Names}
 use Rattle.regex_syntax.specs.Brackets.{Nested}
 use Rattle.regex_syntax.proofs.CapturesLemmas.{find_str_alike}
-use Rattle.phone_meta.specs.First.{first_match, first_span, last_group, captured, captured_by, names_in, replaced, with_first_replaced, group_in, verbose, Seen, seen_of}
+use Rattle.phone_meta.specs.First.{IsPattern, first_match, first_span, last_group, captured, captured_by, names_in, replaced, with_first_replaced, group_in, verbose, Seen, seen_of}
 
 -- what a pattern text is read as
 abbrev Parsed : Type 0
@@ -32,6 +32,10 @@ named : (o : Option Parsed) (P : Parsed → Type 0) (names : Names) →
     IsSomeAnd o P → ((x : Parsed) → P x → names ≡ x.1) → names ≡ option_map_or (λ (_, names). names) o []
 named None P names p f = absurd p
 named (Some x) P names p f = f x p
+
+is_read_as : (o : Option Parsed) (P : Parsed → Type 0) → IsSomeAnd o P → IsSome o
+is_read_as None P p = absurd p
+is_read_as (Some x) P p = refl
 
 through : (o : Option Match) → option_map span o ≡ option_map (λ (s : Seen). (s.0, s.1)) (option_map seen_of o)
 through None = refl
@@ -55,6 +59,11 @@ replaced_one w hay (Some m) n f = refl
 module _ (r : Regex) (config : regex_config r ≡ verbose) (is_read : IsReadFromSource r) where
   reads : Reads verbose (regex_source r) r.pattern.program.hir (regex_names r)
   reads = rw config at is_read
+
+  -- its text is a pattern
+  pub is_pattern : IsPattern (regex_source r)
+  unfolding IsPattern Reads
+  is_pattern = is_read_as (read verbose (chars (regex_source r))) _ reads
 
   -- the names of its groups are those of its text
   pub regex_names-names_in : regex_names r ≡ names_in (regex_source r)

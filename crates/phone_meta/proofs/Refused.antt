@@ -1,86 +1,141 @@
--- A pattern of a part of a record is one of the record.
-use Rattle.std.proofs.Common.{MatchOption, inl, ◌≡◌, ℕ, zero, suc, List, [], ◌∷◌, ◌++◌, Option, None, Some, subst, sym}
-use Rattle.std.proofs.lemmas.List.Elements.{Contains-append_left, Contains-append_right}
+-- A pattern of a part of a record is refused as one of the record's, where what is compiled before it are patterns.
+use Rattle.std.proofs.Common.{MatchOption, inl, ◌≡◌, ℕ, zero, suc, List, [], ◌∷◌, ◌++◌, append_assoc, take, None, Some, ap, subst, sym, ◌∙◌}
 use Rattle.std.proofs.lemmas.Option.{none-some}
-use Rattle.std.specs.List.{Contains, flat_map, slice_get}
+use Rattle.std.specs.List.{AllByRecursion, flat_map, slice_get}
 use Rattle.std.specs.Option.{option_to_list, unwrap_or}
+use Rattle.phone_meta.specs.First.{IsPattern}
 use Rattle.phone_meta.specs.Missing.{descriptors_of, first_missing}
 use Rattle.phone_meta.specs.Records.{first_group_pattern}
-use Rattle.phone_meta.specs.Refusals.{IsPatternRefusal, IsRefusalOf, TellsMissing, patterns, patterns_in, patterns_in_descriptor, patterns_in_format}
+use Rattle.phone_meta.specs.Refusals.{IsPatternRefusal, IsRefusedIn, IsRefusalOf, TellsMissing, patterns, patterns_in, patterns_in_descriptor, patterns_in_format}
 use Rattle.phone_meta.specs.declared.error.LoadMetadata.{LoadMetadata}
 use Rattle.phone_meta.specs.declared.error.LoadMetadata.TheVariants as error
-use Rattle.phone_meta.specs.declared.loader.Descriptor.{Descriptor}
 use Rattle.phone_meta.specs.declared.loader.Metadata.{Metadata}
 
 abbrev Texts : Type 0
 Texts = List (List ℕ)
 
--- fewer patterns, the same refusal
-pub within : (ps qs : Texts) (e : LoadMetadata) → ((p : List ℕ) → Contains ps p → Contains qs p) → IsPatternRefusal ps e → IsPatternRefusal qs e
-within ps qs (error.Regex text) f h = f _ h
-within ps qs error.Memory f h = tt
-within ps qs (error.Metadata x) f h = absurd h
-within ps qs error.Json f h = absurd h
-within ps qs (error.Kind x y) f h = absurd h
-within ps qs error.Io f h = absurd h
+abbrev pub ArePatterns : Texts → Type 0
+ArePatterns texts = AllByRecursion IsPattern texts
 
-pub in_flat_map : {X : Type 0} (f : X → Texts) (xs : List X) (k : ℕ) (x : X) (p : List ℕ) → slice_get xs k ≡ Some x → Contains (f x) p → Contains (flat_map f xs) p
-in_flat_map f [] k x p at h = absurd (none-some x at)
-in_flat_map f (y ∷ xs) zero x p at h = Contains-append_left (f y) (flat_map f xs) p (subst (λ o. Contains (f (unwrap_or o x)) p) (sym at) h)
-in_flat_map f (y ∷ xs) (suc k) x p at h = Contains-append_right (f y) (flat_map f xs) p (in_flat_map f xs k x p at h)
+-- of each of these the patterns are patterns
+abbrev pub HavePatterns : {X : Type 0} → (X → Texts) → List X → Type 0
+HavePatterns f xs = AllByRecursion (λ x. ArePatterns (f x)) xs
 
-pub between : {X : Type 0} (f : X → Texts) (xs ys : List X) (x : X) (p : List ℕ) → Contains (f x) p → Contains (flat_map f (xs ++ x ∷ ys)) p
-between f [] ys x p h = Contains-append_left (f x) (flat_map f ys) p h
-between f (y ∷ xs) ys x p h = Contains-append_right (f y) (flat_map f (xs ++ x ∷ ys)) p (between f xs ys x p h)
+pub both-patterns : (xs ys : Texts) → ArePatterns xs → ArePatterns ys → ArePatterns (xs ++ ys)
+both-patterns [] ys h k = k
+both-patterns (x ∷ xs) ys h k = (h.0, both-patterns xs ys h.1 k)
+
+pub flat-patterns : {X : Type 0} (f : X → Texts) (xs : List X) → HavePatterns f xs → ArePatterns (flat_map f xs)
+flat-patterns f [] h = tt
+flat-patterns f (x ∷ xs) h = both-patterns (f x) (flat_map f xs) h.0 (flat-patterns f xs h.1)
+
+-- one more at the end
+pub have-push : {X : Type 0} (f : X → Texts) (xs : List X) (x : X) → HavePatterns f xs → ArePatterns (f x) → HavePatterns f (xs ++ x ∷ [])
+have-push f [] x h k = (k, tt)
+have-push f (y ∷ ys) x h k = (h.0, have-push f ys x h.1 k)
+
+by : (ps qs : Texts) (e : LoadMetadata) → ((p : List ℕ) → IsRefusedIn ps p → IsRefusedIn qs p) → IsPatternRefusal ps e → IsPatternRefusal qs e
+by ps qs (error.Regex text) f h = f _ h
+by ps qs error.Memory f h = tt
+by ps qs (error.Metadata x) f h = absurd h
+by ps qs error.Json f h = absurd h
+by ps qs (error.Kind x y) f h = absurd h
+by ps qs error.Io f h = absurd h
+
+-- more texts after these
+pub refused-left : (ps after : Texts) (e : LoadMetadata) → IsPatternRefusal ps e → IsPatternRefusal (ps ++ after) e
+refused-left ps after e = by ps (ps ++ after) e (λ p h. (h.0, h.1 ++ after, ap (λ xs. xs ++ after) h.2 ∙ append_assoc h.0 (p ∷ h.1) after, h.3))
+
+-- more patterns before these
+pub refused-right : (before ps : Texts) (e : LoadMetadata) → ArePatterns before → IsPatternRefusal ps e → IsPatternRefusal (before ++ ps) e
+refused-right before ps e are = by ps (before ++ ps) e (λ p h. (
+  before ++ h.0,
+  h.1,
+  ap (λ xs. before ++ xs) h.2 ∙ sym (append_assoc before h.0 (p ∷ h.1)),
+  both-patterns before h.0 are h.3,
+))
+
+-- one text is refused of a list, where the texts before it are patterns
+pub refused_here : (before after all : Texts) (t : List ℕ) (e : LoadMetadata) → before ++ t ∷ after ≡ all → ArePatterns before → IsPatternRefusal (t ∷ []) e → IsPatternRefusal all e
+refused_here before after all t e is are h = subst (λ xs. IsPatternRefusal xs e) is (refused-right before (t ∷ after) e are (refused-left (t ∷ []) after e h))
+
+-- what is refused of the item at a place is refused of the list, where the items before it have patterns
+pub refused-at : {X : Type 0} (f : X → Texts) (xs : List X) (k : ℕ) (x : X) (e : LoadMetadata) → slice_get xs k ≡ Some x → HavePatterns f (take k xs) →
+    IsPatternRefusal (f x) e → IsPatternRefusal (flat_map f xs) e
+refused-at f [] k x e at are h = absurd (none-some x at)
+refused-at f (y ∷ xs) zero x e at are h = refused-left (f y) (flat_map f xs) e (subst (λ o. IsPatternRefusal (f (unwrap_or o x)) e) (sym at) h)
+refused-at f (y ∷ xs) (suc k) x e at are h = refused-right (f y) (flat_map f xs) e are.0 (refused-at f xs k x e at are.1 h)
+
+between : {X : Type 0} (f : X → Texts) (xs ys : List X) (x : X) (e : LoadMetadata) → HavePatterns f xs → IsPatternRefusal (f x) e → IsPatternRefusal (flat_map f (xs ++ x ∷ ys)) e
+between f [] ys x e are h = refused-left (f x) (flat_map f ys) e h
+between f (y ∷ xs) ys x e are h = refused-right (f y) (flat_map f (xs ++ x ∷ ys)) e are.0 (between f xs ys x e are.1 h)
 
 -- what is refused of one item of a list is refused of the list
-pub refused_between : {X : Type 0} (f : X → Texts) (xs ys all : List X) (x : X) (e : LoadMetadata) → xs ++ x ∷ ys ≡ all → IsPatternRefusal (f x) e → IsPatternRefusal (flat_map f all) e
-refused_between f xs ys all x e is h = subst (λ zs. IsPatternRefusal (flat_map f zs) e) is (within (f x) (flat_map f (xs ++ x ∷ ys)) e (λ p. between f xs ys x p) h)
+pub refused_between : {X : Type 0} (f : X → Texts) (xs ys all : List X) (x : X) (e : LoadMetadata) → xs ++ x ∷ ys ≡ all → HavePatterns f xs → IsPatternRefusal (f x) e → IsPatternRefusal (flat_map f all) e
+refused_between f xs ys all x e is are h = subst (λ zs. IsPatternRefusal (flat_map f zs) e) is (between f xs ys x e are h)
 
-pub refused-right : (ps qs : Texts) (e : LoadMetadata) → IsPatternRefusal qs e → IsPatternRefusal (ps ++ qs) e
-refused-right ps qs e = within qs (ps ++ qs) e (λ p. Contains-append_right ps qs p)
-
--- where nothing is missing, records are refused for the pattern that stands beside theirs
-pub refused-first_group : (db : List Metadata) (e : LoadMetadata) → first_missing db ≡ None → IsPatternRefusal (first_group_pattern ∷ []) e → IsRefusalOf db e
-refused-first_group db e none h =
+-- where nothing is missing and the records' own are patterns, records are refused for the pattern that stands beside theirs
+pub refused-first_group : (db : List Metadata) (e : LoadMetadata) → first_missing db ≡ None → ArePatterns (flat_map patterns_in db) → IsPatternRefusal (first_group_pattern ∷ []) e → IsRefusalOf db e
+refused-first_group db e none are h =
     inl (subst (λ o. MatchOption o (IsPatternRefusal (patterns db) e) (λ missing. TellsMissing missing e)) (sym none)
-    (refused-right (flat_map patterns_in db) (first_group_pattern ∷ []) e h))
+    (refused-right (flat_map patterns_in db) (first_group_pattern ∷ []) e are h))
 
-module _ (m : Metadata) (e : LoadMetadata) where
+-- where nothing is missing, records are refused for one of their own patterns
+pub refused-territories : (db : List Metadata) (e : LoadMetadata) → first_missing db ≡ None → IsPatternRefusal (flat_map patterns_in db) e → IsRefusalOf db e
+refused-territories db e none h =
+    inl (subst (λ o. MatchOption o (IsPatternRefusal (patterns db) e) (λ missing. TellsMissing missing e)) (sym none)
+    (refused-left (flat_map patterns_in db) (first_group_pattern ∷ []) e h))
+
+module _ (m : Metadata) where
   -- the parts of a record's patterns
-  kinds : Texts
+  abbrev pub kinds : Texts
   kinds = flat_map patterns_in_descriptor (descriptors_of m)
 
-  formats : Texts
-  formats = flat_map patterns_in_format m.formats ++ flat_map patterns_in_format m.international_formats
+  abbrev pub dialled : Texts
+  dialled = option_to_list m.international_prefix
 
-  pub refused-kind : (k : ℕ) (d : Option Descriptor) → slice_get (descriptors_of m) k ≡ Some d → IsPatternRefusal (patterns_in_descriptor d) e → IsPatternRefusal (patterns_in m) e
-  unfolding patterns_in kinds
-  refused-kind k d at = within _ _ e (λ p h. Contains-append_left kinds _ p (in_flat_map patterns_in_descriptor (descriptors_of m) k d p at h))
+  abbrev pub parsing : Texts
+  parsing = option_to_list m.national_prefix_for_parsing
 
-  pub refused-international_prefix : IsPatternRefusal (option_to_list m.international_prefix) e → IsPatternRefusal (patterns_in m) e
-  unfolding patterns_in kinds
-  refused-international_prefix = within _ _ e (λ p h. Contains-append_right kinds _ p (Contains-append_left (option_to_list m.international_prefix) _ p h))
+  abbrev pub leading : Texts
+  leading = option_to_list m.leading_digits
 
-  pub refused-parsing : IsPatternRefusal (option_to_list m.national_prefix_for_parsing) e → IsPatternRefusal (patterns_in m) e
-  unfolding patterns_in kinds
-  refused-parsing = within _ _ e (λ p h. Contains-append_right kinds _ p (Contains-append_right (option_to_list m.international_prefix) _ p
-      (Contains-append_left (option_to_list m.national_prefix_for_parsing) _ p h)))
+  abbrev pub national : Texts
+  national = flat_map patterns_in_format m.formats
 
-  pub refused-leading_digits : IsPatternRefusal (option_to_list m.leading_digits) e → IsPatternRefusal (patterns_in m) e
-  unfolding patterns_in kinds
-  refused-leading_digits = within _ _ e (λ p h. Contains-append_right kinds _ p (Contains-append_right (option_to_list m.international_prefix) _ p
-      (Contains-append_right (option_to_list m.national_prefix_for_parsing) _ p (Contains-append_left (option_to_list m.leading_digits) _ p h))))
+  abbrev pub international : Texts
+  international = flat_map patterns_in_format m.international_formats
 
-  in_formats : (p : List ℕ) → Contains formats p → Contains (patterns_in m) p
-  unfolding patterns_in kinds formats
-  in_formats p h = Contains-append_right kinds _ p (Contains-append_right (option_to_list m.international_prefix) _ p
-      (Contains-append_right (option_to_list m.national_prefix_for_parsing) _ p (Contains-append_right (option_to_list m.leading_digits) _ p h)))
+  pub all-patterns : ArePatterns kinds → ArePatterns dialled → ArePatterns parsing → ArePatterns leading → ArePatterns national → ArePatterns international → ArePatterns (patterns_in m)
+  unfolding patterns_in
+  all-patterns k d p l n i = both-patterns kinds _ k (both-patterns dialled _ d (both-patterns parsing _ p (both-patterns leading _ l (both-patterns national _ n i))))
 
-  pub refused-formats : IsPatternRefusal (flat_map patterns_in_format m.formats) e → IsPatternRefusal (patterns_in m) e
-  unfolding formats
-  refused-formats = within _ _ e (λ p h. in_formats p (Contains-append_left (flat_map patterns_in_format m.formats) _ p h))
+  module _ (e : LoadMetadata) where
+    pub refused-kinds : IsPatternRefusal kinds e → IsPatternRefusal (patterns_in m) e
+    unfolding patterns_in
+    refused-kinds h = refused-left kinds _ e h
 
-  pub refused-international_formats : IsPatternRefusal (flat_map patterns_in_format m.international_formats) e → IsPatternRefusal (patterns_in m) e
-  unfolding formats
-  refused-international_formats = within _ _ e (λ p h. in_formats p (Contains-append_right (flat_map patterns_in_format m.formats) _ p h))
+    module _ (k : ArePatterns kinds) where
+      pub refused-dialled : IsPatternRefusal dialled e → IsPatternRefusal (patterns_in m) e
+      unfolding patterns_in
+      refused-dialled h = refused-right kinds _ e k (refused-left dialled _ e h)
+
+      module _ (d : ArePatterns dialled) where
+        pub refused-parsing : IsPatternRefusal parsing e → IsPatternRefusal (patterns_in m) e
+        unfolding patterns_in
+        refused-parsing h = refused-right kinds _ e k (refused-right dialled _ e d (refused-left parsing _ e h))
+
+        module _ (p : ArePatterns parsing) where
+          pub refused-leading : IsPatternRefusal leading e → IsPatternRefusal (patterns_in m) e
+          unfolding patterns_in
+          refused-leading h = refused-right kinds _ e k (refused-right dialled _ e d (refused-right parsing _ e p (refused-left leading _ e h)))
+
+          module _ (l : ArePatterns leading) where
+            pub refused-formats : IsPatternRefusal national e → IsPatternRefusal (patterns_in m) e
+            unfolding patterns_in
+            refused-formats h = refused-right kinds _ e k (refused-right dialled _ e d (refused-right parsing _ e p (refused-right leading _ e l (refused-left national _ e h))))
+
+            module _ (n : ArePatterns national) where
+              pub refused-international : IsPatternRefusal international e → IsPatternRefusal (patterns_in m) e
+              unfolding patterns_in
+              refused-international h = refused-right kinds _ e k (refused-right dialled _ e d (refused-right parsing _ e p (refused-right leading _ e l (refused-right national _ e n h))))

@@ -2,7 +2,7 @@
 use Rattle.std.specs.Prelude.{◌≡◌, ℕ, ◌+◌, ◌-◌, ◌*◌, ◌==◌, ◌≤◌, ◌&&◌, nat_le, Bool, false, if◌then◌else◌, true, List, [], ◌++◌, map, take, drop, length, Option, Some, None, option_map, IfSome, IsCharBoundary}
 use Rattle.std.specs.Borrow.{Bor}
 use Rattle.std.specs.List.{AllByRecursion}
-use Rattle.std.specs.Option.{option_and_then, option_map_or}
+use Rattle.std.specs.Option.{IsSome, option_and_then, option_map_or}
 use Rattle.std.specs.Str.{chars}
 use Rattle.regex.specs.Patterns.{default_config, Config, Match, find_str, slot_of}
 use Rattle.regex.specs.Replace.{bytes_of}
@@ -16,6 +16,10 @@ use Rattle.phone_meta.specs.declared.pattern.Captured.{Captured}
 -- the options of a database pattern: flag x
 abbrev pub verbose : Config
 verbose = record default_config { flags = record default_config.flags { ignore_whitespace = true } }
+
+-- a text is a pattern if the grammar of patterns reads it
+unfoldable pub IsPattern : List ℕ → Type 0
+IsPattern text = IsSome (read verbose (chars text))
 
 -- where a match begins and ends, and the slots of its groups
 abbrev pub Seen : Type 0

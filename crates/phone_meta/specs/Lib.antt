@@ -1,5 +1,6 @@
 pub mod Codes
 pub mod Empty
+pub mod Errors
 pub mod First
 pub mod Kinds
 pub mod Missing

@@ -1,8 +1,9 @@
 -- Why a list of records is no database.
 use Rattle.std.specs.Prelude.{◌≡◌, ◌⊎◌, ℕ, List, [], ◌∷◌, ◌++◌, Option, MatchOption, string_bytes}
-use Rattle.std.specs.List.{Contains, flat_map}
+use Rattle.std.specs.List.{AllByRecursion, flat_map}
 use Rattle.std.specs.Option.{option_and_then, option_to_list}
-use Rattle.phone_core.specs.declared.error.MetadataError.TheVariants as fault
+use Rattle.phone_meta.specs.First.{IsPattern}
+use Rattle.phone_meta.specs.Errors.{told}
 use Rattle.phone_meta.specs.Missing.{descriptors_of, first_missing, phase_of, name_of}
 use Rattle.phone_meta.specs.Records.{first_group_pattern}
 use Rattle.phone_meta.specs.declared.error.LoadMetadata.{LoadMetadata}
@@ -20,7 +21,7 @@ patterns_in_descriptor d = option_to_list (option_and_then (λ (d : Descriptor).
 abbrev pub patterns_in_format : Format → List (List ℕ)
 patterns_in_format f = option_to_list f.pattern ++ f.leading_digits
 
--- the patterns of a territory
+-- the patterns of a territory: of its descriptors, of what is dialled in front, of its leading digits, and of its layouts
 unfoldable pub patterns_in : Metadata → List (List ℕ)
 patterns_in m =
     flat_map patterns_in_descriptor (descriptors_of m)
@@ -33,16 +34,19 @@ patterns_in m =
 abbrev pub patterns : List Metadata → List (List ℕ)
 patterns db = flat_map patterns_in db ++ first_group_pattern ∷ []
 
--- one of these patterns is refused by its text, or memory was refused
+-- one of these texts is refused, and all before it are patterns
+abbrev pub IsRefusedIn : List (List ℕ) → List ℕ → Type 0
+IsRefusedIn ps p = (before : List (List ℕ)) × (after : List (List ℕ)) × (ps ≡ before ++ p ∷ after) × AllByRecursion IsPattern before
+
+-- one of these patterns, which are compiled in this order, is refused by its text, or memory was refused
 abbrev pub IsPatternRefusal : List (List ℕ) → LoadMetadata → Type 0
-IsPatternRefusal ps (error.Regex text) = Contains ps (string_bytes text)
+IsPatternRefusal ps (error.Regex text) = IsRefusedIn ps (string_bytes text)
 IsPatternRefusal ps error.Memory = Unit {0}
 IsPatternRefusal ps _ = ⊥
 
 -- a refusal tells this missing value, by its kind of record and its name
 abbrev pub TellsMissing : Missing → LoadMetadata → Type 0
-TellsMissing missing (error.Metadata (fault.MissingValue phase name)) = (string_bytes phase ≡ phase_of missing) × (string_bytes name ≡ name_of missing)
-TellsMissing missing _ = ⊥
+TellsMissing missing e = told e ≡ (1, phase_of missing ∷ name_of missing ∷ [])
 
 -- records are refused for the first value that is missing; only where nothing is missing, for one of their patterns; or
 -- memory was refused

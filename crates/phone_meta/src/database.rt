@@ -1,14 +1,15 @@
 //! A database: territories by id and by calling code.
 ghost use Rattle.std.specs.Prelude.{◌≡◌, ℕ, List, None, IfOk, IfErr, option_map};
 ghost use Rattle.std.specs.Bool.{nat_eq};
+ghost use Rattle.std.specs.List.{AllByRecursion};
 ghost use Rattle.std.specs.Result.{IsOk};
 ghost use Rattle.std.specs.HashMap.{get, get_by_text};
 ghost use Rattle.std.specs.Option.{option_copied};
 ghost use Rattle.phone_meta.specs.Codes.{if_any};
 ghost use Rattle.phone_meta.specs.Records.{last_with, last_place, places_where, has_code, has_id, first_group_pattern};
-ghost use Rattle.phone_meta.specs.First.{IsPatternOf};
+ghost use Rattle.phone_meta.specs.First.{IsPattern, IsPatternOf};
 ghost use Rattle.phone_meta.specs.Missing.{first_missing};
-ghost use Rattle.phone_meta.specs.Refusals.{IsRefusalOf, TellsMissing};
+ghost use Rattle.phone_meta.specs.Refusals.{patterns, IsRefusalOf, TellsMissing};
 
 use crate::error::LoadMetadata;
 use crate::loader::{self, Text};
@@ -53,11 +54,13 @@ const FIRST_GROUP: &str = "(\\$\\d)";
 
 impl Database {
     /// A database of these records, in their order. First every record is looked through for a value that it must
-    /// have: refused by `Metadata(MissingValue)` with the first that is missing. Then each pattern is compiled once:
-    /// refused by `Regex` with a text that is no pattern. Refused by `Memory` where memory is refused.
+    /// have: refused by `Metadata(MissingValue)` with the first that is missing. Then each pattern is compiled once, in
+    /// their order: refused by `Regex` with the first text that is no pattern, or compiles to more than 10 MiB. Refused
+    /// by `Memory` where memory is refused.
     pub fn from(alloc: Global, records: Vec<loader::Metadata>) -> Result<Database, LoadMetadata>
         ensures accepted { IfOk result (λ d. d ≡ records.items) }
         ensures complete { IsOk result → first_missing records.items ≡ None }
+        ensures read { IsOk result → AllByRecursion IsPattern (patterns records.items) }
         ensures refused { IfErr result (IsRefusalOf records.items) }
     {
         if let Some(missing) = missing::first_missing(records.as_slice()) {

@@ -1,11 +1,11 @@
 //! What the numbers of one kind look like, with its pattern compiled.
-ghost use Rattle.std.specs.Prelude.{◌≡◌, ◌==◌, None, Some, IfOk, IfErr};
-ghost use Rattle.std.specs.List.{list_any};
+ghost use Rattle.std.specs.Prelude.{◌≡◌, ◌==◌, false, length, None, Some, Ok, IfOk, IfErr};
+ghost use Rattle.std.specs.List.{AllByRecursion, list_any};
 ghost use Rattle.std.specs.Option.{option_copied};
-ghost use Rattle.phone_meta.specs.First.{IsPatternOf};
+ghost use Rattle.phone_meta.specs.First.{IsPattern, IsPatternOf};
 ghost use Rattle.phone_meta.specs.Missing.{missing_in_descriptor};
 ghost use Rattle.phone_meta.specs.Refusals.{IsPatternRefusal, patterns_in_descriptor};
-ghost use Rattle.phone_meta.specs.Records.{matches, pattern_of};
+ghost use Rattle.phone_meta.specs.Records.{allows_length, matches, pattern_of};
 
 use crate::error::LoadMetadata;
 use crate::loader::{self, Text};
@@ -40,6 +40,7 @@ impl Descriptor {
     ) -> Result<Descriptor, LoadMetadata>
         requires { missing_in_descriptor (Some given) ≡ None }
         ensures compiled { IfOk result (λ d. d ≡ given) }
+        ensures read { IfOk result (λ d. AllByRecursion IsPattern (patterns_in_descriptor (Some given))) }
         ensures refused { IfErr result (IsPatternRefusal (patterns_in_descriptor (Some given))) }
     {
         Ok(Descriptor {
@@ -97,9 +98,10 @@ impl Descriptor {
 
     /// Whether a text is such a number: the list of possible lengths is empty or has the text's length in bytes, and
     /// the pattern's first match begins at the first byte. It need not reach the end. The length is asked first, so
-    /// where it decides nothing is searched. Refused only for memory.
+    /// where it decides nothing is searched, and nothing refused. Else refused only for memory.
     pub fn is_match(&self, text: &str) -> Result<bool, AllocError>
-        ensures { IfOk result (λ b. b ≡ matches self.now text.now) }
+        ensures matched { IfOk result (λ b. b ≡ matches self.now text.now) }
+        ensures unsearched { allows_length self.now (length text.now) ≡ false → result ≡ Ok false }
     {
         if !self.has_length(text.len()) {
             return Ok(false);
@@ -109,8 +111,6 @@ impl Descriptor {
 }
 
 impl Descriptor {
-    ghost use Rattle.phone_meta.specs.Records.{allows_length};
-
     fn has_length(&self, length: usize) -> bool
         ensures { result ≡ allows_length self.now length }
     {

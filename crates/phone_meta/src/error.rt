@@ -1,4 +1,7 @@
 //! Why a list of records is no database.
+ghost use Rattle.std.specs.Prelude.{◌≡◌};
+ghost use Rattle.phone_meta.specs.Errors.{told};
+
 use phone_core::MetadataError;
 use std::alloc::{AllocError, AllocFailed};
 use thiserror::Error;
@@ -29,6 +32,25 @@ pub enum LoadMetadata {
     /// Memory was refused.
     #[error("out of memory")]
     Memory,
+}
+
+impl LoadMetadata {
+    /// Which refusal it is: 1 a missing value, 2 a key that may not stand there, 3 no JSON, 4 a value of the wrong kind,
+    /// 5 no pattern, 6 input or output, 7 memory; 8 for the other errors of a record, which are never given.
+    pub fn number(&self) -> u8
+        ensures { result ≡ (told self.now).0 }
+    {
+        match self {
+            LoadMetadata::Metadata(MetadataError::MissingValue { .. }) => 1,
+            LoadMetadata::Metadata(MetadataError::UnhandledElement { .. }) => 2,
+            LoadMetadata::Metadata(_) => 8,
+            LoadMetadata::Json => 3,
+            LoadMetadata::Kind { .. } => 4,
+            LoadMetadata::Regex(_) => 5,
+            LoadMetadata::Io => 6,
+            LoadMetadata::Memory => 7,
+        }
+    }
 }
 
 impl From<AllocError> for LoadMetadata {

@@ -1,8 +1,8 @@
 //! A layout of national numbers, with its patterns compiled.
 ghost use Rattle.std.specs.Prelude.{◌≡◌, None, Some, map, IfOk, IfErr};
-ghost use Rattle.std.specs.List.{flat_map};
+ghost use Rattle.std.specs.List.{AllByRecursion, flat_map};
 ghost use Rattle.std.specs.Option.{option_copied};
-ghost use Rattle.phone_meta.specs.First.{ArePatternsOf, IsLentPattern};
+ghost use Rattle.phone_meta.specs.First.{ArePatternsOf, IsPattern, IsLentPattern};
 ghost use Rattle.phone_meta.specs.Missing.{first_given, missing_in_format};
 ghost use Rattle.phone_meta.specs.Records.{is_led};
 ghost use Rattle.phone_meta.specs.Refusals.{IsPatternRefusal, patterns_in_format};
@@ -44,6 +44,7 @@ impl Format {
     pub(crate) fn compile(alloc: Global, given: loader::Format) -> Result<Format, LoadMetadata>
         requires { missing_in_format given ≡ None }
         ensures compiled { IfOk result (λ f. f ≡ given) }
+        ensures read { IfOk result (λ f. AllByRecursion IsPattern (patterns_in_format given)) }
         ensures refused { IfErr result (IsPatternRefusal (patterns_in_format given)) }
     {
         Ok(Format {
@@ -127,6 +128,7 @@ impl Format {
 pub fn compile_all(alloc: Global, given: Vec<loader::Format>) -> Result<Vec<Format>, LoadMetadata>
     requires { first_given (map missing_in_format given.items) ≡ None }
     ensures compiled { IfOk result (λ formats. formats.items ≡ given.items) }
+    ensures read { IfOk result (λ formats. AllByRecursion IsPattern (flat_map patterns_in_format given.items)) }
     ensures refused { IfErr result (IsPatternRefusal (flat_map patterns_in_format given.items)) }
 {
     let mut formats = Vec::new(alloc);

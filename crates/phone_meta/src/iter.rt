@@ -1,8 +1,9 @@
 //! The territories of a database, each id once.
-ghost use Rattle.std.specs.Prelude.{◌≡◌, ℕ, List, Some};
+ghost use Rattle.std.specs.Prelude.{◌≡◌, ℕ, List, map, Some};
 ghost use Rattle.std.specs.Iterator.{YieldsFirstRef, item_count};
-ghost use Rattle.std.specs.List.{Contains, list_any};
-ghost use Rattle.phone_meta.specs.Records.{has_id, id_of, last_with, lasts};
+ghost use Rattle.std.specs.List.{Contains, IsDistinct, list_any};
+ghost use Rattle.std.specs.Str.{bytes_eq};
+ghost use Rattle.phone_meta.specs.Records.{has_id, id_of, last_with};
 ghost use Rattle.phone_meta.specs.declared.loader.Metadata as loader;
 
 use crate::database::Database;
@@ -50,11 +51,11 @@ fn lists(territories: &[Metadata], id: &str) -> bool
 }
 
 impl Database {
-    /// For each id its last territory, in order of arrival. Takes no memory.
+    /// For each id its last territory, each once, in no order that is promised. Takes no memory.
     pub fn iter(&self) -> Iter<'_>
-        ensures to_come { result ≡ lasts self.now }
         ensures last_of_its_id { (m : loader.Metadata) → Contains result m → last_with (id_of m) self.now ≡ Some m }
         ensures each_id { (id : List ℕ) (m : loader.Metadata) → last_with id self.now ≡ Some m → Contains result m }
+        ensures each_once { IsDistinct bytes_eq (map id_of result) }
     {
         Iter {
             rest: self.territories(),

@@ -1,9 +1,9 @@
 //! A territory, with its patterns compiled.
 ghost use Rattle.std.specs.Prelude.{◌≡◌, None, Some, IfOk, IfErr};
-ghost use Rattle.std.specs.List.{flat_map};
+ghost use Rattle.std.specs.List.{AllByRecursion, flat_map};
 ghost use Rattle.std.specs.Option.{option_copied, option_to_list};
 ghost use Rattle.phone_meta.specs.Refusals.{IsPatternRefusal, patterns_in, patterns_in_descriptor};
-ghost use Rattle.phone_meta.specs.First.{IsLentPattern};
+ghost use Rattle.phone_meta.specs.First.{IsPattern, IsLentPattern};
 ghost use Rattle.phone_meta.specs.Kinds.{kinds_of};
 ghost use Rattle.phone_meta.specs.Missing.{first_missing, missing_in, missing_in_descriptor};
 
@@ -49,6 +49,7 @@ impl Model for Metadata {
 
 fn compile_text(alloc: Global, text: Option<Text>) -> Result<Option<Pattern>, LoadMetadata>
     ensures compiled { IfOk result (λ pattern. pattern ≡ text) }
+    ensures read { IfOk result (λ pattern. AllByRecursion IsPattern (option_to_list text)) }
     ensures refused { IfErr result (IsPatternRefusal (option_to_list text)) }
 {
     match text {
@@ -63,6 +64,7 @@ fn compile_descriptor(
 ) -> Result<Option<Descriptor>, LoadMetadata>
     requires { missing_in_descriptor given ≡ None }
     ensures compiled { IfOk result (λ d. d ≡ given) }
+    ensures read { IfOk result (λ d. AllByRecursion IsPattern (patterns_in_descriptor given)) }
     ensures refused { IfErr result (IsPatternRefusal (patterns_in_descriptor given)) }
 {
     match given {
@@ -76,6 +78,7 @@ impl Metadata {
     pub(crate) fn compile(alloc: Global, given: loader::Metadata) -> Result<Metadata, LoadMetadata>
         requires { missing_in given ≡ None }
         ensures compiled { IfOk result (λ m. m ≡ given) }
+        ensures read { IfOk result (λ m. AllByRecursion IsPattern (patterns_in given)) }
         ensures refused { IfErr result (IsPatternRefusal (patterns_in given)) }
     {
         Ok(Metadata {
@@ -106,13 +109,13 @@ impl Metadata {
             preferred_extension_prefix: given.preferred_extension_prefix,
             national_prefix_for_parsing: compile_text(alloc, given.national_prefix_for_parsing)?,
             national_prefix_transform_rule: given.national_prefix_transform_rule,
+            leading_digits: compile_text(alloc, given.leading_digits)?,
             formats: format::compile_all(alloc, given.formats.into_vec())?,
             international_formats: format::compile_all(
                 alloc,
                 given.international_formats.into_vec(),
             )?,
             main_country_for_code: given.main_country_for_code,
-            leading_digits: compile_text(alloc, given.leading_digits)?,
             mobile_number_portable: given.mobile_number_portable,
             defaults: given.defaults,
         })
@@ -280,6 +283,7 @@ pub fn compile_all(
 ) -> Result<Vec<Metadata>, LoadMetadata>
     requires { first_missing given.items ≡ None }
     ensures compiled { IfOk result (λ territories. territories.items ≡ given.items) }
+    ensures read { IfOk result (λ territories. AllByRecursion IsPattern (flat_map patterns_in given.items)) }
     ensures refused { IfErr result (IsPatternRefusal (flat_map patterns_in given.items)) }
 {
     let mut territories = Vec::new(alloc);

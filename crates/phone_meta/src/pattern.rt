@@ -1,7 +1,8 @@
 //! A pattern that is compiled once and held. Contracts see its text.
 ghost use Rattle.std.specs.Prelude.{◌≡◌, [], ◌∷◌, nat_le, if◌then◌else◌, None, IfOk, IfErr, IfSome, string_bytes};
+ghost use Rattle.std.specs.List.{AllByRecursion};
 ghost use Rattle.regex.specs.Strings.{regex_source, captures_haystack, captures_span, match_haystack, match_span};
-ghost use Rattle.phone_meta.specs.First.{at_start, captured, first_span, is_whole_match, replaced, ArePatternsOf, AreCuts, IsCut, IsPatternOf, IsUnderX};
+ghost use Rattle.phone_meta.specs.First.{at_start, captured, first_span, is_whole_match, replaced, ArePatternsOf, AreCuts, IsCut, IsPattern, IsPatternOf, IsUnderX};
 ghost use Rattle.phone_meta.specs.Refusals.{IsPatternRefusal};
 
 use crate::error::LoadMetadata;
@@ -32,6 +33,7 @@ impl Model for Pattern {
 /// Compiles a text. Refused by `Regex` with the text where it is no pattern, by `Memory` where memory is refused.
 fn compile(alloc: Global, text: Text) -> Result<Regex, LoadMetadata>
     ensures compiled { IfOk result (λ re. IsPatternOf text re) }
+    ensures read { IfOk result (λ re. IsPattern text) }
     ensures refused { IfErr result (IsPatternRefusal (text ∷ [])) }
 {
     let built = RegexBuilder::new(text.as_str())
@@ -48,6 +50,7 @@ impl Pattern {
     /// Compiles a text. Refused by `Regex` with the text where it is no pattern, by `Memory` where memory is refused.
     pub fn new(alloc: Global, text: Text) -> Result<Pattern, LoadMetadata>
         ensures compiled { IfOk result (λ p. p ≡ text) }
+        ensures read { IfOk result (λ p. IsPattern text) }
         ensures refused { IfErr result (IsPatternRefusal (text ∷ [])) }
     {
         let re = compile(alloc, text)?;
@@ -191,6 +194,7 @@ pub fn is_at_start(alloc: Global, re: &Regex, text: &str) -> Result<bool, AllocE
 /// Compiles each of these texts.
 pub fn compile_all(alloc: Global, texts: Vec<Text>) -> Result<Vec<Regex>, LoadMetadata>
     ensures compiled { IfOk result (λ res. ArePatternsOf texts.items res.items) }
+    ensures read { IfOk result (λ res. AllByRecursion IsPattern texts.items) }
     ensures refused { IfErr result (IsPatternRefusal texts.items) }
 {
     let mut patterns = Vec::new(alloc);

@@ -1,4 +1,4 @@
-use Rattle.std.proofs.Common.{ap, ◌∙◌}
+use Rattle.std.proofs.Common.{◌∙◌}
 use Rattle.phone_meta.proofs.Matches.{find-first_span}
 use Rattle.phone_meta.proofs.pattern.first_span.Goals as goal
 

@@ -1,4 +1,3 @@
-use Rattle.std.proofs.Common.{◌∙◌}
 use Rattle.phone_meta.proofs.Matches.{captures-captured, none-captured}
 use Rattle.phone_meta.proofs.pattern.Pattern.captured.Goals as goal
 
