@@ -30,15 +30,22 @@ fn what_stands_before_an_end_is_the_rest_of_the_text(rt: HostRuntime) {
         ("64-3", "", "64-3", "nothing"),
         ("\u{FF16}\u{FF14}3", "\u{FF14}3", "\u{FF16}", "wide digits"),
         ("", "", "", "nothing of nothing"),
-        ("64", "64-3", "", "more than all of it"),
-        (
-            "\u{FF16}4",
-            "33",
-            "\u{FF16}4",
-            "no end, and within a character",
-        ),
     ] {
         assert_eq!(rt; before(text, end), answer, "{text:?} {end:?}: {why}");
+    }
+}
+
+#[test]
+fn before_what_is_no_end_stands_some_front(rt: HostRuntime) {
+    for (text, other, why) in [
+        ("64", "64-3", "more than all of it"),
+        ("64-3", "64", "a front"),
+        ("\u{FF16}4", "33", "as long as a part of a character"),
+    ] {
+        assert!(rt;
+            text.starts_with(before(text, other)),
+            "{text:?} {other:?}: {why}"
+        );
     }
 }
 
