@@ -2,6 +2,7 @@ pub mod DigitTexts
 pub mod FoundCodes
 pub mod HintCodes
 pub mod Lengths
+pub mod ListedCodes
 pub mod ListedFronts
 pub mod ReadingOnes
 pub mod ReadingRows

@@ -70,25 +70,48 @@ written text code k some few first e =
     let same : decimal (digits_value 10 ds) ≡ ds = decimal-digits_value own ds both.1 (omega (arith, count, some)) one (omega (arith, small)) in
     (drop k text, sym (take-append-drop k text) ∙ ap (λ t. t ++ drop k text) (sym same ∙ ap decimal found.1))
 
--- the shortest listed code at the front of a text stands there in decimal
-pub shortest-front : (db : List Metadata) (text : List ℕ) (code : ℕ) → shortest db text ≡ Some code → (rest : List ℕ) × (text ≡ decimal code ++ rest)
-shortest-front db text code e = at (bytes_eq (take 1 text) (codes "0")) refl e
-  where
-    of : (k : ℕ) → 0 < k → k ≤ 3 → bytes_eq (take 1 text) (codes "0") ≡ false → listed_front db text k ≡ Some code → (rest : List ℕ) × (text ≡ decimal code ++ rest)
-    of k some few first f = written text code k some few first (from_listed db (front_number k text) code f)
+-- a front of one to three digits that is a listed code, where the text does not begin with `0`
+record IsListedFront (db : List Metadata) (text : List ℕ) (code : ℕ) : Type 0 where
+  k : ℕ
+  some : 0 < k
+  few : k ≤ 3
+  first : bytes_eq (take 1 text) (codes "0") ≡ false
+  found : listed_front db text k ≡ Some code
 
+-- the shortest listed front is such a front
+shortest_is : (db : List Metadata) (text : List ℕ) (code : ℕ) → shortest db text ≡ Some code → IsListedFront db text code
+shortest_is db text code e = at (bytes_eq (take 1 text) (codes "0")) refl e
+  where
     any : bytes_eq (take 1 text) (codes "0") ≡ false → (a b c : Option ℕ) → a ≡ listed_front db text 1 → b ≡ listed_front db text 2 → c ≡ listed_front db text 3 →
-        option_or a (option_or b (option_or c None)) ≡ Some code → (rest : List ℕ) × (text ≡ decimal code ++ rest)
-    any first (Some x) b c ea eb ec f = of 1 (omega arith) (omega arith) first (sym ea ∙ f)
-    any first None (Some x) c ea eb ec f = of 2 (omega arith) (omega arith) first (sym eb ∙ f)
-    any first None None (Some x) ea eb ec f = of 3 (omega arith) (omega arith) first (sym ec ∙ f)
+        option_or a (option_or b (option_or c None)) ≡ Some code → IsListedFront db text code
+    any first (Some x) b c ea eb ec f = record { k = 1; some = omega arith; few = omega arith; first = first; found = sym ea ∙ f }
+    any first None (Some x) c ea eb ec f = record { k = 2; some = omega arith; few = omega arith; first = first; found = sym eb ∙ f }
+    any first None None (Some x) ea eb ec f = record { k = 3; some = omega arith; few = omega arith; first = first; found = sym ec ∙ f }
     any first None None None ea eb ec f = cc
 
     at : (b : Bool) → bytes_eq (take 1 text) (codes "0") ≡ b →
         (if b then None else option_or (listed_front db text 1) (option_or (listed_front db text 2) (option_or (listed_front db text 3) None))) ≡ Some code →
-        (rest : List ℕ) × (text ≡ decimal code ++ rest)
+        IsListedFront db text code
     at true first f = cc
     at false first f = any first (listed_front db text 1) (listed_front db text 2) (listed_front db text 3) refl refl refl f
+
+-- the shortest listed code at the front of a text stands there in decimal
+pub shortest-front : (db : List Metadata) (text : List ℕ) (code : ℕ) → shortest db text ≡ Some code → (rest : List ℕ) × (text ≡ decimal code ++ rest)
+shortest-front db text code e =
+    let h = shortest_is db text code e in
+    written text code h.k h.some h.few h.first (from_listed db (front_number h.k text) code h.found)
+
+listed_only : (db : List Metadata) (o : Option ℕ) (code : ℕ) → listed_if_some o db ≡ Some code → is_listed code db ≡ true
+listed_only db None code e = cc
+listed_only db (Some n) code e = at (is_listed n db) refl e
+  where
+    at : (b : Bool) → is_listed n db ≡ b → (if b then Some n else None) ≡ Some code → is_listed code db ≡ true
+    at true f g = let same : n ≡ code = cc in subst (λ c. is_listed c db ≡ true) same f
+    at false f g = cc
+
+-- and is listed
+pub shortest-listed : (db : List Metadata) (text : List ℕ) (code : ℕ) → shortest db text ≡ Some code → is_listed code db ≡ true
+shortest-listed db text code e = let h = shortest_is db text code e in listed_only db (front_number h.k text) code h.found
 
 -- a code is listed where it has territories, main or others
 listed_count : (code : ℕ) (db : List Metadata) → is_listed code db ≡ nat_lt 0 (length (filter (is_main_of code) db) + length (filter (is_other_of code) db))
