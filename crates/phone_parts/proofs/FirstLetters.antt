@@ -2,7 +2,6 @@
 use Rattle.std.proofs.Common.{◌≡◌, ℕ, ◌==◌, Bool, true, false, cond, ◌||◌, List, [], ◌∷◌, ◌++◌, eqb-true, refl, ap, sym, subst, ◌∙◌, true≢false}
 use Rattle.std.proofs.lemmas.Bool.{and_parts, false_from_ne_true, or_left, or_right}
 use Rattle.std.specs.List.{filter, list_any, list_all}
-use Rattle.ucd_case.proofs.Computing.{ucd_case}
 use Rattle.ucd_case.specs.CaseFolding.{simple_fold}
 use Rattle.phone_core.specs.Characters.{is_one_of, same_fold}
 use Rattle.phone_parts.specs.Suffixes.{IsAnnounced, indicators}

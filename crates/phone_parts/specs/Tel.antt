@@ -58,7 +58,8 @@ pub data IsSignedRun (rest : List ℕ) : List ℕ → Option (List ℕ) → Type
 
 -- t has no space and is: `tel:` in any case or nothing; where a plus sign follows, that sign and the longest run without
 -- separators; the longest run of hexadecimal digits and separators, the national part; nothing, or a semicolon and
--- what follows it, of whose front the longest list of parameters counts. Neither run is empty. The prefix is the run, else the value of `phone-context` without a plus sign
+-- what follows it, of which the longest list of parameters at its front counts. Neither run is empty. The prefix is the
+-- run, else the value of `phone-context` without a plus sign
 pub record IsTel (t : List ℕ) (parts : Parts) : Type 0 where
   pub scheme : List ℕ
   pub signed_run : List ℕ
