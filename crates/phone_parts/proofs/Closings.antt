@@ -1,14 +1,14 @@
 -- The longest ends of a text that may follow an indicator, or that are extensions with a number sign.
 use Rattle.std.proofs.Common.{◌≡◌, ⊎_elim, ℕ, ◌≤◌, ◌<◌, true, List, [], ◌∷◌, ◌++◌, length, length-append, append_assoc, append-nil, ◌==◌, eqb-true, refl, ap, sym, ◌∙◌, true≢false, arith}
 use Rattle.std.proofs.lemmas.Bool.{and_parts, cases_lt, eq-eqb}
-use Rattle.std.proofs.lemmas.List.{append_cancel_right, nil_from_length}
+use Rattle.std.proofs.lemmas.List.{append_cancel_left, append_cancel_right, nil_from_length}
 use Rattle.std.specs.List.{list_all}
 use Rattle.phone_core.specs.Characters.{is_nd}
 use Rattle.phone_parts.specs.Longest.{IsWithoutLongest}
 use Rattle.phone_parts.specs.Suffixes.{IsFew, IsSomeEnding, IsNumberSigned, is_mark, is_gap, is_sign, is_dash}
 use Rattle.phone_parts.specs.Texts.{ends}
 use Rattle.phone_parts.proofs.Cores.{ends-push}
-use Rattle.phone_parts.proofs.Endings.{dash_nd}
+use Rattle.phone_parts.proofs.Endings.{dash_nd, length_some}
 use Rattle.phone_parts.proofs.Longest.{IsFollowed, HasEnds, cuts_meet, all_parts, few_fronts, few_ends, run_fronts, run_ends, followed_ends, then_longest, longest_as}
 
 -- a front of a front is a front
@@ -136,3 +136,17 @@ module _ (text signless bare : List ℕ) (whole : text ≡ signless ++ 35 ∷ []
       let less = lead_before before w d cut h in
       let n = cuts_meet bare m.0 before h.lead (sym m.1) (omega (arith, less)) in
       dashes.longest before n.0 n.1 (all_parts is_dash n.0 m.0 (ap (list_all is_dash) (sym n.2) ∙ h.leads)).0
+
+  -- and where there are such digits and such a lead, they make an extension
+  pub number_signed_parts : (left : List ℕ) → (dashes : IsWithoutLongest (λ v. list_all is_dash v ≡ true) bare left) → ¬ (bare ≡ signless) → ¬ (left ≡ bare) →
+      (w : List ℕ) → text ≡ left ++ w → IsNumberSigned w digits.end
+  number_signed_parts left dashes has_digits has_lead w cut = record {
+    lead = dashes.end;
+    whole = append_cancel_left left w (dashes.end ++ (digits.end ++ 35 ∷ []))
+        (sym cut ∙ whole ∙ ap (λ t. t ++ 35 ∷ []) (digits.whole ∙ ap (λ t. t ++ digits.end) dashes.whole)
+        ∙ append_assoc (left ++ dashes.end) digits.end (35 ∷ []) ∙ append_assoc left dashes.end (digits.end ++ 35 ∷ []));
+    leads = dashes.kind;
+    some_lead = length_some dashes.end (λ e. has_lead (sym (dashes.whole ∙ ap (λ t. left ++ t) e ∙ append-nil left)));
+    digits = digits.kind;
+    some_digits = length_some digits.end (λ e. has_digits (sym (digits.whole ∙ ap (λ t. bare ++ t) e ∙ append-nil bare)));
+  }

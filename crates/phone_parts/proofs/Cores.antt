@@ -1,6 +1,6 @@
 -- The core of a text is one.
 use Rattle.std.proofs.Common.{take, IsUtf8, encode_utf8_all, ◌≡◌, ◌⊎◌, inl, inr, ⊎_elim, ℕ, ◌<◌, ◌≤◌, Bool, true, false, not, ◌||◌, List, [], ◌∷◌, ◌++◌, length, drop, refl, ap, sym, subst, ◌∙◌, arith, length-append, true≢false}
-use Rattle.std.proofs.lemmas.Bool.{cases_lt, and_parts, not-true, not-false}
+use Rattle.std.proofs.lemmas.Bool.{cases_lt, and_parts, not-true, not-false, or_parts, or_right}
 use Rattle.std.proofs.lemmas.List.{nil_from_length}
 use Rattle.std.proofs.lemmas.Str.{encodes-chars}
 use Rattle.std.specs.Str.{chars}
@@ -12,14 +12,7 @@ use Rattle.phone_core.specs.Cuts.{after_front}
 use Rattle.phone_parts.specs.Cores.{IsCore, IsTrimmed, IsBeforeSecondNumber, is_start, is_last, begins_second_number}
 use Rattle.phone_parts.specs.Texts.{begins, ends}
 
-or_false : (a b : Bool) → (a || b) ≡ false → (a ≡ false) × (b ≡ false)
-or_false true b e = absurd (true≢false e)
-or_false false b e = (refl, e)
-
-or_right : (a b : Bool) → b ≡ true → (a || b) ≡ true
-or_right true b e = refl
-or_right false b e = e
-
+-- a text that ends in a member has one
 any_from_ends : (p : ℕ → Bool) (xs : List ℕ) → ends p xs ≡ true → list_any p xs ≡ true
 any_from_ends p [] h = absurd (true≢false (sym h))
 any_from_ends p (x ∷ []) h = ap (λ b. b || false) h
@@ -36,7 +29,7 @@ pub after_front_others : (p : ℕ → Bool) (before from : List ℕ) → list_an
 after_front_others p [] [] none first = refl
 after_front_others p [] (y ∷ from) none first = rw first
 after_front_others p (x ∷ before) from none first =
-    let parts = or_false (p x) (list_any p before) none in
+    let parts = or_parts (p x) (list_any p before) none in
     rw parts.0 (after_front_others p before from parts.1 first)
 
 -- and the other way round

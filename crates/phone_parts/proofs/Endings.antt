@@ -1,6 +1,6 @@
 -- What ends a text after an indicator has one cut.
 use Rattle.std.proofs.Common.{Bor, ◌⊎◌, inl, inr, ⊎_elim, zero, suc, ◌<◌, nat_le, map, take, get_or, leb-true, ◌≡◌, ℕ, ◌≤◌, ◌==◌, Bool, true, false, not, ◌&&◌, ◌||◌, List, [], ◌∷◌, ◌++◌, length, Some, None, codes, eqb-true, refl, ap, sym, subst, ◌∙◌, true≢false, arith, append-nil}
-use Rattle.std.proofs.lemmas.Bool.{and_parts, le-leb}
+use Rattle.std.proofs.lemmas.Bool.{and_parts, false_from_ne_true, le-leb, not-true, or_left, or_right}
 use Rattle.std.specs.List.{list_any, list_all}
 use Rattle.std.specs.Str.{chars}
 use Rattle.ucd_category.proofs.Computing.{ucd_category}
@@ -25,20 +25,12 @@ member_passes q (m ∷ ms) c all e = at_head (m == c) refl (and_parts (q m) (lis
 abbrev pub AreApart : (ℕ → Bool) → (ℕ → Bool) → Type 0
 AreApart p q = (c : ℕ) → q c ≡ true → p c ≡ false
 
-not_true : (b : Bool) → not b ≡ true → b ≡ false
-not_true true e = absurd (true≢false (sym e))
-not_true false e = refl
-
-from_false : (b : Bool) → (b ≡ true → false ≡ true) → b ≡ false
-from_false true h = absurd (true≢false (sym (h refl)))
-from_false false h = refl
-
 pub members_apart : (p : ℕ → Bool) (members : List ℕ) → list_all (λ c. not (p c)) members ≡ true → AreApart p (is_one_of members)
-members_apart p members all c e = not_true (p c) (member_passes (λ x. not (p x)) members c all e)
+members_apart p members all c e = not-true (p c) (member_passes (λ x. not (p x)) members c all e)
 
 pub apart_members : (q : ℕ → Bool) (members : List ℕ) → list_all (λ c. not (q c)) members ≡ true → AreApart (is_one_of members) q
 apart_members q members all c e =
-    from_false (is_one_of members c) (λ f. absurd (true≢false (sym e ∙ not_true (q c) (member_passes (λ x. not (q x)) members c all f))))
+    false_from_ne_true (is_one_of members c) (λ f. true≢false (sym e ∙ not-true (q c) (member_passes (λ x. not (q x)) members c all f)))
 
 mark_gap : AreApart is_mark is_gap
 mark_gap = members_apart is_mark (32 ∷ 0xA0 ∷ 9 ∷ 44 ∷ 45 ∷ []) refl
@@ -172,12 +164,13 @@ texts_of words = map (λ (w : Bor (List ℕ)). chars w.now) words
 any_at : (q : List ℕ → Bool) (words : List (Bor (List ℕ))) (i : ℕ) (other : Bor (List ℕ)) → i < length words →
     q (chars (get_or words i other).now) ≡ true → list_any q (texts_of words) ≡ true
 any_at q [] i other less h = absurd (omega arith)
-any_at q (w ∷ ws) zero other less h = ap (λ b. b || list_any q (texts_of ws)) h
-any_at q (w ∷ ws) (suc i) other less h = or_second (q (chars w.now)) _ (any_at q ws i other (omega arith) h)
-  where
-    or_second : (a b : Bool) → b ≡ true → (a || b) ≡ true
-    or_second true b e = refl
-    or_second false b e = e
+any_at q (w ∷ ws) zero other less h = or_left (q (chars w.now)) _ h
+any_at q (w ∷ ws) (suc i) other less h = or_right (q (chars w.now)) _ (any_at q ws i other (omega arith) h)
+
+-- with one word alone
+only_word : (a : Bool) → (a || false) ≡ true → a ≡ true
+only_word true e = refl
+only_word false e = e
 
 pub announced_in : (words : List (Bor (List ℕ))) (i : ℕ) (other : Bor (List ℕ)) (t d : List ℕ) → i < length words →
     IsAnnounced (chars (get_or words i other).now ∷ []) t d → IsAnnounced (texts_of words) t d
@@ -185,13 +178,9 @@ announced_in words i other t d less h = record {
   word = h.word;
   ending = h.ending;
   whole = h.whole;
-  announces = any_at (is_like h.word) words i other less (or_first (is_like h.word (chars (get_or words i other).now)) h.announces);
+  announces = any_at (is_like h.word) words i other less (only_word (is_like h.word (chars (get_or words i other).now)) h.announces);
   ends = h.ends;
 }
-  where
-    or_first : (a : Bool) → (a || false) ≡ true → a ≡ true
-    or_first true e = refl
-    or_first false e = e
 
 any_of_more : (q : List ℕ → Bool) (words : List (Bor (List ℕ))) (i : ℕ) (other : Bor (List ℕ)) → list_any q (texts_of (take (suc i) words)) ≡ true →
     (list_any q (texts_of (take i words)) ≡ true) ⊎ (list_any q (chars (get_or words i other).now ∷ []) ≡ true)
@@ -220,7 +209,7 @@ chars_parameter = refl
 pub parameter_cut : (w d : List ℕ) → IsParameter w d → after_like w (codes ";ext=") ≡ Some d
 parameter_cut w d h = ap (λ t. after_like t (codes ";ext=")) h.whole ∙ after_like_front h.name (codes ";ext=") d h.named
 
-length_some : (t : List ℕ) → ¬ (t ≡ []) → 1 ≤ length t
+pub length_some : (t : List ℕ) → ¬ (t ≡ []) → 1 ≤ length t
 length_some [] h = absurd (h refl)
 length_some (x ∷ t) h = omega arith
 
@@ -236,11 +225,6 @@ number_signed_of w lead d end e f g sign some_lead some_digits digits =
       digits = digits;
       some_digits = length_some d some_digits;
     }
-
--- with one word alone
-only_word : (a : Bool) → (a || false) ≡ true → a ≡ true
-only_word true e = refl
-only_word false e = e
 
 word_cut : (text word d : List ℕ) (h : IsAnnounced (word ∷ []) text d) → after_like text word ≡ Some h.ending
 word_cut text word d h =

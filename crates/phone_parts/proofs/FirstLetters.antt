@@ -2,37 +2,29 @@
 use Rattle.std.proofs.Common.{◌≡◌, ℕ, ◌==◌, Bool, true, false, cond, ◌||◌, List, [], ◌∷◌, ◌++◌, eqb-true, refl, ap, sym, subst, ◌∙◌, true≢false}
 use Rattle.std.proofs.lemmas.Bool.{and_parts, false_from_ne_true, or_left, or_right}
 use Rattle.std.specs.List.{filter, list_any, list_all}
-use Rattle.ucd_case.proofs.Computing.{ucd_case}
 use Rattle.ucd_case.specs.CaseFolding.{simple_fold}
 use Rattle.phone_core.specs.Characters.{is_one_of, same_fold}
 use Rattle.phone_parts.specs.Suffixes.{IsAnnounced, indicators}
 use Rattle.phone_parts.specs.Texts.{begins, is_like}
+use Rattle.phone_parts.proofs.Openings.{openings, is_opening, indicators_open}
 
 -- the words that begin with a character of this folding
 abbrev pub from_fold : ℕ → List (List ℕ) → List (List ℕ)
 from_fold f words = filter (λ w. begins (λ x. f == simple_fold x) w) words
 
--- the foldings that an indicator begins with
-abbrev pub firsts : List ℕ
-firsts = 120 ∷ 101 ∷ 105 ∷ 97 ∷ 0xFF58 ∷ 0xFF45 ∷ 0xFF49 ∷ 44 ∷ 59 ∷ 35 ∷ 0xFF03 ∷ 126 ∷ 0xFF5E ∷ []
-
-firsts_of_all : list_all (begins (λ x. is_one_of firsts (simple_fold x))) indicators ≡ true
-unfolding ucd_case
-firsts_of_all = refl
-
-none_of : (f : ℕ) (words : List (List ℕ)) → is_one_of firsts f ≡ false → list_all (begins (λ x. is_one_of firsts (simple_fold x))) words ≡ true →
+none_of : (f : ℕ) (words : List (List ℕ)) → is_one_of openings f ≡ false → list_all (begins is_opening) words ≡ true →
     from_fold f words ≡ []
 none_of f [] none all = refl
 none_of f ([] ∷ ws) none all = absurd (true≢false (sym all))
 none_of f ((x ∷ xs) ∷ ws) none all =
-    let parts = and_parts (is_one_of firsts (simple_fold x)) (list_all (begins (λ x. is_one_of firsts (simple_fold x))) ws) all in
+    let parts = and_parts (is_one_of openings (simple_fold x)) (list_all (begins is_opening) ws) all in
     let other : (f == simple_fold x) ≡ false =
-    false_from_ne_true (f == simple_fold x) (λ e. true≢false (sym parts.0 ∙ ap (is_one_of firsts) (sym (eqb-true f (simple_fold x) e)) ∙ none)) in
+    false_from_ne_true (f == simple_fold x) (λ e. true≢false (sym parts.0 ∙ ap (is_one_of openings) (sym (eqb-true f (simple_fold x) e)) ∙ none)) in
     rw other (none_of f ws none parts.1)
 
 -- with another folding none begins
-pub none_from : (f : ℕ) → is_one_of firsts f ≡ false → from_fold f indicators ≡ []
-none_from f none = none_of f indicators none firsts_of_all
+pub none_from : (f : ℕ) → is_one_of openings f ≡ false → from_fold f indicators ≡ []
+none_from f none = none_of f indicators none indicators_open
 
 -- the words that begin so, by the folding itself
 pub from_this : (c f : ℕ) → simple_fold c ≡ f → from_fold f indicators ≡ filter (λ w. begins (same_fold c) w) indicators

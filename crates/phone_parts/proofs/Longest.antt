@@ -1,15 +1,16 @@
 -- Longest ends of texts, and ends of their ends.
-use Rattle.std.proofs.Common.{◌≡◌, ⊎_elim, ℕ, ◌≤◌, ◌<◌, ◌-◌, Bool, true, false, List, [], ◌∷◌, ◌++◌, length, length-append, append_assoc, append-nil, IsUtf8, encode_utf8_all, refl, ap, ap₂, sym, subst, ◌∙◌, true≢false, arith}
+use Rattle.std.proofs.Common.{◌≡◌, ⊎_elim, ℕ, ◌≤◌, ◌<◌, ◌-◌, Bool, true, false, List, [], ◌∷◌, ◌++◌, length, length-append, append_assoc, append-nil, IsUtf8, refl, ap, ap₂, sym, subst, ◌∙◌, true≢false, arith}
 use Rattle.std.proofs.lemmas.Bool.{and_parts, cases_lt}
-use Rattle.std.proofs.lemmas.List.{append_cancel_left}
+use Rattle.std.proofs.lemmas.List.{append_cancel_left, nil_from_length}
 use Rattle.std.proofs.lemmas.List.Folds.{list_all-append}
-use Rattle.std.proofs.lemmas.Str.{IsCharBoundary-at_seam, IsUtf8-take, chars-append, encodes-chars}
+use Rattle.std.proofs.lemmas.Str.{IsCharBoundary-at_seam, IsUtf8-take, chars-append}
 use Rattle.std.proofs.Math.Seq.{take-append_seam}
 use Rattle.std.specs.List.{list_all}
 use Rattle.std.specs.Str.{chars}
 use Rattle.phone_core.proofs.Runs.{IsUtf8-after}
 use Rattle.phone_parts.specs.Longest.{IsWithoutLongest, AreEndsUpTo, AreEndsWithin}
 use Rattle.phone_parts.specs.Suffixes.{IsFew}
+use Rattle.phone_parts.proofs.Cores.{nil_from_chars}
 
 -- of two cuts of one text, the longer front goes on from the shorter one
 pub cuts_meet : (a x b y : List ℕ) → a ++ x ≡ b ++ y → length b ≤ length a → (m : List ℕ) × (a ≡ b ++ m) × (y ≡ m ++ x)
@@ -20,6 +21,13 @@ cuts_meet (c ∷ a) x (w ∷ b) y e le =
     let tails : a ++ x ≡ b ++ y = cc in
     let r = cuts_meet a x b y tails (omega (arith, le)) in
     (r.0, ap₂ (λ c t. c ∷ t) heads r.1, r.2)
+
+-- with fronts of one length the ends are one
+pub end_same : (a x b y : List ℕ) → a ++ x ≡ b ++ y → length a ≡ length b → x ≡ y
+end_same a x b y e size =
+    let m = cuts_meet a x b y e (omega (arith, size)) in
+    let nil : m.0 ≡ [] = nil_from_length m.0 (omega (arith, size, ap length m.1, length-append b m.0)) in
+    sym (m.2 ∙ ap (λ t. t ++ x) nil)
 
 -- all characters of both parts of a text are in the set
 pub all_parts : (p : ℕ → Bool) (a b : List ℕ) → list_all p (a ++ b) ≡ true → (list_all p a ≡ true) × (list_all p b ≡ true)
@@ -116,11 +124,7 @@ IsUtf8-before before end whole u =
 
 -- a text without characters has no bytes
 no_chars : (m : List ℕ) → IsUtf8 m → length (chars m) ≤ 0 → length m ≤ 0
-no_chars m u none = at (chars m) (encodes-chars m u) none
-  where
-    at : (cs : List ℕ) → encode_utf8_all cs ≡ m → length cs ≤ 0 → length m ≤ 0
-    at [] e none = omega (arith, ap length (sym e))
-    at (c ∷ cs) e none = absurd (omega (arith, none))
+no_chars m u none = omega (arith, ap length (nil_from_chars m u (nil_from_length (chars m) (omega (arith, none)))))
 
 -- fronts of a text: the one that has no more characters has no more bytes
 pub bytes_from_chars : (left right before end : List ℕ) → left ++ right ≡ before ++ end → IsUtf8 left → IsUtf8 before →

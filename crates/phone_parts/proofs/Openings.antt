@@ -1,6 +1,6 @@
 -- Which characters every extension has: without them a text has none.
 use Rattle.std.proofs.Common.{◌≡◌, ℕ, Bool, true, false, ◌||◌, zero, suc, List, [], ◌∷◌, ◌++◌, drop, codes, eqb-true, refl, ap, sym, ◌∙◌, true≢false}
-use Rattle.std.proofs.lemmas.Bool.{and_parts}
+use Rattle.std.proofs.lemmas.Bool.{and_parts, or_right}
 use Rattle.std.proofs.lemmas.List.Folds.{list_any-append}
 use Rattle.std.specs.List.{list_any, list_all}
 use Rattle.ucd_case.proofs.Computing.{ucd_case}
@@ -10,6 +10,7 @@ use Rattle.phone_parts.specs.Suffixes.{IsSuffix, HasNoSuffix, indicators}
 use Rattle.phone_parts.specs.declared.suffix.Form.{Form}
 use Rattle.phone_parts.specs.declared.suffix.Form.TheVariants.{Parameter, Indicated, NumberSign}
 use Rattle.phone_parts.specs.Texts.{begins, is_like}
+use Rattle.phone_parts.proofs.Foldings.{like_one}
 
 -- what an indicator begins with: `,`, `;`, `#`, `~`, `x`, `e`, `i`, `a`, and the fullwidth `#`, `~`, `x`, `e`, `i`
 abbrev pub openings : List ℕ
@@ -19,7 +20,7 @@ openings = 44 ∷ 59 ∷ 35 ∷ 126 ∷ 120 ∷ 101 ∷ 105 ∷ 97 ∷ 0xFF03 �
 abbrev pub is_opening : ℕ → Bool
 is_opening c = is_one_of openings (simple_fold c)
 
-indicators_open : list_all (begins is_opening) indicators ≡ true
+pub indicators_open : list_all (begins is_opening) indicators ≡ true
 unfolding ucd_case
 indicators_open = refl
 
@@ -31,13 +32,9 @@ sign_opens : is_opening 35 ≡ true
 unfolding ucd_case
 sign_opens = refl
 
-or_true : (b : Bool) → (b || true) ≡ true
-or_true true = refl
-or_true false = refl
-
 -- a text has such a character where its end has one
 any_after : (p : ℕ → Bool) (xs ys : List ℕ) → list_any p ys ≡ true → list_any p (xs ++ ys) ≡ true
-any_after p xs ys h = list_any-append p xs ys ∙ (ap (λ b. list_any p xs || b) h ∙ or_true (list_any p xs))
+any_after p xs ys h = list_any-append p xs ys ∙ or_right (list_any p xs) (list_any p ys) h
 
 -- a text that is like a word that begins so has one
 like_opens : (name word rest : List ℕ) → is_like name word ≡ true → begins is_opening word ≡ true → list_any is_opening (name ++ rest) ≡ true
@@ -50,16 +47,7 @@ like_opens (c ∷ cs) (w ∷ ws) rest h b =
 
 any_like_opens : (name : List ℕ) (words : List (List ℕ)) (rest : List ℕ) → list_any (is_like name) words ≡ true →
     list_all (begins is_opening) words ≡ true → list_any is_opening (name ++ rest) ≡ true
-any_like_opens name [] rest h all = absurd (true≢false (sym h))
-any_like_opens name (w ∷ ws) rest h all =
-    at_head (is_like name w) refl h (and_parts (begins is_opening w) (list_all (begins is_opening) ws) all) (any_like_opens name ws rest)
-  where
-    at_head : (b : Bool) → is_like name w ≡ b → (b || list_any (is_like name) ws) ≡ true →
-        (begins is_opening w ≡ true) × (list_all (begins is_opening) ws ≡ true) →
-        (list_any (is_like name) ws ≡ true → list_all (begins is_opening) ws ≡ true → list_any is_opening (name ++ rest) ≡ true) →
-        list_any is_opening (name ++ rest) ≡ true
-    at_head true e f parts g = like_opens name w rest e parts.0
-    at_head false e f parts g = g f parts.1
+any_like_opens name words rest h all = let one = like_one (begins is_opening) name words h all in like_opens name one.word rest one.like one.holds
 
 -- every extension has one
 pub suffix_opens : (w : List ℕ) (f : Form) (d : List ℕ) → IsSuffix w f d → list_any is_opening w ≡ true

@@ -1,5 +1,5 @@
 -- What an extension begins with.
-use Rattle.std.proofs.Common.{◌≡◌, ℕ, Bool, true, false, ◌||◌, List, [], ◌∷◌, ◌++◌, length, codes, eqb-true, refl, ap, sym, subst, ◌∙◌, true≢false, arith}
+use Rattle.std.proofs.Common.{◌≡◌, ℕ, Bool, true, List, [], ◌∷◌, ◌++◌, length, codes, eqb-true, refl, ap, sym, subst, ◌∙◌, true≢false, arith}
 use Rattle.std.proofs.lemmas.Bool.{and_parts}
 use Rattle.std.specs.List.{list_any, list_all}
 use Rattle.ucd_case.proofs.Computing.{ucd_case}
@@ -10,6 +10,7 @@ use Rattle.phone_parts.specs.declared.suffix.Form.{Form}
 use Rattle.phone_parts.specs.declared.suffix.Form.TheVariants.{Parameter, Indicated, NumberSign}
 use Rattle.phone_parts.specs.Texts.{begins, is_like}
 use Rattle.phone_parts.proofs.Endings.{member_passes}
+use Rattle.phone_parts.proofs.Foldings.{like_one}
 
 -- a text that is like a word begins as the word does
 like_begins : (name word rest : List ℕ) → is_like name word ≡ true → begins is_suffix_start word ≡ true → begins is_suffix_start (name ++ rest) ≡ true
@@ -21,16 +22,7 @@ like_begins (c ∷ cs) (w ∷ ws) rest h b =
 
 any_like_begins : (name : List ℕ) (words : List (List ℕ)) (rest : List ℕ) → list_any (is_like name) words ≡ true →
     list_all (begins is_suffix_start) words ≡ true → begins is_suffix_start (name ++ rest) ≡ true
-any_like_begins name [] rest h all = absurd (true≢false (sym h))
-any_like_begins name (w ∷ ws) rest h all =
-    at_head (is_like name w) refl h (and_parts (begins is_suffix_start w) (list_all (begins is_suffix_start) ws) all) (any_like_begins name ws rest)
-  where
-    at_head : (b : Bool) → is_like name w ≡ b → (b || list_any (is_like name) ws) ≡ true →
-        (begins is_suffix_start w ≡ true) × (list_all (begins is_suffix_start) ws ≡ true) →
-        (list_any (is_like name) ws ≡ true → list_all (begins is_suffix_start) ws ≡ true → begins is_suffix_start (name ++ rest) ≡ true) →
-        begins is_suffix_start (name ++ rest) ≡ true
-    at_head true e f parts g = like_begins name w rest e parts.0
-    at_head false e f parts g = g f parts.1
+any_like_begins name words rest h all = let one = like_one (begins is_suffix_start) name words h all in like_begins name one.word rest one.like one.holds
 
 indicators_begin : list_all (begins is_suffix_start) indicators ≡ true
 unfolding ucd_case

@@ -5,7 +5,7 @@ use Rattle.ucd_case.proofs.Computing.{ucd_case}
 use Rattle.phone_core.specs.Cuts.{front, after_front}
 use Rattle.phone_parts.specs.Tel
 use Rattle.phone_parts.specs.Parts.{Parts}
-use Rattle.phone_parts.specs.Tel.{IsTel, IsSignedRun, is_national}
+use Rattle.phone_parts.specs.Tel.{IsTel, IsSignedRun, is_phonedigit}
 use Rattle.phone_parts.specs.Texts.{begins}
 use Rattle.phone_parts.proofs.Tels.{after_scheme, scheme_cut, tel_cuts, plus_run, not_visual}
 
@@ -21,14 +21,14 @@ no_run_after_plus text after plus none p h =
 
 -- no national part after the run
 no_national : (text signs rest : List ℕ) (run : Option (List ℕ)) → after_scheme text ≡ signs ++ rest → IsSignedRun rest signs run →
-    begins is_national (front is_national rest) ≡ false → (p : Parts) → ¬ (IsTel text p)
+    begins is_phonedigit (front is_phonedigit rest) ≡ false → (p : Parts) → ¬ (IsTel text p)
 no_national text signs rest run cut is_run none p h =
     let cuts = tel_cuts text p h signs rest run cut is_run in
-    true≢false (sym h.some_national ∙ ap (begins is_national) cuts.national ∙ none)
+    true≢false (sym h.some_national ∙ ap (begins is_phonedigit) cuts.national ∙ none)
 
 -- neither the end nor a parameter after the national part
 bad_tail : (text signs rest : List ℕ) (run : Option (List ℕ)) → after_scheme text ≡ signs ++ rest → IsSignedRun rest signs run →
-    (c : ℕ) (cs : List ℕ) → after_front is_national rest ≡ c ∷ cs → (c == 59) ≡ false → (p : Parts) → ¬ (IsTel text p)
+    (c : ℕ) (cs : List ℕ) → after_front is_phonedigit rest ≡ c ∷ cs → (c == 59) ≡ false → (p : Parts) → ¬ (IsTel text p)
 bad_tail text signs rest run cut is_run c cs after other p h =
     let cuts = tel_cuts text p h signs rest run cut is_run in
     let tail : h.tail ≡ c ∷ cs = cuts.tail ∙ after in

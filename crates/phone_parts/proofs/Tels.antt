@@ -13,7 +13,7 @@ use Rattle.phone_core.specs.Cuts.{front, after_front}
 use Rattle.phone_core.specs.Characters.{same_fold}
 use Rattle.phone_parts.specs.Tel
 use Rattle.phone_parts.specs.Parts.{Parts}
-use Rattle.phone_parts.specs.Tel.{IsTel, Parameter, BeginsWith, HasParameters, IsSignedRun, value_of, is_visual, is_national, is_name_char, is_value_char}
+use Rattle.phone_parts.specs.Tel.{IsTel, Parameter, BeginsWith, HasParameters, IsSignedRun, value_of, is_visual, is_phonedigit, is_name_char, is_value_char}
 use Rattle.phone_parts.specs.Texts.{begins, is_like, after_like}
 use Rattle.phone_parts.proofs.Likes.{after_like_front, after_like_parts}
 use Rattle.phone_parts.proofs.Runs.{front_of_run, after_front_of_run}
@@ -133,7 +133,7 @@ signed_run_same (c ∷ cs) x r y s a b e g f h = at_head (c == 43) refl
 
 -- neither a plus sign nor a national part begins as `tel:` does
 begins_tel : ℕ → Bool
-begins_tel c = is_national c || (c == 43)
+begins_tel c = is_phonedigit c || (c == 43)
 
 first_of_tel : (c : ℕ) → c < 128 → (not (begins_tel c) || not (same_fold c 116)) ≡ true
 unfolding begins_tel ucd_case
@@ -145,12 +145,12 @@ excluded true true e f = sym e
 excluded true false e f = refl
 excluded false b e f = absurd (true≢false (sym f))
 
-small_national : (c : ℕ) → begins_tel c ≡ true → c < 128
+small_of_tel : (c : ℕ) → begins_tel c ≡ true → c < 128
 unfolding begins_tel
-small_national c h = grind (arith, nat_tests)
+small_of_tel c h = grind (arith, nat_tests)
 
 not_t : (c : ℕ) → begins_tel c ≡ true → same_fold c 116 ≡ false
-not_t c h = excluded (begins_tel c) (same_fold c 116) (first_of_tel c (small_national c h)) h
+not_t c h = excluded (begins_tel c) (same_fold c 116) (first_of_tel c (small_of_tel c h)) h
 
 abbrev pub after_scheme : List ℕ → List ℕ
 after_scheme text = unwrap_or (after_like text (codes "tel:")) text
@@ -159,18 +159,18 @@ no_scheme : (text : List ℕ) → begins begins_tel text ≡ true → after_like
 no_scheme [] h = absurd (true≢false (sym h))
 no_scheme (c ∷ cs) h = rw (not_t c h)
 
-begins_national : (signs national tail : List ℕ) (run : Option (List ℕ)) → IsSignedRun (national ++ tail) signs run → begins is_national national ≡ true →
+begins_tel_text : (signs national tail : List ℕ) (run : Option (List ℕ)) → IsSignedRun (national ++ tail) signs run → begins is_phonedigit national ≡ true →
     begins begins_tel (signs ++ (national ++ tail)) ≡ true
 unfolding begins_tel
-begins_national signs [] tail run h some = absurd (true≢false (sym some))
-begins_national signs (c ∷ cs) tail run (Tel.unsigned none) some = ap (λ b. b || (c == 43)) some
-begins_national signs (c ∷ cs) tail run (Tel.signed r first all none) some = refl
+begins_tel_text signs [] tail run h some = absurd (true≢false (sym some))
+begins_tel_text signs (c ∷ cs) tail run (Tel.unsigned none) some = ap (λ b. b || (c == 43)) some
+begins_tel_text signs (c ∷ cs) tail run (Tel.signed r first all none) some = refl
 
 -- what follows the scheme
 pub scheme_cut : (text : List ℕ) (parts : Parts) (h : IsTel text parts) → after_scheme text ≡ h.signed_run ++ (parts.national ++ h.tail)
 scheme_cut text parts h =
     let rest = h.signed_run ++ (parts.national ++ h.tail) in
-    let first = begins_national h.signed_run parts.national h.tail h.run h.is_run h.some_national in
+    let first = begins_tel_text h.signed_run parts.national h.tail h.run h.is_run h.some_national in
     ⊎_elim
     (λ (e : h.scheme ≡ []).
     let same : text ≡ rest = h.whole ∙ ap (λ s. s ++ rest) e in
@@ -193,8 +193,8 @@ scheme_of text = at (after_like text (codes "tel:")) refl
 
 -- the cuts of a reading are those of the text
 pub record AreTelCuts (middle end rest : List ℕ) (a b : Option (List ℕ)) : Type 0 where
-  pub national : middle ≡ front is_national rest
-  pub tail : end ≡ after_front is_national rest
+  pub national : middle ≡ front is_phonedigit rest
+  pub tail : end ≡ after_front is_phonedigit rest
   pub run : a ≡ b
 
 pub tel_cuts : (text : List ℕ) (parts : Parts) (h : IsTel text parts) (signs rest : List ℕ) (run : Option (List ℕ)) →
@@ -202,8 +202,8 @@ pub tel_cuts : (text : List ℕ) (parts : Parts) (h : IsTel text parts) (signs r
 tel_cuts text parts h signs rest run e g =
     let same = signed_run_same (after_scheme text) h.signed_run (parts.national ++ h.tail) signs rest h.run run (scheme_cut text parts h) h.is_run e g in
     record {
-      national = sym (front_of_run is_national parts.national h.tail h.all_national h.longest) ∙ ap (front is_national) same.rest;
-      tail = sym (after_front_of_run is_national parts.national h.tail h.all_national h.longest) ∙ ap (after_front is_national) same.rest;
+      national = sym (front_of_run is_phonedigit parts.national h.tail h.all_national h.longest) ∙ ap (front is_phonedigit) same.rest;
+      tail = sym (after_front_of_run is_phonedigit parts.national h.tail h.all_national h.longest) ∙ ap (after_front is_phonedigit) same.rest;
       run = same.run;
     }
 
@@ -211,8 +211,8 @@ tel_cuts text parts h signs rest run e g =
 pub tel_unique : (text : List ℕ) (a b : Parts) → IsTel text a → IsTel text b → a ≡ b
 tel_unique text a b g h =
     let cuts = tel_cuts text a g h.signed_run (b.national ++ h.tail) h.run (scheme_cut text b h) h.is_run in
-    let national : a.national ≡ b.national = cuts.national ∙ front_of_run is_national b.national h.tail h.all_national h.longest in
-    let tail : g.tail ≡ h.tail = cuts.tail ∙ after_front_of_run is_national b.national h.tail h.all_national h.longest in
+    let national : a.national ≡ b.national = cuts.national ∙ front_of_run is_phonedigit b.national h.tail h.all_national h.longest in
+    let tail : g.tail ≡ h.tail = cuts.tail ∙ after_front_of_run is_phonedigit b.national h.tail h.all_national h.longest in
     let ps : g.parameters ≡ h.parameters = parameters_unique h.tail g.parameters h.parameters (subst (λ t. HasParameters t g.parameters) tail g.has_parameters) h.has_parameters in
     let prefix : a.prefix ≡ b.prefix =
     g.prefix ∙ ap₂ (λ r qs. option_or r (option_map Tel.without_plus (value_of (codes "phone-context") qs))) cuts.run ps ∙ sym h.prefix in

@@ -1,4 +1,4 @@
--- The longest end of a text that is of some kind.
+-- The longest end of a text that is of some kind: what makes the search for an extension linear.
 use Rattle.std.specs.Prelude.{◌≡◌, ℕ, ◌≤◌, ◌↔◌, List, ◌++◌, length, chars}
 use Rattle.std.specs.Str.{IsUtf8}
 

@@ -1,4 +1,4 @@
--- What free text is read as.
+-- What free text is read as: after the original's `parser/natural`.
 use Rattle.std.specs.Prelude.{ℕ, List, Some, None, Result, Ok, Err}
 use Rattle.phone_parts.specs.Cores.{IsCore}
 use Rattle.phone_parts.specs.Parts.{Parts}
@@ -12,5 +12,6 @@ pub data IsNatural (t : List ℕ) : Result Parts NoReading → Type 0 where
   nothing : ((c : List ℕ) → ¬ (IsCore t c)) → IsNatural t (Err Error)
   with_parameter : (c n d : List ℕ) → IsCore t c → HasLongestSuffix c n Parameter d → IsNatural t (Err Failure)
   with_sign : (c n d : List ℕ) → IsCore t c → HasLongestSuffix c n NumberSign d → IsNatural t (Err Failure)
-  extended : (c n d : List ℕ) → IsCore t c → HasLongestSuffix c n Indicated d → IsNatural t (Ok (record { national = n; prefix = None; extension = Some d }))
+  extended : (c n d : List ℕ) → IsCore t c → HasLongestSuffix c n Indicated d →
+      IsNatural t (Ok (record { national = n; prefix = None; extension = Some d }))
   plain : (c : List ℕ) → IsCore t c → HasNoSuffix c → IsNatural t (Ok (record { national = c; prefix = None; extension = None }))

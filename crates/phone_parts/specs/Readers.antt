@@ -1,4 +1,4 @@
--- What the two readers find in a text.
+-- What the two readers find in a text: after the original's `parser`, which tries the `tel:` form first.
 use Rattle.std.specs.Prelude.{ℕ, List, Option, None, Some, Ok, Err}
 use Rattle.phone_parts.specs.Naturals.{IsNatural}
 use Rattle.phone_parts.specs.Parts.{Parts}

@@ -1,4 +1,4 @@
--- The three forms of an extension at the end of a text. Letters are compared by simple folding.
+-- The three forms of an extension at the end of a text, after the pattern for them in the original's `consts`. Letters are compared by simple folding.
 use Rattle.std.specs.Prelude.{◌≡◌, ℕ, ◌≤◌, ◌<◌, ◌==◌, Bool, true, List, [], ◌∷◌, ◌++◌, length, drop, codes, map}
 use Rattle.std.specs.List.{list_all, list_any}
 use Rattle.phone_core.specs.Characters.{is_nd, is_one_of}
@@ -128,10 +128,12 @@ IsSuffix w Parameter d = IsParameter w d
 IsSuffix w Indicated d = IsIndicated w d
 IsSuffix w NumberSign d = IsNumberSigned w d
 
--- an extension begins with one of these, or with a character that folds to one
+-- the foldings of the characters that an extension begins with
 abbrev pub suffix_starts : List ℕ
-suffix_starts = 32 ∷ 9 ∷ 0xA0 ∷ 44 ∷ 45 ∷ 59 ∷ 35 ∷ 126 ∷ 120 ∷ 101 ∷ 105 ∷ 97 ∷ 0xFF03 ∷ 0xFF5E ∷ 0xFF58 ∷ 0xFF45 ∷ 0xFF49 ∷ []
+suffix_starts =
+    32 ∷ 9 ∷ 0xA0 ∷ 44 ∷ 45 ∷ 59 ∷ 35 ∷ 126 ∷ 120 ∷ 101 ∷ 105 ∷ 97 ∷ 0xFF03 ∷ 0xFF5E ∷ 0xFF58 ∷ 0xFF45 ∷ 0xFF49 ∷ []
 
+-- the character folds to one of these
 abbrev pub is_suffix_start : ℕ → Bool
 is_suffix_start c = is_one_of suffix_starts (simple_fold c)
 

@@ -1,4 +1,4 @@
--- The `tel:` form of a number, after RFC 3966.
+-- The `tel:` form of a number: after RFC 3966, section 3, but looser, as the original's `parser/rfc3966` is.
 use Rattle.std.specs.Prelude.{◌≡◌, ◌⊎◌, ℕ, ◌==◌, ◌||◌, Bool, true, false, not, if◌then◌else◌, List, [], ◌∷◌, ◌++◌, reverse, codes, Option, Some, None, option_map}
 use Rattle.std.specs.Char.{is_ascii_hexdigit, is_ascii_alphanumeric}
 use Rattle.std.specs.List.{list_any, list_all, find}
@@ -12,18 +12,19 @@ use Rattle.phone_parts.specs.Texts.{begins, is_like}
 abbrev pub is_visual : ℕ → Bool
 is_visual c = is_one_of (45 ∷ 46 ∷ 40 ∷ 41 ∷ []) c
 
--- hexadecimal digits and separators make the national part
-abbrev pub is_national : ℕ → Bool
-is_national c = is_ascii_hexdigit c || is_visual c
+-- the phonedigits, which make the national part: hexadecimal digits and separators
+abbrev pub is_phonedigit : ℕ → Bool
+is_phonedigit c = is_ascii_hexdigit c || is_visual c
 
--- a parameter's name has letters, digits and hyphens
+-- a parameter's name has letters, digits and hyphens, and may be empty
 abbrev pub is_name_char : ℕ → Bool
 is_name_char c = is_ascii_alphanumeric c || (c == 45)
 
--- its value has letters, digits, and these marks
+-- its value has letters, digits, and these marks, and may be empty
 abbrev pub is_value_char : ℕ → Bool
 is_value_char c = is_ascii_alphanumeric c || is_one_of (codes "-_.!~*'()[]/:&+$") c
 
+-- a parameter: `;name=value`
 pub record Parameter : Type 0 where
   pub name : List ℕ
   pub value : List ℕ
@@ -56,8 +57,9 @@ pub data IsSignedRun (rest : List ℕ) : List ℕ → Option (List ℕ) → Type
       begins (λ c. not (is_visual c)) rest ≡ false → IsSignedRun rest (43 ∷ run) (Some run)
 
 -- t has no space and is: `tel:` in any case or nothing; where a plus sign follows, that sign and the longest run without
--- separators; the longest run of hexadecimal digits and separators, the national part; nothing, or a list of parameters.
--- Neither run is empty. The prefix is the run, else the value of `phone-context` without a plus sign
+-- separators; the longest run of hexadecimal digits and separators, the national part; nothing, or a semicolon and
+-- what follows it, of which the longest list of parameters at its front counts. Neither run is empty. The prefix is the
+-- run, else the value of `phone-context` without a plus sign
 pub record IsTel (t : List ℕ) (parts : Parts) : Type 0 where
   pub scheme : List ℕ
   pub signed_run : List ℕ
@@ -68,9 +70,9 @@ pub record IsTel (t : List ℕ) (parts : Parts) : Type 0 where
   pub whole : t ≡ scheme ++ (signed_run ++ (parts.national ++ tail))
   pub is_scheme : (scheme ≡ []) ⊎ (is_like scheme (codes "tel:") ≡ true)
   pub is_run : IsSignedRun (parts.national ++ tail) signed_run run
-  pub some_national : begins is_national parts.national ≡ true
-  pub all_national : list_all is_national parts.national ≡ true
-  pub longest : begins is_national tail ≡ false
+  pub some_national : begins is_phonedigit parts.national ≡ true
+  pub all_national : list_all is_phonedigit parts.national ≡ true
+  pub longest : begins is_phonedigit tail ≡ false
   pub is_tail : (tail ≡ []) ⊎ (begins (λ c. c == 59) tail ≡ true)
   pub has_parameters : HasParameters tail parameters
   pub prefix : parts.prefix ≡ option_or run (option_map without_plus (value_of (codes "phone-context") parameters))

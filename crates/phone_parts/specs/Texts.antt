@@ -1,4 +1,4 @@
--- Words on texts, as lists of characters.
+-- Words on texts, as lists of characters, that the readers' definitions share.
 use Rattle.std.specs.Prelude.{ℕ, Bool, false, if◌then◌else◌, List, [], ◌∷◌, length, take, drop, map, Option, None, Some}
 use Rattle.std.specs.Str.{bytes_eq}
 use Rattle.ucd_case.specs.CaseFolding.{simple_fold}

@@ -23,7 +23,9 @@ pub(crate) fn begins_with(text: &str, c: char) -> bool
 /// What follows a front of the text that is like the word: each of its characters has the folding of the word's
 /// character in that place. None where no such front is there.
 pub(crate) fn strip_like<'a>(text: &'a str, word: &str) -> Option<&'a str>
-    ensures read { MatchOption result (after_like (chars text.now) (chars word.now) ≡ None) (λ rest. after_like (chars text.now) (chars word.now) ≡ Some (chars rest.now)) }
+    ensures read { MatchOption result
+        (after_like (chars text.now) (chars word.now) ≡ None)
+        (λ rest. after_like (chars text.now) (chars word.now) ≡ Some (chars rest.now)) }
     ensures end { IfSome result (λ rest. (v : List ℕ) × (text.now ≡ v ++ rest.now)) }
 {
     let mut rest = text;

@@ -31,12 +31,12 @@ impl CharSet for NotVisual {
 }
 
 /// The characters of a national part.
-struct National;
+struct PhoneDigits;
 
-impl CharSet for National {
-    ghost use Rattle.phone_parts.specs.Tel.{is_national};
+impl CharSet for PhoneDigits {
+    ghost use Rattle.phone_parts.specs.Tel.{is_phonedigit};
 
-    ghost members = { λ _ c. is_national c };
+    ghost members = { λ _ c. is_phonedigit c };
 
     fn has(&self, c: char) -> bool {
         c.is_ascii_hexdigit() || matches!(c, '-' | '.' | '(' | ')')
@@ -58,7 +58,7 @@ pub fn phone_number(text: &str) -> Option<Number<'_>>
         return None;
     }
     let (run, rest) = signed_run(without_scheme(text))?;
-    let (national, tail) = split_run(rest, &National);
+    let (national, tail) = split_run(rest, &PhoneDigits);
     if is_nothing(national) {
         return None;
     }
@@ -123,7 +123,8 @@ fn is_tail(text: &str) -> bool
 fn prefix<'a>(run: Option<&'a str>, context: Option<&'a str>) -> Option<&'a str>
     ensures read { option_map chars (option_copied result)
         ≡ option_or (option_map chars (option_copied run.entry)) (option_map without_plus (option_map chars (option_copied context.entry))) }
-    ensures slice { (text : List ℕ) → IfSome run.entry (λ r. IsSlice text r.now) → IfSome context.entry (λ r. IsSlice text r.now) → IfSome result (λ r. IsSlice text r.now) }
+    ensures slice { (text : List ℕ) → IfSome run.entry (λ r. IsSlice text r.now) → IfSome context.entry (λ r. IsSlice text r.now)
+        → IfSome result (λ r. IsSlice text r.now) }
 {
     if run.is_some() {
         return run;

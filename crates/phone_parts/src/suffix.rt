@@ -90,7 +90,8 @@ struct Limits {
 /// run of spaces, tabs and commas is followed by no indicator, that is found out once, at the front of the run. So the
 /// time is linear in the text.
 pub(crate) fn find_suffix(text: &str) -> Option<(&str, Suffix<'_>)>
-    ensures read { MatchOption result (HasNoSuffix (chars text.now)) (λ p. HasLongestSuffix (chars text.now) (chars p.0.now) p.1.form (chars p.1.digits.now)) }
+    ensures read { MatchOption result (HasNoSuffix (chars text.now))
+        (λ p. HasLongestSuffix (chars text.now) (chars p.0.now) p.1.form (chars p.1.digits.now)) }
     ensures front { IfSome result (λ p. (v : List ℕ) × (text.now ≡ p.0.now ++ v)) }
     ensures slice { IfSome result (λ p. IsSlice text.now p.1.digits.now) }
 {
@@ -115,7 +116,9 @@ fn read_suffix(text: &str, limits: Limits, no_indicator: bool) -> Option<Suffix<
     requires unindicated { IsTrue no_indicator → (d : List ℕ) → ¬ (IsIndicated (chars text.now) d) }
     requires ending { AreEndsUpTo IsSomeEnding limits.ending text.now }
     requires number_sign { AreEndsWithin IsSomeNumberSigned limits.number_sign text.now }
-    ensures read { MatchOption result ((f : Form) (d : List ℕ) → ¬ (IsSuffix (chars text.now) f d)) (λ s. IsSuffix (chars text.now) s.form (chars s.digits.now)) }
+    ensures read { MatchOption result
+        ((f : Form) (d : List ℕ) → ¬ (IsSuffix (chars text.now) f d))
+        (λ s. IsSuffix (chars text.now) s.form (chars s.digits.now)) }
     ensures slice { IfSome result (λ s. IsSlice text.now s.digits.now) }
 {
     if !begins_suffix(text) {

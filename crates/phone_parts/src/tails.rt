@@ -45,10 +45,11 @@ pub(crate) fn ending_limit(text: &str) -> usize
     text.len() - left.len()
 }
 
-/// How many bytes an end of the text may have that is an extension with a number sign behind its digits; none where
-/// no end is one. The time is that of the hyphens and spaces before the digits.
+/// How many bytes the longest end of the text has that is an extension with a number sign behind its digits; none
+/// where no end is one. The time is that of the hyphens and spaces before the digits.
 pub(crate) fn number_sign_limit(text: &str) -> usize
-    ensures { AreEndsWithin IsSomeNumberSigned result text.now }
+    ensures longest { AreEndsWithin IsSomeNumberSigned result text.now }
+    ensures reached { 0 < result → (before end : List ℕ) → text.now ≡ before ++ end → length end ≡ result → IsSomeNumberSigned (chars end) }
 {
     let Some((without_sign, last)) = split_last(text) else {
         return 0;

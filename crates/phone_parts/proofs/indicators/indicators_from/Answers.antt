@@ -3,7 +3,8 @@ use Rattle.std.specs.Str.{chars}
 use Rattle.ucd_case.proofs.Computing.{ucd_case}
 use Rattle.ucd_case.specs.CaseFolding.{simple_fold}
 use Rattle.phone_core.specs.Characters.{is_one_of}
-use Rattle.phone_parts.proofs.FirstLetters.{firsts, from_this, none_from}
+use Rattle.phone_parts.proofs.FirstLetters.{from_this, none_from}
+use Rattle.phone_parts.proofs.Openings.{openings}
 use Rattle.phone_parts.proofs.indicators.indicators_from.Goals as goal
 
 pub returns-in-x : goal.returns-in-x
@@ -59,4 +60,4 @@ unfolding chars ucd_case
 returns-in-65374 c = from_this c.args.c 65374 (sym c.simple_fold.ensures ∙ c.in-65374.is)
 
 pub returns-in_default : goal.returns-in_default
-returns-in_default c = sym (none_from (simple_fold c.args.c) (ap (is_one_of firsts) (sym c.simple_fold.ensures) ∙ search rules))
+returns-in_default c = sym (none_from (simple_fold c.args.c) (ap (is_one_of openings) (sym c.simple_fold.ensures) ∙ search rules))

@@ -1,7 +1,7 @@
 use Rattle.std.proofs.Common.{◌⊎◌, ◌≡◌, ◌==◌, [], ◌++◌, true, option_map, option_copied, true≢false, ap, sym, subst, ◌∙◌}
 use Rattle.std.specs.Option.{option_or}
 use Rattle.std.specs.Str.{chars}
-use Rattle.phone_parts.specs.Tel.{IsSignedRun, is_national, without_plus}
+use Rattle.phone_parts.specs.Tel.{IsSignedRun, is_phonedigit, without_plus}
 use Rattle.phone_parts.specs.Texts.{begins}
 use Rattle.phone_parts.proofs.Runs.{all_in_front, none_after_front, run_whole, run_begins}
 use Rattle.phone_parts.proofs.Slices.{slice_of_end, slice_from_front, end_of_end, within}
@@ -17,7 +17,7 @@ returns-then-is_nothing-clause-read c = λ parts h.
     let signed = c.in_ok-run.ensures.read in
     let cuts = tel_cuts (chars c.args.text.now) parts h signed.0 (chars c.in_ok-run.rest.now) _ (sym c.without_scheme.ensures.read ∙ signed.1) signed.2 in
     let none : parts.national ≡ [] = cuts.national ∙ sym c.split_run.ensures.front ∙ c.is_nothing.ensures.nothing c.if-is_nothing.true in
-    true≢false (sym h.some_national ∙ ap (begins is_national) none)
+    true≢false (sym h.some_national ∙ ap (begins is_phonedigit) none)
 
 pub returns-then-not-is_tail-clause-read : goal.returns-then-not-is_tail-clause-read
 returns-then-not-is_tail-clause-read c = λ parts h.
@@ -36,7 +36,7 @@ returns-clause-read c =
     let national = chars c.split_run.result.0.now in
     let tail = chars c.split_run.result.1.now in
     let r = c.split_run.ensures in
-    let cut : rest ≡ national ++ tail = run_whole is_national rest national tail r.front r.rest in
+    let cut : rest ≡ national ++ tail = run_whole is_phonedigit rest national tail r.front r.rest in
     let some : ¬ (national ≡ []) = c.is_nothing.ensures.something c.if-is_nothing.false in
     let ps = c.read_parameters-parameters.ensures.read in
     record {
@@ -49,9 +49,9 @@ returns-clause-read c =
       whole = scheme.whole ∙ ap (λ t. scheme.scheme ++ t) (sym c.without_scheme.ensures.read ∙ signed.1 ∙ ap (λ t. signed.0 ++ t) cut);
       is_scheme = scheme.is_scheme;
       is_run = subst (λ t. IsSignedRun t signed.0 run) cut signed.2;
-      some_national = run_begins is_national national (rw r.front (all_in_front is_national rest)) some;
-      all_national = rw r.front (all_in_front is_national rest);
-      longest = rw r.rest (none_after_front is_national rest);
+      some_national = run_begins is_phonedigit national (rw r.front (all_in_front is_phonedigit rest)) some;
+      all_national = rw r.front (all_in_front is_phonedigit rest);
+      longest = rw r.rest (none_after_front is_phonedigit rest);
       is_tail = c.is_tail.ensures.0 c.if-not-is_tail.false;
       has_parameters = ps.1;
       prefix = c.lent.ensures.read ∙ c.prefix.ensures.read ∙ ap (λ o. option_or run (option_map without_plus o)) ps.2;

@@ -66,4 +66,4 @@ read_suffix-requires-clause-ending c =
 pub read_suffix-requires-clause-number_sign : goal.read_suffix-requires-clause-number_sign
 read_suffix-requires-clause-number_sign c =
     let v = c.loop-c.invariant.1 in
-    within_of_end IsSomeNumberSigned _ c.args.text.now v.0 c.loop-c.rest.now v.1 c.number_sign_limit.ensures
+    within_of_end IsSomeNumberSigned _ c.args.text.now v.0 c.loop-c.rest.now v.1 c.number_sign_limit.ensures.longest

@@ -1,17 +1,19 @@
-use Rattle.std.proofs.Common.{◌++◌, ◌∷◌, [], length, refl, ap, sym, ◌∙◌, encode_utf8, arith}
+use Rattle.std.proofs.Common.{◌++◌, ◌∷◌, [], ◌≡◌, length, length-append, rules, refl, ap, sym, ◌∙◌, encode_utf8, arith}
+use Rattle.std.proofs.lemmas.Str.{chars-append}
 use Rattle.std.specs.Str.{chars}
 use Rattle.phone_parts.specs.Suffixes.{IsSomeNumberSigned}
-use Rattle.phone_parts.proofs.Closings.{ends_in_sign, front_of_front, lead_before, lead_le, some_digits, whole_front}
-use Rattle.phone_parts.proofs.Longest.{chars_cut, ends_within}
+use Rattle.phone_parts.proofs.Closings.{ends_in_sign, front_of_front, lead_before, lead_le, number_signed_parts, some_digits, whole_front}
+use Rattle.phone_parts.proofs.Longest.{chars_cut, end_same, ends_within}
+use Rattle.phone_parts.proofs.Likes.{same_chars}
 use Rattle.phone_parts.proofs.tails.number_sign_limit.Goals as goal
 
-pub returns-then-last-ne35 : goal.returns-then-last-ne35
-returns-then-last-ne35 c = λ before end cut is_end k.
+pub returns-then-last-ne35-clause-longest : goal.returns-then-last-ne35-clause-longest
+returns-then-last-ne35-clause-longest c = λ before end cut is_end k.
     let whole = chars_cut c.args.text.now before end c.utf8.text cut is_end in
     absurd (c.if-last-ne35.true (ends_in_sign (chars c.in-Some.without_sign.now) c.in-Some.last (chars before) (chars end) k.0 (sym c.in-Some.ensures.read ∙ whole) k.1))
 
-pub returns-then-without_digits-without_sign : goal.returns-then-without_digits-without_sign
-returns-then-without_digits-without_sign c = λ before end cut is_end k.
+pub returns-then-without_digits-without_sign-clause-longest : goal.returns-then-without_digits-without_sign-clause-longest
+returns-then-without_digits-without_sign-clause-longest c = λ before end cut is_end k.
     let whole = chars_cut c.args.text.now before end c.utf8.text cut is_end in
     let signed = c.in-Some.ensures.read ∙ ap (λ x. chars c.in-Some.without_sign.now ++ x ∷ []) c.if-last-ne35.false in
     let less = some_digits (chars c.args.text.now) (chars c.in-Some.without_sign.now) (chars c.before_few-without_digits.result.now) signed
@@ -19,8 +21,8 @@ returns-then-without_digits-without_sign c = λ before end cut is_end k.
     let same = whole_front c.in-Some.without_sign.now c.before_few-without_digits.result.now c.before_few-without_digits.ensures.front c.if-without_digits-without_sign.true in
     absurd (omega (arith, less, ap (λ t. length (chars t)) same))
 
-pub returns-then-left-without_digits : goal.returns-then-left-without_digits
-returns-then-left-without_digits c = λ before end cut is_end k.
+pub returns-then-left-without_digits-clause-longest : goal.returns-then-left-without_digits-clause-longest
+returns-then-left-without_digits-clause-longest c = λ before end cut is_end k.
     let whole = chars_cut c.args.text.now before end c.utf8.text cut is_end in
     let signed = c.in-Some.ensures.read ∙ ap (λ x. chars c.in-Some.without_sign.now ++ x ∷ []) c.if-last-ne35.false in
     let less = lead_before (chars c.args.text.now) (chars c.in-Some.without_sign.now) (chars c.before_few-without_digits.result.now) signed
@@ -30,8 +32,8 @@ returns-then-left-without_digits c = λ before end cut is_end k.
     let same = whole_front c.before_few-without_digits.result.now c.before_run-left.result.now c.before_run-left.ensures.front c.if-left-without_digits.true in
     absurd (omega (arith, less, far, ap (λ t. length (chars t)) same))
 
-pub returns : goal.returns
-returns c =
+pub returns-clause-longest : goal.returns-clause-longest
+returns-clause-longest c =
     let text = c.args.text.now in
     let signed = c.in-Some.ensures.read ∙ ap (λ x. chars c.in-Some.without_sign.now ++ x ∷ []) c.if-last-ne35.false in
     let cut = front_of_front text _ _ (front_of_front text _ _ (encode_utf8 c.in-Some.last, c.in-Some.ensures.cut) c.before_few-without_digits.ensures.front)
@@ -41,3 +43,21 @@ returns c =
     lead_le (chars text) (chars c.in-Some.without_sign.now) (chars c.before_few-without_digits.result.now) signed c.before_few-without_digits.ensures.read
     (chars c.before_run-left.result.now) before w k.0 c.before_run-left.ensures.read whole k.1)
     _ refl
+
+pub returns-clause-reached : goal.returns-clause-reached
+returns-clause-reached c = λ some before end cut size.
+    let text = c.args.text.now in
+    let left = c.before_run-left.result.now in
+    let bare = c.before_few-without_digits.result.now in
+    let signless = c.in-Some.without_sign.now in
+    let signed = c.in-Some.ensures.read ∙ ap (λ x. chars signless ++ x ∷ []) c.if-last-ne35.false in
+    let whole = front_of_front text _ _ (front_of_front text _ _ (encode_utf8 c.in-Some.last, c.in-Some.ensures.cut) c.before_few-without_digits.ensures.front)
+    c.before_run-left.ensures.front in
+    let same : end ≡ whole.0 = end_same before end left whole.0 (sym cut ∙ whole.1) (omega (arith, some, size, ap length cut, length-append before end)) in
+    let parts : chars text ≡ chars left ++ chars end = ap chars whole.1 ∙ chars-append left whole.0 c.before_run-left.utf8 ∙ ap (λ t. chars left ++ chars t) (sym same) in (
+      c.before_few-without_digits.ensures.read.end,
+      number_signed_parts (chars text) (chars signless) (chars bare) signed c.before_few-without_digits.ensures.read (chars left) c.before_run-left.ensures.read
+          (λ e. c.if-without_digits-without_sign.false (ap length (same_chars bare signless c.before_few-without_digits.utf8 (search rules) e)))
+          (λ e. c.if-left-without_digits.false (ap length (same_chars left bare c.before_run-left.utf8 c.before_few-without_digits.utf8 e)))
+          (chars end) parts,
+    )
