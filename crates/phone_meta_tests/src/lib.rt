@@ -9,4 +9,6 @@ mod look_ups;
 mod matching;
 #[cfg(test)]
 mod refusals;
+#[cfg(test)]
+mod searches;
 mod told;

@@ -18,6 +18,8 @@ enum Fault {
     NoLayoutPattern,
     BrokenPattern,
     BrokenLeadingDigits,
+    BrokenLeadingThenBrokenPattern,
+    LargePattern,
 }
 
 fn sound(alloc: Global) -> Result<Metadata, AllocError> {
@@ -87,6 +89,9 @@ fn broken(alloc: Global) -> Result<Metadata, AllocError> {
     territory(alloc, "NZ", 64, "(", [8])
 }
 
+/// A pattern that compiles to more than its limit.
+const LARGE: &str = "\\d{1000}{1000}";
+
 fn first(alloc: Global, fault: Fault) -> Result<Metadata, AllocError> {
     match fault {
         Fault::BrokenPatternThenNoPattern | Fault::BrokenPattern => broken(alloc),
@@ -96,7 +101,10 @@ fn first(alloc: Global, fault: Fault) -> Result<Metadata, AllocError> {
         Fault::NoId => without_id(alloc),
         Fault::NoTemplate => without_template(alloc),
         Fault::NoLayoutPattern => without_layout_pattern(alloc),
-        Fault::BrokenLeadingDigits => with_broken_leading_digits(alloc),
+        Fault::BrokenLeadingDigits | Fault::BrokenLeadingThenBrokenPattern => {
+            with_broken_leading_digits(alloc)
+        }
+        Fault::LargePattern => territory(alloc, "NZ", 64, LARGE, [8]),
     }
 }
 
@@ -105,6 +113,7 @@ fn second(alloc: Global, fault: Fault) -> Result<Metadata, AllocError> {
     match fault {
         Fault::BrokenPatternThenNoPattern => without_pattern(alloc),
         Fault::NoCodeThenNoGeneral => without_general(alloc),
+        Fault::BrokenLeadingThenBrokenPattern => broken(alloc),
         _ => sound(alloc),
     }
 }
@@ -147,6 +156,8 @@ fn names_the_first_missing_value_before_any_broken_pattern(rt: HostRuntime) -> R
         (Fault::NoLayoutPattern, "format: missing value: \"pattern\""),
         (Fault::BrokenPattern, "Malformed Regex: ("),
         (Fault::BrokenLeadingDigits, "Malformed Regex: [2"),
+        (Fault::BrokenLeadingThenBrokenPattern, "Malformed Regex: [2"),
+        (Fault::LargePattern, "Malformed Regex: \\d{1000}{1000}"),
     ] {
         assert_eq!(rt; answer(alloc, records(alloc, fault)?)?.as_str(), text);
     }
@@ -182,23 +193,23 @@ fn accepts_no_records(rt: HostRuntime) -> Result<(), Fail> {
     Ok(())
 }
 
-fn said(alloc: Global, number: usize) -> Result<String, AllocError> {
+fn refusal(alloc: Global, number: u8) -> Result<LoadMetadata, AllocError> {
     let phase = String::from_str(alloc, "metadata")?;
     let name = String::from_str(alloc, "id")?;
-    let refusal = match number {
+    Ok(match number {
         1 => LoadMetadata::Metadata(MetadataError::MissingValue { phase, name }),
         2 => LoadMetadata::Metadata(MetadataError::UnhandledElement { phase, name }),
         3 => LoadMetadata::Json,
         4 => LoadMetadata::Kind { phase, name },
         5 => LoadMetadata::Regex(name),
         6 => LoadMetadata::Io,
-        _ => LoadMetadata::Memory,
-    };
-    refusal.to_string(alloc)
+        7 => LoadMetadata::Memory,
+        _ => LoadMetadata::Metadata(MetadataError::UnexpectedEof),
+    })
 }
 
 #[test]
-fn says_why_in_words(rt: HostRuntime) -> Result<(), Fail> {
+fn says_why_in_words_and_by_number(rt: HostRuntime) -> Result<(), Fail> {
     let alloc = rt.alloc();
     for (number, text) in [
         (1, "metadata: missing value: \"id\""),
@@ -208,8 +219,11 @@ fn says_why_in_words(rt: HostRuntime) -> Result<(), Fail> {
         (5, "Malformed Regex: id"),
         (6, "I/O error"),
         (7, "out of memory"),
+        (8, "unexpected end of file"),
     ] {
-        assert_eq!(rt; said(alloc, number)?.as_str(), text);
+        let refusal = refusal(alloc, number)?;
+        assert_eq!(rt; refusal.to_string(alloc)?.as_str(), text);
+        assert_eq!(rt; refusal.number(), number);
     }
     Ok(())
 }
