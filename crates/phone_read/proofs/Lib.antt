@@ -3,6 +3,7 @@ pub mod FoundCodes
 pub mod HintCodes
 pub mod Lengths
 pub mod ListedFronts
+pub mod ReadNumbers
 pub mod ReadingOnes
 pub mod ReadingRows
 pub mod ReadingSome
