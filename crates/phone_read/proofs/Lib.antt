@@ -4,6 +4,7 @@ pub mod HintCodes
 pub mod Lengths
 pub mod ListedCodes
 pub mod ListedFronts
+pub mod ReadNumbers
 pub mod ReadingOnes
 pub mod ReadingRows
 pub mod ReadingSome

@@ -6,6 +6,7 @@ mod dialled;
 pub mod helper;
 mod hints;
 pub mod laws;
+pub mod number_laws;
 mod reading;
 pub mod rows;
 mod stripping;
