@@ -1,9 +1,9 @@
 -- A regex that was built from a text finds the first match of that text.
-use Rattle.std.proofs.Common.{◌≡◌, ◌==◌, false, ℕ, zero, suc, ◌-◌, ◌<◌, ◌++◌, List, [], take, drop, slice_range, Option, None, Some, All, IsSomeAnd, option_map, get_or, length, refl, sym, ap, ap₂, ◌∙◌, arith, add-one, ne_eqb}
+use Rattle.std.proofs.Common.{◌≡◌, ◌==◌, false, ℕ, zero, suc, ◌-◌, ◌<◌, ◌++◌, List, [], take, drop, slice_range, Option, None, Some, All, IsSomeAnd, option_map, get_or, length, cond, nat_le, refl, sym, ap, ap₂, ◌∙◌, arith, add-one, ne_eqb}
 use Rattle.std.proofs.Math.Nat.{sub-zero}
 use Rattle.std.proofs.lemmas.Bool.{cond-false}
 use Rattle.std.proofs.lemmas.List.{get_or_default}
-use Rattle.std.specs.Option.{option_and_then, option_map_or}
+use Rattle.std.specs.Option.{option_and_then, option_map_or, unwrap_or}
 use Rattle.std.specs.Str.{chars}
 use Rattle.regex.specs.Patterns.{Re, Match, Reads, SameCaptures, find_str, find_all_str, span}
 use Rattle.regex.specs.Replace.{group_bytes, replaced_by}
@@ -16,7 +16,7 @@ use Rattle.regex_hir.specs.Find.{matches_from}
 use Rattle.regex_syntax.specs.Grammar.{read, Names}
 use Rattle.regex_syntax.specs.Brackets.{Nested}
 use Rattle.regex_syntax.proofs.CapturesLemmas.{find_str_alike}
-use Rattle.phone_meta.specs.First.{first_match, first_span, last_group_in, names_in, replaced, with_first_replaced, group_in, verbose, Seen, seen_of}
+use Rattle.phone_meta.specs.First.{first_match, first_span, last_group, captured, captured_by, names_in, replaced, with_first_replaced, group_in, verbose, Seen, seen_of}
 
 -- what a pattern text is read as
 abbrev Parsed : Type 0
@@ -72,16 +72,25 @@ module _ (r : Regex) (config : regex_config r ≡ verbose) (is_read : IsReadFrom
     pub find-first_span : option_map span (find_str (regex_pattern r) hay 0) ≡ first_span (regex_source r) hay
     find-first_span = through _ ∙ ap (option_map (λ (s : Seen). (s.0, s.1))) find-first_match
 
-    -- the last group of what it captures
-    pub last_group_of_captures : (m : Match) (c : Captures) → find_str (regex_pattern r) hay 0 ≡ Some m → IsCapturesOf hay m c →
-        Some (captures_span c (length (regex_names r) - 1)) ≡ last_group_in (regex_source r) hay
-    last_group_of_captures m c e h =
-        ap Some (captures_span-group_in hay m c h _)
-        ∙ ap₂ (λ (names : Names) (o : Option Seen). option_map (λ s. group_in s (length names - 1)) o)
-        regex_names-names_in (sym (ap (option_map seen_of) e) ∙ find-first_match)
+    -- what its matcher captures is what its text captures
+    pub captures-captured : (m : Match) (c : Captures) (span : ℕ × ℕ) (first last : Option (ℕ × ℕ)) → find_str (regex_pattern r) hay 0 ≡ Some m → IsCapturesOf hay m c →
+        Some span ≡ captures_span c 0 → first ≡ cond (nat_le 1 (length (regex_names r) - 1)) (captures_span c 1) None → last ≡ captures_span c (length (regex_names r) - 1) →
+        Some (record { span = span; first = first; last = last }) ≡ captured (regex_source r) hay
+    captures-captured m c span first last e h whole one end =
+        ap Some
+        (ap (λ (s : ℕ × ℕ). record { span = s; first = first; last = last }) (ap (λ o. unwrap_or o span) (whole ∙ group 0))
+        ∙ ap (λ (o : Option (ℕ × ℕ)). record { span = (m.start, m.trace.end); first = o; last = last }) (one ∙ ap (λ o. cond (nat_le 1 n) o None) (group 1))
+        ∙ ap (λ (o : Option (ℕ × ℕ)). record { span = (m.start, m.trace.end); first = cond (nat_le 1 n) (group_in (seen_of m) 1) None; last = o }) (end ∙ group n))
+        ∙ ap₂ (λ (names : Names) (o : Option Seen). option_map (captured_by (length names - 1)) o) regex_names-names_in (sym (ap (option_map seen_of) e) ∙ find-first_match)
+      where
+        n : ℕ
+        n = length (regex_names r) - 1
 
-    pub no_last_group : find_str (regex_pattern r) hay 0 ≡ None → None ≡ last_group_in (regex_source r) hay
-    no_last_group e = ap (option_map (λ s. group_in s (length (names_in (regex_source r)) - 1))) (sym (ap (option_map seen_of) e) ∙ find-first_match)
+        group : (k : ℕ) → captures_span c k ≡ group_in (seen_of m) k
+        group = captures_span-group_in hay m c h
+
+    pub none-captured : find_str (regex_pattern r) hay 0 ≡ None → None ≡ captured (regex_source r) hay
+    none-captured e = ap (option_map (captured_by (last_group (regex_source r)))) (sym (ap (option_map seen_of) e) ∙ find-first_match)
 
     abbrev writes : List ℕ → Match → List ℕ
     writes template m = written_after (regex_names r) (group_bytes hay m) template 0

@@ -1,5 +1,5 @@
 -- The first match of a pattern text in a text, under flag x.
-use Rattle.std.specs.Prelude.{◌≡◌, ℕ, ◌+◌, ◌-◌, ◌*◌, ◌==◌, Bool, false, if◌then◌else◌, true, List, [], ◌++◌, map, take, drop, length, Option, Some, None, option_map}
+use Rattle.std.specs.Prelude.{◌≡◌, ℕ, ◌+◌, ◌-◌, ◌*◌, ◌==◌, ◌≤◌, ◌&&◌, nat_le, Bool, false, if◌then◌else◌, true, List, [], ◌++◌, map, take, drop, length, Option, Some, None, option_map, IfSome, IsCharBoundary}
 use Rattle.std.specs.Borrow.{Bor}
 use Rattle.std.specs.List.{AllByRecursion}
 use Rattle.std.specs.Option.{option_and_then, option_map_or}
@@ -11,6 +11,7 @@ use Rattle.regex.specs.Templates.{written_after}
 use Rattle.regex.specs.Writes.{both}
 use Rattle.regex.specs.declared.string.regex.Regex.{Regex}
 use Rattle.regex_syntax.specs.Grammar.{Names, read}
+use Rattle.phone_meta.specs.declared.pattern.Captured.{Captured}
 
 -- the options of a database pattern: flag x
 abbrev pub verbose : Config
@@ -39,13 +40,33 @@ first_span pattern hay = option_map (λ (s : Seen). (s.0, s.1)) (first_match pat
 abbrev pub at_start : List ℕ → List ℕ → Bool
 at_start pattern hay = option_map_or (λ (s : Seen). s.0 == 0) (first_match pattern hay) false
 
+-- whether the first match begins at the first byte and ends after the last
+abbrev pub is_whole_match : List ℕ → List ℕ → Bool
+is_whole_match pattern digits = option_map_or (λ (s : ℕ × ℕ). (s.0 == 0) && (s.1 == length digits)) (first_span pattern digits) false
+
 -- what group n spans; group 0 is the match
 abbrev pub group_in : Seen → ℕ → Option (ℕ × ℕ)
 group_in s n = if n == 0 then Some (s.0, s.1) else both (s.2 (2 * n)) (s.2 (2 * n + 1))
 
--- what the last group of the first match spans
-abbrev pub last_group_in : List ℕ → List ℕ → Option (Option (ℕ × ℕ))
-last_group_in pattern hay = option_map (λ s. group_in s (length (names_in pattern) - 1)) (first_match pattern hay)
+-- the number of the last group; 0, which is the match, where there is none
+abbrev pub last_group : List ℕ → ℕ
+last_group pattern = length (names_in pattern) - 1
+
+-- a match's span, its first group if it has groups, and its last group, whose number is given
+abbrev pub captured_by : ℕ → Seen → Captured
+captured_by last s = record { span = (s.0, s.1); first = if nat_le 1 last then group_in s 1 else None; last = group_in s last }
+
+-- what the first match captures
+abbrev pub captured : List ℕ → List ℕ → Option Captured
+captured pattern hay = option_map (captured_by (last_group pattern)) (first_match pattern hay)
+
+-- a span begins and ends between characters of a text
+abbrev pub IsCut : List ℕ → ℕ × ℕ → Type 0
+IsCut text s = (s.0 ≤ s.1) × (s.1 ≤ length text) × IsCharBoundary text s.0 × IsCharBoundary text s.1
+
+-- so does all that is captured
+abbrev pub AreCuts : List ℕ → Captured → Type 0
+AreCuts text c = IsCut text c.span × IfSome c.first (IsCut text) × IfSome c.last (IsCut text)
 
 -- the text with a match replaced by what the template's text writes there
 abbrev pub with_first_replaced : Names → List ℕ → List ℕ → Option Seen → List ℕ

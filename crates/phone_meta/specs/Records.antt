@@ -1,10 +1,11 @@
 -- What contracts see of a database: its records, in the order in which they were handed in.
-use Rattle.std.specs.Prelude.{ℕ, suc, ◌==◌, ◌&&◌, ◌||◌, Bool, if◌then◌else◌, List, [], ◌∷◌, ◌++◌, map, length, Option, None, Some, option_map, unwrap_or, codes}
+use Rattle.std.specs.Prelude.{ℕ, suc, ◌==◌, ◌&&◌, ◌||◌, Bool, true, if◌then◌else◌, List, [], ◌∷◌, ◌++◌, map, length, reverse, Option, None, Some, option_map, unwrap_or, codes}
 use Rattle.std.specs.List.{list_any}
 use Rattle.std.specs.Option.{option_or}
 use Rattle.std.specs.Str.{bytes_eq}
 use Rattle.phone_meta.specs.First.{at_start}
 use Rattle.phone_meta.specs.declared.loader.Descriptor.{Descriptor}
+use Rattle.phone_meta.specs.declared.loader.Format.{Format}
 use Rattle.phone_meta.specs.declared.loader.Metadata.{Metadata}
 
 -- the text of a descriptor's pattern
@@ -18,6 +19,16 @@ allows_length d n = (length d.possible_length == 0) || list_any (λ k. k == n) d
 -- a text is such a number: its length in bytes is allowed, and the pattern's first match begins at its first byte
 abbrev pub matches : Descriptor → List ℕ → Bool
 matches d text = allows_length d (length text) && at_start (pattern_of d) text
+
+-- what leads digits, by the patterns from the last on: anything where there is none, else the last where its first match
+-- begins at the first byte
+abbrev pub led_by : List ℕ → List (List ℕ) → Bool
+led_by digits [] = true
+led_by digits (last ∷ others) = at_start last digits
+
+-- a layout is meant for these digits
+abbrev pub is_led : List ℕ → Format → Bool
+is_led digits f = led_by digits (reverse f.leading_digits)
 
 -- the last that passes
 abbrev pub last_where : {X : Type 0} → (X → Bool) → List X → Option X

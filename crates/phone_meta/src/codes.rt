@@ -76,10 +76,11 @@ impl Database {
         self.of_code(code).find(|t| !t.is_main_country_for_code())
     }
 
-    fn is_listed(&self, code: u16) -> bool
-        ensures { result ≡ is_listed code self.now }
+    /// Whether a calling code has a territory. Takes no memory.
+    pub fn is_listed(&self, code: &u16) -> bool
+        ensures { result ≡ is_listed code.now self.now }
     {
-        !self.places_of(code).is_empty()
+        !self.places_of(*code).is_empty()
     }
 }
 
@@ -116,7 +117,7 @@ impl Database {
         ensures { result ≡ listed_front self.now text.now k }
     {
         let code = front_number(text, k)?;
-        if self.is_listed(code) {
+        if self.is_listed(&code) {
             Some(code)
         } else {
             None

@@ -57,6 +57,13 @@ impl Descriptor {
         self.national_number.regex()
     }
 
+    /// The same, as a pattern that searches.
+    pub fn pattern(&self) -> &Pattern
+        ensures { result.now ≡ pattern_of self.now }
+    {
+        &self.national_number
+    }
+
     /// The text of that pattern.
     pub fn pattern_text(&self) -> &str
         ensures { result.now ≡ pattern_of self.now }

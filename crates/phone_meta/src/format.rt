@@ -4,13 +4,14 @@ ghost use Rattle.std.specs.List.{flat_map};
 ghost use Rattle.std.specs.Option.{option_copied};
 ghost use Rattle.phone_meta.specs.First.{ArePatternsOf, IsLentPattern};
 ghost use Rattle.phone_meta.specs.Missing.{first_given, missing_in_format};
+ghost use Rattle.phone_meta.specs.Records.{is_led};
 ghost use Rattle.phone_meta.specs.Refusals.{IsPatternRefusal, patterns_in_format};
 
 use crate::error::LoadMetadata;
 use crate::loader::{self, Text};
 use crate::pattern::{self, Pattern};
 use regex::Regex;
-use std::alloc::Global;
+use std::alloc::{AllocError, Global};
 use std::marker::Model;
 
 /// How the digits of a national number are grouped when it is printed.
@@ -62,6 +63,13 @@ impl Format {
         self.pattern.regex()
     }
 
+    /// The same, as a pattern that searches.
+    pub fn whole_pattern(&self) -> &Pattern
+        ensures { self.now.pattern ≡ Some result.now }
+    {
+        &self.pattern
+    }
+
     /// The template that lays the groups out, with `$1` for the first.
     pub fn format(&self) -> &str
         ensures { self.now.format ≡ Some result.now }
@@ -74,6 +82,17 @@ impl Format {
         ensures { ArePatternsOf self.now.leading_digits result.now }
     {
         self.leading_digits.as_slice()
+    }
+
+    /// Whether the layout is meant for these digits: it has no leading digits, or the first match of the last of these
+    /// patterns begins at the first byte. Refused only for memory.
+    pub fn is_led(&self, digits: &str) -> Result<bool, AllocError>
+        ensures { IfOk result (λ b. b ≡ is_led digits.now self.now) }
+    {
+        match self.leading_digits.split_last() {
+            Some((last, _)) => pattern::is_at_start(self.pattern.allocator(), last, digits),
+            None => Ok(true),
+        }
     }
 
     /// How the national prefix is written: `$NP` stands for it, `$FG` for the first group.

@@ -21,3 +21,4 @@ pub use error::LoadMetadata;
 pub use format::Format;
 pub use iter::Iter;
 pub use metadata::Metadata;
+pub use pattern::{Captured, Pattern};

@@ -20,6 +20,7 @@ use std::marker::Model;
 /// All that is known of a territory.
 #[derive(Drop)]
 pub struct Metadata {
+    alloc: Global,
     descriptors: Descriptors,
     id: Text,
     country_code: u16,
@@ -78,6 +79,7 @@ impl Metadata {
         ensures refused { IfErr result (IsPatternRefusal (patterns_in given)) }
     {
         Ok(Metadata {
+            alloc,
             descriptors: Descriptors {
                 general: Descriptor::compile(alloc, given.general.unwrap())?,
                 fixed_line: compile_descriptor(alloc, given.fixed_line)?,
@@ -116,6 +118,11 @@ impl Metadata {
         })
     }
 
+    /// The allocator that the territory keeps, for calls on it and its parts.
+    pub fn allocator(&self) -> Global {
+        self.alloc
+    }
+
     /// The descriptors, by kind.
     pub fn descriptors(&self) -> &Descriptors
         ensures { result.now ≡ kinds_of self.now }
@@ -143,6 +150,16 @@ impl Metadata {
     {
         match &self.international_prefix {
             Some(pattern) => Some(pattern.regex()),
+            None => None,
+        }
+    }
+
+    /// The same, as a pattern that searches.
+    pub fn international_prefix_pattern(&self) -> Option<&Pattern>
+        ensures { option_copied result ≡ self.now.international_prefix }
+    {
+        match &self.international_prefix {
+            Some(pattern) => Some(pattern),
             None => None,
         }
     }
@@ -187,6 +204,16 @@ impl Metadata {
         }
     }
 
+    /// The same, as a pattern that searches.
+    pub fn national_prefix_for_parsing_pattern(&self) -> Option<&Pattern>
+        ensures { option_copied result ≡ self.now.national_prefix_for_parsing }
+    {
+        match &self.national_prefix_for_parsing {
+            Some(pattern) => Some(pattern),
+            None => None,
+        }
+    }
+
     /// The template that takes its place, with `$1` for the first group of that pattern.
     pub fn national_prefix_transform_rule(&self) -> Option<&str>
         ensures { option_copied result ≡ self.now.national_prefix_transform_rule }
@@ -224,6 +251,16 @@ impl Metadata {
     {
         match &self.leading_digits {
             Some(pattern) => Some(pattern.regex()),
+            None => None,
+        }
+    }
+
+    /// The same, as a pattern that searches.
+    pub fn leading_digits_pattern(&self) -> Option<&Pattern>
+        ensures { option_copied result ≡ self.now.leading_digits }
+    {
+        match &self.leading_digits {
+            Some(pattern) => Some(pattern),
             None => None,
         }
     }

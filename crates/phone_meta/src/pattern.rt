@@ -1,11 +1,12 @@
 //! A pattern that is compiled once and held. Contracts see its text.
-ghost use Rattle.std.specs.Prelude.{◌≡◌, [], ◌∷◌, IfOk, IfErr};
-ghost use Rattle.phone_meta.specs.First.{at_start, ArePatternsOf, IsPatternOf};
+ghost use Rattle.std.specs.Prelude.{◌≡◌, [], ◌∷◌, nat_le, if◌then◌else◌, None, IfOk, IfErr, IfSome, string_bytes};
+ghost use Rattle.regex.specs.Strings.{regex_source, captures_haystack, captures_span, match_haystack, match_span};
+ghost use Rattle.phone_meta.specs.First.{at_start, captured, first_span, is_whole_match, replaced, ArePatternsOf, AreCuts, IsCut, IsPatternOf, IsUnderX};
 ghost use Rattle.phone_meta.specs.Refusals.{IsPatternRefusal};
 
 use crate::error::LoadMetadata;
 use crate::loader::Text;
-use regex::{Error, Regex, RegexBuilder};
+use regex::{Captures, Error, Match, Regex, RegexBuilder, Template};
 use std::alloc::{AllocError, Global};
 use std::marker::Model;
 
@@ -67,15 +68,123 @@ impl Pattern {
         self.re.as_str()
     }
 
-    /// Whether the first match begins at the first byte; it need not reach the end.
+    /// The allocator that the pattern keeps, for its searches.
+    pub(crate) fn allocator(&self) -> Global {
+        self.alloc
+    }
+
+    /// Whether the first match begins at the first byte; it need not reach the end. Refused only for memory.
     pub fn is_at_start(&self, text: &str) -> Result<bool, AllocError>
         ensures { IfOk result (λ b. b ≡ at_start self.now text.now) }
     {
-        let mut matcher = self.re.matcher(self.alloc)?;
-        match matcher.find(text) {
-            Some(found) => Ok(found.start() == 0),
+        is_at_start(self.alloc, &self.re, text)
+    }
+
+    /// The bytes at which the first match begins and ends; none where the text has no match. Refused only for memory.
+    pub fn first_span(&self, text: &str) -> Result<Option<(usize, usize)>, AllocError>
+        ensures span { IfOk result (λ found. found ≡ first_span self.now text.now) }
+        ensures borders { IfOk result (λ found. IfSome found (IsCut text.now)) }
+    {
+        first_span(self.alloc, &self.re, text)
+    }
+
+    /// Whether the first match begins at the first byte and ends after the last. Refused only for memory.
+    pub fn is_whole_match(&self, text: &str) -> Result<bool, AllocError>
+        ensures { IfOk result (λ b. b ≡ is_whole_match self.now text.now) }
+    {
+        match self.first_span(text)? {
+            Some((start, end)) => Ok(start == 0 && end == text.len()),
             None => Ok(false),
         }
+    }
+
+    /// What the first match spans, and its first and its last group; none where the text has no match. Refused only
+    /// for memory.
+    pub fn captured(&self, text: &str) -> Result<Option<Captured>, AllocError>
+        ensures found { IfOk result (λ found. found ≡ captured self.now text.now) }
+        ensures borders { IfOk result (λ found. IfSome found (AreCuts text.now)) }
+    {
+        let last = self.re.captures_len().saturating_sub(1);
+        let mut matcher = self.re.matcher(self.alloc)?;
+        let Some(captures) = matcher.captures(text) else {
+            return Ok(None);
+        };
+        Ok(Some(Captured {
+            span: span_of(captures.get_match()),
+            first: first_group(&captures, last),
+            last: group(&captures, last),
+        }))
+    }
+
+    /// The text with its first match replaced by a template, in which `$1` stands for the first group; a text without
+    /// a match stays as it is. Refused only for memory.
+    pub fn replaced(&self, template: &str, text: &str) -> Result<String, AllocError>
+        ensures { IfOk result (λ out. string_bytes out ≡ replaced self.now template.now text.now) }
+    {
+        let template = Template::new(self.alloc, self.re.capture_names(), template)?;
+        let mut matcher = self.re.matcher(self.alloc)?;
+        matcher.replace(self.alloc, text, &template)
+    }
+}
+
+/// What the first match of a pattern captures, each part by the bytes at which it begins and ends.
+#[derive(Clone, Copy, Debug, PartialEq, Eq)]
+pub struct Captured {
+    /// The match.
+    pub span: (usize, usize),
+    /// The first group; none where the pattern has no group, or the group took no part in the match.
+    pub first: Option<(usize, usize)>,
+    /// The last group, or the match where the pattern has no group; none where the group took no part in the match.
+    pub last: Option<(usize, usize)>,
+}
+
+/// What a group of a match spans; group 0 is the match.
+fn group(captures: &Captures<'_, '_>, n: usize) -> Option<(usize, usize)>
+    ensures span { result ≡ captures_span captures.now n }
+    ensures borders { IfSome result (IsCut (captures_haystack captures.now)) }
+{
+    Some(span_of(captures.get(n)?))
+}
+
+/// What the first group of a match spans, if the number of the last group is at least 1.
+fn first_group(captures: &Captures<'_, '_>, last: usize) -> Option<(usize, usize)>
+    ensures span { result ≡ (if nat_le 1 last then captures_span captures.now 1 else None) }
+    ensures borders { IfSome result (IsCut (captures_haystack captures.now)) }
+{
+    if last == 0 {
+        return None;
+    }
+    group(captures, 1)
+}
+
+fn span_of(found: Match<'_>) -> (usize, usize)
+    ensures span { result ≡ match_span found.entry }
+    ensures borders { IsCut (match_haystack found.entry) result }
+{
+    (found.start(), found.end())
+}
+
+/// Where the first match of a compiled pattern begins and ends.
+fn first_span(alloc: Global, re: &Regex, text: &str) -> Result<Option<(usize, usize)>, AllocError>
+    requires { IsUnderX re.now }
+    ensures span { IfOk result (λ found. found ≡ first_span (regex_source re.now) text.now) }
+    ensures borders { IfOk result (λ found. IfSome found (IsCut text.now)) }
+{
+    let mut matcher = re.matcher(alloc)?;
+    match matcher.find(text) {
+        Some(found) => Ok(Some(span_of(found))),
+        None => Ok(None),
+    }
+}
+
+/// Whether the first match of a compiled pattern begins at the first byte.
+pub fn is_at_start(alloc: Global, re: &Regex, text: &str) -> Result<bool, AllocError>
+    requires { IsUnderX re.now }
+    ensures { IfOk result (λ b. b ≡ at_start (regex_source re.now) text.now) }
+{
+    match first_span(alloc, re, text)? {
+        Some((start, _)) => Ok(start == 0),
+        None => Ok(false),
     }
 }
 

@@ -3,4 +3,4 @@ use Rattle.phone_meta.proofs.Places.{places_where-any}
 use Rattle.phone_meta.proofs.database.Database.is_listed.Goals as goal
 
 pub returns : goal.returns
-returns c = rw (c.is_empty.ensures, c.places_of.ensures) (places_where-any (has_code c.args.code) c.args.self.now)
+returns c = rw (c.is_empty.ensures, c.places_of.ensures) (places_where-any (has_code c.args.code.now) c.args.self.now)
