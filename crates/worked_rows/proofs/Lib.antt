@@ -1,0 +1,4 @@
+mod Digits
+mod FirstGroups
+mod Laid
+mod Searches
