@@ -1,7 +1,7 @@
 -- Patterns of groups of decimal digits: what `\d` is read as, and what groups of it are.
-use Rattle.std.proofs.Common.{◌≡◌, ◌+◌, ℕ, zero, suc, List, [], ◌∷◌, map, filter, refl, ap, ◌∙◌, nat_le, ◌&&◌, ◌||◌}
+use Rattle.std.proofs.Common.{replicate, length, None, ◌≡◌, ◌+◌, ℕ, zero, suc, List, [], ◌∷◌, map, filter, refl, ap, ◌∙◌, nat_le, ◌&&◌, ◌||◌}
 use Rattle.std.specs.Bool.{beq}
-use Rattle.regex.proofs.OnLiterals.{alone, class_is, same_group, same_refl, cat_cong}
+use Rattle.regex.proofs.OnLiterals.{IsReadAs, alone, class_is, same_group, same_refl, cat_cong}
 use Rattle.regex.specs.Patterns.{Range, Re, empty, char_in, byte_in, cat, alt, group, members, is_digit_char}
 use Rattle.regex_class.specs.Ranges.{in_range, in_ranges, HasExactly}
 use Rattle.regex_hir.specs.Meaning.{copies}
@@ -12,6 +12,7 @@ use Rattle.ucd_category.specs.declared.GeneralCategory.TheVariants.{DecimalNumbe
 use Rattle.ucd_category.specs.declared.GeneralCategory.{GeneralCategory}
 use Rattle.ucd_perl.proofs.Computing.{ucd_perl}
 use Rattle.ucd_perl.proofs.PerlLemmas.{is_digit_char_stepped}
+use Rattle.phone_meta.specs.First.{verbose, names_in}
 use Rattle.ucd_table.proofs.Facts.{Stepped-always, same_from_beq}
 use Rattle.ucd_table.proofs.Stepped.{Stepped, of_ranges, zip_stepped}
 use Rattle.ucd_table.specs.Rows as table
@@ -73,3 +74,8 @@ groups k (n ∷ ns) = cat (group k (run digit n)) (groups (k + 1) ns)
 pub read_groups-groups : (k : ℕ) (ns : List ℕ) → SameTree (read_groups k ns) (groups k ns)
 read_groups-groups k [] = same_refl _
 read_groups-groups k (n ∷ ns) = cat_cong (same_group k (alone (runs n))) (read_groups-groups (k + 1) ns)
+
+-- a pattern's text is read as groups of so many digits each, and none has a name
+pub record IsGrouped (pattern : List ℕ) (ns : List ℕ) : Type 0 where
+  pub read : IsReadAs verbose pattern (groups 1 ns)
+  pub names : names_in pattern ≡ replicate (length ns + 1) None

@@ -1,5 +1,6 @@
 -- What the pattern of a template's first group finds.
-use Rattle.std.proofs.Common.{◌≡◌, ℕ, [], ◌∷◌, None, Some, codes, refl, ap, option_map, ◌∙◌}
+use Rattle.std.proofs.Common.{true, nat_lt, List, Option, ◌≡◌, ℕ, [], ◌∷◌, None, Some, codes, refl, ap, option_map, ◌∙◌}
+use Rattle.std.specs.List.{list_all}
 use Rattle.regex.proofs.OnLiterals.{regex_on_literals, IsReadAs, ◌then◌, alone, same_group, same_refl, cat_cong, cat-empty, alt-fail}
 use Rattle.regex.specs.Patterns.{Re, cat, group, literal, find_str}
 use Rattle.phone_meta.specs.First.{verbose, names_in, first_span, Seen, seen_of}
@@ -22,23 +23,19 @@ names_mark = refl
 abbrev span_of : Seen → ℕ × ℕ
 span_of s = (s.0, s.1)
 
-in_first : option_map span_of (option_map seen_of (find_str mark (codes "$1 $2 $3") 0)) ≡ Some (0, 2)
-unfolding searching nd_ranges
-in_first = refl
+-- where the first mark of a template stands
+found : (template : List ℕ) (span : Option (ℕ × ℕ)) → list_all (λ c. nat_lt c 256) template ≡ true →
+    option_map span_of (option_map seen_of (find_str mark template 0)) ≡ span → first_span first_group_pattern template ≡ span
+found template span bytes e = ap (option_map span_of) (first_match-as_read _ template mark bytes read_mark) ∙ e
 
 pub first : first_span first_group_pattern (codes "$1 $2 $3") ≡ Some (0, 2)
-first = ap (option_map span_of) (first_match-as_read _ (codes "$1 $2 $3") mark refl read_mark) ∙ in_first
-
-in_braces : option_map span_of (option_map seen_of (find_str mark (codes "${1} $2") 0)) ≡ Some (5, 7)
 unfolding searching nd_ranges
-in_braces = refl
+first = found (codes "$1 $2 $3") (Some (0, 2)) refl refl
 
 pub braces : first_span first_group_pattern (codes "${1} $2") ≡ Some (5, 7)
-braces = ap (option_map span_of) (first_match-as_read _ (codes "${1} $2") mark refl read_mark) ∙ in_braces
-
-in_none : option_map span_of (option_map seen_of (find_str mark (codes "number") 0)) ≡ None
 unfolding searching nd_ranges
-in_none = refl
+braces = found (codes "${1} $2") (Some (5, 7)) refl refl
 
 pub none : first_span first_group_pattern (codes "number") ≡ None
-none = ap (option_map span_of) (first_match-as_read _ (codes "number") mark refl read_mark) ∙ in_none
+unfolding searching nd_ranges
+none = found (codes "number") None refl refl

@@ -1,5 +1,5 @@
 -- The first match of a pattern text, by what the text is read as.
-use Rattle.std.proofs.Common.{◌≡◌, ◌<◌, ℕ, true, List, [], ◌∷◌, Option, Some, None, All, IsSomeAnd, option_map, ap₂, nat_lt, ltb-true}
+use Rattle.std.proofs.Common.{◌≡◌, ◌<◌, ℕ, true, List, [], ◌∷◌, Option, Some, None, All, IsSomeAnd, option_map, nat_lt, ltb-true}
 use Rattle.std.proofs.lemmas.Bool.{and_parts}
 use Rattle.std.proofs.lemmas.List.Elements.{All-from_recursion}
 use Rattle.std.specs.Bool.{⊤}
@@ -16,7 +16,7 @@ use Rattle.regex_syntax.proofs.CapturesLemmas.{find_str_alike, alike_of_same}
 use Rattle.regex_syntax.specs.Brackets.{Nested}
 use Rattle.regex_syntax.specs.Grammar.{Names, read}
 use Rattle.regex_syntax.specs.Same.{SameTree}
-use Rattle.phone_meta.specs.First.{verbose, first_match, names_in, with_first_replaced, replaced, seen_of}
+use Rattle.phone_meta.specs.First.{verbose, first_match, seen_of}
 
 -- what an answer unfolds to compute a search and what a template writes
 unfoldable pub searching : ⊤
@@ -41,9 +41,3 @@ pub first_match-as_read : (pattern hay : List ℕ) (re : Re) → list_all (λ c.
     first_match pattern hay ≡ option_map seen_of (find_str re hay 0)
 unfolding first_match
 first_match-as_read pattern hay re bytes h = as_read (read verbose (chars pattern)) re hay (small hay bytes) h
-
--- and so is the text with it replaced
-pub replaced-as_read : (pattern template hay : List ℕ) (re : Re) (names : Names) → list_all (λ c. nat_lt c 256) hay ≡ true → IsReadAs verbose pattern re →
-    names_in pattern ≡ names → replaced pattern template hay ≡ with_first_replaced names template hay (option_map seen_of (find_str re hay 0))
-replaced-as_read pattern template hay re names bytes h e =
-    ap₂ (λ n o. with_first_replaced n template hay o) e (first_match-as_read pattern hay re bytes h)
