@@ -1,0 +1,13 @@
+mod CodeRows
+mod Digits
+mod FirstGroups
+mod Laid
+mod LayoutChoice
+mod Marks
+mod PlainNumbers
+mod Printed
+mod RegionRows
+mod Searches
+mod Spaced
+mod Stripped
+mod Templates
