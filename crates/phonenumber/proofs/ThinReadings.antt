@@ -24,7 +24,7 @@ use Rattle.phone_parts.specs.Readers.{HasParts}
 use Rattle.phone_read.specs.Readings.{Reads, stripped, stripping_territory}
 use Rattle.phone_read.specs.Strips.{Stripped, strip}
 use Rattle.phone_parts.specs.Parts.{Parts}
-use Rattle.phone_parts.specs.Tel.{IsTel, is_national}
+use Rattle.phone_parts.specs.Tel.{IsTel, is_phonedigit}
 use Rattle.phone_parts.specs.Texts.{begins, without_front}
 use Rattle.phone_read.specs.Verdicts.{verdict, is_too_short}
 use Rattle.phone_core.specs.declared.country.Source.TheVariants.{Default}
@@ -96,7 +96,7 @@ thin_strip_of db h m same digits =
 not_tel_nil : (q : Parts) → ¬ (IsTel [] q)
 not_tel_nil q h = nothing q.national h.scheme h.signed_run h.tail h.whole h.some_national
   where
-    nothing : (n s r t : List ℕ) → [] ≡ s ++ (r ++ (n ++ t)) → begins is_national n ≡ true → ⊥
+    nothing : (n s r t : List ℕ) → [] ≡ s ++ (r ++ (n ++ t)) → begins is_phonedigit n ≡ true → ⊥
     nothing [] s r t e f = true≢false (sym f)
     nothing (c ∷ cs) [] [] t e f = cc
     nothing (c ∷ cs) [] (x ∷ xs) t e f = cc

@@ -10,7 +10,7 @@ use Rattle.phone_parts.specs.Cores.{IsCore, begins_second_number, is_start, is_l
 use Rattle.phone_parts.specs.Naturals
 use Rattle.phone_parts.specs.Naturals.{IsNatural}
 use Rattle.phone_parts.specs.Tel
-use Rattle.phone_parts.specs.Tel.{IsTel, is_national}
+use Rattle.phone_parts.specs.Tel.{IsTel, is_phonedigit}
 use Rattle.phone_parts.specs.Texts.{begins, ends}
 use Rattle.phone_parts.proofs.Endings.{member_passes}
 use Rattle.phone_parts.proofs.Ends.{all_wider, begins_wider, ends_wider}
@@ -143,13 +143,13 @@ thin_natural t h =
 
 -- a thin character that is no space may stand in the national part of a `tel:` text
 national_or_space : ℕ → Bool
-national_or_space c = is_national c || (c == 32)
+national_or_space c = is_phonedigit c || (c == 32)
 
 thin_national : (c : ℕ) → is_thin_char c ≡ true → national_or_space c ≡ true
 unfolding national_or_space
 thin_national = thin_passes national_or_space refl refl refl
 
-all_national : (t : List ℕ) → list_all is_thin_char t ≡ true → list_any (λ c. c == 32) t ≡ false → list_all is_national t ≡ true
+all_national : (t : List ℕ) → list_all is_thin_char t ≡ true → list_any (λ c. c == 32) t ≡ false → list_all is_phonedigit t ≡ true
 unfolding national_or_space
 all_national [] h none = refl
 all_national (c ∷ cs) h none = at (c == 32) refl none (and_parts (is_thin_char c) (list_all is_thin_char cs) h) (all_national cs)
@@ -159,13 +159,13 @@ all_national (c ∷ cs) h none = at (c == 32) refl none (and_parts (is_thin_char
     or_false false e = absurd (true≢false (sym e))
 
     at : (b : Bool) → (c == 32) ≡ b → (b || list_any (λ d. d == 32) cs) ≡ false → (is_thin_char c ≡ true) × (list_all is_thin_char cs ≡ true) →
-        (list_all is_thin_char cs ≡ true → list_any (λ d. d == 32) cs ≡ false → list_all is_national cs ≡ true) → list_all is_national (c ∷ cs) ≡ true
+        (list_all is_thin_char cs ≡ true → list_any (λ d. d == 32) cs ≡ false → list_all is_phonedigit cs ≡ true) → list_all is_phonedigit (c ∷ cs) ≡ true
     at true e f both more = absurd (true≢false f)
     at false e f both more =
-        and_from (is_national c) (list_all is_national cs) (or_false (is_national c) (ap (λ b. is_national c || b) (sym e) ∙ thin_national c both.0)) (more both.1 f)
+        and_from (is_phonedigit c) (list_all is_phonedigit cs) (or_false (is_phonedigit c) (ap (λ b. is_phonedigit c || b) (sym e) ∙ thin_national c both.0)) (more both.1 f)
 
-digit_national : (c : ℕ) → is_digit c ≡ true → is_national c ≡ true
-digit_national = digit_passes is_national refl
+digit_national : (c : ℕ) → is_digit c ≡ true → is_phonedigit c ≡ true
+digit_national = digit_passes is_phonedigit refl
 
 no_plus_sign : (t : List ℕ) → begins is_digit t ≡ true → begins (λ c. c == 43) t ≡ false
 no_plus_sign [] h = refl
@@ -183,7 +183,7 @@ thin_tel t h none = record {
   whole = sym (append-nil t);
   is_scheme = inl refl;
   is_run = Tel.unsigned (ap (begins (λ c. c == 43)) (append-nil t) ∙ no_plus_sign t h.first);
-  some_national = begins_wider is_digit is_national digit_national t h.first;
+  some_national = begins_wider is_digit is_phonedigit digit_national t h.first;
   all_national = all_national t h.all none;
   longest = refl;
   is_tail = inl refl;
