@@ -31,8 +31,8 @@ Marks w = IsFew is_mark 1 w
 abbrev Parted : List ℕ → Type 0
 Parted = IsFollowed Marks (IsFollowed Gaps (IsFollowed Numbers Signs))
 
-parted : (w : List ℕ) → IsSomeEnding w → Parted w
-parted w (d, h) = record {
+parts_of_ending : (w : List ℕ) → IsSomeEnding w → Parted w
+parts_of_ending w (d, h) = record {
   front = h.mark;
   back = h.gap ++ (d ++ h.sign);
   whole = h.whole;
@@ -40,8 +40,8 @@ parted w (d, h) = record {
   second = record { front = h.gap; back = d ++ h.sign; whole = refl; first = h.gaps; second = record { front = d; back = h.sign; whole = refl; first = h.digits; second = h.signs } };
 }
 
-joined : (w : List ℕ) → Parted w → IsSomeEnding w
-joined w h =
+ending_of_parts : (w : List ℕ) → Parted w → IsSomeEnding w
+ending_of_parts w h =
     let g = h.second in
     let n = g.second in (
       n.front,
@@ -60,14 +60,14 @@ joined w h =
 -- an end of an ending is an ending
 pub ending_ends : HasEnds IsSomeEnding
 ending_ends a b h =
-    joined b (followed_ends Marks (IsFollowed Gaps (IsFollowed Numbers Signs)) (few_ends is_mark 1)
-    (followed_ends Gaps (IsFollowed Numbers Signs) (run_ends is_gap) (followed_ends Numbers Signs (few_ends is_nd 7) (few_ends is_sign 1))) a b (parted (a ++ b) h))
+    ending_of_parts b (followed_ends Marks (IsFollowed Gaps (IsFollowed Numbers Signs)) (few_ends is_mark 1)
+    (followed_ends Gaps (IsFollowed Numbers Signs) (run_ends is_gap) (followed_ends Numbers Signs (few_ends is_nd 7) (few_ends is_sign 1))) a b (parts_of_ending (a ++ b) h))
 
 -- the longest parts make the longest ending
 pub longest_ending : (text signless bare gapless left : List ℕ) → IsWithoutLongest (λ w. IsFew is_sign 1 w) text signless → IsWithoutLongest (λ w. IsFew is_nd 7 w) signless bare →
     IsWithoutLongest (λ w. list_all is_gap w ≡ true) bare gapless → IsWithoutLongest (λ w. IsFew is_mark 1 w) gapless left → IsWithoutLongest IsSomeEnding text left
 longest_ending text signless bare gapless left sign digits gap mark =
-    longest_as Parted IsSomeEnding text left joined parted
+    longest_as Parted IsSomeEnding text left ending_of_parts parts_of_ending
     (then_longest Marks (IsFollowed Gaps (IsFollowed Numbers Signs)) text gapless left (few_fronts is_mark 1)
     (then_longest Gaps (IsFollowed Numbers Signs) text bare gapless (run_fronts is_gap) (then_longest Numbers Signs text signless bare (few_fronts is_nd 7) sign digits) gap)
     mark)

@@ -238,7 +238,9 @@ fn indicated(text: &str, limit: usize) -> Option<&str>
 /// begin with the text's first character.
 fn announced(text: &str, limit: usize) -> Option<&str>
     requires { AreEndsUpTo IsSomeEnding limit text.now }
-    ensures read { MatchOption result ((d : List ℕ) → ¬ (IsAnnounced indicators (chars text.now) d)) (λ d. IsAnnounced indicators (chars text.now) (chars d.now)) }
+    ensures read { MatchOption result
+        ((d : List ℕ) → ¬ (IsAnnounced indicators (chars text.now) d))
+        (λ d. IsAnnounced indicators (chars text.now) (chars d.now)) }
     ensures slice { IfSome result (λ d. IsSlice text.now d.now) }
 {
     let (c, _) = split_first(text)?;

@@ -1,4 +1,4 @@
-use Rattle.std.proofs.Common.{◌≡◌, [], ◌∷◌, ap, rules, string_bytes, subst}
+use Rattle.std.proofs.Common.{◌≡◌, [], rules, subst}
 use Rattle.regex.specs.Strings.{regex_config, regex_source}
 use Rattle.phone_meta.specs.First.{IsPattern, verbose}
 use Rattle.phone_meta.proofs.Matches.{is_pattern}
@@ -11,6 +11,4 @@ returns-in-Ok-clause-read c =
     subst IsPattern source (is_pattern c.in-Ok.re config c.in-Ok.ensures.read)
 
 pub returns-in-Err : goal.returns-in-Err
-returns-in-Err c =
-    let same : c.args.text ≡ string_bytes c.into_string.result = search rules in
-    record { compiled = tt; read = tt; refused = ([], [], ap (λ t. t ∷ []) same, tt) }
+returns-in-Err c = record { compiled = tt; read = tt; refused = ([], [], search rules, tt) }
