@@ -57,7 +57,7 @@ copied : (n : ℕ) → SameTree (copies n any_digit empty) (copies n digit empty
 copied zero = same_refl _
 copied (suc n) = cat_cong any_digit-digit (copied n)
 
-runs : (n : ℕ) → SameTree (run any_digit n) (run digit n)
+pub runs : (n : ℕ) → SameTree (run any_digit n) (run digit n)
 runs zero = any_digit-digit
 runs (suc n) = copied (suc n)
 

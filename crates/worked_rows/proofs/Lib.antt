@@ -4,6 +4,7 @@ mod FirstGroups
 mod Laid
 mod LayoutChoice
 mod Marks
+mod NumberKinds
 mod PlainNumbers
 mod Printed
 mod RegionRows

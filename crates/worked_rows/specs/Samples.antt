@@ -15,7 +15,7 @@ numbers pattern count = record no_descriptor { national_number = Some pattern; p
 abbrev pub layout : List ℕ → List ℕ → Format
 layout pattern template = record no_format { pattern = Some pattern; format = Some template }
 
--- New Zealand: numbers of eight digits, laid out where a 3 leads them, after the national prefix 0
+-- New Zealand: numbers of eight digits, fixed lines from 3 on, which are laid out in three groups, after the national prefix 0
 abbrev pub nz_layout : Format
 nz_layout = record (layout (codes "(\\d)(\\d{3})(\\d{4})") (codes "$1 $2 $3")) {
   leading_digits = codes "3" ∷ [];
@@ -25,6 +25,7 @@ nz_layout = record (layout (codes "(\\d)(\\d{3})(\\d{4})") (codes "$1 $2 $3")) {
 abbrev pub nz : Metadata
 nz = record no_metadata {
   general = Some (numbers (codes "\\d{8}") 8);
+  fixed_line = Some (numbers (codes "3\\d{7}") 8);
   id = Some (codes "NZ");
   country_code = Some 64;
   international_prefix = Some (codes "00");
@@ -32,7 +33,7 @@ nz = record no_metadata {
   formats = nz_layout ∷ [];
 }
 
--- the United States: numbers of ten digits, with one layout for national text and one for the rest
+-- the United States: numbers of ten digits, lines and mobiles alike, with one layout for national text and one for the rest
 abbrev pub us_national : Format
 us_national = layout (codes "(\\d{3})(\\d{3})(\\d{4})") (codes "($1) $2-$3")
 
@@ -42,6 +43,8 @@ us_international = layout (codes "(\\d{3})(\\d{3})(\\d{4})") (codes "$1-$2-$3")
 abbrev pub us : Metadata
 us = record no_metadata {
   general = Some (numbers (codes "[2-9]\\d{9}") 10);
+  fixed_line = Some (numbers (codes "[2-9]\\d{9}") 10);
+  mobile = Some (numbers (codes "[2-9]\\d{9}") 10);
   id = Some (codes "US");
   country_code = Some 1;
   national_prefix = Some (codes "1");
@@ -54,6 +57,7 @@ us = record no_metadata {
 abbrev pub free_phone : Metadata
 free_phone = record no_metadata {
   general = Some (numbers (codes "\\d{8}") 8);
+  toll_free = Some (numbers (codes "\\d{8}") 8);
   id = Some (codes "001");
   country_code = Some 800;
 }
