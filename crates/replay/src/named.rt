@@ -2,6 +2,7 @@
 use crate::table::Row;
 use anyhow::{Result, anyhow};
 use phone_core::Type;
+use phone_core::country::Id;
 use phone_meta::{Database, Metadata, loader};
 use std::alloc::AllocGlobal;
 use std::fs::{self, Files};
@@ -27,14 +28,26 @@ pub const KINDS: [(&str, Type); 17] = [
     ("Unknown", Type::Unknown),
 ];
 
-/// The database that a line names first: a list of loader records, in which all lists, flags and defaults are written.
+/// The database that a line names first.
 pub fn open<R: Files + AllocGlobal>(rt: &R, row: &Row) -> Result<Database> {
+    load(rt, row.argument(0))
+}
+
+/// The database of this name: a list of loader records, in which all lists, truth values and defaults are written.
+pub fn load<R: Files + AllocGlobal>(rt: &R, name: &str) -> Result<Database> {
     let alloc = rt.alloc();
-    let name = row.argument(0);
     let path = format!(in alloc; "databases/{name}.json")?;
     let text = fs::read_to_string(rt, path.as_str())?;
     let records: Vec<loader::Metadata> = serde_json::from_str(alloc, text.as_str())?;
     Ok(Database::from(alloc, records)?)
+}
+
+/// A hint: a region, or none for a hyphen.
+pub fn hint(column: &str) -> Result<Option<Id>> {
+    if column == "-" {
+        return Ok(None);
+    }
+    Ok(Some(column.parse::<Id>()?))
 }
 
 /// The calling code that a line names behind its database.

@@ -1,6 +1,5 @@
 //! The calls of `phone_read`.
-use crate::table::Row;
-use phone_core::country::Source;
+use crate::table::{Row, source};
 use phone_read::natural::NoReading;
 use phone_read::{Number, helper, natural, rfc3966};
 use std::alloc::{AllocError, Global};
@@ -28,14 +27,9 @@ pub fn answer(alloc: Global, row: &Row) -> Result<Option<String>, AllocError> {
     Ok(Some(answer))
 }
 
-/// A number's source and its four parts.
-fn number(alloc: Global, number: &Number<'_>) -> Result<String, AllocError> {
-    let source = match number.country {
-        Source::Plus => "plus",
-        Source::Idd => "idd",
-        Source::Number => "number",
-        Source::Default => "default",
-    };
+/// A number's source and its four parts, as the table writes them.
+pub fn number(alloc: Global, number: &Number<'_>) -> Result<String, AllocError> {
+    let source = source(number.country);
     let national = number.national.as_str();
     let prefix = part(alloc, &number.prefix)?;
     let extension = part(alloc, &number.extension)?;

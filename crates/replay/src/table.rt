@@ -1,10 +1,11 @@
-//! The table: one call a line, columns parted by one tab. The first column is the call, the last a few words on the
-//! line, the last but one the answer, and what stands between are the arguments.
+//! The lines of a table: columns parted by one tab, the last of them a few words on the line. In the table of calls the
+//! first column is the call, the last but one the answer, and what stands between are the arguments.
 //!
 //! In each column `\t` is a tab, `\n` a line feed, `\\` a backslash, `\uXXXX` and `\UXXXXXXXX` the character of that
 //! number, and `\xNN` a byte that is part of no text. The columns are parted first, the escapes undone second.
 use anyhow::{Result, anyhow};
 use phone_core::ParseError;
+use phone_core::country::Source;
 use phone_core::cuts::split_first;
 use std::alloc::Global;
 
@@ -104,9 +105,19 @@ impl Row {
         }
     }
 
+    /// Whether a column, counted from 0, is text.
+    pub fn is_text(&self, at: usize) -> bool {
+        std::str::from_utf8(self.bytes(at)).is_ok()
+    }
+
+    /// A column, counted from 0; empty where it is no text.
+    pub fn column(&self, at: usize) -> &str {
+        std::str::from_utf8(self.bytes(at)).unwrap_or("")
+    }
+
     /// The call's name.
     pub fn call(&self) -> &str {
-        std::str::from_utf8(self.bytes(0)).unwrap_or("")
+        self.column(0)
     }
 
     /// The bytes of an argument, counted from 0.
@@ -122,6 +133,16 @@ impl Row {
     /// The bytes of the answer.
     pub fn answer(&self) -> &[u8] {
         self.bytes(self.columns.len().saturating_sub(2))
+    }
+}
+
+/// How the table writes a source.
+pub fn source(source: Source) -> &'static str {
+    match source {
+        Source::Plus => "plus",
+        Source::Idd => "idd",
+        Source::Number => "number",
+        Source::Default => "default",
     }
 }
 
