@@ -5,4 +5,5 @@ pub mod Readings
 pub mod Regions
 pub mod Samples
 pub mod Strips
+pub mod TransformRules
 pub mod Verdicts
