@@ -1,0 +1,100 @@
+//! Reads many texts under a database, and compares each reading with the report that is known for it.
+//!
+//! It wants three words, the paths of a database, of lines and of their report: `rt run -- DATABASE LINES REPORT`. The
+//! database is a list of loader records, in which all lists, truth values and defaults are written (`tools/write-out`
+//! makes that form). A line is a hint, `-` for none, one tab, and the text to be read. The report has one line for each,
+//! in the same order, of columns parted by tabs: `ok`, the E.164 text and, as the sixth column, how the calling code was
+//! found; or `error`, the refusal's number and its words.
+//!
+//! It prints the first differences and how many lines agree. Its status is 0 where all agree, 1 where not all do, and 2
+//! without these words.
+#![tactic(auto)]
+
+mod lines;
+
+use anyhow::Result;
+use lines::{found, wanted};
+use phone_meta::{Database, loader};
+use std::alloc::AllocGlobal;
+use std::env;
+use std::fs::{self, Files};
+use std::process::ExitCode;
+use std::str::Lines;
+
+/// How many differences are printed.
+const PRINTED: u64 = 20;
+
+/// How many lines agree, of how many.
+#[derive(Clone, Copy)]
+struct Count {
+    agree: u64,
+    all: u64,
+}
+
+impl Count {
+    /// How many differ.
+    fn differ(self) -> u64 {
+        self.all.saturating_sub(self.agree)
+    }
+}
+
+/// The database in a file.
+fn load<R: Files + AllocGlobal>(rt: &R, path: &str) -> Result<Database> {
+    let alloc = rt.alloc();
+    let text = fs::read_to_string(rt, path)?;
+    let records: Vec<loader::Metadata> = serde_json::from_str(alloc, text.as_str())?;
+    Ok(Database::from(alloc, records)?)
+}
+
+/// How many lines there still are.
+fn how_many(lines: Lines<'_>) -> u64 {
+    let mut count = 0u64;
+    for _line in lines {
+        count = count.saturating_add(1);
+    }
+    count
+}
+
+/// Reads each line and compares it with the report's line at its place; prints the first differences. A line that has
+/// none in the report, or the other way round, differs.
+fn compare<R: AllocGlobal + Print>(
+    rt: &R,
+    database: &Database,
+    lines: &str,
+    report: &str,
+) -> Result<Count> {
+    let alloc = rt.alloc();
+    let mut count = Count { agree: 0, all: 0 };
+    let mut reports = report.lines();
+    for line in lines.lines() {
+        let report = reports.next().unwrap_or("");
+        let found = found(alloc, database, line)?;
+        let agrees = found.as_str() == wanted(alloc, report)?.as_str();
+        count.all = count.all.saturating_add(1);
+        count.agree = count.agree.saturating_add(u64::from(agrees));
+        if !agrees && count.differ() <= PRINTED {
+            println!(rt; "{line}")?;
+            println!(rt; "  wanted: {report}")?;
+            println!(rt; "  but here: {found}")?;
+        }
+    }
+    count.all = count.all.saturating_add(how_many(reports));
+    Ok(count)
+}
+
+fn main(rt: HostRuntime) -> Result<ExitCode> {
+    let mut words = env::args(&rt)?;
+    words.next();
+    let (Some(database), Some(lines), Some(report)) = (words.next(), words.next(), words.next())
+    else {
+        println!(rt; "usage: world_truth DATABASE LINES REPORT")?;
+        return Ok(ExitCode::from(2));
+    };
+    let database = load(&rt, database.as_str())?;
+    let lines = fs::read_to_string(&rt, lines.as_str())?;
+    let report = fs::read_to_string(&rt, report.as_str())?;
+    let count = compare(&rt, &database, lines.as_str(), report.as_str())?;
+    let (agree, all) = (count.agree, count.all);
+    println!(rt; "{agree} of {all} lines agree")?;
+    Ok(ExitCode::from(if count.differ() == 0 { 0 } else { 1 }))
+}
