@@ -17,6 +17,7 @@ pub mod Openings
 pub mod Patterns
 pub mod Prefixes
 pub mod Runs
+pub mod SameParts
 pub mod Slices
 pub mod Starts
 pub mod SuffixTests

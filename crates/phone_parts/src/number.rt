@@ -1,5 +1,5 @@
 //! A number between the readers and the reading: its parts as they stand in a text.
-ghost use Rattle.std.specs.Prelude.{◌≡◌, None, IfOk, option_map};
+ghost use Rattle.std.specs.Prelude.{◌≡◌, ◌↔◌, None, IsTrue, IfOk, option_map};
 ghost use Rattle.std.specs.Cow.{cow_str_bytes, IsBorrowedStr};
 ghost use Rattle.phone_core.specs.declared.country.Source.TheVariants.{Default};
 ghost use Rattle.phone_parts.specs.Parts.{HasSameParts};
@@ -44,6 +44,13 @@ impl<'a> Number<'a> {
             extension: None,
             carrier: None,
         }
+    }
+
+    /// Whether both have one source and the same texts, whether these are lent or owned; so `==` has it.
+    pub fn is_same(&self, other: &Number<'a>) -> bool
+        ensures { IsTrue result ↔ HasSameParts self.now other.now }
+    {
+        self == other
     }
 
     /// The same parts again; refused only for memory.

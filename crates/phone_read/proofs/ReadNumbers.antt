@@ -46,12 +46,14 @@ use Rattle.phone_read.specs.Strips.{Stripped, by_match, by_pattern, by_rule, onc
 use Rattle.phone_read.specs.TransformRules.{rules_have_no_plus}
 use Rattle.phone_read.specs.Verdicts.{is_too_short, verdict}
 use Rattle.phone_read.specs.declared.reading.Reading.{Reading}
+use Rattle.phone_read.proofs.ListedCodes.{code_of-listed}
 
 -- what a number is read from: parts, their code, and the digits after it
 pub record IsReadFrom (db : List Metadata) (hint : Option Id) (n : Reading) : Type 0 where
   pub parts : Parts
   pub code : Coded
   pub coded : code_of db hint parts.national parts.prefix ≡ Ok code
+  pub value : n.code.value ≡ code.value
   pub extension : n.extension ≡ option_map norm parts.extension
   pub national : nsn (stripped (stripping_territory db hint code) code.rest).national ≡ Ok n.national
 
@@ -65,10 +67,16 @@ IfOk-read db hint t r (Readings.not_viable p h v) = tt
 IfOk-read db hint t r (Readings.no_code p e h v f) = tt
 IfOk-read db hint t r (Readings.coded p c h v f) =
     IfOk-mapped _ (IsReadFrom db hint) (nsn (stripped (stripping_territory db hint c) c.rest).national)
-    (λ n e. record { parts = p; code = c; coded = f; extension = refl; national = e })
+    (λ n e. record { parts = p; code = c; coded = f; value = refl; extension = refl; national = e })
 
 pub read_from : (db : List Metadata) (hint : Option Id) (t : List ℕ) (n : Reading) → Reads db hint t (Ok n) → IsReadFrom db hint n
 read_from db hint t n h = IfOk-read db hint t (Ok n) h
+
+-- its code is listed
+pub number-listed : (db : List Metadata) (hint : Option Id) (t : List ℕ) (n : Reading) → Reads db hint t (Ok n) → is_listed n.code.value db ≡ true
+number-listed db hint t n h =
+    let from = read_from db hint t n h in
+    ap (λ v. is_listed v db) from.value ∙ code_of-listed db hint from.parts.national from.parts.prefix from.code from.coded
 
 norm_if_some : (o : Option (List ℕ)) → option_map_or (list_all is_digit) (option_map norm o) true ≡ true
 norm_if_some None = refl

@@ -1,5 +1,5 @@
 //! The calling code of a number, and the digits that follow it.
-ghost use Rattle.std.specs.Prelude.{◌≡◌, ◌⊎◌, ◌&&◌, ℕ, List, not, true, Ok, Err, drop, length, string_bytes, IfOk, IfErr, None, Some, option_map};
+ghost use Rattle.std.specs.Prelude.{◌≡◌, ◌⊎◌, ◌&&◌, ℕ, Bool, List, not, true, Ok, Err, drop, length, string_bytes, IfOk, IfErr, None, Some, option_map};
 ghost use Rattle.std.specs.Cow.{cow_str_bytes};
 ghost use Rattle.std.specs.Fmt.{decimal};
 ghost use Rattle.std.specs.Option.{option_and_then, option_copied};
@@ -95,9 +95,13 @@ fn prefix_pattern(territory: Option<&Metadata>) -> Option<&Pattern>
 fn code_by_prefix(db: &Database, prefix: &str, digits: &str) -> Result<u16, ParseError>
     ensures { with_three digits.now (code_by_prefix db.now prefix.now digits.now) ≡ result_map_both (λ code. record { source = Plus; value = code; rest = digits.now }) (λ e. e) result }
 {
-    if digits.len() <= MIN_LENGTH_FOR_NSN {
-        return Err(ParseError::TooShortNsn);
-    }
+    counted(digits, listed_number(db, prefix))
+}
+
+/// The number of a reader's prefix, which is to be listed.
+fn listed_number(db: &Database, prefix: &str) -> Result<u16, ParseError>
+    ensures { (digits : List ℕ) → code_by_prefix db.now prefix.now digits ≡ result_map_both (λ code. record { source = Plus; value = code; rest = digits }) (λ e. e) result }
+{
     let Ok(code) = prefix.parse::<u16>() else {
         return Err(ParseError::MalformedInteger);
     };
@@ -113,13 +117,29 @@ fn code_by_front(db: &Database, digits: &str) -> Result<u16, ParseError>
     ensures code { (source : Source) → with_three digits.now (code_by_front db.now source digits.now) ≡ result_map_both (λ code. record { source = source; value = code; rest = drop (length (decimal code)) digits.now }) (λ e. e) result }
     ensures front { IfOk result (λ code. is_front (decimal code) digits.now ≡ true) }
 {
-    if digits.len() <= MIN_LENGTH_FOR_NSN {
-        return Err(ParseError::TooShortNsn);
-    }
+    counted(digits, shortest_code(db, digits))
+}
+
+/// The shortest listed code at the front of digits.
+fn shortest_code(db: &Database, digits: &str) -> Result<u16, ParseError>
+    ensures code { (source : Source) → code_by_front db.now source digits.now ≡ result_map_both (λ code. record { source = source; value = code; rest = drop (length (decimal code)) digits.now }) (λ e. e) result }
+    ensures front { IfOk result (λ code. is_front (decimal code) digits.now ≡ true) }
+{
     match db.shortest(digits) {
         Some(code) => Ok(code),
         None => Err(ParseError::InvalidCountryCode),
     }
+}
+
+/// What was found for digits, where they are more than two.
+fn counted(digits: &str, found: Result<u16, ParseError>) -> Result<u16, ParseError>
+    ensures found { (f : ℕ → Coded) → with_three digits.now (result_map_both f (λ e. e) found) ≡ result_map_both f (λ e. e) result }
+    ensures kept { (p : ℕ → Bool) → IfOk found (λ code. p code ≡ true) → IfOk result (λ code. p code ≡ true) }
+{
+    if digits.len() <= MIN_LENGTH_FOR_NSN {
+        return Err(ParseError::TooShortNsn);
+    }
+    found
 }
 
 /// An international number with the code at the front of its digits, which is cut off.

@@ -6,10 +6,17 @@ ghost use Rattle.std.specs.Option.{option_map_or};
 ghost use Rattle.phone_core.specs.Characters.{is_digit};
 ghost use Rattle.phone_core.specs.Numbers.{text_of};
 ghost use Rattle.phone_core.specs.declared.country.Id.{Id};
+ghost use Rattle.phone_meta.specs.Codes.{is_listed};
 ghost use Rattle.phone_meta.specs.declared.loader.Metadata as loader;
 ghost use Rattle.phone_read.specs.Readings.{Reads};
 ghost use Rattle.phone_read.specs.TransformRules.{rules_have_no_plus};
 ghost use Rattle.phone_read.specs.declared.reading.Reading.{Reading};
+
+/// The calling code of a number that was read is listed.
+pub fn code_is_listed()
+    ensures { (db : List loader.Metadata) (hint : Option Id) (text : List ℕ) (n : Reading) → Reads db hint text (Ok n) →
+        is_listed n.code.value db ≡ true }
+{}
 
 /// The extension of a number that was read is absent, or it is ASCII digits alone, possibly none.
 pub fn extension_of_digits()

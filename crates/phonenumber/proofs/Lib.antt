@@ -1,3 +1,4 @@
 pub mod ReportRows
 pub mod ThinReadings
 pub mod ThinTexts
+pub mod SameNumbers

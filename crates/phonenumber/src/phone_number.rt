@@ -3,6 +3,7 @@ ghost use Rattle.std.specs.Prelude.{◌≡◌, ◌↔◌, IsTrue, IfOk};
 ghost use Rattle.std.specs.Option.{option_copied};
 
 use phone_core::country::Code;
+use phone_core::equality::SameValue;
 use phone_core::{Carrier, Extension, NationalNumber};
 use serde::{Deserialize, Serialize};
 use std::alloc::AllocError;
@@ -93,6 +94,14 @@ impl PhoneNumber {
             extension,
             carrier,
         })
+    }
+}
+
+impl SameValue for PhoneNumber {
+    fn is_same(&self, other: &PhoneNumber) -> bool {
+        self.national.keeps_bounds();
+        other.national.keeps_bounds();
+        self == other
     }
 }
 

@@ -1,11 +1,13 @@
-use Rattle.std.proofs.Common.{sym, ap, ◌∙◌}
+use Rattle.std.proofs.Common.{ap, drop, length, ◌∙◌}
 use Rattle.std.specs.Fmt.{decimal}
 use Rattle.phone_parts.specs.Texts.{is_front}
-use Rattle.phone_parts.proofs.Prefixes.{is_front-append}
-use Rattle.phone_read.proofs.ListedFronts.{shortest-front}
+use Rattle.phone_read.specs.Codes.{with_three}
 use Rattle.phone_read.proofs.calling_code.code_by_front.Goals as goal
 
-pub returns-in-Some-clause-front : goal.returns-in-Some-clause-front
-returns-in-Some-clause-front c =
-    let at = shortest-front c.args.db.now c.args.digits.now c.in-Some.code (sym c.shortest.ensures ∙ c.in-Some.is) in
-    ap (is_front (decimal c.in-Some.code)) at.1 ∙ is_front-append (decimal c.in-Some.code) at.0
+pub returns-clause-code : goal.returns-clause-code
+returns-clause-code c = λ source.
+    ap (with_three c.args.digits.now) (c.shortest_code.ensures.code source)
+    ∙ c.counted.ensures.found (λ code. record { source = source; value = code; rest = drop (length (decimal code)) c.args.digits.now })
+
+pub returns-clause-front : goal.returns-clause-front
+returns-clause-front c = c.counted.ensures.kept (λ code. is_front (decimal code) c.args.digits.now) c.shortest_code.ensures.front

@@ -1,21 +1,9 @@
-use Rattle.std.proofs.Common.{sym, ◌∙◌}
-use Rattle.phone_core.proofs.Digits.{number_some, number_none}
-use Rattle.phone_read.proofs.ListedFronts.{more_than_two, prefix_listed, prefix_malformed, prefix_unlisted}
+use Rattle.std.proofs.Common.{ap, ◌∙◌}
+use Rattle.phone_core.specs.declared.country.Source.TheVariants.{Plus}
+use Rattle.phone_read.specs.Codes.{with_three}
 use Rattle.phone_read.proofs.calling_code.code_by_prefix.Goals as goal
 
-pub returns-in_default : goal.returns-in_default
-returns-in_default c =
-    more_than_two c.args.digits.now _ c.if-digits-le-MIN_LENGTH_FOR_NSN.false
-    ∙ prefix_malformed c.args.db.now c.args.prefix.now c.args.digits.now (number_none 16 c.args.prefix.now c.in_default.ensures.value.0)
-
-pub returns-then-is_listed : goal.returns-then-is_listed
-returns-then-is_listed c =
-    more_than_two c.args.digits.now _ c.if-digits-le-MIN_LENGTH_FOR_NSN.false
-    ∙ prefix_listed c.args.db.now c.args.prefix.now c.args.digits.now c.in-Ok.code (number_some 16 c.args.prefix.now c.in-Ok.code c.in-Ok.ensures.value.0)
-    (sym c.is_listed.ensures ∙ c.if-is_listed.true)
-
-pub returns-else-is_listed : goal.returns-else-is_listed
-returns-else-is_listed c =
-    more_than_two c.args.digits.now _ c.if-digits-le-MIN_LENGTH_FOR_NSN.false
-    ∙ prefix_unlisted c.args.db.now c.args.prefix.now c.args.digits.now c.in-Ok.code (number_some 16 c.args.prefix.now c.in-Ok.code c.in-Ok.ensures.value.0)
-    (sym c.is_listed.ensures ∙ c.if-is_listed.false)
+pub returns : goal.returns
+returns c =
+    ap (with_three c.args.digits.now) (c.listed_number.ensures c.args.digits.now)
+    ∙ c.counted.ensures.found (λ code. record { source = Plus; value = code; rest = c.args.digits.now })
