@@ -16,6 +16,7 @@ pub record National : Type 0 where
 abbrev pub packed : National → ℕ
 packed n = n.zeros * 2 ^ 56 + n.value
 
+-- what a word holds: the zeros above its lower 56 bits, the value in them
 abbrev pub unpacked : ℕ → National
 unpacked word = record { zeros = word / 2 ^ 56; value = word % 2 ^ 56 }
 

@@ -5,7 +5,7 @@ ghost use Rattle.phone_core.specs.Characters.{is_digit, is_alpha, is_plus, is_st
 
 use crate::consts::{PLUS_SIGN, STAR_SIGN};
 pub use crate::norm::normalize;
-pub use crate::valid::is_viable;
+pub use crate::viable::is_viable;
 use unicode::case::simple_fold;
 use unicode::properties::{GeneralCategory, GeneralCategoryGroup};
 

@@ -15,8 +15,8 @@ pub mod laws;
 mod mode;
 mod national_number;
 mod norm;
-mod valid;
 pub mod validator;
+mod viable;
 
 pub use carrier::Carrier;
 pub use error::{MetadataError, ParseError};
@@ -24,5 +24,5 @@ pub use extension::Extension;
 pub use kind::Type;
 pub use mode::Mode;
 pub use national_number::NationalNumber;
-pub use valid::is_viable;
 pub use validator::Validation;
+pub use viable::is_viable;

@@ -8,9 +8,11 @@ use Rattle.phone_meta.specs.Missing.{first_given}
 use Rattle.phone_meta.specs.Records.{code_of, has_code, id_of}
 use Rattle.phone_meta.specs.declared.loader.Metadata.{Metadata}
 
+-- a main territory of a calling code
 abbrev pub is_main_of : ℕ → Metadata → Bool
 is_main_of code m = has_code code m && m.main_country_for_code
 
+-- a territory of a calling code that isn't a main one
 abbrev pub is_other_of : ℕ → Metadata → Bool
 is_other_of code m = has_code code m && not m.main_country_for_code
 
@@ -40,11 +42,12 @@ if_any (x ∷ xs) = Some (x ∷ xs)
 abbrev pub front_number : ℕ → List ℕ → Option ℕ
 front_number k text = if nat_le k (length text) && all_ascii_digits (take k text) then Some (digits_value 10 (take k text)) else None
 
--- the same where it is listed
+-- a number as a calling code, where it is listed
 abbrev pub listed_if_some : Option ℕ → List Metadata → Option ℕ
 listed_if_some None db = None
 listed_if_some (Some code) db = if is_listed code db then Some code else None
 
+-- the calling code that the first k characters write
 abbrev pub listed_front : List Metadata → List ℕ → ℕ → Option ℕ
 listed_front db text k = listed_if_some (front_number k text) db
 

@@ -13,6 +13,7 @@ no_descriptor = record { national_number = None; possible_length = []; possible_
 abbrev pub no_format : Format
 no_format = record { pattern = None; format = None; leading_digits = []; national_prefix_formatting_rule = None; national_prefix_optional_when_formatting = false; domestic_carrier = None }
 
+-- defaults that are empty records
 abbrev pub no_defaults : Defaults
 no_defaults = record { format = no_format; descriptor = no_descriptor }
 

@@ -25,6 +25,7 @@ IsPattern text = IsSome (read verbose (chars text))
 abbrev pub Seen : Type 0
 Seen = ℕ × ℕ × (ℕ → Option ℕ)
 
+-- what is seen of a match
 abbrev pub seen_of : Match → Seen
 seen_of m = (m.start, m.trace.end, slot_of m)
 

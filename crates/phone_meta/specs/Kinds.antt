@@ -29,21 +29,21 @@ abbrev pub kinds_of : Metadata → Kinds
 kinds_of m = record { general = m.general; fixed_line = m.fixed_line; mobile = m.mobile; toll_free = m.toll_free; premium_rate = m.premium_rate; shared_cost = m.shared_cost; personal_number = m.personal_number; voip = m.voip; pager = m.pager; uan = m.uan; emergency = m.emergency; voicemail = m.voicemail; short_code = m.short_code; standard_rate = m.standard_rate; carrier = m.carrier; no_international = m.no_international }
 
 -- the descriptor of a kind: the general one where the kind is unknown, fixed line's where it may also be mobile
-abbrev pub kind_of : «Type» → Kinds → Option Descriptor
-kind_of kind.Unknown k = k.general
-kind_of kind.FixedLineOrMobile k = k.fixed_line
-kind_of kind.FixedLine k = k.fixed_line
-kind_of kind.Mobile k = k.mobile
-kind_of kind.TollFree k = k.toll_free
-kind_of kind.PremiumRate k = k.premium_rate
-kind_of kind.SharedCost k = k.shared_cost
-kind_of kind.PersonalNumber k = k.personal_number
-kind_of kind.Voip k = k.voip
-kind_of kind.Pager k = k.pager
-kind_of kind.Uan k = k.uan
-kind_of kind.Emergency k = k.emergency
-kind_of kind.Voicemail k = k.voicemail
-kind_of kind.ShortCode k = k.short_code
-kind_of kind.StandardRate k = k.standard_rate
-kind_of kind.Carrier k = k.carrier
-kind_of kind.NoInternational k = k.no_international
+abbrev pub descriptor_for : «Type» → Kinds → Option Descriptor
+descriptor_for kind.Unknown k = k.general
+descriptor_for kind.FixedLineOrMobile k = k.fixed_line
+descriptor_for kind.FixedLine k = k.fixed_line
+descriptor_for kind.Mobile k = k.mobile
+descriptor_for kind.TollFree k = k.toll_free
+descriptor_for kind.PremiumRate k = k.premium_rate
+descriptor_for kind.SharedCost k = k.shared_cost
+descriptor_for kind.PersonalNumber k = k.personal_number
+descriptor_for kind.Voip k = k.voip
+descriptor_for kind.Pager k = k.pager
+descriptor_for kind.Uan k = k.uan
+descriptor_for kind.Emergency k = k.emergency
+descriptor_for kind.Voicemail k = k.voicemail
+descriptor_for kind.ShortCode k = k.short_code
+descriptor_for kind.StandardRate k = k.standard_rate
+descriptor_for kind.Carrier k = k.carrier
+descriptor_for kind.NoInternational k = k.no_international

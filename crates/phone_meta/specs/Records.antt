@@ -45,16 +45,19 @@ abbrev pub places_where : {X : Type 0} → (X → Bool) → List X → List ℕ
 places_where passes [] = []
 places_where passes (x ∷ xs) = (if passes x then 0 ∷ [] else []) ++ map suc (places_where passes xs)
 
--- a territory's id and calling code; every territory of a database has both
+-- a territory's id; every territory of a database has one
 abbrev pub id_of : Metadata → List ℕ
 id_of m = unwrap_or m.id []
 
+-- its calling code, which every territory of a database has as well
 abbrev pub code_of : Metadata → ℕ
 code_of m = unwrap_or m.country_code 0
 
+-- a territory has this id
 abbrev pub has_id : List ℕ → Metadata → Bool
 has_id id m = bytes_eq (id_of m) id
 
+-- a territory has this calling code
 abbrev pub has_code : ℕ → Metadata → Bool
 has_code code m = code_of m == code
 

@@ -1,7 +1,7 @@
 //! The descriptors of a territory, by kind.
 ghost use Rattle.std.specs.Prelude.{◌≡◌, Some};
 ghost use Rattle.std.specs.Option.{option_copied};
-ghost use Rattle.phone_meta.specs.Kinds.{kind_of};
+ghost use Rattle.phone_meta.specs.Kinds.{descriptor_for};
 
 use crate::descriptor::Descriptor;
 use phone_core::Type;
@@ -40,7 +40,7 @@ impl Model for Descriptors {
 impl Descriptors {
     /// The descriptor of a kind. `Unknown` is the general one; fixed lines stand for `FixedLineOrMobile`.
     pub fn get(&self, kind: Type) -> Option<&Descriptor>
-        ensures { option_copied result ≡ kind_of kind self.now }
+        ensures { option_copied result ≡ descriptor_for kind self.now }
     {
         match kind {
             Type::Unknown => Some(self.general()),

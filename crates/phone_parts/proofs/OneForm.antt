@@ -172,8 +172,8 @@ indicated_cut w d h =
     }
 
 -- one cut ends in a number sign behind the digits, the other has none there: no cut has digits
-no_digits_by_sign : (w d e : List ℕ) (g : IndicatedCut w d) (h : IndicatedCut w e) → g.before ++ d ≡ (h.before ++ e) ++ 35 ∷ [] → d ≡ e
-no_digits_by_sign w d e g h same =
+no_digits_by_number_sign : (w d e : List ℕ) (g : IndicatedCut w d) (h : IndicatedCut w e) → g.before ++ d ≡ (h.before ++ e) ++ 35 ∷ [] → d ≡ e
+no_digits_by_number_sign w d e g h same =
     let no_d : d ≡ [] = no_run_at_end is_nd g.before d (h.before ++ e) 35 g.digits nd_35 same in
     let before : g.before ≡ (h.before ++ e) ++ 35 ∷ [] = sym (append-nil g.before) ∙ ap (λ t. g.before ++ t) (sym no_d) ∙ same in
     let leads = and_parts (list_all is_lead h.before) (list_all is_lead e) (sym (list_all-append is_lead h.before e) ∙ g.lead (h.before ++ e) before) in
@@ -197,8 +197,8 @@ cut_digits_same w d e g h = at g.signs h.signs
 
     at : (g.sign ≡ []) ⊎ (g.sign ≡ 35 ∷ []) → (h.sign ≡ []) ⊎ (h.sign ≡ 35 ∷ []) → d ≡ e
     at (inl s) (inl t) = cut_same (sym (without_sign g.before d g.sign s) ∙ whole ∙ without_sign h.before e h.sign t)
-    at (inl s) (inr t) = no_digits_by_sign w d e g h (sym (without_sign g.before d g.sign s) ∙ whole ∙ number_signed h.before e h.sign t)
-    at (inr s) (inl t) = sym (no_digits_by_sign w e d h g (sym (without_sign h.before e h.sign t) ∙ sym whole ∙ number_signed g.before d g.sign s))
+    at (inl s) (inr t) = no_digits_by_number_sign w d e g h (sym (without_sign g.before d g.sign s) ∙ whole ∙ number_signed h.before e h.sign t)
+    at (inr s) (inl t) = sym (no_digits_by_number_sign w e d h g (sym (without_sign h.before e h.sign t) ∙ sym whole ∙ number_signed g.before d g.sign s))
     at (inr s) (inr t) =
         cut_same (append_cancel_right (g.before ++ d) (h.before ++ e) (35 ∷ []) (sym (number_signed g.before d g.sign s) ∙ whole ∙ number_signed h.before e h.sign t))
 

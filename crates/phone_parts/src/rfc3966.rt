@@ -12,6 +12,7 @@ ghost use Rattle.std.specs.Cow.{cow_str_bytes};
 use crate::fronts::{begins_with, is_nothing, strip_char, strip_like};
 use crate::number::Number;
 use crate::parameters::read_parameters;
+use phone_core::consts::RFC3966_PREFIX;
 use phone_core::country::Source;
 use phone_core::cuts::{CharSet, split_run};
 use std::borrow::CowStr;
@@ -87,7 +88,7 @@ fn without_scheme(text: &str) -> &str
     ensures read { chars result.now ≡ unwrap_or (after_like (chars text.now) (codes "tel:")) (chars text.now) }
     ensures end { (v : List ℕ) × (text.now ≡ v ++ result.now) }
 {
-    match strip_like(text, "tel:") {
+    match strip_like(text, RFC3966_PREFIX) {
         Some(rest) => rest,
         None => text,
     }

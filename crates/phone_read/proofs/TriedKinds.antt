@@ -4,7 +4,7 @@ use Rattle.std.specs.List.{find}
 use Rattle.std.specs.Option.{option_map_or}
 use Rattle.phone_core.specs.declared.kind.«Type».{«Type»}
 use Rattle.phone_core.specs.declared.kind.«Type».TheVariants.{Unknown}
-use Rattle.phone_meta.specs.Kinds.{kind_of, kinds_of}
+use Rattle.phone_meta.specs.Kinds.{descriptor_for, kinds_of}
 use Rattle.phone_meta.specs.declared.loader.Descriptor.{Descriptor}
 use Rattle.phone_meta.specs.declared.loader.Metadata.{Metadata}
 use Rattle.phone_read.specs.Hints.{is_of}
@@ -27,13 +27,13 @@ option_map_or-option_map f g (Some x) z = refl
 
 -- whether a text is of a kind
 abbrev pub is_of_kind : Metadata → List ℕ → «Type» → Bool
-is_of_kind m digits k = is_of (kind_of k (kinds_of m)) digits
+is_of_kind m digits k = is_of (descriptor_for k (kinds_of m)) digits
 
 -- the kind is told by the first of those tried
 type_of-tried : (m : Metadata) (digits : List ℕ) →
     type_of m digits ≡ (if is_of m.general digits then option_map_or (line_or_mobile m digits) (find (is_of_kind m digits) TRIED) Unknown else Unknown)
 type_of-tried m digits =
-    let with_descriptor : «Type» → «Type» × Option Descriptor = λ k. (k, kind_of k (kinds_of m)) in
+    let with_descriptor : «Type» → «Type» × Option Descriptor = λ k. (k, descriptor_for k (kinds_of m)) in
     let told = λ (k : «Type» × Option Descriptor). line_or_mobile m digits k.0 in
     ap (λ (o : Option («Type» × Option Descriptor)). if is_of m.general digits then option_map_or told o Unknown else Unknown)
     (find-map with_descriptor (λ (k : «Type» × Option Descriptor). is_of k.1 digits) TRIED)

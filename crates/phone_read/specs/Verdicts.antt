@@ -6,7 +6,7 @@ use Rattle.phone_core.specs.declared.kind.«Type».{«Type»}
 use Rattle.phone_core.specs.declared.kind.«Type».TheVariants.{Unknown}
 use Rattle.phone_core.specs.declared.validator.Validation.{Validation}
 use Rattle.phone_core.specs.declared.validator.Validation.TheVariants.{IsPossible, IsPossibleLocalOnly, TooShort, InvalidLength, TooLong}
-use Rattle.phone_meta.specs.Kinds.{kind_of, kinds_of}
+use Rattle.phone_meta.specs.Kinds.{descriptor_for, kinds_of}
 use Rattle.phone_meta.specs.declared.loader.Descriptor.{Descriptor}
 use Rattle.phone_meta.specs.declared.loader.Metadata.{Metadata}
 
@@ -38,7 +38,7 @@ general_lengths m = option_map_or (λ (d : Descriptor). d.possible_length) m.gen
 
 -- the verdict on a number of a kind
 abbrev pub verdict_for : Metadata → «Type» → ℕ → Validation
-verdict_for m kind n = verdict_of (general_lengths m) (kind_of kind (kinds_of m)) n
+verdict_for m kind n = verdict_of (general_lengths m) (descriptor_for kind (kinds_of m)) n
 
 -- the verdict whatever the kind of the number
 abbrev pub verdict : Metadata → ℕ → Validation

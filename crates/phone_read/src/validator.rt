@@ -6,12 +6,13 @@ ghost use Rattle.std.specs.List.{find, list_any};
 ghost use Rattle.std.specs.Option.{option_copied};
 ghost use Rattle.std.specs.Str.{bytes_eq};
 ghost use Rattle.either.specs.declared.Either.TheVariants as either;
-ghost use Rattle.phone_meta.specs.Kinds.{kind_of};
+ghost use Rattle.phone_meta.specs.Kinds.{descriptor_for};
 ghost use Rattle.phone_read.specs.Hints.{is_of};
 ghost use Rattle.phone_read.specs.Regions.{belongs_to, home, is_known, is_of_region, is_one_pattern, line_or_mobile, region_among, region_named, region_of, type_of};
 ghost use Rattle.phone_read.specs.Verdicts.{verdict_for, verdict_by, last_of};
 
 use either::{Either, Left, Right};
+use phone_core::consts::REGION_CODE_FOR_NON_GEO_ENTITY;
 use phone_core::country::Id;
 use phone_core::{Type, Validation};
 use phone_meta::{Database, Descriptor, Descriptors, Metadata};
@@ -120,7 +121,7 @@ pub fn number_type(m: &Metadata, text: &str) -> Result<Type, AllocError>
 
 /// The first of these kinds whose descriptor is there and matches.
 fn first_kind(kinds: &Descriptors, tried: &[Type], text: &str) -> Result<Option<Type>, AllocError>
-    ensures { IfOk result (λ k. k ≡ find (λ k. is_of (kind_of k kinds.now) text.now) tried.now) }
+    ensures { IfOk result (λ k. k ≡ find (λ k. is_of (descriptor_for k kinds.now) text.now) tried.now) }
 {
     for kind in tried {
         if is_of(kinds.get(*kind), text)? {
@@ -204,7 +205,7 @@ fn region_among(
 fn sole(code: u16, id: &str) -> Option<Either<Id, u16>>
     ensures { result ≡ (if bytes_eq id.now (codes "001") then Some (either.Right code) else region_named id.now) }
 {
-    if id == "001" {
+    if id == REGION_CODE_FOR_NON_GEO_ENTITY {
         Some(Right(code))
     } else {
         region_named(id)

@@ -15,13 +15,14 @@ numbers pattern count = record no_descriptor { national_number = Some pattern; p
 abbrev pub layout : List ℕ → List ℕ → Format
 layout pattern template = record no_format { pattern = Some pattern; format = Some template }
 
--- New Zealand: numbers of eight digits, fixed lines from 3 on, which are laid out in three groups, after the national prefix 0
+-- New Zealand's layout: three groups, after the national prefix
 abbrev pub nz_layout : Format
 nz_layout = record (layout (codes "(\\d)(\\d{3})(\\d{4})") (codes "$1 $2 $3")) {
   leading_digits = codes "3" ∷ [];
   national_prefix_formatting_rule = Some (codes "$NP$FG");
 }
 
+-- New Zealand: numbers of eight digits, fixed lines from 3 on, with the national prefix 0
 abbrev pub nz : Metadata
 nz = record no_metadata {
   general = Some (numbers (codes "\\d{8}") 8);
@@ -33,13 +34,15 @@ nz = record no_metadata {
   formats = nz_layout ∷ [];
 }
 
--- the United States: numbers of ten digits, lines and mobiles alike, with one layout for national text and one for the rest
+-- the United States' layout of national text
 abbrev pub us_national : Format
 us_national = layout (codes "(\\d{3})(\\d{3})(\\d{4})") (codes "($1) $2-$3")
 
+-- and that of other text
 abbrev pub us_international : Format
 us_international = layout (codes "(\\d{3})(\\d{3})(\\d{4})") (codes "$1-$2-$3")
 
+-- the United States: numbers of ten digits, lines and mobiles alike
 abbrev pub us : Metadata
 us = record no_metadata {
   general = Some (numbers (codes "[2-9]\\d{9}") 10);
@@ -62,13 +65,14 @@ free_phone = record no_metadata {
   country_code = Some 800;
 }
 
--- Brazil: two digits, then eight, after the national prefix 0 and the carrier's code, if one is named
+-- Brazil's layout: two digits, then eight, after the national prefix and the carrier, if one is named
 abbrev pub br_layout : Format
 br_layout = record (layout (codes "(\\d{2})(\\d{8})") (codes "$1 $2")) {
   national_prefix_formatting_rule = Some (codes "$NP$FG");
   domestic_carrier = Some (codes "$NP $CC ($FG)");
 }
 
+-- Brazil: numbers of ten digits, with the national prefix 0
 abbrev pub br : Metadata
 br = record no_metadata {
   general = Some (numbers (codes "\\d{10}") 10);
@@ -105,9 +109,11 @@ with_layouts national international = record no_metadata {
   international_formats = international;
 }
 
+-- Andorra with a layout that parts its groups by slashes, and ends in one
 abbrev pub ad : Metadata
 ad = ad_with (layout (codes "(\\d{3})(\\d{3})") (codes "$1/$2/")) None
 
+-- these five territories
 abbrev pub world : List Metadata
 world = nz ∷ us ∷ free_phone ∷ br ∷ ad ∷ []
 
@@ -162,5 +168,6 @@ main_area = record (area (codes "US") None) {
   fixed_line = Some (any_length (codes "6"));
 }
 
+-- four territories of calling code 1, the main one last
 abbrev pub shared_code : List Metadata
 shared_code = area (codes "BM") (Some (codes "6")) ∷ area (codes "BS") (Some (codes "242")) ∷ area (codes "BB") (Some (codes "24")) ∷ main_area ∷ []

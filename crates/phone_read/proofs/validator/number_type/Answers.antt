@@ -1,6 +1,6 @@
 use Rattle.std.proofs.Common.{◌≡◌, Some, None, true, IfOk, rules, sym, subst, ap, ◌∙◌}
 use Rattle.std.specs.List.{find}
-use Rattle.phone_meta.specs.Kinds.{Kinds, kind_of}
+use Rattle.phone_meta.specs.Kinds.{Kinds, descriptor_for}
 use Rattle.phone_read.specs.declared.validator.TheConstants.{TRIED}
 use Rattle.phone_read.specs.Hints.{is_of}
 use Rattle.phone_read.proofs.TriedKinds.{is_of_kind, type_of-found, type_of-none}
@@ -12,7 +12,7 @@ returns-in-Some c =
     let text = c.args.text.now in
     let general : is_of m.general text ≡ true = search rules in
     let found : Some c.in-Some.kind ≡ find (is_of_kind m text) TRIED =
-    sym c.in-Some.is ∙ c.in_ok-kind.ensures ∙ ap (λ (ks : Kinds). find (λ k. is_of (kind_of k ks) text) TRIED) c.descriptors-kinds.ensures in
+    sym c.in-Some.is ∙ c.in_ok-kind.ensures ∙ ap (λ (ks : Kinds). find (λ k. is_of (descriptor_for k ks) text) TRIED) c.descriptors-kinds.ensures in
     subst (λ t. IfOk c.line_or_mobile.result (λ k. k ≡ t)) (sym (type_of-found m text general c.in-Some.kind found)) c.line_or_mobile.ensures
 
 pub returns-in-None : goal.returns-in-None
@@ -21,5 +21,5 @@ returns-in-None c =
     let text = c.args.text.now in
     let general : is_of m.general text ≡ true = search rules in
     let none : None ≡ find (is_of_kind m text) TRIED =
-    sym c.in-None.is ∙ c.in_ok-kind.ensures ∙ ap (λ (ks : Kinds). find (λ k. is_of (kind_of k ks) text) TRIED) c.descriptors-kinds.ensures in
+    sym c.in-None.is ∙ c.in_ok-kind.ensures ∙ ap (λ (ks : Kinds). find (λ k. is_of (descriptor_for k ks) text) TRIED) c.descriptors-kinds.ensures in
     sym (type_of-none m text general none)

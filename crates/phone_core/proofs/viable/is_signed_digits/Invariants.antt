@@ -4,7 +4,7 @@ use denote.Shadow.{shadow}
 use Rattle.phone_core.specs.Characters.{is_plus}
 use Rattle.phone_core.specs.Cuts.{after_front}
 use Rattle.phone_core.proofs.Signed.{number_walk}
-use Rattle.phone_core.proofs.valid.is_signed_digits.Given as goal
+use Rattle.phone_core.proofs.viable.is_signed_digits.Given as goal
 
 abbrev pub invariant-loop-c : goal.invariant-loop-c
 invariant-loop-c l =

@@ -1,5 +1,5 @@
 use Rattle.std.proofs.Common.{sym, eqb-true, ◌∙◌}
-use Rattle.phone_core.proofs.valid.is_two_digits.Goals as goal
+use Rattle.phone_core.proofs.viable.is_two_digits.Goals as goal
 
 pub returns-then-char_count-eq2 : goal.returns-then-char_count-eq2
 returns-then-char_count-eq2 c = (

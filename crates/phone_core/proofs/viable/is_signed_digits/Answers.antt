@@ -4,7 +4,7 @@ use Rattle.std.specs.Str.{chars}
 use Rattle.phone_core.specs.Characters.{is_plus}
 use Rattle.phone_core.specs.Cuts.{after_front}
 use Rattle.phone_core.proofs.Signed.{number_walk, signed_iff, walk_stopped}
-use Rattle.phone_core.proofs.valid.is_signed_digits.Goals as goal
+use Rattle.phone_core.proofs.viable.is_signed_digits.Goals as goal
 
 pub returns-then-not-may_stand : goal.returns-then-not-may_stand
 returns-then-not-may_stand c =
