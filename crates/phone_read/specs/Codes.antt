@@ -2,12 +2,13 @@
 use Rattle.std.specs.Prelude.{◌≡◌, ℕ, ◌==◌, ◌&&◌, nat_le, not, Bool, true, false, if◌then◌else◌, List, length, drop, Option, None, Some, option_map, Result, Ok, Err, unwrap_or}
 use Rattle.std.specs.Borrow.{Bor}
 use Rattle.std.specs.Cow.{cow_str_bytes}
+use Rattle.std.specs.List.{list_all}
 use Rattle.std.specs.Option.{option_and_then, option_map_or}
 use Rattle.std.specs.Fmt.{decimal}
 use Rattle.regex.specs.Patterns.{find_str, span}
 use Rattle.regex.specs.Strings.{regex_pattern}
 use Rattle.regex.specs.declared.string.regex.Regex.{Regex}
-use Rattle.phone_core.specs.Characters.{is_plus}
+use Rattle.phone_core.specs.Characters.{is_digit, is_plus}
 use Rattle.phone_core.specs.Cuts.{after_front}
 use Rattle.phone_core.specs.Norm.{norm}
 use Rattle.phone_core.specs.Numbers.{number_in}
@@ -51,6 +52,11 @@ dialled found n (Some p) = record { source = Plus; digits = norm n }
 dialled found n None =
     let after = after_match (unsigned n) (found (unsigned n)) in
     record { source = source_of (begins is_plus n) after; digits = unwrap_or after (unsigned n) }
+
+-- a number's parts are ASCII digits as they stand, but for the plus signs before a national part without a reader's prefix
+abbrev pub is_bare : List ℕ → Option (List ℕ) → Option (List ℕ) → Bool
+is_bare n (Some p) e = list_all is_digit n && (list_all is_digit p && option_map_or (list_all is_digit) e true)
+is_bare n None e = list_all is_digit (after_front is_plus n) && option_map_or (list_all is_digit) e true
 
 -- the first match of a compiled pattern; without a pattern there is none
 abbrev pub found_by : Option (Bor Regex) → List ℕ → Option (ℕ × ℕ)
