@@ -1,4 +1,4 @@
-//! A number between the readers and the reading: its parts as they stand in a text.
+//! A number between its text and its reading: its parts, each a text.
 ghost use Rattle.std.specs.Prelude.{◌≡◌, ◌↔◌, None, IsTrue, IfOk, option_map};
 ghost use Rattle.std.specs.Cow.{cow_str_bytes, IsBorrowedStr};
 ghost use Rattle.phone_core.specs.declared.country.Source.TheVariants.{Default};
@@ -8,7 +8,7 @@ use phone_core::country::Source;
 use std::alloc::AllocError;
 use std::borrow::CowStr;
 
-/// The parts of a number, still as text: what a reader found, not yet normalised.
+/// The parts of a number, still as text: what a reader found, or what a step of reading made of it.
 #[derive(PartialEq, Eq, Debug, Drop)]
 pub struct Number<'a> {
     /// How the calling code was found; `Default` until it is looked for.
