@@ -29,7 +29,7 @@ pub enum ParseError {
     #[error("the number is too long")]
     TooLong,
 
-    /// A national number that is none, such as zeros alone, or a prefix from the `tel:` form that is none below 65536.
+    /// A national text that is no number, as that of zeros alone, or a prefix from the `tel:` form that is none below 65536.
     #[error("malformed integer part in phone number")]
     MalformedInteger,
 

@@ -14,10 +14,10 @@ pub struct Number<'a> {
     /// How the calling code was found; `Default` until it is looked for.
     pub country: Source,
 
-    /// The national part, with whatever stands between its digits.
+    /// The national part, with whatever stands between its digits; the digits alone, once its calling code is looked for.
     pub national: CowStr<'a>,
 
-    /// The calling code, where the text says it apart from the national part.
+    /// The calling code, where the text says it apart from the national part, or once it is found.
     pub prefix: Option<CowStr<'a>>,
 
     /// The extension, which may be the empty text.
