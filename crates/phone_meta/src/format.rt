@@ -78,7 +78,7 @@ impl Format {
         self.template.as_str()
     }
 
-    /// Patterns of the digits in front for which the layout is meant.
+    /// Patterns of the digits in front for which the layout is meant; the last of them decides (`is_led`).
     pub fn leading_digits(&self) -> &[Regex]
         ensures { ArePatternsOf self.now.leading_digits result.now }
     {

@@ -30,7 +30,8 @@ impl Model for Pattern {
     ghost invariant = { λ p. (regex_config p.re ≡ verbose) × IsReadFromSource p.re };
 }
 
-/// Compiles a text. Refused by `Regex` with the text where it is no pattern, by `Memory` where memory is refused.
+/// Compiles a text. Refused by `Regex` with the text where it is no pattern or compiles to more than 10 MiB, by `Memory`
+/// where memory is refused.
 fn compile(alloc: Global, text: Text) -> Result<Regex, LoadMetadata>
     ensures compiled { IfOk result (λ re. IsPatternOf text re) }
     ensures read { IfOk result (λ re. IsPattern text) }
@@ -47,7 +48,8 @@ fn compile(alloc: Global, text: Text) -> Result<Regex, LoadMetadata>
 }
 
 impl Pattern {
-    /// Compiles a text. Refused by `Regex` with the text where it is no pattern, by `Memory` where memory is refused.
+    /// Compiles a text. Refused by `Regex` with the text where it is no pattern or compiles to more than 10 MiB, by
+    /// `Memory` where memory is refused.
     pub fn new(alloc: Global, text: Text) -> Result<Pattern, LoadMetadata>
         ensures compiled { IfOk result (λ p. p ≡ text) }
         ensures read { IfOk result (λ p. IsPattern text) }

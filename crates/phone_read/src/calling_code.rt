@@ -40,10 +40,11 @@ pub(crate) struct CodedNumber<'a> {
 /// where the digits begin with it and, as they stand, don't look like a number of the territory or have no possible
 /// length, it is cut off and the source is `Number`.
 ///
-/// `TooShortNsn` where at most two digits follow a sign or an international prefix; then `MalformedInteger` for a prefix
-/// that is no number below 65536; `InvalidCountryCode` where the code isn't listed, none is at the front, or there is no
-/// hint or no record of it; `Memory` where memory was refused. Where the hint has no international prefix, and the parts are ASCII
-/// digits after the leading plus signs, each of the other refusals is told without asking for memory.
+/// `TooShortNsn` where at most two digits follow a sign or an international prefix, or stand beside the reader's prefix;
+/// then `MalformedInteger` for a prefix that is no number below 65536; `InvalidCountryCode` where the code isn't listed,
+/// none is at the front, or there is no hint or no record of it; `Memory` where memory was refused. Where the hint has no
+/// international prefix, and the parts are ASCII digits after the leading plus signs, each of the other refusals is told
+/// without asking for memory.
 pub fn country_code<'a>(
     db: &Database,
     hint: Option<Id>,

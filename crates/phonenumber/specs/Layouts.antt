@@ -1,4 +1,4 @@
--- How the digits of a national number are laid out.
+-- How the digits of a national number are laid out: after the original's `formatter`.
 use Rattle.std.specs.Prelude.{ℕ, ◌-◌, ◌==◌, ◌&&◌, Bool, true, false, if◌then◌else◌, List, [], ◌∷◌, ◌++◌, length, take, drop, reverse, Option, None, Some, option_map, unwrap_or}
 use Rattle.std.specs.List.{find}
 use Rattle.std.specs.Option.{option_or, option_map_or}
@@ -14,7 +14,7 @@ abbrev pub or_else : List Format → List Format → List Format
 or_else [] others = others
 or_else (f ∷ fs) others = f ∷ fs
 
--- national text takes the territory's national layouts; other text the international ones, where it has any
+-- national text takes the territory's national layouts; other text the international ones, where it has any, else the national ones
 abbrev pub layouts_for : Metadata → Mode → List Format
 layouts_for m National = m.formats
 layouts_for m E164 = or_else m.international_formats m.formats
@@ -46,7 +46,7 @@ suits digits f = by_last (reverse f.leading_digits)
 abbrev pub layout_for : Metadata → Mode → Option Format → List ℕ → Option Format
 layout_for m mode own digits = option_or own (find (suits digits) (layouts_for m mode))
 
--- each `$` with these two letters after it becomes the text
+-- each `$` with these two letters after it becomes the text, from the left
 abbrev pub with_mark : ℕ → ℕ → List ℕ → List ℕ → List ℕ
 with_mark a b text [] = []
 with_mark a b text (x ∷ []) = x ∷ []
@@ -67,7 +67,7 @@ ruled_template template rule prefix carrier = by_match (first_match first_group_
     by_match (Some s) =
         with_first_replaced (names_in first_group_pattern) (filled_rule rule prefix (take (s.1 - s.0) (drop s.0 template)) carrier) template (Some s)
 
--- the rule of national text and what its $CC stands for: the carrier rule where there is a carrier, else the prefix rule
+-- the rule of national text and what its $CC stands for: the carrier rule where there are a carrier and such a rule, else the prefix rule and nothing
 abbrev pub rule_for : Format → Option (List ℕ) → Option (List ℕ × List ℕ)
 rule_for f None = option_map (λ rule. (rule, [])) f.national_prefix_formatting_rule
 rule_for f (Some carrier) =

@@ -12,7 +12,8 @@ use std::fmt;
 use std::marker::Model;
 
 /// A phone number: calling code with its source, national number, extension and carrier. Contracts see these four.
-/// Two numbers are equal where all four are, so two readings of one line may differ in their source.
+/// Two numbers are equal where all four are, so one number that was written in two ways may be read as two that differ in
+/// their source.
 #[derive(PartialEq, Eq, Hash, Debug, Drop, Serialize, Deserialize)]
 pub struct PhoneNumber {
     code: Code,
