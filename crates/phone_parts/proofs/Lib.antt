@@ -16,6 +16,9 @@ pub mod OneParts
 pub mod Openings
 pub mod Patterns
 pub mod Prefixes
+pub mod PrintedE164
+pub mod PrintedTel
+pub mod PrintedTexts
 pub mod Runs
 pub mod SameParts
 pub mod Slices
