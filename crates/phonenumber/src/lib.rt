@@ -3,9 +3,11 @@
 
 mod formatter;
 pub mod laws;
+mod hyphens;
 pub mod metadata;
 mod parser;
 mod phone_number;
+mod printing;
 pub mod rows;
 
 pub use formatter::{FormatError, Formatter, format_with};
