@@ -2,3 +2,4 @@ pub mod ReportRows
 pub mod ThinReadings
 pub mod ThinTexts
 pub mod SameNumbers
+pub mod HyphenTexts
