@@ -16,6 +16,10 @@ pub mod OneParts
 pub mod Openings
 pub mod Patterns
 pub mod Prefixes
+pub mod PrintedCores
+pub mod PrintedInternational
+pub mod PrintedSuffixes
+pub mod PrintedTexts
 pub mod Runs
 pub mod SameParts
 pub mod Slices
