@@ -32,7 +32,7 @@ abbrev pub announcing : List ℕ
 announcing = 120 ∷ 126 ∷ 0xFF5E ∷ []
 
 -- a digit, or other punctuation
-abbrev pub is_printed : ℕ → Bool
+abbrev is_printed : ℕ → Bool
 is_printed c = (is_digit c || is_punctuation c) && not (is_one_of announcing c)
 
 printed_passes : (p : ℕ → Bool) → list_all p ascii_digits ≡ true → list_all (λ c. is_one_of announcing c || p c) punctuation ≡ true → (c : ℕ) →
