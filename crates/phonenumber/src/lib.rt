@@ -6,6 +6,7 @@ pub mod laws;
 pub mod metadata;
 mod parser;
 mod phone_number;
+mod queries;
 pub mod rows;
 
 pub use formatter::{FormatError, Formatter, format_with};
@@ -16,3 +17,4 @@ pub use phone_core::{
     is_viable,
 };
 pub use phone_number::PhoneNumber;
+pub use queries::{Country, is_valid_with};
