@@ -2,6 +2,7 @@
 #![tactic(auto)]
 
 mod formatter;
+mod hyphens;
 pub mod laws;
 pub mod metadata;
 mod parser;
