@@ -3,3 +3,4 @@ pub mod ThinReadings
 pub mod ThinTexts
 pub mod SameNumbers
 pub mod HyphenTexts
+pub mod Keys
