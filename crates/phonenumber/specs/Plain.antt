@@ -1,9 +1,9 @@
 -- Which printed numbers are read back: the premises.
-use Rattle.std.specs.Prelude.{◌≡◌, ◌⊎◌, ℕ, ◌<◌, ◌≤◌, not, Bool, true, false, List, [], ◌∷◌, filter, length, chars, Option, None, Some}
+use Rattle.std.specs.Prelude.{◌≡◌, ◌⊎◌, ℕ, ◌^◌, ◌<◌, ◌≤◌, not, Bool, IsUtf8, true, false, List, [], ◌∷◌, filter, length, chars, Option, None, Some}
 use Rattle.std.specs.List.{list_all, list_any}
 use Rattle.std.specs.Option.{option_map_or}
 use Rattle.phone_core.specs.Characters.{is_digit, is_one_of, is_punctuation, is_separator}
-use Rattle.phone_core.specs.Numbers.{text_of}
+use Rattle.phone_core.specs.Numbers.{IsHeld, text_of}
 use Rattle.phone_core.specs.declared.mode.Mode.TheVariants.{International}
 use Rattle.phone_meta.specs.Codes.{first_of, territories}
 use Rattle.phone_meta.specs.declared.loader.Metadata.{Metadata}
@@ -11,14 +11,16 @@ use Rattle.phone_read.specs.Readings.{without_zeros}
 use Rattle.phone_read.specs.Regions.{home}
 use Rattle.phone_read.specs.Strips.{strip}
 use Rattle.phone_read.specs.declared.reading.Reading.{Reading}
-use Rattle.phonenumber.specs.Texts.{laid_out}
+use Rattle.phonenumber.specs.Texts.{international_text, laid_out}
 
--- the code is listed, the value is not 0, and the national text has 2 to 17 digits: enough for the E.164 text
+-- the code is listed, the value is not 0, the national text has 2 to 17 digits, and value and zeros have room in their word,
+-- as those of every `NationalNumber` have: enough for the E.164 text
 pub record IsPlain (db : List Metadata) (n : Reading) (least : ℕ) (m : Metadata) : Type 0 where
   pub listed : first_of (territories n.code.value db) ≡ Some m
   pub not_zero : 0 < n.national.value
   pub long_enough : least ≤ length (text_of n.national)
   pub short_enough : length (text_of n.national) ≤ 17
+  pub held : IsHeld n.national
 
 -- the extension is absent, or at most so many digits, possibly none
 abbrev pub has_digits : Option (List ℕ) → Bool
@@ -28,15 +30,17 @@ has_digits e = option_map_or (list_all is_digit) e true
 abbrev pub IsPlainE164 : List Metadata → Reading → Type 0
 IsPlainE164 db n = (m : Metadata) × IsPlain db n 2 m
 
--- for the text of RFC 3966: three digits at least, and the laid-out text is the digits and separators
+-- for the text of RFC 3966: three digits at least, the laid-out text is the digits and separators, and the code has 16 bits, as
+-- that of every `Code` has
 pub record IsPlainRfc3966 (db : List Metadata) (n : Reading) : Type 0 where
   pub territory : Metadata
   pub plain : IsPlain db n 3 territory
+  pub code_fits : n.code.value < 2 ^ 16
   pub extension : has_digits n.extension ≡ true
   pub only_parted : filter (λ c. not (is_separator c)) (chars (laid_out territory International None n)) ≡ text_of n.national
 
--- for the international text: at most seven digits of extension, and the laid-out text is the digits and punctuation
--- that announces no extension
+-- for the international text: at most seven digits of extension, the laid-out text is the digits and punctuation that announces
+-- no extension, and the text is UTF-8, as every `String` is
 pub record IsPlainInternational (db : List Metadata) (n : Reading) : Type 0 where
   pub territory : Metadata
   pub plain : IsPlain db n 2 territory
@@ -44,6 +48,7 @@ pub record IsPlainInternational (db : List Metadata) (n : Reading) : Type 0 wher
   pub few_digits : option_map_or length n.extension 0 ≤ 7
   pub only_parted : filter (λ c. not (is_punctuation c)) (chars (laid_out territory International None n)) ≡ text_of n.national
   pub no_indicator : list_any (is_one_of (120 ∷ 126 ∷ 0xFF5E ∷ [])) (chars (laid_out territory International None n)) ≡ false
+  pub utf8 : IsUtf8 (international_text territory None n)
 
 -- stripping leaves the digits alone: they have no home, or its rules cut nothing off
 abbrev pub IsIdle : List Metadata → ℕ → List ℕ → Type 0

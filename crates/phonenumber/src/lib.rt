@@ -6,6 +6,7 @@ pub mod laws;
 pub mod metadata;
 mod parser;
 mod phone_number;
+pub mod read_back;
 pub mod rows;
 
 pub use formatter::{FormatError, Formatter, format_with};
