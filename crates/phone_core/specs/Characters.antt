@@ -1,4 +1,4 @@
--- Classes of characters, as sets, and the digit that a character stands for.
+-- Classes of characters, as sets, and the digit that a character stands for: after the original's `consts` and `parser/helper`, and Unicode's categories.
 use Rattle.std.specs.Prelude.{ℕ, ◌+◌, ◌-◌, ◌==◌, ◌||◌, ◌&&◌, nat_le, nat_lt, Bool, if◌then◌else◌, List, [], ◌∷◌, codes, Option, Some, option_map}
 use Rattle.std.specs.Char.{is_ascii_digit, is_ascii_alphabetic}
 use Rattle.std.specs.List.{list_any, find}
@@ -65,7 +65,7 @@ abbrev pub script_zeros : List ℕ
 script_zeros =
     0x660 ∷ 0x6F0 ∷ 0x7C0 ∷ 0x966 ∷ 0x9E6 ∷ 0xA66 ∷ 0xAE6 ∷ 0xB66 ∷ 0xBE6 ∷ 0xC66 ∷ 0xCE6 ∷ 0xD66 ∷ 0xE50 ∷ 0xED0 ∷ 0xFF10 ∷ []
 
--- c is one of the ten digits from `zero` on
+-- c is one of the ten characters from `first` on
 abbrev pub is_in_run : ℕ → ℕ → Bool
 is_in_run first c = nat_le first c && nat_lt c (first + 10)
 

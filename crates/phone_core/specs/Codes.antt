@@ -1,4 +1,4 @@
--- Calling codes.
+-- Calling codes, which E.164 calls country codes: after the original's `country`.
 use Rattle.std.specs.Prelude.{ℕ}
 use Rattle.phone_core.specs.declared.country.Source.{Source}
 

@@ -1,4 +1,4 @@
--- What the error of a territory's record tells.
+-- What the error of a territory's record tells: after the original's `error`.
 use Rattle.std.specs.Prelude.{ℕ, List, [], ◌∷◌, string_bytes}
 use Rattle.phone_core.specs.declared.error.MetadataError.{MetadataError}
 use Rattle.phone_core.specs.declared.error.MetadataError.TheVariants.{UnexpectedEof, MismatchedTag, MissingValue, UnhandledElement, UnhandledAttribute, UnhandledEvent}

@@ -1,4 +1,4 @@
--- The text of each region's id.
+-- The text of each region's id: after the original's `country`, and mostly ISO 3166.
 use Rattle.std.specs.Prelude.{ℕ, List, codes, Option}
 use Rattle.std.specs.List.{find}
 use Rattle.std.specs.Str.{bytes_eq}

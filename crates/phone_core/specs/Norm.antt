@@ -1,4 +1,4 @@
--- A text normalised: its characters' digits, in order.
+-- A text normalised, its characters' digits in order: after the original's `parser/helper`.
 use Rattle.std.specs.Prelude.{ℕ, List}
 use Rattle.std.specs.List.{filter_map}
 use Rattle.phone_core.specs.Characters.{digit_of}

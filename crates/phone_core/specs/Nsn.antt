@@ -1,4 +1,4 @@
--- The national (significant) number that a text of digits gives.
+-- The national (significant) number that a text gives once code and prefixes are cut off: after the original's `parser`.
 use Rattle.std.specs.Prelude.{ℕ, nat_lt, if◌then◌else◌, List, length, Result, Err}
 use Rattle.phone_core.specs.declared.error.ParseError.{ParseError}
 use Rattle.phone_core.specs.declared.error.ParseError.TheVariants.{TooShortNsn, TooLong}

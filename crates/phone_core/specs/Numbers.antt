@@ -1,4 +1,4 @@
--- National numbers: a value and the zeros before it, their text, and what a text is read as.
+-- National numbers: a value and the zeros before it, their text, and what a text is read as. After the original's `national_number`.
 use Rattle.std.specs.Prelude.{ℕ, ◌+◌, ◌*◌, ◌/◌, ◌%◌, ◌^◌, ◌==◌, ◌<◌, nat_lt, ◌&&◌, if◌then◌else◌, List, [], ◌∷◌, ◌++◌, length, drop, replicate, Option, Some, None, Result, Ok, Err}
 use Rattle.std.specs.Char.{is_digit}
 use Rattle.std.specs.Fmt.{decimal}

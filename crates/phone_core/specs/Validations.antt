@@ -1,4 +1,4 @@
--- What the verdicts on a number's length mean.
+-- What the verdicts on a number's length mean: after the original's `validator`.
 use Rattle.std.specs.Prelude.{Bool, true, false}
 use Rattle.phone_core.specs.declared.validator.Validation.{Validation}
 use Rattle.phone_core.specs.declared.validator.Validation.TheVariants.{IsPossible, IsPossibleLocalOnly, InvalidCountryCode, TooShort, InvalidLength, TooLong}
@@ -9,7 +9,7 @@ is_possible IsPossible = true
 is_possible IsPossibleLocalOnly = true
 is_possible _ = false
 
--- invalid by its length: too short, too long, or of a length between
+-- invalid by its length: too short, too long, or of another length that is not possible
 abbrev pub is_invalid_length : Validation → Bool
 is_invalid_length TooShort = true
 is_invalid_length InvalidLength = true

@@ -1,4 +1,4 @@
--- Which texts may be a number at all. Texts are lists of characters.
+-- Which texts may be a number at all: after the original's `parser/valid`. Texts are lists of characters.
 use Rattle.std.specs.Prelude.{◌≡◌, ℕ, ◌<◌, ◌≤◌, ◌||◌, ◌⊎◌, Bool, true, List, ◌++◌, length, take, slice_index, count_by}
 use Rattle.std.specs.List.{list_all}
 use Rattle.phone_core.specs.Characters.{is_digit, is_alpha, is_plus, is_star, is_punctuation}
@@ -7,7 +7,7 @@ use Rattle.phone_core.specs.Characters.{is_digit, is_alpha, is_plus, is_star, is
 abbrev pub is_early : ℕ → Bool
 is_early c = is_punctuation c || is_star c || is_digit c
 
--- letters may stand too, but only after the third digit
+-- letters may stand too; those that are no punctuation only after the third digit
 abbrev pub is_allowed : ℕ → Bool
 is_allowed c = is_early c || is_alpha c
 
@@ -16,7 +16,7 @@ pub record IsTwoDigits (t : List ℕ) : Type 0 where
   pub two : length t ≡ 2
   pub digits : list_all is_digit t ≡ true
 
--- plus signs, and after them at least three digits among allowed characters, with no letter before the third digit
+-- plus signs, or none, and after them at least three digits among allowed characters, with no letter but the small `x` before the third digit
 pub record IsSignedDigits (t : List ℕ) : Type 0 where
   pub signs : List ℕ
   pub body : List ℕ

@@ -15,13 +15,13 @@ use thiserror::Error;
 #[derive(Clone, Copy, PartialEq, Eq, Hash, Debug, Default, Serialize, Deserialize)]
 #[serde(rename_all = "snake_case")]
 pub enum Source {
-    /// After a plus sign, as `+64` in `+64 3 331 6005`.
+    /// After a plus sign, as `+64` in `+64 3 331 6005`, or from the `phone-context` of a `tel:` text.
     Plus,
 
     /// After an international prefix, as `0064` in `0064 3 331 6005` dialled from New Zealand.
     Idd,
 
-    /// As digits at the front, with no sign before them, as `64` in `64 3 331 6005`.
+    /// As digits at the front that are the hint's code, as `64` in `64 3 331 6005` under New Zealand.
     Number,
 
     /// From the hint alone.
@@ -666,8 +666,7 @@ impl<'de> Deserialize<'de> for Id {
     ghost use Rattle.serde.specs.Event.{text};
     ghost use Rattle.serde.specs.Steps.{Gives};
 
-    /// Reads a text, all of which is the id's name. A text that is no id's name is an error; memory is taken for the text
-    /// alone.
+    /// Reads a text, all of which is the id's name, into memory of its own. A text that is no id's name is an error.
     fn deserialize<F: Format>(
         alloc: Global,
         from: &mut Deserializer<'de, '_, F>,

@@ -27,6 +27,6 @@ pub enum Type {
     Carrier,
     /// A number that can't be dialled from abroad.
     NoInternational,
-    /// None of the others: the digits fit no kind's pattern, or are no number of the territory.
+    /// The digits are of none of the kinds that are tried, or are no number of the territory.
     Unknown,
 }

@@ -17,7 +17,7 @@ ghost use Rattle.phone_core.specs.Numbers.{National, IsHeld, leading_zeros, nati
 
 use crate::country::Source;
 
-/// Two national numbers have one text exactly if they have one value and one count of leading zeros.
+/// Two national numbers have one text exactly if they have one value and one count of zeros before it.
 pub fn same_text()
     ensures { (a b : National) → IsHeld a → IsHeld b → (text_of a ≡ text_of b) ↔ ((a.value ≡ b.value) × (a.zeros ≡ b.zeros)) }
 {}
@@ -85,7 +85,7 @@ pub fn viable_rows()
     ensures between { IsViable (codes "1x2x3") }
 {}
 
-/// Texts that are no number: too few digits, plus signs or other characters between them, a letter before the third digit.
+/// Texts that are no number: too few digits, plus signs or other characters among them, a letter before the third digit.
 pub fn not_viable_rows()
     ensures nothing { ¬ (IsViable []) }
     ensures one { ¬ (IsViable (codes "1")) }

@@ -5,7 +5,7 @@ ghost use Rattle.phone_core.specs.Validations.{is_possible, is_invalid, is_inval
 /// The verdict on a number's length.
 #[derive(Clone, Copy, PartialEq, Eq, Debug)]
 pub enum Validation {
-    /// Numbers of the territory have this length.
+    /// Numbers of the territory have this length: it is listed for numbers of any kind.
     IsPossible,
 
     /// Numbers of this kind have this length where they are dialled within their area.
@@ -17,7 +17,7 @@ pub enum Validation {
     /// The number is shorter than the first length that the territory lists.
     TooShort,
 
-    /// The length stands between those that the territory lists, or none is listed, be it of the territory or of the kind.
+    /// Neither too short nor too long, and not listed; or no length is listed, be it of the territory or of the kind.
     InvalidLength,
 
     /// The number is longer than the last length that the territory lists.
@@ -42,7 +42,7 @@ impl Validation {
         matches!(self, Validation::InvalidCountryCode) || self.is_invalid_length()
     }
 
-    /// Whether the length is too short, too long, or between those that are listed.
+    /// Whether the length is too short, too long, or another one that is not possible.
     pub fn is_invalid_length(&self) -> bool
         ensures { result ≡ is_invalid_length self.now }
     {

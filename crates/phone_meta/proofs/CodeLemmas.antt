@@ -5,6 +5,7 @@ use Rattle.std.proofs.lemmas.Bool.{and_from, and_parts, false_from_ne_true, ltb-
 use Rattle.std.proofs.lemmas.Bool.Decides.{same_from_decides, nat_tests}
 use Rattle.std.proofs.lemmas.Fmt.{decimal_digit, decimal_injective, decimal_nonempty, decimal_step}
 use Rattle.std.proofs.lemmas.List.{length-take, map-append, reverse-append, take-append-le, take_all}
+use Rattle.std.proofs.lemmas.List.Folds.{find-append}
 use Rattle.std.proofs.lemmas.Slice.Eq.{bytes_eq-Decides}
 use Rattle.std.specs.Bool.{Decides}
 use Rattle.std.specs.Fmt.{decimal}
@@ -22,14 +23,6 @@ first_of-filter p [] = refl
 first_of-filter p (x ∷ xs) = step (p x) (first_of-filter p xs)
   where
     step : (b : Bool) → first_of (filter p xs) ≡ find p xs → first_of (cond b (x ∷ filter p xs) (filter p xs)) ≡ cond b (Some x) (find p xs)
-    step true e = refl
-    step false e = e
-
-pub find-append : {X : Type 0} (p : X → Bool) (xs ys : List X) → find p (xs ++ ys) ≡ option_or (find p xs) (find p ys)
-find-append p [] ys = refl
-find-append p (x ∷ xs) ys = step (p x) (find-append p xs ys)
-  where
-    step : (b : Bool) → find p (xs ++ ys) ≡ option_or (find p xs) (find p ys) → cond b (Some x) (find p (xs ++ ys)) ≡ option_or (cond b (Some x) (find p xs)) (find p ys)
     step true e = refl
     step false e = e
 

@@ -1,4 +1,4 @@
--- Territories by calling code.
+-- Territories by calling code, after the original's `metadata/database`, and codes in front of digits, after its `parser/helper`.
 use Rattle.std.specs.Prelude.{ℕ, ◌==◌, ◌&&◌, not, nat_le, Bool, if◌then◌else◌, List, [], ◌∷◌, ◌++◌, length, take, map, filter, reverse, Option, None, Some, codes}
 use Rattle.std.specs.Fmt.{decimal}
 use Rattle.std.specs.List.{list_all, list_any}
@@ -38,7 +38,7 @@ abbrev pub if_any : {X : Type 0} → List X → Option (List X)
 if_any [] = None
 if_any (x ∷ xs) = Some (x ∷ xs)
 
--- the number that the first k characters write, where each is an ASCII digit
+-- the number that the first k bytes write, where each is an ASCII digit
 abbrev pub front_number : ℕ → List ℕ → Option ℕ
 front_number k text = if nat_le k (length text) && all_ascii_digits (take k text) then Some (digits_value 10 (take k text)) else None
 
@@ -47,7 +47,7 @@ abbrev pub listed_if_some : Option ℕ → List Metadata → Option ℕ
 listed_if_some None db = None
 listed_if_some (Some code) db = if is_listed code db then Some code else None
 
--- the calling code that the first k characters write
+-- the calling code that the first k bytes write, where it is listed
 abbrev pub listed_front : List Metadata → List ℕ → ℕ → Option ℕ
 listed_front db text k = listed_if_some (front_number k text) db
 
@@ -55,7 +55,7 @@ listed_front db text k = listed_if_some (front_number k text) db
 abbrev pub shortest : List Metadata → List ℕ → Option ℕ
 shortest db text = if bytes_eq (take 1 text) (codes "0") then None else first_given (map (listed_front db text) (1 ∷ 2 ∷ 3 ∷ []))
 
--- the decimal text of one number begins that of another
+-- the decimal text of one number begins that of another, which is not the same number
 unfoldable pub begins : ℕ → ℕ → Bool
 begins a b = not (a == b) && bytes_eq (take (length (decimal a)) (decimal b)) (decimal a)
 

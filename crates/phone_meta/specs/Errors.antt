@@ -1,4 +1,4 @@
--- What the refusal of a database tells.
+-- What the refusal of a database tells: after the original's `error`, with refusals of JSON in place of XML.
 use Rattle.std.specs.Prelude.{ℕ, List, [], ◌∷◌, string_bytes}
 use Rattle.phone_core.specs.Errors.{told as told_of_record}
 use Rattle.phone_core.specs.declared.error.MetadataError.{MetadataError}

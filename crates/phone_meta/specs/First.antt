@@ -1,4 +1,4 @@
--- The first match of a pattern text in a text, under flag x.
+-- The first match of a pattern text in a text, under flag x: as the kit's `regex` defines it.
 use Rattle.std.specs.Prelude.{◌≡◌, ℕ, ◌+◌, ◌-◌, ◌*◌, ◌==◌, ◌≤◌, ◌&&◌, nat_le, Bool, false, if◌then◌else◌, true, List, [], ◌++◌, map, take, drop, length, Option, Some, None, option_map, IfSome, IsCharBoundary}
 use Rattle.std.specs.Borrow.{Bor}
 use Rattle.std.specs.List.{AllByRecursion}
@@ -57,7 +57,7 @@ group_in s n = if n == 0 then Some (s.0, s.1) else both (s.2 (2 * n)) (s.2 (2 * 
 abbrev pub last_group : List ℕ → ℕ
 last_group pattern = length (names_in pattern) - 1
 
--- a match's span, its first group if it has groups, and its last group, whose number is given
+-- a match's span, its first group if the pattern has groups, and its last group, whose number is given
 abbrev pub captured_by : ℕ → Seen → Captured
 captured_by last s = record { span = (s.0, s.1); first = if nat_le 1 last then group_in s 1 else None; last = group_in s last }
 

@@ -1,11 +1,11 @@
--- The descriptors of a territory, by kind.
+-- The descriptors of a territory, by kind: after the original's `metadata/metadata`.
 use Rattle.std.specs.Prelude.{Option}
 use Rattle.phone_core.specs.declared.kind.«Type».{«Type»}
 use Rattle.phone_core.specs.declared.kind.«Type».TheVariants as kind
 use Rattle.phone_meta.specs.declared.loader.Descriptor.{Descriptor}
 use Rattle.phone_meta.specs.declared.loader.Metadata.{Metadata}
 
--- one descriptor a kind, where the territory has numbers of that kind
+-- one descriptor for numbers of any kind and one for each kind, where it is given
 pub record Kinds : Type 0 where
   pub general : Option Descriptor
   pub fixed_line : Option Descriptor

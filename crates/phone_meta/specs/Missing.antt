@@ -1,4 +1,4 @@
--- What every record must have, and which of it is missing first.
+-- What every record must have, and which of it is missing first: after the original's `metadata/database`.
 use Rattle.std.specs.Prelude.{ℕ, List, [], ◌∷◌, map, Option, Some, None, codes}
 use Rattle.std.specs.Option.{option_or}
 use Rattle.phone_meta.specs.declared.loader.Descriptor.{Descriptor}

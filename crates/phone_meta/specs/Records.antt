@@ -1,4 +1,4 @@
--- What contracts see of a database: its records, in the order in which they were handed in.
+-- What contracts see of a database: its records, in the order in which they were handed in. After the original's `metadata`.
 use Rattle.std.specs.Prelude.{ℕ, suc, ◌==◌, ◌&&◌, ◌||◌, Bool, true, if◌then◌else◌, List, [], ◌∷◌, ◌++◌, map, length, reverse, Option, None, Some, option_map, unwrap_or, codes}
 use Rattle.std.specs.List.{list_any}
 use Rattle.std.specs.Option.{option_or}
@@ -20,7 +20,7 @@ allows_length d n = (length d.possible_length == 0) || list_any (λ k. k == n) d
 abbrev pub matches : Descriptor → List ℕ → Bool
 matches d text = allows_length d (length text) && at_start (pattern_of d) text
 
--- what leads digits, by the patterns from the last on: anything where there is none, else the last where its first match
+-- digits are led by patterns, the last of which comes first here: where there is none, or the last one's first match
 -- begins at the first byte
 abbrev pub led_by : List ℕ → List (List ℕ) → Bool
 led_by digits [] = true

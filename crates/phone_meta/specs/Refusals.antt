@@ -48,7 +48,7 @@ IsPatternRefusal ps _ = ⊥
 abbrev pub TellsMissing : Missing → LoadMetadata → Type 0
 TellsMissing missing e = told e ≡ (1, phase_of missing ∷ name_of missing ∷ [])
 
--- records are refused for the first value that is missing; only where nothing is missing, for one of their patterns; or
--- memory was refused
+-- records are refused for the first value that is missing; only where nothing is missing, for one of the database's
+-- patterns; or memory was refused
 abbrev pub IsRefusalOf : List Metadata → LoadMetadata → Type 0
 IsRefusalOf db e = MatchOption (first_missing db) (IsPatternRefusal (patterns db) e) (λ missing. TellsMissing missing e) ⊎ (e ≡ error.Memory)

@@ -12,10 +12,10 @@ ghost use Rattle.phone_meta.specs.Missing.{first_missing};
 ghost use Rattle.phone_meta.specs.Refusals.{patterns, IsRefusalOf, TellsMissing};
 
 use crate::error::LoadMetadata;
-use crate::loader::{self, Text};
+use crate::loader;
 use crate::metadata::{self, Metadata};
 use crate::missing::{self, Missing};
-use crate::pattern::Pattern;
+use crate::rules::FirstGroup;
 use phone_core::MetadataError;
 use regex::Regex;
 use std::alloc::{AllocError, Global};
@@ -31,7 +31,7 @@ pub struct Database {
     places_by_id: HashMap<String, usize>,
     /// For each calling code that has a territory the positions of its territories, in order of arrival.
     places_by_code: HashMap<u16, Vec<usize>>,
-    first_group: Pattern,
+    first_group: FirstGroup,
 }
 
 impl Model for Database {
@@ -39,18 +39,15 @@ impl Model for Database {
     ghost use Rattle.std.specs.Bool.{nat_eq};
     ghost use Rattle.std.specs.HashMap.{get, get_by_text};
     ghost use Rattle.phone_meta.specs.Codes.{if_any};
-    ghost use Rattle.phone_meta.specs.Records.{last_place, places_where, has_code, has_id, first_group_pattern};
+    ghost use Rattle.phone_meta.specs.Records.{last_place, places_where, has_code, has_id};
     ghost use Rattle.phone_meta.specs.declared.loader.Metadata as loader;
 
     ghost Value = { List loader.Metadata };
 
     ghost view = { λ d. d.territories.items };
 
-    ghost invariant = { λ d. ((id : List ℕ) → get_by_text d.places_by_id id ≡ last_place (has_id id) d.territories.items) × ((code : ℕ) → option_map (λ v. v.items) (get nat_eq d.places_by_code code) ≡ if_any (places_where (has_code code) d.territories.items)) × (d.first_group ≡ first_group_pattern) };
+    ghost invariant = { λ d. ((id : List ℕ) → get_by_text d.places_by_id id ≡ last_place (has_id id) d.territories.items) × ((code : ℕ) → option_map (λ v. v.items) (get nat_eq d.places_by_code code) ≡ if_any (places_where (has_code code) d.territories.items)) };
 }
-
-/// The first group that a template names: a `$` and a digit.
-const FIRST_GROUP: &str = "(\\$\\d)";
 
 impl Database {
     /// A database of these records, in their order. First every record is looked through for a value that it must
@@ -69,8 +66,7 @@ impl Database {
         let territories = metadata::compile_all(alloc, records)?;
         let places_by_id = places_by_id(alloc, territories.as_slice())?;
         let places_by_code = places_by_code(alloc, territories.as_slice())?;
-        let first_group = Text::from(String::from_str(alloc, FIRST_GROUP)?);
-        let first_group = Pattern::new(alloc, first_group)?;
+        let first_group = FirstGroup::compile(alloc)?;
         Ok(Database {
             alloc,
             territories,
@@ -90,6 +86,11 @@ impl Database {
         ensures { IsPatternOf first_group_pattern result.now }
     {
         self.first_group.regex()
+    }
+
+    /// The same, as what layouts take.
+    pub fn first_group_finder(&self) -> &FirstGroup {
+        &self.first_group
     }
 
     /// The territories in order of arrival.

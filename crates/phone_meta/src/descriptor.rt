@@ -72,7 +72,8 @@ impl Descriptor {
         self.national_number.as_str()
     }
 
-    /// How many digits the numbers may have; an empty list sets no limit.
+    /// How many digits the numbers may have. An empty list sets `is_match` no limit, but gives each length the verdict
+    /// `InvalidLength`.
     pub fn possible_length(&self) -> &[u16]
         ensures { result.now ≡ self.now.possible_length }
     {

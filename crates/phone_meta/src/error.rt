@@ -6,10 +6,10 @@ use phone_core::MetadataError;
 use std::alloc::{AllocError, AllocFailed};
 use thiserror::Error;
 
-/// Why a database was refused.
+/// Why a database was refused. `Json`, `Kind` and `Io` are kept for database texts, which are to come: no call gives them.
 #[derive(Debug, Drop, Error)]
 pub enum LoadMetadata {
-    /// A record lacks a value that it must have, or has a key that it may not have.
+    /// What is wrong with a record; so far only that a value is missing.
     #[error(transparent)]
     Metadata(MetadataError),
 
@@ -21,7 +21,7 @@ pub enum LoadMetadata {
     #[error("{phase}: wrong kind: {name:?}")]
     Kind { phase: String, name: String },
 
-    /// This text is no pattern.
+    /// This text is no pattern, or compiles to more than 10 MiB.
     #[error("Malformed Regex: {0}")]
     Regex(String),
 
@@ -36,7 +36,8 @@ pub enum LoadMetadata {
 
 impl LoadMetadata {
     /// Which refusal it is: 1 a missing value, 2 a key that may not stand there, 3 no JSON, 4 a value of the wrong kind,
-    /// 5 no pattern, 6 input or output, 7 memory; 8 for the other errors of a record, which are never given.
+    /// 5 a pattern that was refused, 6 input or output, 7 memory; 8 for the other errors of a record, which are never
+    /// given.
     pub fn number(&self) -> u8
         ensures { result ≡ (told self.now).0 }
     {

@@ -1,8 +1,10 @@
 //! A layout of national numbers, with its patterns compiled.
-ghost use Rattle.std.specs.Prelude.{◌≡◌, None, Some, map, IfOk, IfErr};
+ghost use Rattle.std.specs.Prelude.{◌≡◌, ℕ, List, None, Some, map, option_map, IfOk, IfErr, string_bytes};
+ghost use Rattle.std.specs.Borrow.{Bor};
 ghost use Rattle.std.specs.List.{AllByRecursion, flat_map};
 ghost use Rattle.std.specs.Option.{option_copied};
 ghost use Rattle.phone_meta.specs.First.{ArePatternsOf, IsPattern, IsLentPattern};
+ghost use Rattle.phone_meta.specs.Layouts.{laid_by, layout_template, national_template, rule_for, suits};
 ghost use Rattle.phone_meta.specs.Missing.{first_given, missing_in_format};
 ghost use Rattle.phone_meta.specs.Records.{is_led};
 ghost use Rattle.phone_meta.specs.Refusals.{IsPatternRefusal, patterns_in_format};
@@ -10,7 +12,8 @@ ghost use Rattle.phone_meta.specs.Refusals.{IsPatternRefusal, patterns_in_format
 use crate::error::LoadMetadata;
 use crate::loader::{self, Text};
 use crate::pattern::{self, Pattern};
-use regex::Regex;
+use crate::rules::FirstGroup;
+use regex::{Regex, Template};
 use std::alloc::{AllocError, Global};
 use std::marker::Model;
 
@@ -18,7 +21,9 @@ use std::marker::Model;
 #[derive(Drop)]
 pub struct Format {
     pattern: Pattern,
-    template: Text,
+    text: Text,
+    /// The template, read from its text with the names of the pattern's groups.
+    template: Template,
     leading_digits: Vec<Regex>,
     national_prefix_rule: Option<Text>,
     is_national_prefix_optional: bool,
@@ -28,15 +33,15 @@ pub struct Format {
 impl Model for Format {
     ghost use Rattle.std.specs.Prelude.{Some, map};
     ghost use Rattle.std.specs.List.{AllByRecursion};
-    ghost use Rattle.regex.specs.Strings.{regex_source};
-    ghost use Rattle.phone_meta.specs.First.{IsUnderX};
+    ghost use Rattle.regex.specs.Strings.{regex_source, IsReadFrom};
+    ghost use Rattle.phone_meta.specs.First.{names_in, IsUnderX};
     ghost use Rattle.phone_meta.specs.declared.loader.Format as loader;
 
     ghost Value = { loader.Format };
 
-    ghost view = { λ f. record { pattern = Some f.pattern; format = Some f.template; leading_digits = map regex_source f.leading_digits.items; national_prefix_formatting_rule = f.national_prefix_rule; national_prefix_optional_when_formatting = f.is_national_prefix_optional; domestic_carrier = f.domestic_carrier } };
+    ghost view = { λ f. record { pattern = Some f.pattern; format = Some f.text; leading_digits = map regex_source f.leading_digits.items; national_prefix_formatting_rule = f.national_prefix_rule; national_prefix_optional_when_formatting = f.is_national_prefix_optional; domestic_carrier = f.domestic_carrier } };
 
-    ghost invariant = { λ f. AllByRecursion IsUnderX f.leading_digits.items };
+    ghost invariant = { λ f. AllByRecursion IsUnderX f.leading_digits.items × IsReadFrom (names_in f.pattern) f.text f.template };
 }
 
 impl Format {
@@ -47,9 +52,13 @@ impl Format {
         ensures read { IfOk result (λ f. AllByRecursion IsPattern (patterns_in_format given)) }
         ensures refused { IfErr result (IsPatternRefusal (patterns_in_format given)) }
     {
+        let pattern = Pattern::new(alloc, given.pattern.unwrap())?;
+        let text = given.format.unwrap();
+        let template = pattern.template(text.as_str())?;
         Ok(Format {
-            pattern: Pattern::new(alloc, given.pattern.unwrap())?,
-            template: given.format.unwrap(),
+            pattern,
+            text,
+            template,
             leading_digits: pattern::compile_all(alloc, given.leading_digits.into_vec())?,
             national_prefix_rule: given.national_prefix_formatting_rule,
             is_national_prefix_optional: given.national_prefix_optional_when_formatting,
@@ -75,10 +84,10 @@ impl Format {
     pub fn format(&self) -> &str
         ensures { self.now.format ≡ Some result.now }
     {
-        self.template.as_str()
+        self.text.as_str()
     }
 
-    /// Patterns of the digits in front for which the layout is meant.
+    /// Patterns of the digits in front for which the layout is meant; the last of them decides (`is_led`).
     pub fn leading_digits(&self) -> &[Regex]
         ensures { ArePatternsOf self.now.leading_digits result.now }
     {
@@ -93,6 +102,62 @@ impl Format {
         match self.leading_digits.split_last() {
             Some((last, _)) => pattern::is_at_start(self.pattern.allocator(), last, digits),
             None => Ok(true),
+        }
+    }
+
+    /// Whether the layout suits digits: it names no leading digits, or the first match of the last of these patterns
+    /// begins at the first byte and the pattern's first match is the whole text. The pattern is asked only where the
+    /// leading one matches. Refused only for memory.
+    pub fn suits(&self, digits: &str) -> Result<bool, AllocError>
+        ensures { IfOk result (λ b. b ≡ suits digits.now self.now) }
+    {
+        if self.leading_digits.is_empty() {
+            return Ok(true);
+        }
+        if !self.is_led(digits)? {
+            return Ok(false);
+        }
+        self.pattern.is_whole_match(digits)
+    }
+
+    /// The digits laid out: the first match of the pattern replaced by the template as it stands. Digits without a
+    /// match stay as they are. Refused only for memory.
+    pub fn lay_out(&self, digits: &str) -> Result<String, AllocError>
+        ensures { IfOk result (λ t. string_bytes t ≡ laid_by self.now (layout_template self.now) digits.now) }
+    {
+        self.pattern.replaced_by(&self.template, digits)
+    }
+
+    /// The digits laid out for callers inside the country, by the template with its first group written by a rule: the
+    /// carrier's rule where there are a carrier and such a rule, else the national prefix's, where there is one. Takes
+    /// the territory's national prefix and the number's carrier. Refused only for memory.
+    pub fn lay_out_nationally(
+        &self,
+        first_group: &FirstGroup,
+        prefix: Option<&str>,
+        carrier: Option<&str>,
+        digits: &str,
+    ) -> Result<String, AllocError>
+        ensures { IfOk result (λ t. string_bytes t ≡ laid_by self.now (national_template self.now (option_copied prefix.entry) (option_copied carrier.entry)) digits.now) }
+    {
+        let Some((rule, carrier)) = self.rule_for(carrier) else {
+            return self.lay_out(digits);
+        };
+        let prefix = prefix.unwrap_or("");
+        let template = first_group.ruled(self.text.as_str(), rule, prefix, carrier)?;
+        self.pattern.replaced(template.as_str(), digits)
+    }
+
+    /// The rule of national text, and what its `$CC` stands for.
+    fn rule_for<'a>(&'a self, carrier: Option<&'a str>) -> Option<(&'a str, &'a str)>
+        ensures { option_map (λ (r : Bor (List ℕ) × Bor (List ℕ)). (r.0.now, r.1.now)) result ≡ rule_for self.now (option_copied carrier.entry) }
+    {
+        match (carrier, self.domestic_carrier()) {
+            (Some(carrier), Some(rule)) => Some((rule, carrier)),
+            _ => match self.national_prefix() {
+                Some(rule) => Some((rule, "")),
+                None => None,
+            },
         }
     }
 

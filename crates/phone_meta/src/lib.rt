@@ -13,6 +13,7 @@ mod metadata;
 mod missing;
 mod pattern;
 mod placed;
+mod rules;
 
 pub use database::Database;
 pub use descriptor::Descriptor;
@@ -22,3 +23,4 @@ pub use format::Format;
 pub use iter::Iter;
 pub use metadata::Metadata;
 pub use pattern::{Captured, Pattern};
+pub use rules::FirstGroup;

@@ -33,7 +33,7 @@ fn clone_descriptor(d: &Option<Descriptor>, alloc: Global) -> Result<Option<Desc
 pub struct Descriptor {
     /// The pattern of these numbers' digits.
     pub national_number: Option<Text>,
-    /// How many digits they may have; an empty list sets no limit.
+    /// How many digits they may have; an empty list sets a match no limit, but makes each length invalid.
     pub possible_length: Items<u16>,
     /// How many digits suffice for dialling inside an area.
     pub possible_local_length: Items<u16>,
@@ -80,7 +80,7 @@ pub struct Format {
     pub pattern: Option<Text>,
     /// The template that lays the groups out, with `$1` for the first.
     pub format: Option<Text>,
-    /// Patterns of the digits in front for which the layout is meant.
+    /// Patterns of the digits in front for which the layout is meant; the last of them decides.
     pub leading_digits: Items<Text>,
     /// How the national prefix is written: `$NP` stands for it, `$FG` for the first group.
     pub national_prefix_formatting_rule: Option<Text>,
@@ -126,7 +126,8 @@ impl TryCopy for Format {
     }
 }
 
-/// What a territory's formats and descriptors start from where nothing else is said.
+/// What the formats and descriptors of a published table start from where nothing else is said. Here records stand as they
+/// are given, so nothing reads it.
 #[derive(Debug, Drop, Serialize, Deserialize)]
 pub struct Defaults {
     /// For formats.
@@ -192,7 +193,7 @@ pub struct Metadata {
     pub carrier: Option<Descriptor>,
     /// Numbers that can't be dialled from abroad.
     pub no_international: Option<Descriptor>,
-    /// The two letters of the region, or `001` for a code without a region.
+    /// The id of the region, mostly two letters, or `001` for a code without a region.
     pub id: Option<Text>,
     /// The calling code.
     pub country_code: Option<u16>,
@@ -218,7 +219,7 @@ pub struct Metadata {
     pub leading_digits: Option<Text>,
     /// Whether a mobile number can be kept when the carrier changes.
     pub mobile_number_portable: bool,
-    /// What formats and descriptors start from; no look-up reads it.
+    /// What formats and descriptors of a published table start from; no call reads it but `clone` and serde.
     pub defaults: Defaults,
 }
 

@@ -133,7 +133,7 @@ impl Metadata {
         &self.descriptors
     }
 
-    /// The two letters of the region, or `001` for a code without a region.
+    /// The id of the region, mostly two letters, or `001` for a code without a region.
     pub fn id(&self) -> &str
         ensures { self.now.id ≡ Some result.now }
     {

@@ -1,8 +1,8 @@
 //! A pattern that is compiled once and held. Contracts see its text.
-ghost use Rattle.std.specs.Prelude.{◌≡◌, [], ◌∷◌, nat_le, if◌then◌else◌, None, IfOk, IfErr, IfSome, string_bytes};
+ghost use Rattle.std.specs.Prelude.{◌≡◌, ℕ, List, [], ◌∷◌, nat_le, if◌then◌else◌, None, IfOk, IfErr, IfSome, string_bytes};
 ghost use Rattle.std.specs.List.{AllByRecursion};
-ghost use Rattle.regex.specs.Strings.{regex_source, captures_haystack, captures_span, match_haystack, match_span};
-ghost use Rattle.phone_meta.specs.First.{at_start, captured, first_span, is_whole_match, replaced, ArePatternsOf, AreCuts, IsCut, IsPattern, IsPatternOf, IsUnderX};
+ghost use Rattle.regex.specs.Strings.{regex_source, captures_haystack, captures_span, match_haystack, match_span, IsReadFrom};
+ghost use Rattle.phone_meta.specs.First.{at_start, captured, first_span, is_whole_match, names_in, replaced, ArePatternsOf, AreCuts, IsCut, IsPattern, IsPatternOf, IsUnderX};
 ghost use Rattle.phone_meta.specs.Refusals.{IsPatternRefusal};
 
 use crate::error::LoadMetadata;
@@ -30,7 +30,8 @@ impl Model for Pattern {
     ghost invariant = { λ p. (regex_config p.re ≡ verbose) × IsReadFromSource p.re };
 }
 
-/// Compiles a text. Refused by `Regex` with the text where it is no pattern, by `Memory` where memory is refused.
+/// Compiles a text. Refused by `Regex` with the text where it is no pattern or compiles to more than 10 MiB, by `Memory`
+/// where memory is refused.
 fn compile(alloc: Global, text: Text) -> Result<Regex, LoadMetadata>
     ensures compiled { IfOk result (λ re. IsPatternOf text re) }
     ensures read { IfOk result (λ re. IsPattern text) }
@@ -47,7 +48,8 @@ fn compile(alloc: Global, text: Text) -> Result<Regex, LoadMetadata>
 }
 
 impl Pattern {
-    /// Compiles a text. Refused by `Regex` with the text where it is no pattern, by `Memory` where memory is refused.
+    /// Compiles a text. Refused by `Regex` with the text where it is no pattern or compiles to more than 10 MiB, by
+    /// `Memory` where memory is refused.
     pub fn new(alloc: Global, text: Text) -> Result<Pattern, LoadMetadata>
         ensures compiled { IfOk result (λ p. p ≡ text) }
         ensures read { IfOk result (λ p. IsPattern text) }
@@ -119,14 +121,34 @@ impl Pattern {
         }))
     }
 
+    /// A template that was read from this text, in which `$1` stands for the first group of the pattern. Refused only
+    /// for memory.
+    pub(crate) fn template(&self, text: &str) -> Result<Template, AllocError>
+        ensures { IfOk result (λ t. IsReadFrom (names_in self.now) text.now t) }
+    {
+        Template::new(self.alloc, self.re.capture_names(), text)
+    }
+
+    /// The text with its first match replaced by a template of this pattern; a text without a match stays as it is.
+    /// Refused only for memory.
+    pub(crate) fn replaced_by(
+        &self,
+        template: &Template,
+        text: &str,
+    ) -> Result<String, AllocError>
+        ensures { (source : List ℕ) → IsReadFrom (names_in self.now) source template.now → IfOk result (λ out. string_bytes out ≡ replaced self.now source text.now) }
+    {
+        let mut matcher = self.re.matcher(self.alloc)?;
+        matcher.replace(self.alloc, text, template)
+    }
+
     /// The text with its first match replaced by a template, in which `$1` stands for the first group; a text without
     /// a match stays as it is. Refused only for memory.
     pub fn replaced(&self, template: &str, text: &str) -> Result<String, AllocError>
         ensures { IfOk result (λ out. string_bytes out ≡ replaced self.now template.now text.now) }
     {
-        let template = Template::new(self.alloc, self.re.capture_names(), template)?;
-        let mut matcher = self.re.matcher(self.alloc)?;
-        matcher.replace(self.alloc, text, &template)
+        let template = self.template(template)?;
+        self.replaced_by(&template, text)
     }
 }
 

@@ -16,6 +16,12 @@ pub mod OneParts
 pub mod Openings
 pub mod Patterns
 pub mod Prefixes
+pub mod PrintedE164
+pub mod PrintedTel
+pub mod PrintedCores
+pub mod PrintedInternational
+pub mod PrintedSuffixes
+pub mod PrintedTexts
 pub mod Runs
 pub mod SameParts
 pub mod Slices

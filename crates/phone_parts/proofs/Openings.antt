@@ -1,6 +1,6 @@
 -- Which characters every extension has: without them a text has none.
 use Rattle.std.proofs.Common.{◌≡◌, ℕ, Bool, true, false, ◌||◌, zero, suc, List, [], ◌∷◌, ◌++◌, drop, codes, eqb-true, refl, ap, sym, ◌∙◌, true≢false}
-use Rattle.std.proofs.lemmas.Bool.{and_parts, or_right}
+use Rattle.std.proofs.lemmas.Bool.{and_parts, or_parts, or_right}
 use Rattle.std.proofs.lemmas.List.Folds.{list_any-append}
 use Rattle.std.specs.List.{list_any, list_all}
 use Rattle.ucd_case.proofs.Computing.{ucd_case}
@@ -63,11 +63,7 @@ suffix_opens w NumberSign d h =
 none_in_end : (p : ℕ → Bool) (k : ℕ) (text : List ℕ) → list_any p text ≡ false → list_any p (drop k text) ≡ false
 none_in_end p zero text h = h
 none_in_end p (suc k) [] h = refl
-none_in_end p (suc k) (c ∷ cs) h = none_in_end p k cs (tail_none (p c) h)
-  where
-    tail_none : (b : Bool) → (b || list_any p cs) ≡ false → list_any p cs ≡ false
-    tail_none true e = absurd (true≢false e)
-    tail_none false e = e
+none_in_end p (suc k) (c ∷ cs) h = none_in_end p k cs (or_parts (p c) (list_any p cs) h).1
 
 -- so a text without them has no extension
 pub no_suffix : (c : List ℕ) → list_any is_opening c ≡ false → HasNoSuffix c

@@ -5,11 +5,11 @@ use Rattle.phone_core.specs.Characters.{is_plus, is_nd, is_letter, is_number, is
 use Rattle.phone_core.specs.Cuts.{after_front}
 use Rattle.phone_parts.specs.Texts.{begins, ends}
 
--- a number starts at a plus sign or a decimal digit
+-- a number starts at a plus sign or a decimal digit of any script
 abbrev pub is_start : ℕ → Bool
 is_start c = is_plus c || is_nd c
 
--- it ends in a letter, a number or a number sign
+-- it ends in a letter or a number of any script, or a number sign
 abbrev pub is_last : ℕ → Bool
 is_last c = is_letter c || is_number c || (c == 35)
 

@@ -12,7 +12,7 @@ use Rattle.phone_parts.specs.Texts.{begins, is_like}
 abbrev pub is_visual : ℕ → Bool
 is_visual c = is_one_of (45 ∷ 46 ∷ 40 ∷ 41 ∷ []) c
 
--- the phonedigits, which make the national part: hexadecimal digits and separators
+-- RFC 3966's `phonedigit`, with hexadecimal letters: what makes the national part
 abbrev pub is_phonedigit : ℕ → Bool
 is_phonedigit c = is_ascii_hexdigit c || is_visual c
 

@@ -15,7 +15,7 @@ ends p [] = false
 ends p (c ∷ []) = p c
 ends p (c ∷ d ∷ cs) = ends p (d ∷ cs)
 
--- the text without its first character, where that is in the set
+-- the text without its first character, where that is in the set; else all of it
 abbrev pub after_one : (ℕ → Bool) → List ℕ → List ℕ
 after_one p [] = []
 after_one p (c ∷ cs) = if p c then cs else c ∷ cs
@@ -33,7 +33,7 @@ abbrev pub without_front : Option (List ℕ) → List ℕ → List ℕ
 without_front None text = text
 without_front (Some front) text = if is_front front text then drop (length front) text else text
 
--- what follows a front of the text that is like the word
+-- what follows a front of the text that is like the word; none where no such front is there
 abbrev pub after_like : List ℕ → List ℕ → Option (List ℕ)
 after_like text [] = Some text
 after_like [] (w ∷ ws) = None

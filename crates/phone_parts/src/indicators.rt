@@ -1,5 +1,6 @@
-//! The words and signs that announce an extension, found by their first character: `xt` with or without `e`, `ensio`
-//! (its `o` with or without an accent) and `n`; the same in wide letters; a sign; `int`, `anexo`.
+//! The words and signs that announce an extension, found by their first character: `xt` with or without `e` before it,
+//! `ensio` (its `o` with or without an accent) and `n` behind it; wide `xt` with or without `e` and `n`; a sign; `int`,
+//! also in wide letters, and `anexo`.
 ghost use Rattle.std.specs.Prelude.{◌≡◌, ℕ, List, chars, map};
 ghost use Rattle.std.specs.Borrow.{Bor};
 ghost use Rattle.std.specs.List.{filter};

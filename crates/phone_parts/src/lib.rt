@@ -8,6 +8,8 @@ pub mod laws;
 pub mod natural;
 mod number;
 mod parameters;
+pub mod printed;
+pub mod printed_international;
 mod readers;
 pub mod rfc3966;
 pub mod rows;

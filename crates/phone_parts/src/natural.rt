@@ -21,7 +21,8 @@ pub enum NoReading {
 
 /// Reads a number out of free text: the text's core, as `extract` gives it, parted before its longest end that is an
 /// extension. Of the three forms of an extension only the one with an indicator, as in `650 253 0000 ext. 4567`, is
-/// read; the other two, `;ext=5` and ` 5#`, are refused by `Failure`. A text without a core is refused by `Error`.
+/// read; a longest end of one of the other two, `;ext=5` and ` 5#`, is refused by `Failure`. A text without a core is
+/// refused by `Error`.
 /// National part and extension are slices of the text, and no memory is taken. The time is linear in the text.
 pub fn phone_number(text: &str) -> Result<Number<'_>, NoReading>
     ensures read { IsNatural (chars text.now) (result_map_both parts_of (λ e. e) result) }

@@ -1,4 +1,4 @@
-//! A number between the readers and the reading: its parts as they stand in a text.
+//! A number between its text and its reading: its parts, each a text.
 ghost use Rattle.std.specs.Prelude.{◌≡◌, ◌↔◌, None, IsTrue, IfOk, option_map};
 ghost use Rattle.std.specs.Cow.{cow_str_bytes, IsBorrowedStr};
 ghost use Rattle.phone_core.specs.declared.country.Source.TheVariants.{Default};
@@ -8,16 +8,16 @@ use phone_core::country::Source;
 use std::alloc::AllocError;
 use std::borrow::CowStr;
 
-/// The parts of a number, still as text: what a reader found, not yet normalised.
+/// The parts of a number, still as text: what a reader found, or what a step of reading made of it.
 #[derive(PartialEq, Eq, Debug, Drop)]
 pub struct Number<'a> {
     /// How the calling code was found; `Default` until it is looked for.
     pub country: Source,
 
-    /// The national part, with whatever stands between its digits.
+    /// The national part, with whatever stands between its digits; the digits alone, once its calling code is looked for.
     pub national: CowStr<'a>,
 
-    /// The calling code, where the text says it apart from the national part.
+    /// The calling code, where the text says it apart from the national part, or once it is found.
     pub prefix: Option<CowStr<'a>>,
 
     /// The extension, which may be the empty text.

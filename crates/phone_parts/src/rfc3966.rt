@@ -46,9 +46,11 @@ impl CharSet for PhoneDigits {
 
 /// Reads a text of the form that RFC 3966 gives to telephone numbers: `tel:` in any case or nothing, then either
 /// `+` and a prefix up to the first hyphen, full stop or bracket, or nothing; then the national part, hexadecimal digits
-/// and those separators; then the end, or parameters as `;ext=12`. The prefix is what follows the plus sign, else what
-/// the parameter `phone-context` says; the extension is what `ext` says. A text that has a space, or no national part,
-/// has no reading. The parts are slices of the text, and no memory is taken.
+/// and those separators; then the end, or a semicolon, from which on parameters as `;ext=12` are read as long as there are
+/// any, and the rest is ignored. The prefix is what follows the plus sign, else what the parameter `phone-context` says,
+/// without one plus sign; the extension is what `ext` says; of parameters with one name the last counts. A text that has a
+/// space, an empty prefix after a plus sign, no national part, or anything else behind it, has no reading. The parts are
+/// slices of the text, and no memory is taken.
 pub fn phone_number(text: &str) -> Option<Number<'_>>
     ensures read { MatchOption result ((parts : Parts) → ¬ (IsTel (chars text.now) parts)) (λ n. IsTel (chars text.now) (parts_of n)) }
     ensures lent { IfSome result (λ n. AreLent text.now n) }

@@ -11,7 +11,8 @@ ghost use Rattle.phone_parts.specs.Texts.{is_like};
 ghost use Rattle.phone_parts.specs.declared.natural.NoReading.TheVariants.{Error, Failure};
 ghost use Rattle.phone_parts.specs.declared.suffix.Form.TheVariants.{Parameter, Indicated, NumberSign};
 
-/// Cores: what stands before the first digit or plus sign and what stands after the last letter, number or `#` is cut.
+/// Cores: what stands before the first digit or plus sign is cut, what stands after the last letter, number or `#`, and
+/// what begins with the mark of a second number.
 pub fn core_rows()
     ensures brackets { IsCore (codes "(650) 253-0000..- ..") (codes "650) 253-0000") }
     ensures words { IsCore (codes "Tel:+800-345-600") (codes "+800-345-600") }

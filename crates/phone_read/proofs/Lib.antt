@@ -1,3 +1,4 @@
+pub mod BareParts
 pub mod DigitTexts
 pub mod FoundCodes
 pub mod HintCodes

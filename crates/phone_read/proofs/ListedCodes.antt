@@ -1,6 +1,6 @@
 -- A code that was found is listed.
 use Rattle.std.proofs.Common.{◌≡◌, ℕ, ◌||◌, Bool, true, false, nat_le, if◌then◌else◌, List, [], ◌∷◌, drop, length, Option, Some, None, option_map, Result, Ok, Err, refl, ap, sym, subst, ◌∙◌}
-use Rattle.std.proofs.lemmas.Bool.{eq-eqb}
+use Rattle.std.proofs.lemmas.Bool.{eq-eqb, or_left, or_right}
 use Rattle.std.specs.Fmt.{decimal}
 use Rattle.std.specs.List.{list_any}
 use Rattle.std.specs.Option.{option_or, option_map_or}
@@ -25,13 +25,6 @@ last_where-any : {X : Type 0} (passes q : X → Bool) (xs : List X) (x : X) → 
 last_where-any {X = X} passes q [] x e h = cc
 last_where-any {X = X} passes q (y ∷ ys) x e h = at (λ f. last_where-any passes q ys x f h) (last_where passes ys) refl (passes y) e
   where
-    or_right : (a b : Bool) → b ≡ true → (a || b) ≡ true
-    or_right true b f = refl
-    or_right false b f = f
-
-    or_left : (a b : Bool) → a ≡ true → (a || b) ≡ true
-    or_left a b f = ap (λ x. x || b) f
-
     at : (last_where passes ys ≡ Some x → list_any q ys ≡ true) → (o : Option X) → last_where passes ys ≡ o → (b : Bool) → option_or o (if b then Some y else None) ≡ Some x → (q y || list_any q ys) ≡ true
     at again (Some z) f b g = or_right (q y) (list_any q ys) (again (f ∙ g))
     at again None f true g = let same : y ≡ x = cc in or_left (q y) (list_any q ys) (ap q same ∙ h)

@@ -2,12 +2,13 @@
 use Rattle.std.specs.Prelude.{◌≡◌, ℕ, ◌==◌, ◌&&◌, nat_le, not, Bool, true, false, if◌then◌else◌, List, length, drop, Option, None, Some, option_map, Result, Ok, Err, unwrap_or}
 use Rattle.std.specs.Borrow.{Bor}
 use Rattle.std.specs.Cow.{cow_str_bytes}
+use Rattle.std.specs.List.{list_all}
 use Rattle.std.specs.Option.{option_and_then, option_map_or}
 use Rattle.std.specs.Fmt.{decimal}
 use Rattle.regex.specs.Patterns.{find_str, span}
 use Rattle.regex.specs.Strings.{regex_pattern}
 use Rattle.regex.specs.declared.string.regex.Regex.{Regex}
-use Rattle.phone_core.specs.Characters.{is_plus}
+use Rattle.phone_core.specs.Characters.{is_digit, is_plus}
 use Rattle.phone_core.specs.Cuts.{after_front}
 use Rattle.phone_core.specs.Norm.{norm}
 use Rattle.phone_core.specs.Numbers.{number_in}
@@ -23,7 +24,7 @@ use Rattle.phone_parts.specs.Texts.{begins}
 use Rattle.phone_parts.specs.declared.number.Number.{Number as Parts}
 use Rattle.phone_read.specs.Hints.{Coded, hinted, code_by_hint}
 
--- how a number was dialled: what tells its calling code, and its digits from the code on, or those after it
+-- how a number was dialled: what tells its calling code, and its digits: those after a prefix from the reader, those from the code on, or all
 pub record Dialled : Type 0 where
   pub source : Source
   pub digits : List ℕ
@@ -52,6 +53,11 @@ dialled found n None =
     let after = after_match (unsigned n) (found (unsigned n)) in
     record { source = source_of (begins is_plus n) after; digits = unwrap_or after (unsigned n) }
 
+-- a number's parts are ASCII digits as they stand, but for the plus signs before a national part without a reader's prefix
+abbrev pub is_bare : List ℕ → Option (List ℕ) → Option (List ℕ) → Bool
+is_bare n (Some p) e = list_all is_digit n && (list_all is_digit p && option_map_or (list_all is_digit) e true)
+is_bare n None e = list_all is_digit (after_front is_plus n) && option_map_or (list_all is_digit) e true
+
 -- the first match of a compiled pattern; without a pattern there is none
 abbrev pub found_by : Option (Bor Regex) → List ℕ → Option (ℕ × ℕ)
 found_by None digits = None
@@ -65,18 +71,18 @@ found_in pattern digits = option_and_then (λ (p : List ℕ). first_span p digit
 abbrev pub international_prefix_of : Option Metadata → Option (List ℕ)
 international_prefix_of m = option_and_then (λ (m : Metadata). m.international_prefix) m
 
--- in an international number without a prefix from the reader: the shortest front of the digits that is a listed code
+-- in an international number without a prefix from the reader: the shortest front of one to three digits that is a listed code
 abbrev pub code_by_front : List Metadata → Source → List ℕ → Result Coded ParseError
 code_by_front db source digits =
     option_map_or (λ code. Ok (record { source = source; value = code; rest = drop (length (decimal code)) digits })) (shortest db digits) (Err InvalidCountryCode)
 
--- with a prefix from the reader: its number, which is to be listed
+-- with a prefix from the reader, as digits: its number, which is to be listed
 abbrev pub code_by_prefix : List Metadata → List ℕ → List ℕ → Result Coded ParseError
 code_by_prefix db prefix digits =
     option_map_or (λ code. if is_listed code db then Ok (record { source = Plus; value = code; rest = digits }) else Err InvalidCountryCode)
     (number_in 16 prefix) (Err MalformedInteger)
 
--- at most two digits are too few for a code and a number
+-- at most two digits are too few, whether the code is among them or not
 abbrev pub with_three : List ℕ → Result Coded ParseError → Result Coded ParseError
 with_three digits coded = if nat_le (length digits) 2 then Err TooShortNsn else coded
 

@@ -1,4 +1,4 @@
--- The hint: its territory, and the calling code that it gives. From here on texts are digits, whose characters are their bytes.
+-- The hint: its territory, and the calling code that it gives, after the original's `parser/helper`. Texts are digits here, whose characters are their bytes.
 use Rattle.std.specs.Prelude.{ℕ, ◌&&◌, not, Bool, false, if◌then◌else◌, List, length, drop, Option, None, Some}
 use Rattle.std.specs.Option.{option_and_then}
 use Rattle.std.specs.Fmt.{decimal}

@@ -1,4 +1,4 @@
--- The number that is left once code and prefixes are cut off.
+-- The number that is left once code and prefixes are cut off: after the original's `parser`.
 use Rattle.std.specs.Prelude.{ℕ, List, Option, Result}
 use Rattle.std.specs.Result.{result_map_both}
 use Rattle.phone_core.specs.Nsn.{nsn}

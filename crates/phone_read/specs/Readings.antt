@@ -1,4 +1,4 @@
--- What a text is read as.
+-- What a text is read as: after the original's `parser`.
 use Rattle.std.specs.Prelude.{◌≡◌, ℕ, ◌==◌, List, Option, None, Some, option_map, Result, Ok, Err}
 use Rattle.phone_core.specs.Norm.{norm}
 use Rattle.phone_core.specs.Cuts.{after_front}
@@ -20,7 +20,7 @@ use Rattle.phone_read.specs.declared.reading.Reading.{Reading}
 abbrev pub without_zeros : List ℕ → List ℕ
 without_zeros digits = after_front (λ d. d == 48) digits
 
--- the territory whose rules strip the digits: the hint's, or without a hint the home of the code and the digits
+-- the territory whose rules strip the digits: the hint's, or without a hint the home of the digits without their leading zeros
 abbrev pub stripping_territory : List Metadata → Option Id → Coded → Option Metadata
 stripping_territory db (Some id) c = hinted db (Some id)
 stripping_territory db None c = home db c.value (without_zeros c.rest)

@@ -1,4 +1,4 @@
--- Which territory a number belongs to, and what kind it is of.
+-- Which territory a number belongs to, and what kind it is of: after the original's `validator`.
 use Rattle.std.specs.Prelude.{ℕ, ◌||◌, Bool, true, false, if◌then◌else◌, List, [], ◌∷◌, codes, Option, None, Some, option_map}
 use Rattle.std.specs.List.{find}
 use Rattle.std.specs.Option.{option_and_then, option_map_or}
@@ -33,7 +33,7 @@ abbrev pub line_or_mobile : Metadata → List ℕ → «Type» → «Type»
 line_or_mobile m digits FixedLine = if is_one_pattern m.fixed_line m.mobile || is_of m.mobile digits then FixedLineOrMobile else FixedLine
 line_or_mobile m digits kind = kind
 
--- the kind of a number of a territory: the first that matches, where the general descriptor does
+-- the kind of a number of a territory: the first that matches, where the general descriptor does; else unknown
 abbrev pub type_of : Metadata → List ℕ → «Type»
 type_of m digits =
     if is_of m.general digits
@@ -57,14 +57,14 @@ is_of_region db digits id = option_map_or (belongs_to digits) (last_with id db) 
 abbrev pub region_named : List ℕ → Option (Either Id ℕ)
 region_named id = option_map (λ i. Left i) (id_of id)
 
--- of the ids of a code: a sole one counts whatever the digits are, and `001` stands for the code itself; of several
--- the first that the number belongs to
+-- of the ids of a code: a sole one counts whatever the digits are, and a sole `001` stands for the code itself; of several
+-- the first that the number belongs to, be it a region's id or not
 abbrev pub region_among : List Metadata → ℕ → List ℕ → List (List ℕ) → Option (Either Id ℕ)
 region_among db code digits [] = None
 region_among db code digits (id ∷ []) = if bytes_eq id (codes "001") then Some (Right code) else region_named id
 region_among db code digits (id ∷ other ∷ ids) = option_and_then region_named (find (is_of_region db digits) (id ∷ other ∷ ids))
 
--- the region of a number of a code, or the code itself where it belongs to no region
+-- the region of a number of a code, or the code itself where `001` is its sole id
 abbrev pub region_of : List Metadata → ℕ → List ℕ → Option (Either Id ℕ)
 region_of db code digits = region_among db code digits (regions code db)
 

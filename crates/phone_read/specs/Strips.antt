@@ -1,4 +1,4 @@
--- What is cut off the digits after the calling code: national prefix and carrier code.
+-- What is cut off the digits after the calling code: national prefix and carrier code. After the original's `parser/helper` and `parser`.
 use Rattle.std.specs.Prelude.{ℕ, ◌==◌, ◌&&◌, not, if◌then◌else◌, List, length, drop, Option, None, Some, option_map}
 use Rattle.regex.specs.Replace.{bytes_of}
 use Rattle.phone_meta.specs.First.{captured, replaced}
@@ -18,13 +18,13 @@ abbrev pub held : List ℕ → Option (ℕ × ℕ) → Option (List ℕ)
 held digits group = option_map (λ (s : ℕ × ℕ). bytes_of digits (Some s)) group
 
 -- a transform rule writes the digits anew, and group 1 names the carrier; but where the digits were of the territory's
--- general kind and no longer would be, they stay
+-- general kind and no longer would be, they stay, and so does the carrier that was named
 abbrev pub transformed : Metadata → List ℕ → List ℕ → List ℕ → Option (List ℕ) → Captured → Stripped
 transformed m pattern rule digits was found =
     if is_of m.general digits && not (is_of m.general (replaced pattern rule digits)) then record { national = digits; carrier = was }
     else record { national = replaced pattern rule digits; carrier = held digits found.first }
 
--- a match at the front is cut off, and the last group names the carrier; with a transform rule and that group there, the rule counts
+-- a match at the front is cut off, and the last group (the match where there is none) names the carrier; with a rule and that group there, the rule counts
 abbrev pub by_rule : Metadata → List ℕ → Option (List ℕ) → List ℕ → Option (List ℕ) → Captured → Option (ℕ × ℕ) → Stripped
 by_rule m pattern (Some rule) digits was found (Some last) = transformed m pattern rule digits was found
 by_rule m pattern rule digits was found last = record { national = drop found.span.1 digits; carrier = held digits last }

@@ -1,4 +1,4 @@
--- What the length of a national number says of it.
+-- What the length of a national number says of it, by the possible lengths: after the original's `validator`.
 use Rattle.std.specs.Prelude.{ℕ, ◌==◌, nat_lt, nat_eq, length, Bool, true, false, if◌then◌else◌, List, [], ◌∷◌, Option, None, Some}
 use Rattle.std.specs.List.{list_any}
 use Rattle.std.specs.Option.{option_map_or}
@@ -44,7 +44,7 @@ verdict_for m kind n = verdict_of (general_lengths m) (descriptor_for kind (kind
 abbrev pub verdict : Metadata → ℕ → Validation
 verdict m n = verdict_for m Unknown n
 
--- fewer digits than any number of the territory has
+-- fewer digits than the first length that the territory lists
 abbrev pub is_too_short : Validation → Bool
 is_too_short TooShort = true
 is_too_short _ = false

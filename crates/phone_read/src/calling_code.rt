@@ -9,8 +9,8 @@ ghost use Rattle.phone_core.specs.declared.country.Source.{Source};
 ghost use Rattle.phone_core.specs.declared.country.Source.TheVariants.{Plus, Default};
 ghost use Rattle.phone_parts.specs.Parts.{parts_of};
 ghost use Rattle.phone_parts.specs.Texts.{is_front};
-ghost use Rattle.phone_read.specs.Codes.{HasCode, code_by, code_by_front, code_by_prefix, code_of, international_prefix_of, prefix_of, with_three};
-ghost use Rattle.phone_read.specs.Hints.{Coded, looks_national};
+ghost use Rattle.phone_read.specs.Codes.{HasCode, code_by, code_by_front, code_by_prefix, code_of, international_prefix_of, is_bare, prefix_of, with_three};
+ghost use Rattle.phone_read.specs.Hints.{Coded, hinted, looks_national};
 
 use crate::dialled::{OfTerritory, dialled};
 use crate::hints::{hinted, looks_national};
@@ -40,9 +40,11 @@ pub(crate) struct CodedNumber<'a> {
 /// where the digits begin with it and, as they stand, don't look like a number of the territory or have no possible
 /// length, it is cut off and the source is `Number`.
 ///
-/// `TooShortNsn` where at most two digits follow a sign or an international prefix; then `MalformedInteger` for a prefix
-/// that is no number below 65536; `InvalidCountryCode` where the code isn't listed, none is at the front, or there is no
-/// hint or no record of it; `Memory` where memory was refused.
+/// `TooShortNsn` where at most two digits follow a sign or an international prefix, or stand beside the reader's prefix;
+/// then `MalformedInteger` for a prefix that is no number below 65536; `InvalidCountryCode` where the code isn't listed,
+/// none is at the front, or there is no hint or no record of it; `Memory` where memory was refused. Where the hint has no
+/// international prefix, and the parts are ASCII digits after the leading plus signs, each of the other refusals is told
+/// without asking for memory.
 pub fn country_code<'a>(
     db: &Database,
     hint: Option<Id>,
@@ -51,6 +53,8 @@ pub fn country_code<'a>(
     ensures coded { IfOk result (λ n. (c : Coded) × (code_of db.now hint (parts_of number.entry).national (parts_of number.entry).prefix ≡ Ok c) ×
         HasCode c (prefix_of (parts_of number.entry).prefix c.value) (option_map norm (parts_of number.entry).extension) number.entry n) }
     ensures refused { IfErr result (λ e. (e ≡ ParseError.Memory) ⊎ (code_of db.now hint (parts_of number.entry).national (parts_of number.entry).prefix ≡ Err e)) }
+    ensures no_memory { international_prefix_of (hinted db.now hint) ≡ None → is_bare (parts_of number.entry).national (parts_of number.entry).prefix (parts_of number.entry).extension ≡ true →
+        IfErr (code_of db.now hint (parts_of number.entry).national (parts_of number.entry).prefix) (λ e. result ≡ Err e) }
 {
     let coded = coded(db, hint, number)?;
     Ok(coded.number)
@@ -65,6 +69,8 @@ pub(crate) fn coded<'a>(
     ensures coded { IfOk result (λ r. (c : Coded) × (code_of db.now hint (parts_of number.entry).national (parts_of number.entry).prefix ≡ Ok c) × (r.code ≡ c.value) ×
         HasCode c (prefix_of (parts_of number.entry).prefix c.value) (option_map norm (parts_of number.entry).extension) number.entry r.number) }
     ensures refused { IfErr result (λ e. (e ≡ ParseError.Memory) ⊎ (code_of db.now hint (parts_of number.entry).national (parts_of number.entry).prefix ≡ Err e)) }
+    ensures no_memory { international_prefix_of (hinted db.now hint) ≡ None → is_bare (parts_of number.entry).national (parts_of number.entry).prefix (parts_of number.entry).extension ≡ true →
+        IfErr (code_of db.now hint (parts_of number.entry).national (parts_of number.entry).prefix) (λ e. result ≡ Err e) }
 {
     let territory = hinted(db, hint);
     let finder = OfTerritory {
@@ -148,6 +154,7 @@ fn by_front<'a>(db: &Database, number: Number<'a>) -> Result<CodedNumber<'a>, Pa
         (r.code ≡ c.value) × HasCode c (decimal c.value) (option_map cow_str_bytes number.entry.extension) number.entry r.number) }
     ensures refused { IfErr result (λ e. (e ≡ ParseError.Memory) ⊎
         (with_three (cow_str_bytes number.entry.national) (code_by_front db.now number.entry.country (cow_str_bytes number.entry.national)) ≡ Err e)) }
+    ensures at_once { IfErr (with_three (cow_str_bytes number.entry.national) (code_by_front db.now number.entry.country (cow_str_bytes number.entry.national))) (λ e. result ≡ Err e) }
 {
     let code = code_by_front(db, number.national.as_str())?;
     let prefix = format!(in db.allocator(); "{code}")?;
@@ -185,6 +192,7 @@ fn by_hint<'a>(
     ensures coded { IfOk result (λ r. (c : Coded) × (code_by db.now (option_copied territory.entry) None Default (cow_str_bytes number.entry.national) ≡ Ok c) ×
         (r.code ≡ c.value) × HasCode c (decimal c.value) (option_map cow_str_bytes number.entry.extension) number.entry r.number) }
     ensures refused { IfErr result (λ e. (e ≡ ParseError.Memory) ⊎ (code_by db.now (option_copied territory.entry) None Default (cow_str_bytes number.entry.national) ≡ Err e)) }
+    ensures at_once { IfErr (code_by db.now (option_copied territory.entry) None Default (cow_str_bytes number.entry.national)) (λ e. result ≡ Err e) }
 {
     let Some(territory) = territory else {
         return Err(ParseError::InvalidCountryCode);

@@ -1,13 +1,15 @@
 //! How a number was dialled: by a plus sign, an international prefix, or neither.
-ghost use Rattle.std.specs.Prelude.{◌≡◌, ◌==◌, ℕ, List, Option, drop, IsCharBoundary, IfOk, IfSome, None, option_map, chars};
+ghost use Rattle.std.specs.Prelude.{◌≡◌, ◌==◌, ℕ, Bool, true, List, Option, drop, IsCharBoundary, IfOk, IsOk, IfSome, None, option_map, chars};
 ghost use Rattle.std.specs.Cow.{cow_str_bytes};
-ghost use Rattle.phone_core.specs.Characters.{is_plus};
+ghost use Rattle.std.specs.List.{list_all};
+ghost use Rattle.std.specs.Option.{option_map_or};
+ghost use Rattle.phone_core.specs.Characters.{is_digit, is_plus};
 ghost use Rattle.phone_core.specs.Cuts.{after_front};
 ghost use Rattle.phone_core.specs.Norm.{norm};
 ghost use Rattle.phone_meta.specs.First.{IsCut};
 ghost use Rattle.phone_parts.specs.Parts.{parts_of};
 ghost use Rattle.phone_parts.specs.Texts.{begins};
-ghost use Rattle.phone_read.specs.Codes.{after_match, dialled, found_by};
+ghost use Rattle.phone_read.specs.Codes.{after_match, dialled, found_by, is_bare};
 
 use crate::trims::trim;
 use phone_core::chars::{is_plus, normalize};
@@ -19,14 +21,18 @@ use regex::Regex;
 use std::alloc::{AllocError, Global};
 use std::borrow::CowStr;
 
-/// What finds an international prefix in digits. Contracts see the span that it finds in each text.
+/// What finds an international prefix in digits. Contracts see the span that it finds in each text, and whether it is
+/// idle: it has nothing to find, and asks for no memory.
 pub(crate) trait Finder {
     ghost found: { Self → List ℕ → Option (ℕ × ℕ) };
+
+    ghost is_idle: { Self → Bool };
 
     /// The first match, by the bytes where it begins and ends.
     fn find(&self, digits: &str) -> Result<Option<(usize, usize)>, AllocError>
         ensures span { IfOk result (λ span. span ≡ found self.now digits.now) }
-        ensures cut { IfOk result (λ span. IfSome span (IsCut digits.now)) };
+        ensures cut { IfOk result (λ span. IfSome span (IsCut digits.now)) }
+        ensures no_memory { is_idle self.now ≡ true → IsOk result };
 }
 
 /// A compiled pattern that was handed in, or none.
@@ -37,9 +43,13 @@ struct Handed<'p> {
 }
 
 impl Finder for Handed<'_> {
+    ghost use Rattle.std.specs.Prelude.{true, false};
+    ghost use Rattle.std.specs.Option.{option_map_or};
     ghost use Rattle.phone_read.specs.Codes.{found_by};
 
     ghost found = { λ h. found_by h.pattern };
+
+    ghost is_idle = { λ h. option_map_or (λ _. false) h.pattern true };
 
     fn find(&self, digits: &str) -> Result<Option<(usize, usize)>, AllocError> {
         let Some(pattern) = self.pattern else {
@@ -60,10 +70,13 @@ pub(crate) struct OfTerritory<'p> {
 }
 
 impl Finder for OfTerritory<'_> {
-    ghost use Rattle.std.specs.Option.{option_copied};
+    ghost use Rattle.std.specs.Prelude.{true, false};
+    ghost use Rattle.std.specs.Option.{option_copied, option_map_or};
     ghost use Rattle.phone_read.specs.Codes.{found_in};
 
     ghost found = { λ t. found_in (option_copied t.pattern) };
+
+    ghost is_idle = { λ t. option_map_or (λ _. false) t.pattern true };
 
     fn find(&self, digits: &str) -> Result<Option<(usize, usize)>, AllocError> {
         match self.pattern {
@@ -89,7 +102,8 @@ impl CharSet for PlusSigns {
 /// A number whose parts are digits, as `normalize` gives them, and how its calling code is told. With a prefix from
 /// the reader the source is `Plus`. Without one, leading plus signs are dropped and give `Plus`, none give `Default`;
 /// and where the pattern's first match is at the front of the digits and no `0` follows it, the match is dropped, and
-/// the source becomes `Idd` unless it is `Plus`. The carrier stays as it is. Refused only for memory.
+/// the source becomes `Idd` unless it is `Plus`. The carrier stays as it is. Refused only for memory, which is asked for
+/// only where there is a pattern, or a part has other characters than ASCII digits, leading plus signs aside.
 pub fn international_prefix<'a>(
     alloc: Global,
     pattern: Option<&Regex>,
@@ -100,6 +114,7 @@ pub fn international_prefix<'a>(
     ensures prefix { IfOk result (λ n. option_map cow_str_bytes n.prefix ≡ option_map norm (parts_of number.entry).prefix) }
     ensures extension { IfOk result (λ n. option_map cow_str_bytes n.extension ≡ option_map norm (parts_of number.entry).extension) }
     ensures carrier { IfOk result (λ n. n.carrier ≡ number.entry.carrier) }
+    ensures no_memory { pattern.entry ≡ None → is_bare (parts_of number.entry).national (parts_of number.entry).prefix (parts_of number.entry).extension ≡ true → IsOk result }
 {
     dialled(alloc, &Handed { alloc, pattern }, number)
 }
@@ -115,6 +130,7 @@ pub(crate) fn dialled<'a, F: Finder>(
     ensures prefix { IfOk result (λ n. option_map cow_str_bytes n.prefix ≡ option_map norm (parts_of number.entry).prefix) }
     ensures extension { IfOk result (λ n. option_map cow_str_bytes n.extension ≡ option_map norm (parts_of number.entry).extension) }
     ensures carrier { IfOk result (λ n. n.carrier ≡ number.entry.carrier) }
+    ensures no_memory { F.is_idle finder.now ≡ true → is_bare (parts_of number.entry).national (parts_of number.entry).prefix (parts_of number.entry).extension ≡ true → IsOk result }
 {
     let Number {
         national,
@@ -145,6 +161,7 @@ fn dialled_alone<'a, F: Finder>(
 ) -> Result<(Source, CowStr<'a>), AllocError>
     ensures source { IfOk result (λ r. r.0 ≡ (dialled (F.found finder.now) (chars (cow_str_bytes national.entry)) None).source) }
     ensures digits { IfOk result (λ r. cow_str_bytes r.1 ≡ (dialled (F.found finder.now) (chars (cow_str_bytes national.entry)) None).digits) }
+    ensures no_memory { F.is_idle finder.now ≡ true → list_all is_digit (after_front is_plus (chars (cow_str_bytes national.entry))) ≡ true → IsOk result }
 {
     let has_plus = begins_with_plus(national.as_str());
     let digits = digits(alloc, without_plus_signs(national))?;
@@ -166,7 +183,8 @@ fn dialled_alone<'a, F: Finder>(
 
 /// The digits of a part. A part that is digits alone takes no memory.
 fn digits(alloc: Global, part: CowStr<'_>) -> Result<CowStr<'_>, AllocError>
-    ensures { IfOk result (λ d. cow_str_bytes d ≡ norm (chars (cow_str_bytes part.entry))) }
+    ensures digits { IfOk result (λ d. cow_str_bytes d ≡ norm (chars (cow_str_bytes part.entry))) }
+    ensures no_memory { list_all is_digit (chars (cow_str_bytes part.entry)) ≡ true → IsOk result }
 {
     let digits = normalize(alloc, part)?;
     Ok(digits)
@@ -177,7 +195,8 @@ fn digits_if_any<'a>(
     alloc: Global,
     part: Option<CowStr<'a>>,
 ) -> Result<Option<CowStr<'a>>, AllocError>
-    ensures { IfOk result (λ d. option_map cow_str_bytes d ≡ option_map norm (option_map (λ p. chars (cow_str_bytes p)) part.entry)) }
+    ensures digits { IfOk result (λ d. option_map cow_str_bytes d ≡ option_map norm (option_map (λ p. chars (cow_str_bytes p)) part.entry)) }
+    ensures no_memory { option_map_or (list_all is_digit) (option_map (λ p. chars (cow_str_bytes p)) part.entry) true ≡ true → IsOk result }
 {
     match part {
         Some(part) => Ok(Some(digits(alloc, part)?)),
@@ -204,6 +223,7 @@ fn without_plus_signs(text: CowStr<'_>) -> CowStr<'_>
 fn place_after<F: Finder>(finder: &F, digits: &str) -> Result<Option<usize>, AllocError>
     ensures place { IfOk result (λ at. option_map (λ n. drop n digits.now) at ≡ after_match digits.now (F.found finder.now digits.now)) }
     ensures border { IfOk result (λ at. IfSome at (λ n. IsCharBoundary digits.now n)) }
+    ensures no_memory { F.is_idle finder.now ≡ true → IsOk result }
 {
     let Some((start, end)) = finder.find(digits)? else {
         return Ok(None);

@@ -1,4 +1,4 @@
-//! The hint: the region whose rules count where a text doesn't tell its calling code.
+//! The hint: the region that gives the calling code where a text doesn't tell it.
 ghost use Rattle.std.specs.Prelude.{◌≡◌, IfOk};
 ghost use Rattle.std.specs.Option.{option_copied};
 ghost use Rattle.phone_read.specs.Hints.{hinted, looks_national};

@@ -1,4 +1,4 @@
-//! Reading: from the parts of a text to calling code and national number.
+//! Reading: from a text to calling code, national number, extension and carrier.
 #![tactic(auto)]
 
 mod calling_code;

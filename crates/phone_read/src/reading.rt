@@ -35,14 +35,14 @@ pub struct Reading {
     pub carrier: Option<Carrier>,
 }
 
-/// Reads a text as a number under a database. The hint is the region whose rules count where the text doesn't tell its
-/// calling code, and by whose rules the national number is stripped; without a hint it is stripped by those of the
-/// territory that the number belongs to.
+/// Reads a text as a number under a database. The hint is the region whose international prefix counts, whose calling code
+/// counts where the text doesn't tell one, and by whose rules the national number is stripped, whatever its code is;
+/// without a hint it is stripped by those of the territory that its digits without leading zeros belong to.
 ///
 /// `NoNumber` for a text that neither reader takes, or whose national part isn't viable; then the refusals of
-/// [`country_code`](crate::helper::country_code); then `TooShortNsn` for fewer than 2 digits, `TooLong` for more than
-/// 17, for a value from 2^56 on and for more than 255 leading zeros, `MalformedInteger` for a national text that is no
-/// number, as that of zeros alone. `Memory` where memory was refused, and nowhere else.
+/// [`country_code`](crate::helper::country_code); then `TooShortNsn` for a national text of fewer than 2 bytes, `TooLong`
+/// for one of more than 17 and for a value from 2^56 on, `MalformedInteger` for one that is no number, as that of zeros
+/// alone. `Memory` where memory was refused, and nowhere else.
 pub fn read(db: &Database, hint: Option<Id>, text: &str) -> Result<Reading, ParseError>
     ensures { (result ≡ Err ParseError.Memory) ⊎ Reads db.now hint (chars text.now) result }
 {
@@ -57,7 +57,8 @@ pub fn read(db: &Database, hint: Option<Id>, text: &str) -> Result<Reading, Pars
     numbered(db.allocator(), territory, coded)
 }
 
-/// The territory whose rules strip the digits: the hint's, or without a hint the one that the number belongs to.
+/// The territory whose rules strip the digits: the hint's, or without a hint the one that the digits without their leading
+/// zeros belong to.
 fn stripping_territory<'a>(
     db: &'a Database,
     hint: Option<Id>,

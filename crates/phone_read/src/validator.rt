@@ -265,7 +265,7 @@ fn is_known(kind: Type) -> bool
 }
 
 /// The territory that a number of a calling code belongs to: the last record of its region, or the first territory of
-/// the code where that has no region; none where it belongs to none. Refused only for memory.
+/// the code where `001` is its sole id; none where it belongs to none. Refused only for memory.
 pub fn home<'a>(db: &'a Database, code: u16, text: &str) -> Result<Option<&'a Metadata>, AllocError>
     ensures { IfOk result (λ m. option_copied m ≡ home db.entry.now code text.now) }
 {

@@ -8,3 +8,4 @@ pub mod BackNumbers
 pub mod BackReads
 pub mod BackTexts
 pub mod BackViable
+pub mod HyphenTexts

@@ -1,6 +1,6 @@
 -- Thin texts: what their characters are, and what both readers make of them.
 use Rattle.std.proofs.Common.{◌≡◌, inl, inr, ℕ, zero, suc, ◌+◌, ◌<◌, ◌≤◌, nat_le, ◌==◌, eqb-true, eq-eqb, leb-true, Bool, true, false, not, ◌&&◌, ◌||◌, List, [], ◌∷◌, ◌++◌, drop, None, Ok, refl, ap, sym, ◌∙◌, true≢false, arith, append-nil}
-use Rattle.std.proofs.lemmas.Bool.{and_parts, and_from, not-true}
+use Rattle.std.proofs.lemmas.Bool.{and_parts, and_from, not-true, or_parts}
 use Rattle.std.specs.List.{list_any, list_all}
 use Rattle.ucd_case.proofs.Computing.{ucd_case}
 use Rattle.ucd_category.proofs.Computing.{ucd_category}
@@ -95,11 +95,7 @@ no_slash_at zero (c ∷ cs) h = at (slash c) refl
     at : (b : Bool) → slash c ≡ b → begins_second_number (c ∷ cs) ≡ false
     at true e = absurd (true≢false (ap (λ b. b || list_any slash cs) (sym e) ∙ h))
     at false e = ap (λ b. b && begins (λ d. d == 120) (after_front (λ d. d == 32) cs)) e
-no_slash_at (suc k) (c ∷ cs) h = no_slash_at k cs (rest (slash c) h)
-  where
-    rest : (b : Bool) → (b || list_any slash cs) ≡ false → list_any slash cs ≡ false
-    rest true e = absurd (true≢false e)
-    rest false e = e
+no_slash_at (suc k) (c ∷ cs) h = no_slash_at k cs (or_parts (slash c) (list_any slash cs) h).1
 
 -- a thin text that is not empty begins and ends with a digit, and all its characters are thin
 pub record IsThinText (t : List ℕ) : Type 0 where

@@ -13,8 +13,8 @@ use Rattle.phone_read.specs.Strips.{strip}
 use Rattle.phone_read.specs.declared.reading.Reading.{Reading}
 use Rattle.phonenumber.specs.Texts.{international_text, laid_out}
 
--- the code is listed, the value is not 0, the national text has 2 to 17 digits, and value and zeros have room in their word,
--- as those of every `NationalNumber` have: enough for the E.164 text
+-- the code is listed, with m as its first territory, the value is not 0, the national text has `least` to 17 digits, and value
+-- and zeros have room in their word, as those of every `NationalNumber` have
 pub record IsPlain (db : List Metadata) (n : Reading) (least : ℕ) (m : Metadata) : Type 0 where
   pub listed : first_of (territories n.code.value db) ≡ Some m
   pub not_zero : 0 < n.national.value
@@ -22,16 +22,16 @@ pub record IsPlain (db : List Metadata) (n : Reading) (least : ℕ) (m : Metadat
   pub short_enough : length (text_of n.national) ≤ 17
   pub held : IsHeld n.national
 
--- the extension is absent, or at most so many digits, possibly none
+-- the extension is absent, or ASCII digits alone, possibly none
 abbrev pub has_digits : Option (List ℕ) → Bool
 has_digits e = option_map_or (list_all is_digit) e true
 
--- a number is plain for the E.164 text
+-- a number is plain for the E.164 text: two digits at least
 abbrev pub IsPlainE164 : List Metadata → Reading → Type 0
 IsPlainE164 db n = (m : Metadata) × IsPlain db n 2 m
 
--- for the text of RFC 3966: three digits at least, the laid-out text is the digits and separators, and the code has 16 bits, as
--- that of every `Code` has
+-- for the text of RFC 3966: three digits at least, an extension of digits if any, the laid-out text is the digits and separators,
+-- and the code has 16 bits, as that of every `Code` has
 pub record IsPlainRfc3966 (db : List Metadata) (n : Reading) : Type 0 where
   pub territory : Metadata
   pub plain : IsPlain db n 3 territory
@@ -50,6 +50,6 @@ pub record IsPlainInternational (db : List Metadata) (n : Reading) : Type 0 wher
   pub no_indicator : list_any (is_one_of (120 ∷ 126 ∷ 0xFF5E ∷ [])) (chars (laid_out territory International None n)) ≡ false
   pub utf8 : IsUtf8 (international_text territory None n)
 
--- stripping leaves the digits alone: they have no home, or its rules cut nothing off
+-- stripping leaves the digits alone: they, without their leading zeros, have no home, or its rules leave them as they are
 abbrev pub IsIdle : List Metadata → ℕ → List ℕ → Type 0
 IsIdle db code digits = (home db code (without_zeros digits) ≡ None) ⊎ ((m : Metadata) × (home db code (without_zeros digits) ≡ Some m) × ((strip m digits).national ≡ digits))

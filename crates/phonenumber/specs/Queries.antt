@@ -1,4 +1,4 @@
--- What a database tells of a number that was read.
+-- What a database tells of a number that was read: after the original's `phone_number` and `validator`.
 use Rattle.std.specs.Prelude.{Bool, false, List, Option}
 use Rattle.std.specs.Fmt.{decimal}
 use Rattle.std.specs.Option.{option_and_then, option_map_or}

@@ -1,4 +1,4 @@
--- What a number is printed as.
+-- What a number is printed as: after E.164, RFC 3966, section 3, and the original's `formatter`.
 use Rattle.std.specs.Prelude.{ℕ, List, [], ◌∷◌, ◌++◌, codes, chars, encode_utf8_all, if◌then◌else◌, Option, None, Some, option_map, unwrap_or}
 use Rattle.std.specs.Fmt.{decimal}
 use Rattle.phone_core.specs.Characters.{is_separator}
@@ -12,7 +12,7 @@ use Rattle.phone_parts.specs.Texts.{begins}
 use Rattle.phone_read.specs.declared.reading.Reading.{Reading}
 use Rattle.phonenumber.specs.Layouts.{layout_for, laid}
 
--- the national number laid out by the territory, in a mode, perhaps with a layout that was handed in
+-- the national number laid out by the territory, in a mode, with the layout that was handed in where there is one
 abbrev pub laid_out : Metadata → Mode → Option Format → Reading → List ℕ
 laid_out m mode own n = laid (layout_for m mode own (text_of n.national)) m mode n.carrier (text_of n.national)
 
@@ -43,7 +43,7 @@ international_text m own n = 43 ∷ (decimal n.code.value ++ 32 ∷ (laid_out m 
 abbrev pub national_text : Metadata → Option Format → Reading → List ℕ
 national_text m own n = laid_out m National own n ++ extension_part m n.extension
 
--- the text of RFC 3966: `tel:+`, the code, a hyphen, the number laid out with hyphens alone, the extension as a parameter
+-- the text of RFC 3966: `tel:+`, the code, a hyphen, the number laid out with its separators made hyphens, the extension as a parameter
 abbrev pub rfc3966_text : Metadata → Option Format → Reading → List ℕ
 rfc3966_text m own n =
     codes "tel:+" ++ (decimal n.code.value ++ 45 ∷ (encode_utf8_all (hyphenated (chars (laid_out m Rfc3966 own n))) ++ extension_parameter n.extension))

@@ -1,12 +1,15 @@
 //! The printing of a number.
 ghost use Rattle.std.specs.Prelude.{◌≡◌, ◌↔◌, None, Some, Err, IfOk, IsErr, string_bytes};
 ghost use Rattle.std.specs.Fmt.{DisplaysOnOk, DisplaysStyledOnOk};
+ghost use Rattle.std.specs.Option.{option_copied};
 ghost use Rattle.phone_core.specs.declared.mode.Mode.TheVariants as mode;
-ghost use Rattle.phonenumber.specs.Printers.{database_of, number_of};
+ghost use Rattle.phonenumber.specs.Printers.{database_of, layout_of, mode_of, number_of, text_of};
 ghost use Rattle.phonenumber.specs.Texts.{printed};
 
 use crate::PhoneNumber;
-use phone_meta::Database;
+use crate::printing;
+use phone_core::Mode;
+use phone_meta::{Database, Format};
 use std::alloc::Global;
 use std::fmt;
 
@@ -20,55 +23,114 @@ pub enum FormatError {
     Memory,
 }
 
-/// A printer of one number under one database. So far it prints the E.164 text.
+/// A printer of one number, under one database, in one mode, and perhaps with a layout that was handed in.
 #[derive(Clone, Copy)]
-pub struct Formatter<'a> {
-    database: &'a Database,
-    number: &'a PhoneNumber,
+pub struct Formatter<'n, 'd, 'f> {
+    number: &'n PhoneNumber,
+    database: &'d Database,
+    mode: Mode,
+    format: Option<&'f Format>,
 }
 
-/// The printer of a number under a database.
-pub fn format_with<'a>(database: &'a Database, number: &'a PhoneNumber) -> Formatter<'a>
+/// The printer of a number under a database, in the mode `E164`, with the territory's own layouts.
+pub fn format_with<'d, 'n>(
+    database: &'d Database,
+    number: &'n PhoneNumber,
+) -> Formatter<'n, 'd, 'static>
     ensures database { database_of result ≡ database.now }
     ensures number { number_of result ≡ number.now }
+    ensures mode { mode_of result ≡ mode.E164 }
+    ensures layout { layout_of result ≡ None }
 {
-    Formatter { database, number }
+    Formatter {
+        number,
+        database,
+        mode: Mode::E164,
+        format: None,
+    }
 }
 
-impl Formatter<'_> {
-    /// The printed text: a plus sign, the calling code, the national number with its zeros. `UnknownCode` exactly
-    /// where the database lists no territory of the code; `Memory` where memory was refused.
-    pub fn to_text(&self, alloc: Global) -> Result<String, FormatError>
-        ensures text { IfOk result (λ t. printed (database_of self.now) mode.E164 None (number_of self.now) ≡ Some (string_bytes t)) }
-        ensures unknown { (result ≡ Err FormatError.UnknownCode) ↔ (printed (database_of self.now) mode.E164 None (number_of self.now) ≡ None) }
+impl<'n, 'd, 'f> Formatter<'n, 'd, 'f> {
+    /// The same printer under another database.
+    pub fn database<'a>(self, database: &'a Database) -> Formatter<'n, 'a, 'f>
+        ensures database { database_of result ≡ database.now }
+        ensures number { number_of result ≡ number_of self }
+        ensures mode { mode_of result ≡ mode_of self }
+        ensures layout { layout_of result ≡ layout_of self }
     {
-        let number = self.number;
-        let code = number.code().value();
-        if self.database.first_by_code(&code).is_none() {
-            return Err(FormatError::UnknownCode);
+        Formatter {
+            number: self.number,
+            database,
+            mode: self.mode,
+            format: self.format,
         }
-        match format!(in alloc; "{number}") {
+    }
+
+    /// The same printer in another mode.
+    pub fn mode(self, mode: Mode) -> Formatter<'n, 'd, 'f>
+        ensures database { database_of result ≡ database_of self }
+        ensures number { number_of result ≡ number_of self }
+        ensures mode { mode_of result ≡ mode }
+        ensures layout { layout_of result ≡ layout_of self }
+    {
+        Formatter {
+            number: self.number,
+            database: self.database,
+            mode,
+            format: self.format,
+        }
+    }
+
+    /// The same printer with this layout, of any database, in place of the territory's own.
+    pub fn with<'a>(self, format: &'a Format) -> Formatter<'n, 'd, 'a>
+        ensures database { database_of result ≡ database_of self }
+        ensures number { number_of result ≡ number_of self }
+        ensures mode { mode_of result ≡ mode_of self }
+        ensures layout { layout_of result ≡ Some format.now }
+    {
+        Formatter {
+            number: self.number,
+            database: self.database,
+            mode: self.mode,
+            format: Some(format),
+        }
+    }
+
+    /// The printed text, by the first territory of the number's calling code.
+    ///
+    /// `E164`: a plus sign, the code, the national number with its zeros. `International`: a plus sign, the code, a space, the
+    /// number laid out, the extension. `National`: the number laid out by its rule, the extension. `Rfc3966`: `tel:+`, the
+    /// code, a hyphen, the number laid out with each longest run of separators made one hyphen, and the extension after
+    /// `;ext=`. `UnknownCode` exactly where the database lists no territory of the code; `Memory` where memory was refused.
+    pub fn to_text(&self, alloc: Global) -> Result<String, FormatError>
+        ensures text { IfOk result (λ t. text_of self.now ≡ Some (string_bytes t)) }
+        ensures unknown { (result ≡ Err FormatError.UnknownCode) ↔ (text_of self.now ≡ None) }
+    {
+        let code = self.number.code().value();
+        let Some(territory) = self.database.first_by_code(&code) else {
+            return Err(FormatError::UnknownCode);
+        };
+        let finder = self.database.first_group_finder();
+        match printing::text_by(alloc, finder, territory, self.mode, self.format, self.number) {
             Ok(text) => Ok(text),
             Err(_) => Err(FormatError::Memory),
         }
     }
 }
 
-impl fmt::Display for Formatter<'_> {
+impl fmt::Display for Formatter<'_, '_, '_> {
     ghost use Rattle.std.specs.Prelude.{◌≡◌, None};
-    ghost use Rattle.phone_core.specs.declared.mode.Mode.TheVariants as mode;
-    ghost use Rattle.phonenumber.specs.Printers.{database_of, number_of};
-    ghost use Rattle.phonenumber.specs.Texts.{printed};
+    ghost use Rattle.phonenumber.specs.Printers.{text_of};
 
-    ghost output = { λ f. printed (database_of f) mode.E164 None (number_of f) };
+    ghost output = { λ f. text_of f };
 
     /// Writes the printed text, made whole first with the database's allocator; where `to_text` would refuse it
     /// answers an error and writes nothing.
     fn fmt<W: fmt::Write>(&self, f: &mut fmt::Formatter<W>) -> fmt::Result
-        ensures writes { DisplaysOnOk W.write_str_gives f.old result (printed (database_of self.now) mode.E164 None (number_of self.now)) f.new }
+        ensures writes { DisplaysOnOk W.write_str_gives f.old result (text_of self.now) f.new }
         ensures styled { DisplaysStyledOnOk W.write_str_gives f.old result None f.new }
-        ensures refused { printed (database_of self.now) mode.E164 None (number_of self.now) ≡ None → IsErr result }
-        ensures unchanged { printed (database_of self.now) mode.E164 None (number_of self.now) ≡ None → f.new ≡ f.old }
+        ensures refused { text_of self.now ≡ None → IsErr result }
+        ensures unchanged { text_of self.now ≡ None → f.new ≡ f.old }
     {
         match self.to_text(self.database.allocator()) {
             Ok(text) => f.write_str(text.as_str()),

@@ -3,9 +3,11 @@
 
 mod formatter;
 pub mod laws;
+mod hyphens;
 pub mod metadata;
 mod parser;
 mod phone_number;
+mod printing;
 pub mod read_back;
 pub mod rows;
 

@@ -1,6 +1,7 @@
 //! A phone number.
-ghost use Rattle.std.specs.Prelude.{◌≡◌, ◌↔◌, IsTrue, IfOk};
+ghost use Rattle.std.specs.Prelude.{◌≡◌, ◌<◌, ◌^◌, IfOk};
 ghost use Rattle.std.specs.Option.{option_copied};
+ghost use Rattle.phone_core.specs.Numbers.{IsHeld};
 
 use phone_core::country::Code;
 use phone_core::equality::SameValue;
@@ -11,7 +12,8 @@ use std::fmt;
 use std::marker::Model;
 
 /// A phone number: calling code with its source, national number, extension and carrier. Contracts see these four.
-/// Two numbers are equal where all four are, so two readings of one line may differ in their source.
+/// Two numbers are equal where all four are, so one number that was written in two ways may be read as two that differ in
+/// their source.
 #[derive(PartialEq, Eq, Hash, Debug, Drop, Serialize, Deserialize)]
 pub struct PhoneNumber {
     code: Code,
@@ -74,6 +76,16 @@ impl PhoneNumber {
         ensures { option_copied result ≡ self.now.carrier }
     {
         self.carrier.as_ref()
+    }
+
+    /// A law, which does nothing: the national number of every number has at most 255 zeros and a value below 2^56, and its
+    /// calling code is below 2^16.
+    pub fn keeps_bounds(&self)
+        ensures national { IsHeld self.now.national }
+        ensures code { self.now.code.value < 2 ^ 16 }
+    {
+        self.national.keeps_bounds();
+        let _code = self.code.value();
     }
 
     /// The same number again; refused only for memory.

@@ -4,3 +4,5 @@
 
 #[cfg(test)]
 mod thin;
+#[cfg(test)]
+mod values;

@@ -1,6 +1,7 @@
 //! Times the readers of phone numbers on texts that are made to be slow to read. Without an argument it prints what is
 //! answered to each kind of text at 10,000 and at 100,000 characters. With `--times` it prints how long that takes, and
-//! how often the time of the shorter text goes into that of the longer one: about ten, where the time is linear.
+//! how often the time of the shorter text goes into that of the longer one: about ten, where the time is linear; then how
+//! long a few ordinary texts take.
 #![tactic(auto)]
 
 mod readings;

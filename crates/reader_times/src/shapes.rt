@@ -1,4 +1,5 @@
-//! Texts that are made to be slow to read: each of long runs that may begin or end an extension, and do not.
+//! Texts that are made to be slow to read: each of long runs of what may begin, end or fill an extension, a mark of a second
+//! number, or a `tel:` text.
 use std::alloc::{AllocError, Global};
 
 /// Which reader a text is for.

@@ -22,7 +22,7 @@ nz_layout = record (layout (codes "(\\d)(\\d{3})(\\d{4})") (codes "$1 $2 $3")) {
   national_prefix_formatting_rule = Some (codes "$NP$FG");
 }
 
--- New Zealand: numbers of eight digits, fixed lines from 3 on, with the national prefix 0
+-- New Zealand: numbers of eight digits, of which those with a 3 in front are fixed lines, with the national prefix 0
 abbrev pub nz : Metadata
 nz = record no_metadata {
   general = Some (numbers (codes "\\d{8}") 8);
@@ -42,7 +42,7 @@ us_national = layout (codes "(\\d{3})(\\d{3})(\\d{4})") (codes "($1) $2-$3")
 abbrev pub us_international : Format
 us_international = layout (codes "(\\d{3})(\\d{3})(\\d{4})") (codes "$1-$2-$3")
 
--- the United States: numbers of ten digits, lines and mobiles alike
+-- the United States: numbers of ten digits, fixed lines and mobiles by one pattern
 abbrev pub us : Metadata
 us = record no_metadata {
   general = Some (numbers (codes "[2-9]\\d{9}") 10);

@@ -1,4 +1,5 @@
-//! Rows that are computed on definitions that search with patterns. These functions do nothing; their contracts are the rows.
+//! Rows that are computed on definitions, nearly all of which search with patterns. These functions do nothing; their
+//! contracts are the rows.
 #![tactic(auto)]
 
 mod codes;

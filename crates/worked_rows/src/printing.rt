@@ -1,4 +1,4 @@
-//! Rows of printing: what numbers of a few world are printed as.
+//! Rows of printing: what numbers of a few territories are printed as.
 ghost use Rattle.std.specs.Prelude.{◌≡◌, [], ◌∷◌, codes, None, Some};
 ghost use Rattle.phone_core.specs.declared.mode.Mode.TheVariants.{International, National, Rfc3966};
 ghost use Rattle.phonenumber.specs.Texts.{printed};

@@ -6,7 +6,7 @@ ghost use Rattle.phonenumber.specs.Queries.{is_valid, kind_of_number, region_of_
 ghost use Rattle.worked_rows.specs.Samples.{number, world};
 
 /// Kinds of numbers: a fixed line, one that may as well be a mobile since both have one pattern, a number that the called
-/// side pays, one that is of its territory's general kind alone, and one without a territory.
+/// side pays, one that is of its territory's general kind alone, one that isn't even of that, and one without a territory.
 pub fn number_kinds()
     ensures line { kind_of_number world (number 64 33316005 None None) ≡ FixedLine }
     ensures line_or_mobile { kind_of_number world (number 1 6502530000 None None) ≡ FixedLineOrMobile }

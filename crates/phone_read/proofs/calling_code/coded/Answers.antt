@@ -1,4 +1,4 @@
-use Rattle.std.proofs.Common.{◌≡◌, inl, inr, ⊎_elim, Some, None, option_map, refl, ap, sym, ◌∙◌}
+use Rattle.std.proofs.Common.{◌≡◌, inl, inr, ⊎_elim, Some, None, option_map, Err, IfErr, refl, ap, sym, subst, ◌∙◌}
 use Rattle.std.specs.Cow.{cow_str_bytes}
 use Rattle.std.specs.Option.{option_copied}
 use Rattle.std.specs.Str.{chars}
@@ -59,4 +59,5 @@ returns-in_default-country c =
           ))
           c.by_front.ensures.coded;
       refused = err_again c.by_front.result _ _ (λ e h. ⊎_elim (λ f. inl f) (λ f. inr (told ∙ f)) h) c.by_front.ensures.refused;
+      no_memory = λ none bare. subst (λ r. IfErr r (λ e. c.by_front.result ≡ Err e)) (sym told) c.by_front.ensures.at_once;
     }

@@ -1,0 +1,37 @@
+//! Separators made hyphens, as texts of RFC 3966 have them.
+ghost use Rattle.std.specs.Prelude.{◌≡◌, chars, encode_utf8_all, string_bytes, IfOk};
+ghost use Rattle.phone_core.specs.Characters.{is_separator};
+ghost use Rattle.phone_parts.specs.Texts.{begins};
+ghost use Rattle.phonenumber.specs.Texts.{hyphenated};
+
+use phone_core::chars::is_separator;
+use phone_core::cuts::split_first;
+use std::alloc::{AllocError, Global};
+
+/// Whether the first character of a text is a separator.
+fn begins_apart(text: &str) -> bool
+    ensures { result ≡ begins is_separator (chars text.now) }
+{
+    match split_first(text) {
+        Some((c, _)) => is_separator(c),
+        None => false,
+    }
+}
+
+/// The text with each longest run of separators made one hyphen; all other characters stay in their order. Refused only
+/// for memory.
+pub(crate) fn hyphenated(alloc: Global, text: &str) -> Result<String, AllocError>
+    ensures { IfOk result (λ s. string_bytes s ≡ encode_utf8_all (hyphenated (chars text.now))) }
+{
+    let mut out = String::new(alloc);
+    let mut rest = text;
+    while let Some((c, after)) = split_first(rest) {
+        if !is_separator(c) {
+            out.push(c)?;
+        } else if !begins_apart(after) {
+            out.push('-')?;
+        }
+        rest = after;
+    }
+    Ok(out)
+}

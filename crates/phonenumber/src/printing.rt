@@ -1,0 +1,158 @@
+//! The printed text of a number, by a territory.
+ghost use Rattle.std.specs.Prelude.{◌≡◌, ◌∷◌, ◌++◌, IfOk, chars, codes, encode_utf8_all, string_bytes};
+ghost use Rattle.std.specs.Fmt.{decimal};
+ghost use Rattle.std.specs.List.{find};
+ghost use Rattle.std.specs.Option.{option_copied};
+ghost use Rattle.phone_meta.specs.Layouts.{suits};
+ghost use Rattle.phonenumber.specs.Layouts.{layout_for, layouts_for};
+ghost use Rattle.phonenumber.specs.Texts.{extension_parameter, extension_part, hyphenated, laid_out, text_by};
+
+use crate::PhoneNumber;
+use crate::hyphens::hyphenated;
+use phone_core::Mode;
+use phone_core::consts::{DEFAULT_EXTN_PREFIX, RFC3966_EXTN_PREFIX, RFC3966_PREFIX};
+use phone_meta::{FirstGroup, Format, Metadata};
+use std::alloc::{AllocError, Global};
+
+/// The text in a mode, by a territory.
+pub(crate) fn text_by(
+    alloc: Global,
+    finder: &FirstGroup,
+    m: &Metadata,
+    mode: Mode,
+    own: Option<&Format>,
+    number: &PhoneNumber,
+) -> Result<String, AllocError>
+    ensures { IfOk result (λ t. string_bytes t ≡ text_by m.now mode (option_copied own.entry) number.now) }
+{
+    if let Mode::E164 = mode {
+        return format!(in alloc; "{number}");
+    }
+    let laid = laid_out(alloc, finder, m, mode, own, number)?;
+    match mode {
+        Mode::National => with_extension(laid, m, number),
+        Mode::Rfc3966 => rfc3966(alloc, laid.as_str(), number),
+        _ => international(alloc, laid.as_str(), m, number),
+    }
+}
+
+/// The international text of a number that is laid out so.
+fn international(
+    alloc: Global,
+    laid: &str,
+    m: &Metadata,
+    number: &PhoneNumber,
+) -> Result<String, AllocError>
+    ensures { IfOk result (λ t. string_bytes t ≡ 43 ∷ (decimal number.now.code.value ++ 32 ∷ (laid.now ++ extension_part m.now number.now.extension))) }
+{
+    let code = number.code().value();
+    with_extension(format!(in alloc; "+{code} {laid}")?, m, number)
+}
+
+/// The text of RFC 3966 of a number that is laid out so.
+fn rfc3966(alloc: Global, laid: &str, number: &PhoneNumber) -> Result<String, AllocError>
+    ensures { IfOk result (λ t. string_bytes t ≡ codes "tel:+" ++ (decimal number.now.code.value ++ 45 ∷ (encode_utf8_all (hyphenated (chars laid.now)) ++ extension_parameter number.now.extension))) }
+{
+    let code = number.code().value();
+    let hyphens = hyphenated(alloc, laid)?;
+    let mut text = format!(in alloc; "{RFC3966_PREFIX}+{code}-{hyphens}")?;
+    if let Some(extension) = number.extension() {
+        text.push_str(RFC3966_EXTN_PREFIX)?;
+        text.push_str(extension.as_str())?;
+    }
+    Ok(text)
+}
+
+/// A text and the extension after it, announced by the territory's preferred prefix, else by ` ext. `.
+fn with_extension(
+    text: String,
+    m: &Metadata,
+    number: &PhoneNumber,
+) -> Result<String, AllocError>
+    ensures { IfOk result (λ t. string_bytes t ≡ string_bytes text ++ extension_part m.now number.now.extension) }
+{
+    let mut text = text;
+    if let Some(extension) = number.extension() {
+        let prefix = m.preferred_extension_prefix().unwrap_or(DEFAULT_EXTN_PREFIX);
+        text.push_str(prefix)?;
+        text.push_str(extension.as_str())?;
+    }
+    Ok(text)
+}
+
+/// The national number, laid out by the layout that counts; its digits where there is none.
+fn laid_out(
+    alloc: Global,
+    finder: &FirstGroup,
+    m: &Metadata,
+    mode: Mode,
+    own: Option<&Format>,
+    number: &PhoneNumber,
+) -> Result<String, AllocError>
+    ensures { IfOk result (λ t. string_bytes t ≡ laid_out m.now mode (option_copied own.entry) number.now) }
+{
+    let national = number.national();
+    let digits = format!(in alloc; "{national}")?;
+    let Some(layout) = layout_for(m, mode, own, digits.as_str())? else {
+        return Ok(digits);
+    };
+    match mode {
+        Mode::National => {
+            let prefix = m.national_prefix();
+            layout.lay_out_nationally(finder, prefix, carrier_of(number), digits.as_str())
+        }
+        _ => layout.lay_out(digits.as_str()),
+    }
+}
+
+/// The carrier that was dialled with a number.
+fn carrier_of(number: &PhoneNumber) -> Option<&str>
+    ensures { option_copied result ≡ number.now.carrier }
+{
+    match number.carrier() {
+        Some(carrier) => Some(carrier.as_str()),
+        None => None,
+    }
+}
+
+/// The layout that was handed in, else the first of the territory's that suits the digits.
+fn layout_for<'a>(
+    m: &'a Metadata,
+    mode: Mode,
+    own: Option<&'a Format>,
+    digits: &str,
+) -> Result<Option<&'a Format>, AllocError>
+    ensures { IfOk result (λ f. option_copied f ≡ layout_for m.entry.now mode (option_copied own.entry) digits.now) }
+{
+    match own {
+        Some(own) => Ok(Some(own)),
+        None => first_suiting(layouts_for(m, mode), digits),
+    }
+}
+
+/// The layouts that a territory has for a mode.
+fn layouts_for(m: &Metadata, mode: Mode) -> &[Format]
+    ensures { result.now ≡ layouts_for m.now mode }
+{
+    let others = m.international_formats();
+    match mode {
+        Mode::National => m.formats(),
+        _ if others.is_empty() => m.formats(),
+        _ => others,
+    }
+}
+
+/// The first of these layouts that suits the digits.
+fn first_suiting<'a>(
+    layouts: &'a [Format],
+    digits: &str,
+) -> Result<Option<&'a Format>, AllocError>
+    ensures { IfOk result (λ f. option_copied f ≡ find (suits digits.now) layouts.entry.now) }
+{
+    for layout in layouts {
+        if layout.suits(digits)? {
+            return Ok(Some(layout));
+        }
+    }
+    Ok(None)
+}
