@@ -9,6 +9,7 @@ mod parser;
 mod phone_number;
 mod printing;
 mod queries;
+pub mod read_back;
 pub mod rows;
 
 pub use formatter::{FormatError, Formatter, format_with};
