@@ -1,5 +1,5 @@
 -- The code that a number is printed with is the one that its text is read with.
-use Rattle.std.proofs.Common.{◌≡◌, ◌≢◌, inl, inr, ℕ, zero, suc, ◌+◌, ◌<◌, ◌≤◌, ◌^◌, ◌==◌, not, Bool, true, false, List, [], ◌∷◌, ◌++◌, codes, length, take, get_or, Option, Some, None, refl, ap, ap₂, sym, ◌∙◌, arith, ne_eqb, eqb-true, true≢false, length-append}
+use Rattle.std.proofs.Common.{◌≡◌, ◌≢◌, inl, inr, ℕ, zero, suc, ◌<◌, ◌≤◌, ◌^◌, ◌==◌, not, Bool, true, false, List, [], ◌∷◌, ◌++◌, codes, length, take, get_or, Option, Some, None, refl, ap, ap₂, sym, ◌∙◌, arith, ne_eqb, eqb-true, true≢false, length-append}
 use Rattle.std.proofs.Math.Seq.{take-append_seam}
 use Rattle.std.proofs.lemmas.Bool.{and_from, and_parts, cases_eq, cases_lt, cond-false, cond-true, false_from_ne_true, le-leb, not-true, or_cases}
 use Rattle.std.proofs.lemmas.Fmt.{decimal_is_IsNumeral, decimal_nonempty, digits_decimal, first_decimal, length-decimal-le}

@@ -1,5 +1,5 @@
 -- Printed numbers are read back, by what the readers find in the printed texts.
-use Rattle.std.proofs.Common.{◌≡◌, ◌⊎◌, inl, inr, ℕ, ◌+◌, ◌<◌, ◌≤◌, ◌^◌, ◌==◌, ◌&&◌, ◌||◌, not, Bool, true, false, List, [], ◌∷◌, ◌++◌, codes, length, filter, Option, None, Some, IfSome, option_map, Ok, if◌then◌else◌, refl, ap, ap₂, sym, subst, ◌∙◌, append-nil, arith, length-append, true≢false}
+use Rattle.std.proofs.Common.{◌≡◌, ◌⊎◌, inl, inr, ℕ, ◌<◌, ◌≤◌, ◌^◌, ◌==◌, ◌||◌, not, Bool, true, false, List, [], ◌∷◌, ◌++◌, codes, length, filter, Option, None, Some, IfSome, option_map, Ok, if◌then◌else◌, refl, ap, ap₂, sym, subst, ◌∙◌, append-nil, arith, length-append}
 use Rattle.std.proofs.lemmas.Bool.{and_from, and_parts, not-true, not_from_false, or_cases, or_left, or_parts, or_right}
 use Rattle.std.proofs.lemmas.Fmt.{decimal_nonempty}
 use Rattle.std.proofs.lemmas.List.Elements.{filter_map-append}
@@ -22,7 +22,6 @@ use Rattle.phone_core.specs.declared.mode.Mode.TheVariants.{E164, International,
 use Rattle.phone_meta.specs.Codes.{first_of, is_listed, is_prefix_free, territories}
 use Rattle.phone_meta.specs.declared.loader.Metadata.{Metadata}
 use Rattle.phone_parts.proofs.Ends.{all_wider}
-use Rattle.phone_parts.specs.Parts.{Parts}
 use Rattle.phone_parts.specs.Readers.{HasParts}
 use Rattle.phone_read.proofs.ListedFronts.{listed_some}
 use Rattle.phone_read.specs.declared.reading.Reading.{Reading}
@@ -32,7 +31,7 @@ use Rattle.phonenumber.proofs.BackNumbers.{list_all-decimal, list_all-text_of, n
 use Rattle.phonenumber.proofs.ThinTexts.{digit_passes}
 use Rattle.phonenumber.proofs.BackReads.{IsReadAs, code_of-prefix, code_of-signed, read_as}
 use Rattle.phonenumber.proofs.BackTexts.{all_dialled, announced, chars-e164_text, chars-international_text, chars-rfc3966_text, hyphenated-digits, is_dialled, parted_dialled}
-use Rattle.phonenumber.proofs.BackViable.{all_allowed, all_from_left, digit_of-quiet, digits_left, indicating, is_parted, is_quiet, no_digits, norm-parted, parted_digit, viable-parted}
+use Rattle.phonenumber.proofs.BackViable.{all_allowed, all_from_left, digits_left, indicating, is_parted, no_digits, norm-parted, parted_digit, viable-parted}
 
 -- what the readers find in a plus sign and digits
 abbrev pub FindsSigned : Type 0

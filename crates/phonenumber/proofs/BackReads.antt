@@ -1,9 +1,8 @@
 -- What a text is read as, from the parts that the readers find in it on.
-use Rattle.std.proofs.Common.{◌≡◌, inl, inr, ℕ, ◌+◌, ◌<◌, ◌≤◌, ◌^◌, true, List, [], ◌∷◌, ◌++◌, length, drop, Option, None, Some, option_map, Result, Ok, Err, refl, ap, ap₂, sym, subst, ◌∙◌, arith, length-append}
+use Rattle.std.proofs.Common.{◌≡◌, inl, inr, ℕ, ◌<◌, ◌≤◌, ◌^◌, true, List, ◌∷◌, ◌++◌, length, Option, None, Some, option_map, Ok, refl, ap, ap₂, subst, ◌∙◌, arith, length-append}
 use Rattle.std.proofs.Math.Seq.{drop-append_seam}
 use Rattle.std.proofs.lemmas.Fmt.{decimal_nonempty}
 use Rattle.std.specs.Fmt.{decimal}
-use Rattle.std.specs.Option.{option_map_or}
 use Rattle.phone_core.proofs.Norms.{norm_digits}
 use Rattle.phone_core.specs.Characters.{is_plus}
 use Rattle.phone_core.specs.Cuts.{after_front}
@@ -13,8 +12,6 @@ use Rattle.phone_core.specs.Numbers.{National, text_of}
 use Rattle.phone_core.specs.Viable.{IsViable}
 use Rattle.phone_core.specs.declared.country.Source.{Source}
 use Rattle.phone_core.specs.declared.country.Source.TheVariants.{Plus}
-use Rattle.phone_core.specs.declared.error.ParseError.{ParseError}
-use Rattle.phone_core.specs.declared.error.ParseError.TheVariants.{InvalidCountryCode}
 use Rattle.phone_meta.specs.Codes.{is_listed, is_prefix_free, shortest}
 use Rattle.phone_meta.specs.declared.loader.Metadata.{Metadata}
 use Rattle.phone_parts.specs.Parts.{Parts}

@@ -1,7 +1,7 @@
 -- The characters of printed texts.
-use Rattle.std.proofs.Common.{◌≡◌, inl, inr, ℕ, zero, suc, ◌<◌, ◌≤◌, ◌^◌, ◌==◌, ◌&&◌, ◌||◌, nat_le, nat_lt, Bool, true, false, if◌then◌else◌, List, [], ◌∷◌, ◌++◌, codes, length, take, filter, encode_utf8_all, Option, None, Some, IsUtf8, refl, ap, ap₂, sym, subst, ◌∙◌, arith, append_assoc, eqb-true, leb-true, lt-ltb, ltb-true, true≢false}
+use Rattle.std.proofs.Common.{◌≡◌, inl, inr, ℕ, zero, suc, ◌<◌, ◌^◌, ◌==◌, ◌||◌, nat_le, nat_lt, Bool, true, false, if◌then◌else◌, List, [], ◌∷◌, ◌++◌, codes, length, filter, encode_utf8_all, Option, None, Some, IsUtf8, refl, ap, ap₂, sym, subst, ◌∙◌, arith, append_assoc, eqb-true, leb-true, lt-ltb, ltb-true, true≢false}
 use Rattle.std.proofs.Math.Seq.{take-append_seam}
-use Rattle.std.proofs.lemmas.Bool.{and_from, and_parts, cond-false, cond-true, or_cases, or_left, or_right}
+use Rattle.std.proofs.lemmas.Bool.{and_from, and_parts, cond-false, cond-true, or_cases, or_left}
 use Rattle.std.proofs.lemmas.List.Folds.{list_all-append}
 use Rattle.std.proofs.lemmas.Str.{IsCharBoundary-at_seam, IsUtf8-from_ascii, IsUtf8-take, chars-IsAscii, chars-append, encodes-IsAscii}
 use Rattle.std.specs.Fmt.{decimal}
