@@ -131,11 +131,7 @@ impl Pattern {
 
     /// The text with its first match replaced by a template of this pattern; a text without a match stays as it is.
     /// Refused only for memory.
-    pub(crate) fn replaced_by(
-        &self,
-        template: &Template,
-        text: &str,
-    ) -> Result<String, AllocError>
+    pub(crate) fn replaced_by(&self, template: &Template, text: &str) -> Result<String, AllocError>
         ensures { (source : List ℕ) → IsReadFrom (names_in self.now) source template.now → IfOk result (λ out. string_bytes out ≡ replaced self.now source text.now) }
     {
         let mut matcher = self.re.matcher(self.alloc)?;

@@ -85,10 +85,34 @@ fn writes_the_first_group_by_the_rule(rt: HostRuntime) -> Result<(), Fail> {
         ("$1 $2", "$CC$FG", Some("0"), "123 456", "no carrier"),
         ("$1 $2", "9", Some("0"), "9 456", "no mark"),
         ("$1 $2", "$FG1", None, " 456", "a group that isn't there"),
-        ("$1 $2", "$NP$FG", Some("$2"), "123 456", "a prefix that names no group"),
-        ("$1 $2", "$NP$FG", Some("$1"), "123123 456", "a prefix that names the group"),
-        ("${1} $2", "9", None, "123 9", "the second group stands first"),
-        ("${1} $2", "$NP$FG", Some("0"), "123 0456", "braces are no mark"),
+        (
+            "$1 $2",
+            "$NP$FG",
+            Some("$2"),
+            "123 456",
+            "a prefix that names no group",
+        ),
+        (
+            "$1 $2",
+            "$NP$FG",
+            Some("$1"),
+            "123123 456",
+            "a prefix that names the group",
+        ),
+        (
+            "${1} $2",
+            "9",
+            None,
+            "123 9",
+            "the second group stands first",
+        ),
+        (
+            "${1} $2",
+            "$NP$FG",
+            Some("0"),
+            "123 0456",
+            "braces are no mark",
+        ),
         ("number", "$NP$FG", Some("0"), "number", "no group"),
     ] {
         let db = of(alloc, halves(alloc, template, Some(rule), None)?)?;
