@@ -18,6 +18,9 @@ pub mod Patterns
 pub mod Prefixes
 pub mod PrintedE164
 pub mod PrintedTel
+pub mod PrintedCores
+pub mod PrintedInternational
+pub mod PrintedSuffixes
 pub mod PrintedTexts
 pub mod Runs
 pub mod SameParts

@@ -9,6 +9,7 @@ pub mod natural;
 mod number;
 mod parameters;
 pub mod printed;
+pub mod printed_international;
 mod readers;
 pub mod rfc3966;
 pub mod rows;

@@ -2,3 +2,11 @@ pub mod ReportRows
 pub mod ThinReadings
 pub mod ThinTexts
 pub mod SameNumbers
+pub mod BackCodes
+pub mod BackLaws
+pub mod BackNumbers
+pub mod BackReads
+pub mod BackTexts
+pub mod BackViable
+pub mod HyphenTexts
+pub mod Keys

@@ -54,9 +54,9 @@ impl<'n, 'd, 'f> Formatter<'n, 'd, 'f> {
     /// The same printer under another database.
     pub fn database<'a>(self, database: &'a Database) -> Formatter<'n, 'a, 'f>
         ensures database { database_of result ≡ database.now }
-        ensures number { number_of result ≡ number_of self }
-        ensures mode { mode_of result ≡ mode_of self }
-        ensures layout { layout_of result ≡ layout_of self }
+        ensures number { number_of result ≡ number_of self.entry }
+        ensures mode { mode_of result ≡ mode_of self.entry }
+        ensures layout { layout_of result ≡ layout_of self.entry }
     {
         Formatter {
             number: self.number,
@@ -68,10 +68,10 @@ impl<'n, 'd, 'f> Formatter<'n, 'd, 'f> {
 
     /// The same printer in another mode.
     pub fn mode(self, mode: Mode) -> Formatter<'n, 'd, 'f>
-        ensures database { database_of result ≡ database_of self }
-        ensures number { number_of result ≡ number_of self }
+        ensures database { database_of result ≡ database_of self.entry }
+        ensures number { number_of result ≡ number_of self.entry }
         ensures mode { mode_of result ≡ mode }
-        ensures layout { layout_of result ≡ layout_of self }
+        ensures layout { layout_of result ≡ layout_of self.entry }
     {
         Formatter {
             number: self.number,
@@ -83,9 +83,9 @@ impl<'n, 'd, 'f> Formatter<'n, 'd, 'f> {
 
     /// The same printer with this layout, of any database, in place of the territory's own.
     pub fn with<'a>(self, format: &'a Format) -> Formatter<'n, 'd, 'a>
-        ensures database { database_of result ≡ database_of self }
-        ensures number { number_of result ≡ number_of self }
-        ensures mode { mode_of result ≡ mode_of self }
+        ensures database { database_of result ≡ database_of self.entry }
+        ensures number { number_of result ≡ number_of self.entry }
+        ensures mode { mode_of result ≡ mode_of self.entry }
         ensures layout { layout_of result ≡ Some format.now }
     {
         Formatter {

@@ -2,12 +2,14 @@
 #![tactic(auto)]
 
 mod formatter;
-pub mod laws;
 mod hyphens;
+pub mod laws;
 pub mod metadata;
 mod parser;
 mod phone_number;
 mod printing;
+mod queries;
+pub mod read_back;
 pub mod rows;
 
 pub use formatter::{FormatError, Formatter, format_with};
@@ -18,3 +20,4 @@ pub use phone_core::{
     is_viable,
 };
 pub use phone_number::PhoneNumber;
+pub use queries::{Country, is_valid_with};

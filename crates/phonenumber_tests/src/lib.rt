@@ -3,6 +3,8 @@
 #![tactic(auto)]
 
 #[cfg(test)]
+mod printing;
+#[cfg(test)]
 mod thin;
 #[cfg(test)]
 mod values;

@@ -1,9 +1,8 @@
-use Rattle.std.proofs.Common.{◌≡◌, None, [], ◌∷◌, rules, subst}
+use Rattle.std.proofs.Common.{◌≡◌, None, [], ◌∷◌, rules}
 use Rattle.std.specs.List.{flat_map}
-use Rattle.phone_meta.specs.First.{IsPattern}
 use Rattle.phone_meta.specs.Missing.{first_missing}
 use Rattle.phone_meta.specs.Records.{first_group_pattern}
-use Rattle.phone_meta.specs.Refusals.{IsPatternRefusal, patterns_in}
+use Rattle.phone_meta.specs.Refusals.{patterns_in}
 use Rattle.phone_meta.proofs.Refused.{both-patterns, refused-first_group, refused-territories}
 use Rattle.phone_meta.proofs.database.Database.from.Goals as goal
 
@@ -18,12 +17,10 @@ pub returns-in_err-first_group-clause-refused : goal.returns-in_err-first_group-
 returns-in_err-first_group-clause-refused c =
     let e = c.in_err-first_group.field-0.0 in
     let none : first_missing c.args.records.items ≡ None = search rules in
-    let text : c.from-first_group.result ≡ first_group_pattern = search rules in
     let own = c.in_ok-territories.ensures.read in
-    let h = refused-first_group c.args.records.items e none own (subst (λ t. IsPatternRefusal (t ∷ []) e) text c.in_err-first_group.ensures.refused) in
+    let h = refused-first_group c.args.records.items e none own c.in_err-first_group.ensures.refused in
     search (rules, h)
 
 pub returns-clause-read : goal.returns-clause-read
 returns-clause-read c = λ _.
-    let text : c.from-first_group.result ≡ first_group_pattern = search rules in
-    both-patterns (flat_map patterns_in c.args.records.items) (first_group_pattern ∷ []) c.in_ok-territories.ensures.read (subst IsPattern text c.in_ok-first_group.ensures.read, tt)
+    both-patterns (flat_map patterns_in c.args.records.items) (first_group_pattern ∷ []) c.in_ok-territories.ensures.read (c.in_ok-first_group.ensures.read, tt)

@@ -1,0 +1,113 @@
+//! What a database tells of a number: its territory, its region, its kind, whether it is valid.
+ghost use Rattle.std.specs.Prelude.{◌≡◌, IfOk, string_bytes};
+ghost use Rattle.std.specs.Fmt.{decimal};
+ghost use Rattle.std.specs.Option.{option_copied};
+ghost use Rattle.phonenumber.specs.Queries.{is_valid, kind_of_number, region_of_number, territory_of_number};
+
+use crate::PhoneNumber;
+use phone_core::Type;
+use phone_core::country::{Code, Id};
+use phone_meta::{Database, Metadata};
+use phone_read::validator;
+use std::alloc::{AllocError, Global};
+use std::marker::Model;
+
+/// What a number tells of its country. Contracts see the number.
+#[derive(Drop)]
+pub struct Country<'a> {
+    number: &'a PhoneNumber,
+}
+
+impl<'a> Model for Country<'a> {
+    ghost use Rattle.phone_read.specs.declared.reading.Reading.{Reading};
+
+    ghost Value = { Reading };
+
+    ghost view = { λ c. c.number.now };
+}
+
+impl<'a> Country<'a> {
+    /// The calling code, as 64 for New Zealand.
+    pub fn code(&self) -> u16
+        ensures { result ≡ self.now.code.value }
+    {
+        self.number.code().value()
+    }
+
+    /// The region's id: that of the number's territory, as `metadata` has it. None where the number has no territory, and
+    /// where the territory's id is no region's. Refused only for memory.
+    pub fn id(&self, database: &Database) -> Result<Option<Id>, AllocError>
+        ensures { IfOk result (λ id. id ≡ region_of_number database.now self.now) }
+    {
+        match self.number.metadata(database)? {
+            Some(territory) => Ok(territory.id().parse::<Id>().ok()),
+            None => Ok(None),
+        }
+    }
+
+    /// The calling code, and how it was found.
+    pub fn as_code(&self) -> &'a Code
+        ensures { result.now ≡ self.now.code }
+    {
+        self.number.code()
+    }
+}
+
+impl PhoneNumber {
+    /// What the number tells of its country. Takes no memory.
+    pub fn country(&self) -> Country<'_>
+        ensures { result ≡ self.now }
+    {
+        Country { number: self }
+    }
+
+    /// The value in decimal, without leading zeros.
+    fn value_text(&self, alloc: Global) -> Result<String, AllocError>
+        ensures { IfOk result (λ text. string_bytes text ≡ decimal self.now.national.value) }
+    {
+        let value = self.national().value();
+        format!(in alloc; "{value}")
+    }
+
+    /// The territory that the number belongs to, by its value in decimal without leading zeros; none where it belongs to
+    /// none. Refused only for memory.
+    pub fn metadata<'a>(&self, database: &'a Database) -> Result<Option<&'a Metadata>, AllocError>
+        ensures { IfOk result (λ m. option_copied m ≡ territory_of_number database.now self.now) }
+    {
+        let value = self.value_text(database.allocator())?;
+        validator::home(database, self.code().value(), value.as_str())
+    }
+
+    /// The kind of number that the value is, without leading zeros, in its territory; `Unknown` where it belongs to none.
+    /// Refused only for memory.
+    pub fn number_type(&self, database: &Database) -> Result<Type, AllocError>
+        ensures { IfOk result (λ kind. kind ≡ kind_of_number database.now self.now) }
+    {
+        let digits = self.value_text(database.allocator())?;
+        match validator::home(database, self.code().value(), digits.as_str())? {
+            Some(territory) => validator::number_type(territory, digits.as_str()),
+            None => Ok(Type::Unknown),
+        }
+    }
+
+    /// Whether the number is of a known kind in a territory, its leading zeros counted as digits. Refused only for memory.
+    pub fn is_valid_with(&self, database: &Database) -> Result<bool, AllocError>
+        ensures { IfOk result (λ valid. valid ≡ is_valid database.now self.now) }
+    {
+        let national = self.national();
+        let digits = format!(in database.allocator(); "{national}")?;
+        match validator::home(database, self.code().value(), digits.as_str())? {
+            Some(territory) => {
+                Ok(validator::number_type(territory, digits.as_str())? != Type::Unknown)
+            }
+            None => Ok(false),
+        }
+    }
+}
+
+/// Whether a number is of a known kind in a territory, its leading zeros counted as digits. Refused only for memory.
+pub fn is_valid_with(database: &Database, number: &PhoneNumber) -> Result<bool, AllocError>
+    ensures { IfOk result (λ valid. valid ≡ is_valid database.now number.now) }
+{
+    number.is_valid_with(database)
+}
