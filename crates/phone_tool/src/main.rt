@@ -1,9 +1,9 @@
-//! Reads the first line of standard input as a phone number dialled in New Zealand, and prints it.
+//! Reads the first line of standard input as a phone number dialled in New Zealand, and prints it in four ways.
 #![tactic(auto)]
 
 use phonenumber::country::Id;
 use phonenumber::metadata::{Database, LoadMetadata, loader};
-use phonenumber::{ParseError, parse_with};
+use phonenumber::{FormatError, Mode, ParseError, PhoneNumber, format_with, parse_with};
 use std::alloc::{AllocError, Global};
 use std::io;
 use std::process::ExitCode;
@@ -16,6 +16,8 @@ enum Silence {
     Input(#[from] io::Error),
     #[error("the record of New Zealand was refused")]
     Database(#[from] LoadMetadata),
+    #[error("the number was not printed")]
+    Format(FormatError),
     #[error("out of memory")]
     Memory(#[from(alloc)] AllocError),
 }
@@ -23,18 +25,18 @@ enum Silence {
 /// What is printed, and the status to end with.
 #[derive(Drop)]
 struct Answer {
-    line: String,
+    lines: String,
     status: u8,
 }
 
-/// Status 0 with the number's E.164 text, 1 with the refusal; where memory is refused or the input fails nothing is
+/// Status 0 with the number's texts, 1 with the refusal; where memory is refused or the input fails nothing is
 /// printed, and the status is 1.
 fn main(rt: HostRuntime) -> ExitCode {
     let Ok(answer) = answer_line(&rt) else {
         return ExitCode::from(1);
     };
-    let Answer { line, status } = answer;
-    match println!(rt; "{line}") {
+    let Answer { lines, status } = answer;
+    match println!(rt; "{lines}") {
         Ok(()) => ExitCode::from(status),
         Err(_) => ExitCode::from(1),
     }
@@ -58,10 +60,32 @@ fn answer_to(alloc: Global, text: &str) -> Result<Answer, Silence> {
     let database = new_zealand(alloc)?;
     match parse_with(&database, Some(Id::NZ), text) {
         Ok(number) => Ok(Answer {
-            line: number.to_string(alloc)?,
+            lines: four_texts(alloc, &database, &number)?,
             status: 0,
         }),
         Err(error) => refused(alloc, error),
+    }
+}
+
+/// The E.164, international, national and RFC 3966 text of a number, each on a line of its own.
+fn four_texts(alloc: Global, database: &Database, number: &PhoneNumber) -> Result<String, Silence> {
+    let e164 = text_in(Mode::E164, alloc, database, number)?;
+    let international = text_in(Mode::International, alloc, database, number)?;
+    let national = text_in(Mode::National, alloc, database, number)?;
+    let rfc3966 = text_in(Mode::Rfc3966, alloc, database, number)?;
+    Ok(format!(in alloc; "{e164}\n{international}\n{national}\n{rfc3966}")?)
+}
+
+/// The text of a number in one mode.
+fn text_in(
+    mode: Mode,
+    alloc: Global,
+    database: &Database,
+    number: &PhoneNumber,
+) -> Result<String, Silence> {
+    match format_with(database, number).mode(mode).to_text(alloc) {
+        Ok(text) => Ok(text),
+        Err(error) => Err(Silence::Format(error)),
     }
 }
 
@@ -77,7 +101,7 @@ fn refused(alloc: Global, error: ParseError) -> Result<Answer, Silence> {
         ParseError::Memory => return Err(Silence::Memory(AllocError)),
     };
     Ok(Answer {
-        line: format!(in alloc; "error\t{number}\t{text}")?,
+        lines: format!(in alloc; "error\t{number}\t{text}")?,
         status: 1,
     })
 }
@@ -96,16 +120,31 @@ fn eight_digits(alloc: Global) -> Result<loader::Descriptor, AllocError> {
     Ok(general)
 }
 
-/// The record of New Zealand: code 64, national prefix 0, numbers of eight digits.
+/// The layout of these numbers, as `3 331 6005`; nationally with the national prefix before its first group.
+fn layout(alloc: Global) -> Result<loader::Format, AllocError> {
+    let pattern = text(alloc, "(\\d)(\\d{3})(\\d{4})")?;
+    let template = text(alloc, "$1 $2 $3")?;
+    let rule = text(alloc, "$NP$FG")?;
+    let mut layout = loader::Format::empty(alloc);
+    layout.pattern = pattern;
+    layout.format = template;
+    layout.national_prefix_formatting_rule = rule;
+    Ok(layout)
+}
+
+/// The record of New Zealand: code 64, national prefix 0, numbers of eight digits in one layout.
 fn new_zealand_record(alloc: Global) -> Result<loader::Metadata, AllocError> {
     let id = text(alloc, "NZ")?;
     let prefix = text(alloc, "0")?;
     let general = eight_digits(alloc)?;
+    let mut formats = Vec::new(alloc);
+    formats.push(layout(alloc)?)?;
     let mut record = loader::Metadata::empty(alloc);
     record.id = id;
     record.country_code = Some(64);
     record.national_prefix = prefix;
     record.general = Some(general);
+    record.formats = loader::Items::from(formats);
     Ok(record)
 }
 

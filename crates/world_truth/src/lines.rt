@@ -1,36 +1,27 @@
-//! A line and the report's line for it, each as what is compared: of a number its E.164 text and how its calling code
-//! was found, of a refusal its number and words.
+//! A line, and the report line that the port gives for it.
 use anyhow::{Result, anyhow};
-use phone_core::ParseError;
-use phone_core::country::{Id, Source};
-use phone_meta::Database;
-use phone_read::{Reading, read};
+use phonenumber::country::{Id, Source};
+use phonenumber::metadata::Database;
+use phonenumber::{FormatError, Mode, ParseError, PhoneNumber, format_with, parse_with};
 use std::alloc::{AllocError, Global};
 
-/// The columns of the report's line of a number: its E.164 text, and how its calling code was found.
-const E164: usize = 1;
+/// The modes of a report line's texts, in their order.
+const MODES: [Mode; 4] = [
+    Mode::E164,
+    Mode::International,
+    Mode::National,
+    Mode::Rfc3966,
+];
 
-const SOURCE: usize = 5;
-
-/// What the report's line says. A line of a refusal stands as it is.
-pub fn wanted(alloc: Global, report: &str) -> Result<String, AllocError> {
-    if !report.starts_with("ok\t") {
-        return String::from_str(alloc, report);
-    }
-    let e164 = report.split('\t').nth(E164).unwrap_or("");
-    let source = report.split('\t').nth(SOURCE).unwrap_or("");
-    format!(in alloc; "ok\t{e164}\t{source}")
-}
-
-/// What is read from a line. An error where it has no tab or its hint is no region, and where memory is refused.
-pub fn found(alloc: Global, database: &Database, line: &str) -> Result<String> {
+/// The report line for a line, its columns parted by tabs. An error where the line has no tab or its hint is no region,
+/// and where memory is refused.
+pub fn report(alloc: Global, database: &Database, line: &str) -> Result<String> {
     let Some((hint, text)) = line.split_once('\t') else {
         return Err(anyhow!("a line has no tab"));
     };
-    match read(database, region(hint)?, text) {
-        Ok(reading) => Ok(told(alloc, &reading)?),
-        Err(ParseError::Memory) => Err(anyhow!("out of memory")),
-        Err(error) => Ok(String::from_str(alloc, refusal(&error))?),
+    match parse_with(database, region(hint)?, text) {
+        Ok(number) => told(alloc, database, &number),
+        Err(error) => refused(alloc, error),
     }
 }
 
@@ -42,27 +33,61 @@ fn region(hint: &str) -> Result<Option<Id>> {
     Ok(Some(hint.parse::<Id>()?))
 }
 
-/// The E.164 text of a number and how its calling code was found.
-fn told(alloc: Global, reading: &Reading) -> Result<String, AllocError> {
-    let (code, national) = (reading.code.value(), reading.national);
-    let source = match reading.code.source() {
+/// The report line of a number: `ok`, its four texts, and what else is told of it.
+fn told(alloc: Global, database: &Database, number: &PhoneNumber) -> Result<String> {
+    let mut out = String::from_str(alloc, "ok")?;
+    for mode in MODES {
+        let text = printed(alloc, database, number, mode)?;
+        out.push('\t')?;
+        out.push_str(text.as_str())?;
+    }
+    let told = queried(alloc, database, number)?;
+    out.push('\t')?;
+    out.push_str(told.as_str())?;
+    Ok(out)
+}
+
+/// The text of a number in a mode; `UnknownCode` where the database lists no territory of its code, which no report
+/// line has. An error where memory is refused.
+fn printed(alloc: Global, database: &Database, number: &PhoneNumber, mode: Mode) -> Result<String> {
+    match format_with(database, number).mode(mode).to_text(alloc) {
+        Ok(text) => Ok(text),
+        Err(FormatError::UnknownCode) => Ok(String::from_str(alloc, "UnknownCode")?),
+        Err(FormatError::Memory) => Err(anyhow!("out of memory")),
+    }
+}
+
+/// How a number's code was found, its kind, its region or a hyphen, and `valid` or `invalid`, parted by tabs.
+fn queried(alloc: Global, database: &Database, number: &PhoneNumber) -> Result<String> {
+    let source = match number.code().source() {
         Source::Plus => "plus",
         Source::Idd => "idd",
         Source::Number => "number",
         Source::Default => "default",
     };
-    format!(in alloc; "ok\t+{code}{national}\t{source}")
+    let kind = number.number_type(database)?;
+    let region = match number.country().id(database)? {
+        Some(id) => id.as_str(),
+        None => "-",
+    };
+    let validity = if number.is_valid_with(database)? {
+        "valid"
+    } else {
+        "invalid"
+    };
+    Ok(format!(in alloc; "{source}\t{kind:?}\t{region}\t{validity}")?)
 }
 
-/// How the report writes a refusal.
-fn refusal(error: &ParseError) -> &'static str {
-    match error {
+/// The report line of a refusal: `error`, its number and its text.
+fn refused(alloc: Global, error: ParseError) -> Result<String> {
+    let line = match error {
         ParseError::NoNumber => "error\t1\tnot a number",
         ParseError::InvalidCountryCode => "error\t2\tinvalid country code",
         ParseError::TooShortAfterIdd => "error\t3\tthe number is too short after IDD",
         ParseError::TooShortNsn => "error\t4\tthe number is too short after the country code",
         ParseError::TooLong => "error\t5\tthe number is too long",
         ParseError::MalformedInteger => "error\t6\tmalformed integer",
-        ParseError::Memory => "error\t7\tout of memory",
-    }
+        ParseError::Memory => return Err(anyhow!("out of memory")),
+    };
+    Ok(String::from_str(alloc, line)?)
 }
