@@ -40,7 +40,7 @@ nz_international = record {
   few_digits = omega arith;
   only_parted = ap (λ t. filter (λ c. not (is_punctuation c)) (chars t)) nz_laid;
   no_indicator = ap (λ t. list_any (is_one_of (120 ∷ 126 ∷ 0xFF5E ∷ [])) (chars t)) nz_laid;
-  utf8 = (codes "+64 3 331 6005", refl, ap (λ t. codes "+64 " ++ (t ++ [])) (sym nz_laid));
+  utf8 = (codes "+64 3 331 6005", (refl, ap (λ t. codes "+64 " ++ (t ++ [])) (sym nz_laid)));
 }
 
 pub nz_idle : IsIdle world 64 (codes "33316005")
@@ -77,7 +77,7 @@ us_international = record {
   few_digits = omega arith;
   only_parted = ap (λ t. filter (λ c. not (is_punctuation c)) (chars t)) us_laid;
   no_indicator = ap (λ t. list_any (is_one_of (120 ∷ 126 ∷ 0xFF5E ∷ [])) (chars t)) us_laid;
-  utf8 = (codes "+1 650-253-0000 ext. ", refl, ap (λ t. codes "+1 " ++ (t ++ codes " ext. ")) (sym us_laid));
+  utf8 = (codes "+1 650-253-0000 ext. ", (refl, ap (λ t. codes "+1 " ++ (t ++ codes " ext. ")) (sym us_laid)));
 }
 
 pub us_idle : IsIdle world 1 (codes "6502530000")
@@ -114,7 +114,7 @@ ad_international = record {
   few_digits = omega arith;
   only_parted = ap (λ t. filter (λ c. not (is_punctuation c)) (chars t)) ad_laid;
   no_indicator = ap (λ t. list_any (is_one_of (120 ∷ 126 ∷ 0xFF5E ∷ [])) (chars t)) ad_laid;
-  utf8 = (codes "+376 123/456/ ext. 5", refl, ap (λ t. codes "+376 " ++ (t ++ codes " ext. 5")) (sym ad_laid));
+  utf8 = (codes "+376 123/456/ ext. 5", (refl, ap (λ t. codes "+376 " ++ (t ++ codes " ext. 5")) (sym ad_laid)));
 }
 
 pub ad_idle : IsIdle world 376 (codes "123456")
