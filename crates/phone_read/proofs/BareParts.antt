@@ -11,10 +11,10 @@ pub bare_extension : (n : List ℕ) (p e : Option (List ℕ)) → is_bare n p e 
 bare_extension n None e h = (and_parts (list_all is_digit (after_front is_plus n)) (option_map_or (list_all is_digit) e true) h).1
 bare_extension n (Some p) e h =
     (and_parts (list_all is_digit p) (option_map_or (list_all is_digit) e true)
-        (and_parts (list_all is_digit n) _ h).1).1
+    (and_parts (list_all is_digit n) _ h).1).1
 
 pub bare_prefix : (n : List ℕ) (p e : Option (List ℕ)) → is_bare n p e ≡ true → option_map_or (list_all is_digit) p true ≡ true
 bare_prefix n None e h = refl
 bare_prefix n (Some p) e h =
     (and_parts (list_all is_digit p) (option_map_or (list_all is_digit) e true)
-        (and_parts (list_all is_digit n) _ h).1).0
+    (and_parts (list_all is_digit n) _ h).1).0

@@ -6,8 +6,7 @@ ghost use Rattle.phone_core.specs.declared.mode.Mode.TheVariants as mode;
 ghost use Rattle.phonenumber.specs.Printers.{database_of, layout_of, mode_of, number_of, text_of};
 ghost use Rattle.phonenumber.specs.Texts.{printed};
 
-use crate::PhoneNumber;
-use crate::printing;
+use crate::{PhoneNumber, printing};
 use phone_core::Mode;
 use phone_meta::{Database, Format};
 use std::alloc::Global;
@@ -111,7 +110,14 @@ impl<'n, 'd, 'f> Formatter<'n, 'd, 'f> {
             return Err(FormatError::UnknownCode);
         };
         let finder = self.database.first_group_finder();
-        match printing::text_by(alloc, finder, territory, self.mode, self.format, self.number) {
+        match printing::text_by(
+            alloc,
+            finder,
+            territory,
+            self.mode,
+            self.format,
+            self.number,
+        ) {
             Ok(text) => Ok(text),
             Err(_) => Err(FormatError::Memory),
         }

@@ -64,16 +64,14 @@ fn rfc3966(alloc: Global, laid: &str, number: &PhoneNumber) -> Result<String, Al
 }
 
 /// A text and the extension after it, announced by the territory's preferred prefix, else by ` ext. `.
-fn with_extension(
-    text: String,
-    m: &Metadata,
-    number: &PhoneNumber,
-) -> Result<String, AllocError>
+fn with_extension(text: String, m: &Metadata, number: &PhoneNumber) -> Result<String, AllocError>
     ensures { IfOk result (λ t. string_bytes t ≡ string_bytes text ++ extension_part m.now number.now.extension) }
 {
     let mut text = text;
     if let Some(extension) = number.extension() {
-        let prefix = m.preferred_extension_prefix().unwrap_or(DEFAULT_EXTN_PREFIX);
+        let prefix = m
+            .preferred_extension_prefix()
+            .unwrap_or(DEFAULT_EXTN_PREFIX);
         text.push_str(prefix)?;
         text.push_str(extension.as_str())?;
     }
@@ -143,10 +141,7 @@ fn layouts_for(m: &Metadata, mode: Mode) -> &[Format]
 }
 
 /// The first of these layouts that suits the digits.
-fn first_suiting<'a>(
-    layouts: &'a [Format],
-    digits: &str,
-) -> Result<Option<&'a Format>, AllocError>
+fn first_suiting<'a>(layouts: &'a [Format], digits: &str) -> Result<Option<&'a Format>, AllocError>
     ensures { IfOk result (λ f. option_copied f ≡ find (suits digits.now) layouts.entry.now) }
 {
     for layout in layouts {

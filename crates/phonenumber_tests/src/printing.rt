@@ -1,10 +1,10 @@
 //! Printed texts in the four modes, and what a database tells of a number, under the small databases of the samples.
+use phone_samples::parts::{layout, list, territory, text};
 use phonenumber::country::{Code, Id, Source};
 use phonenumber::metadata::{Database, LoadMetadata, loader};
 use phonenumber::{
     Extension, FormatError, Mode, NationalNumber, ParseError, PhoneNumber, format_with, parse_with,
 };
-use phone_samples::parts::{layout, list, territory, text};
 use std::alloc::{AllocError, Global};
 use std::test::Fail;
 
@@ -75,9 +75,18 @@ fn prints_what_was_read_in_each_mode(rt: HostRuntime) -> Result<(), Fail> {
     ] {
         let number = parse_with(&db, hint, line)?;
         assert_eq!(rt; printed(alloc, &db, Mode::E164, &number)?.as_str(), e164);
-        assert_eq!(rt; printed(alloc, &db, Mode::International, &number)?.as_str(), international);
-        assert_eq!(rt; printed(alloc, &db, Mode::National, &number)?.as_str(), national);
-        assert_eq!(rt; printed(alloc, &db, Mode::Rfc3966, &number)?.as_str(), rfc3966);
+        assert_eq!(rt;
+            printed(alloc, &db, Mode::International, &number)?.as_str(),
+            international
+        );
+        assert_eq!(rt;
+            printed(alloc, &db, Mode::National, &number)?.as_str(),
+            national
+        );
+        assert_eq!(rt;
+            printed(alloc, &db, Mode::Rfc3966, &number)?.as_str(),
+            rfc3966
+        );
     }
     Ok(())
 }
@@ -91,7 +100,10 @@ fn writes_the_carrier_by_its_own_rule(rt: HostRuntime) -> Result<(), Fail> {
         ("03121286979", "031 21286979"),
     ] {
         let number = parse_with(&db, Some(Id::BR), line)?;
-        assert_eq!(rt; printed(alloc, &db, Mode::National, &number)?.as_str(), national);
+        assert_eq!(rt;
+            printed(alloc, &db, Mode::National, &number)?.as_str(),
+            national
+        );
     }
     Ok(())
 }
@@ -103,10 +115,28 @@ fn prints_by_layouts_that_drop_digits_or_add_signs(rt: HostRuntime) -> Result<()
     for (code, value, extension, mode, text) in [
         (374, 12345678, None, Mode::National, "number"),
         (374, 12345678, None, Mode::International, "+374 number"),
-        (376, 123456, Some("5"), Mode::International, "+376 123/456/ ext. 5"),
-        (376, 123456, Some("5"), Mode::Rfc3966, "tel:+376-123-456-;ext=5"),
+        (
+            376,
+            123456,
+            Some("5"),
+            Mode::International,
+            "+376 123/456/ ext. 5",
+        ),
+        (
+            376,
+            123456,
+            Some("5"),
+            Mode::Rfc3966,
+            "tel:+376-123-456-;ext=5",
+        ),
         (43, 123456, None, Mode::International, "+43 123x456"),
-        (43, 123456, Some("5"), Mode::International, "+43 123x456 ext. 5"),
+        (
+            43,
+            123456,
+            Some("5"),
+            Mode::International,
+            "+43 123x456 ext. 5",
+        ),
         (43, 123456, None, Mode::Rfc3966, "tel:+43-123-456"),
     ] {
         let number = number(alloc, code, value, extension)?;
@@ -188,14 +218,30 @@ fn writes_the_first_group_by_the_rule(rt: HostRuntime) -> Result<(), Fail> {
     let number = number(alloc, 376, 123456, None)?;
     for (template, rule, prefix, text, why) in [
         ("$1 $2", "$FG1", None, " 456", "$11 is an absent group"),
-        ("$1 $2", "$NP$FG", Some("$2"), "123 456", "a $ of the prefix counts"),
-        ("$1 $2", "$NP$FG", Some("$1"), "123123 456", "group 1 is the mark"),
+        (
+            "$1 $2",
+            "$NP$FG",
+            Some("$2"),
+            "123 456",
+            "a $ of the prefix counts",
+        ),
+        (
+            "$1 $2",
+            "$NP$FG",
+            Some("$1"),
+            "123123 456",
+            "group 1 is the mark",
+        ),
         ("$1 $2", "9", None, "9 456", "no mark"),
         ("${1} $2", "9", None, "123 9", "the first group is $2"),
     ] {
         let record = andorra(alloc, template, rule, prefix)?;
         let db = Database::from(alloc, vec![in alloc; record]?)?;
-        assert_eq!(rt; printed(alloc, &db, Mode::National, &number)?.as_str(), text, "{why}");
+        assert_eq!(rt;
+            printed(alloc, &db, Mode::National, &number)?.as_str(),
+            text,
+            "{why}"
+        );
     }
     Ok(())
 }

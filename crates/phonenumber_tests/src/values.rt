@@ -4,19 +4,9 @@ use phonenumber::{Carrier, Extension, NationalNumber, ParseError, PhoneNumber};
 use std::test::Fail;
 
 /// The number of this code and national number, with neither extension nor carrier.
-fn number(
-    code: u16,
-    source: Source,
-    value: u64,
-    zeros: u8,
-) -> Result<PhoneNumber, ParseError> {
+fn number(code: u16, source: Source, value: u64, zeros: u8) -> Result<PhoneNumber, ParseError> {
     let national = NationalNumber::new(value, zeros)?;
-    Ok(PhoneNumber::from_parts(
-        Code::new(code, source),
-        national,
-        None,
-        None,
-    ))
+    Ok(PhoneNumber::from_parts(Code::new(code, source), national, None, None))
 }
 
 #[test]
@@ -59,7 +49,10 @@ fn equals_a_number_of_the_same_four_parts_alone(rt: HostRuntime) -> Result<(), F
         (64, Source::Plus, 13, 0),
         (64, Source::Plus, 12, 1),
     ] {
-        assert!(rt; one != number(code, source, value, zeros)?, "{code} {value} {zeros}");
+        assert!(rt;
+            one != number(code, source, value, zeros)?,
+            "{code} {value} {zeros}"
+        );
     }
     Ok(())
 }

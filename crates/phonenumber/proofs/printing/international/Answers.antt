@@ -13,5 +13,5 @@ returns c =
     let shown : decimal c.value-code.result ≡ decimal number.code.value = ap decimal (c.value-code.ensures ∙ ap (λ (k : Code). k.value) c.code.ensures) in
     let text : string_bytes c.in_ok-format.field-0 ≡ 43 ∷ (decimal number.code.value ++ 32 ∷ laid) = c.in_ok-format.ensures.ok ∙ ap (λ d. 43 ∷ (d ++ 32 ∷ laid)) shown in
     ok_again c.with_extension.result _ _
-        (λ t h. h ∙ ap (λ s. s ++ ext) text ∙ ap (λ s. 43 ∷ s) (append_assoc (decimal number.code.value) (32 ∷ laid) ext))
-        c.with_extension.ensures
+    (λ t h. h ∙ ap (λ s. s ++ ext) text ∙ ap (λ s. 43 ∷ s) (append_assoc (decimal number.code.value) (32 ∷ laid) ext))
+    c.with_extension.ensures
