@@ -43,14 +43,25 @@ pub fn texts(alloc: Global, printer: Formatter<'_, '_, '_>, sign: &str) -> Resul
 /// What a database tells of a number, parted by tabs: its kind, its region or a hyphen, `valid` or `invalid`.
 pub fn queried(alloc: Global, database: &Database, number: &PhoneNumber) -> Result<String> {
     let kind = number.number_type(database)?;
-    let region = match number.country().id(database)? {
-        Some(id) => id.as_str(),
-        None => "-",
-    };
-    let validity = if number.is_valid_with(database)? {
-        "valid"
+    let kind = format!(in alloc; "{kind:?}")?;
+    let region = region(database, number)?;
+    let validity = validity(database, number)?;
+    Ok(format!(in alloc; "{kind}\t{region}\t{validity}")?)
+}
+
+/// The region of a number, or a hyphen.
+fn region(database: &Database, number: &PhoneNumber) -> Result<&'static str> {
+    match number.country().id(database)? {
+        Some(id) => Ok(id.as_str()),
+        None => Ok("-"),
+    }
+}
+
+/// Whether a number is valid, as the tables write it.
+fn validity(database: &Database, number: &PhoneNumber) -> Result<&'static str> {
+    if number.is_valid_with(database)? {
+        Ok("valid")
     } else {
-        "invalid"
-    };
-    Ok(format!(in alloc; "{kind:?}\t{region}\t{validity}")?)
+        Ok("invalid")
+    }
 }

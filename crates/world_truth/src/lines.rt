@@ -59,23 +59,39 @@ fn printed(alloc: Global, database: &Database, number: &PhoneNumber, mode: Mode)
 
 /// How a number's code was found, its kind, its region or a hyphen, and `valid` or `invalid`, parted by tabs.
 fn queried(alloc: Global, database: &Database, number: &PhoneNumber) -> Result<String> {
-    let source = match number.code().source() {
+    let source = source(number.code().source());
+    let kind = number.number_type(database)?;
+    let kind = format!(in alloc; "{kind:?}")?;
+    let region = region_of(database, number)?;
+    let validity = validity(database, number)?;
+    Ok(format!(in alloc; "{source}\t{kind}\t{region}\t{validity}")?)
+}
+
+/// How the report writes the way in which a code was found.
+fn source(source: Source) -> &'static str {
+    match source {
         Source::Plus => "plus",
         Source::Idd => "idd",
         Source::Number => "number",
         Source::Default => "default",
-    };
-    let kind = number.number_type(database)?;
-    let region = match number.country().id(database)? {
-        Some(id) => id.as_str(),
-        None => "-",
-    };
-    let validity = if number.is_valid_with(database)? {
-        "valid"
+    }
+}
+
+/// The region of a number, or a hyphen.
+fn region_of(database: &Database, number: &PhoneNumber) -> Result<&'static str> {
+    match number.country().id(database)? {
+        Some(id) => Ok(id.as_str()),
+        None => Ok("-"),
+    }
+}
+
+/// Whether a number is valid, as the report writes it.
+fn validity(database: &Database, number: &PhoneNumber) -> Result<&'static str> {
+    if number.is_valid_with(database)? {
+        Ok("valid")
     } else {
-        "invalid"
-    };
-    Ok(format!(in alloc; "{source}\t{kind:?}\t{region}\t{validity}")?)
+        Ok("invalid")
+    }
 }
 
 /// The report line of a refusal: `error`, its number and its text.
