@@ -4,8 +4,6 @@
 #[cfg(test)]
 mod accessors;
 #[cfg(test)]
-mod layouts;
-#[cfg(test)]
 mod look_ups;
 #[cfg(test)]
 mod matching;
