@@ -377,12 +377,27 @@ rule_no_plus : (o : Option (List ℕ)) → option_map_or (list_all (λ b. not (b
 rule_no_plus None h = tt
 rule_no_plus (Some rule) h = AllPass-from_list_all (λ b. not (b == 43)) rule h
 
--- where no transform rule has a plus sign
-pub national-digits : (db : List Metadata) (hint : Option Id) (t : List ℕ) (n : Reading) → rules_have_no_plus db ≡ true → Reads db hint t (Ok n) → IsNsn n.national
-national-digits db hint t n plain h =
-    let from = read_from db hint t n h in
+-- where no transform rule has a plus sign, what stripping leaves of the digits after a code has none
+left_no_plus : (db : List Metadata) (hint : Option Id) (n : List ℕ) (p : Option (List ℕ)) (c : Coded) → rules_have_no_plus db ≡ true → code_of db hint n p ≡ Ok c →
+    All IsNoPlus (stripped (stripping_territory db hint c) c.rest).national
+left_no_plus db hint n p c plain coded =
     let of_rule : Metadata → Bool = λ m. option_map_or (list_all (λ b. not (b == 43))) m.national_prefix_transform_rule true in
     let rules = All-weaker (λ (m : Metadata). of_rule m ≡ true) (λ (m : Metadata). IfSome m.national_prefix_transform_rule (All IsNoPlus))
     (λ m. rule_no_plus m.national_prefix_transform_rule) db (AllPass-from_list_all of_rule db plain) in
-    let left = All-left IsNoPlus digit_no_plus db hint from.parts.national from.parts.prefix from.code from.coded rules in
-    nsn-own _ n.national left from.national
+    All-left IsNoPlus digit_no_plus db hint n p c coded rules
+
+-- then it is the text of the number that it is read as
+pub nsn-left : (db : List Metadata) (hint : Option Id) (n : List ℕ) (p : Option (List ℕ)) (c : Coded) (number : National) → rules_have_no_plus db ≡ true →
+    code_of db hint n p ≡ Ok c → nsn (stripped (stripping_territory db hint c) c.rest).national ≡ Ok number →
+    text_of number ≡ (stripped (stripping_territory db hint c) c.rest).national
+nsn-left db hint n p c number plain coded read =
+    let t = (stripped (stripping_territory db hint c) c.rest).national in
+    let first = else_ok (nat_lt (length t) 2) TooShortNsn (if nat_lt 17 (length t) then Err TooLong else national_in t) number read in
+    let second = else_ok (nat_lt 17 (length t)) TooLong (national_in t) number first.1 in
+    (national_in-own t number (left_no_plus db hint n p c plain coded) second.1).text
+
+-- and the number has 2 to 17 digits and a value
+pub national-digits : (db : List Metadata) (hint : Option Id) (t : List ℕ) (n : Reading) → rules_have_no_plus db ≡ true → Reads db hint t (Ok n) → IsNsn n.national
+national-digits db hint t n plain h =
+    let from = read_from db hint t n h in
+    nsn-own _ n.national (left_no_plus db hint from.parts.national from.parts.prefix from.code plain from.coded) from.national

@@ -1,5 +1,5 @@
 -- Printed numbers are read back, by what the readers find in the printed texts.
-use Rattle.std.proofs.Common.{◌≡◌, ◌⊎◌, inl, inr, ℕ, ◌<◌, ◌≤◌, ◌^◌, ◌==◌, ◌||◌, not, Bool, true, false, List, [], ◌∷◌, ◌++◌, codes, length, filter, Option, None, Some, IfSome, option_map, Ok, if◌then◌else◌, refl, ap, ap₂, sym, subst, ◌∙◌, append-nil, arith, length-append}
+use Rattle.std.proofs.Common.{◌≡◌, ◌⊎◌, inl, inr, ℕ, ◌<◌, ◌≤◌, ◌^◌, ◌==◌, ◌||◌, not, Bool, true, false, List, [], ◌∷◌, ◌++◌, codes, length, filter, Option, None, Some, IfSome, IsUtf8, option_map, Ok, if◌then◌else◌, refl, ap, ap₂, sym, subst, ◌∙◌, append-nil, arith, length-append}
 use Rattle.std.proofs.lemmas.Bool.{and_from, and_parts, not-true, not_from_false, or_cases, or_left, or_parts, or_right}
 use Rattle.std.proofs.lemmas.Fmt.{decimal_nonempty}
 use Rattle.std.proofs.lemmas.List.Elements.{filter_map-append}
@@ -14,7 +14,7 @@ use Rattle.phone_core.specs.Characters.{digit_of, is_digit, is_one_of, is_plus, 
 use Rattle.phone_core.specs.Cuts.{after_front}
 use Rattle.phone_core.specs.Norm.{norm}
 use Rattle.phone_core.specs.Nsn.{nsn}
-use Rattle.phone_core.specs.Numbers.{text_of}
+use Rattle.phone_core.specs.Numbers.{IsHeld, text_of}
 use Rattle.phone_core.specs.Viable.{IsViable}
 use Rattle.phone_core.specs.declared.country.Source.TheVariants.{Plus}
 use Rattle.phone_core.specs.declared.mode.Mode.{Mode}
@@ -24,12 +24,14 @@ use Rattle.phone_meta.specs.declared.loader.Metadata.{Metadata}
 use Rattle.phone_parts.proofs.Ends.{all_wider}
 use Rattle.phone_parts.specs.Readers.{HasParts}
 use Rattle.phone_read.proofs.ListedFronts.{listed_some}
+use Rattle.phone_read.specs.TransformRules.{rules_have_no_plus}
 use Rattle.phone_read.specs.declared.reading.Reading.{Reading}
-use Rattle.phonenumber.specs.Plain.{IsIdle, IsPlain, IsPlainE164, IsPlainInternational, IsPlainRfc3966, has_digits}
+use Rattle.phonenumber.specs.Again.{IsReadAs}
+use Rattle.phonenumber.specs.Plain.{IsBounded, IsIdle, IsPlain, IsPlainE164, IsPlainInternational, IsPlainRfc3966, has_digits}
 use Rattle.phonenumber.specs.Texts.{e164_text, extension_part, hyphenated, laid_out, printed, text_by}
 use Rattle.phonenumber.proofs.BackNumbers.{list_all-decimal, list_all-text_of, nsn-text_of}
 use Rattle.phonenumber.proofs.ThinTexts.{digit_passes}
-use Rattle.phonenumber.proofs.BackReads.{IsReadAs, code_of-prefix, code_of-signed, read_as}
+use Rattle.phonenumber.proofs.BackReads.{IsFoundAs, code_of-prefix, code_of-signed, idle_as, read_as}
 use Rattle.phonenumber.proofs.BackTexts.{all_dialled, announced, chars-e164_text, chars-international_text, chars-rfc3966_text, hyphenated-digits, is_dialled, parted_dialled}
 use Rattle.phonenumber.proofs.BackViable.{all_allowed, all_from_left, digits_left, indicating, is_parted, no_digits, norm-parted, parted_digit, viable-parted}
 
@@ -73,10 +75,10 @@ no_sign t parted = after_front-append [] t refl (all_allowed t parted)
 parted_digits : (t : List ℕ) → list_all is_digit t ≡ true → list_all is_parted t ≡ true
 parted_digits t h = all_wider is_digit is_parted parted_digit t h
 
-between_digits : (c : ℕ) → is_digit c ≡ true → is_separator c ≡ false
+pub between_digits : (c : ℕ) → is_digit c ≡ true → is_separator c ≡ false
 between_digits c digit = not-true (is_separator c) (digit_passes (λ x. not (is_separator x)) refl c digit)
 
-punctuated : (c : ℕ) → is_digit c ≡ true → is_punctuation c ≡ false
+pub punctuated : (c : ℕ) → is_digit c ≡ true → is_punctuation c ≡ false
 punctuated c digit = (or_parts (is_punctuation c) (c == 0xFF0E) (between_digits c digit)).0
 
 -- with punctuation that announces nothing alone, what is between digits is quiet
@@ -91,7 +93,11 @@ quiet_between (c ∷ cs) h none =
     ] in
     and_from _ _ here (quiet_between cs both.1 parts.1)
 
-module _ (db : List Metadata) (n : Reading) (least : ℕ) (m : Metadata) (plain : IsPlain db n least m) (idle : IsIdle db n.code.value (text_of n.national)) where
+-- the digits of a plain number are read as its national number
+plain_number : (db : List Metadata) (n : Reading) (least : ℕ) (m : Metadata) → IsHeld n.national → IsPlain db n least m → 2 ≤ least → nsn (text_of n.national) ≡ Ok n.national
+plain_number db n least m held plain two = nsn-text_of n.national held plain.not_zero (omega (arith, two, plain.long_enough)) plain.short_enough
+
+module _ (db : List Metadata) (n : Reading) (least : ℕ) (m : Metadata) (held : IsHeld n.national) (plain : IsPlain db n least m) where
   abbrev code : ℕ
   code = n.code.value
 
@@ -102,21 +108,23 @@ module _ (db : List Metadata) (n : Reading) (least : ℕ) (m : Metadata) (plain 
   listed = listed_some code db m (sym plain.listed)
 
   all : list_all is_digit digits ≡ true
-  all = list_all-text_of n.national plain.held
-
-  number : 2 ≤ length digits → nsn digits ≡ Ok n.national
-  number two = nsn-text_of n.national plain.held plain.not_zero two plain.short_enough
+  all = list_all-text_of n.national held
 
   -- a text with such a national part after a plus sign
-  signed_back : (t s : List ℕ) (e : Option (List ℕ)) → HasParts t (Some (record { national = 43 ∷ s; prefix = None; extension = e })) →
+  signed_found : (t s : List ℕ) (e : Option (List ℕ)) → HasParts t (Some (record { national = 43 ∷ s; prefix = None; extension = e })) →
       list_all is_parted s ≡ true → norm s ≡ decimal code ++ digits → 2 ≤ length digits → 1 ≤ code → code ≤ 999 → is_prefix_free db ≡ true →
-      IsReadAs db t code n.national (option_map norm e)
-  signed_back t s e parts parted normal two some few free =
+      IsFoundAs db t n (option_map norm e)
+  signed_found t s e parts parted normal two some few free =
       let fits : code < 2 ^ 64 = omega (arith, few) in
       let three : 3 ≤ length (norm s) = omega (arith, ap length normal, length-append (decimal code) digits, decimal_nonempty code fits, two) in
-      let viable : IsViable (43 ∷ s) = viable-parted (43 ∷ []) s refl parted three in
-      read_as db t (record { national = 43 ∷ s; prefix = None; extension = e }) Plus code n.national parts viable
-      (code_of-signed db code digits listed s free some few two (no_sign s parted) normal) idle (number two)
+      record {
+        parts = record { national = 43 ∷ s; prefix = None; extension = e };
+        source = Plus;
+        found = parts;
+        viable = viable-parted (43 ∷ []) s refl parted three;
+        coded = code_of-signed db code digits listed s free some few two (no_sign s parted) normal;
+        same_extension = refl;
+      }
 
   module _ (some : 1 ≤ code) (few : code ≤ 999) (free : is_prefix_free db ≡ true) (two : 2 ≤ length digits) where
     fits : code < 2 ^ 64
@@ -125,18 +133,18 @@ module _ (db : List Metadata) (n : Reading) (least : ℕ) (m : Metadata) (plain 
     code_digits : list_all is_digit (decimal code) ≡ true
     code_digits = list_all-decimal code fits
 
-    pub e164_read : FindsSigned → IsReadAs db (chars (e164_text n)) code n.national None
-    e164_read finds =
+    pub e164_parted : FindsSigned → IsFoundAs db (chars (e164_text n)) n None
+    e164_parted finds =
         let s = decimal code ++ digits in
         let s_digits : list_all is_digit s ≡ true = list_all-append is_digit (decimal code) digits ∙ and_from _ _ code_digits all in
         let one : 1 ≤ length s = omega (arith, length-append (decimal code) digits, decimal_nonempty code fits) in
-        subst (λ t. IsReadAs db t code n.national None) (sym (chars-e164_text n fits plain.held))
-        (signed_back (43 ∷ s) s None (finds s s_digits one) (parted_digits s s_digits) (norm_digits s s_digits) two some few free)
+        subst (λ t. IsFoundAs db t n None) (sym (chars-e164_text n fits held))
+        (signed_found (43 ∷ s) s None (finds s s_digits one) (parted_digits s s_digits) (norm_digits s s_digits) two some few free)
 
-    pub international_read : FindsInternational → has_digits n.extension ≡ true → option_map_or length n.extension 0 ≤ 7 →
+    pub international_parted : FindsInternational → has_digits n.extension ≡ true → option_map_or length n.extension 0 ≤ 7 →
         (q : List ℕ) → list_all (λ c. is_digit c || is_punctuation c) q ≡ true → list_any (is_one_of indicating) q ≡ false → filter is_digit q ≡ digits →
-        IsReadAs db (43 ∷ (decimal code ++ 32 ∷ (q ++ announced (codes " ext. ") n.extension))) code n.national n.extension
-    international_read finds extension seven q only quiet left =
+        IsFoundAs db (43 ∷ (decimal code ++ 32 ∷ (q ++ announced (codes " ext. ") n.extension))) n n.extension
+    international_parted finds extension seven q only quiet left =
         let e = n.extension in
         let cd = decimal code in
         let (kept, rest, whole, only_rest, parts) = finds cd q e code_digits only quiet (any_of_left is_digit q (omega (arith, ap length left, two))) extension seven in
@@ -151,22 +159,24 @@ module _ (db : List Metadata) (n : Reading) (least : ℕ) (m : Metadata) (plain 
         let normal : norm s ≡ cd ++ digits =
         filter_map-append digit_of cd (32 ∷ kept) ∙ ap₂ (λ a b. a ++ b) (norm_digits cd code_digits) of_kept in
         let t = 43 ∷ (cd ++ 32 ∷ (q ++ announced (codes " ext. ") e)) in
-        subst (IsReadAs db t code n.national) (norm_extension e extension) (signed_back t s e parts s_parted normal two some few free)
+        subst (IsFoundAs db t n) (norm_extension e extension) (signed_found t s e parts s_parted normal two some few free)
 
-  pub rfc3966_read : FindsTel → code < 2 ^ 16 → 3 ≤ length digits → has_digits n.extension ≡ true →
+  pub rfc3966_parted : FindsTel → code < 2 ^ 16 → 3 ≤ length digits → has_digits n.extension ≡ true →
       (h : List ℕ) → list_all is_dialled h ≡ true → filter is_digit h ≡ digits →
-      IsReadAs db (codes "tel:+" ++ (decimal code ++ 45 ∷ (h ++ announced (codes ";ext=") n.extension))) code n.national n.extension
-  rfc3966_read finds below three extension h dialled left =
+      IsFoundAs db (codes "tel:+" ++ (decimal code ++ 45 ∷ (h ++ announced (codes ";ext=") n.extension))) n n.extension
+  rfc3966_parted finds below three extension h dialled left =
       let e = n.extension in
-      let t = codes "tel:+" ++ (decimal code ++ 45 ∷ (h ++ announced (codes ";ext=") e)) in
       let fits : code < 2 ^ 64 = omega (arith, below) in
-      let parts = finds (decimal code) h e (list_all-decimal code fits) (decimal_nonempty code fits) dialled (all_if_some e extension) in
       let parted : list_all is_parted (45 ∷ h) ≡ true = all_wider is_dialled is_parted parted_dialled (45 ∷ h) dialled in
       let normal : norm (45 ∷ h) ≡ digits = norm-parted (45 ∷ h) parted ∙ left in
-      let viable : IsViable (45 ∷ h) = viable-parted [] (45 ∷ h) refl parted (omega (arith, ap length normal, three)) in
-      subst (IsReadAs db t code n.national) (norm_extension e extension)
-      (read_as db t (record { national = 45 ∷ h; prefix = Some (decimal code); extension = e }) Plus code n.national parts viable
-      (code_of-prefix db code digits listed (45 ∷ h) below three normal) idle (number (omega (arith, three))))
+      record {
+        parts = record { national = 45 ∷ h; prefix = Some (decimal code); extension = e };
+        source = Plus;
+        found = finds (decimal code) h e (list_all-decimal code fits) (decimal_nonempty code fits) dialled (all_if_some e extension);
+        viable = viable-parted [] (45 ∷ h) refl parted (omega (arith, ap length normal, three));
+        coded = code_of-prefix db code digits listed (45 ∷ h) below three normal;
+        same_extension = norm_extension e extension;
+      }
 
 -- the text that is printed is the text of the mode by the first territory
 printed_text : (db : List Metadata) (mode : Mode) (n : Reading) (m : Metadata) (text : List ℕ) → first_of (territories n.code.value db) ≡ Some m →
@@ -175,26 +185,25 @@ printed_text db mode n m text listed e =
     let same : Some (text_by m mode None n) ≡ Some text = sym (ap (option_map (λ m. text_by m mode None n)) listed) ∙ e in cc
 
 -- the E.164 text of a plain number
-pub e164_back : FindsSigned → (db : List Metadata) (n : Reading) (text : List ℕ) → IsPlainE164 db n → IsIdle db n.code.value (text_of n.national) →
-    1 ≤ n.code.value → n.code.value ≤ 999 → is_prefix_free db ≡ true → printed db E164 None n ≡ Some text →
-    IsReadAs db (chars text) n.code.value n.national None
-e164_back finds db n text (m, plain) idle some few free e =
-    subst (λ t. IsReadAs db (chars t) n.code.value n.national None) (printed_text db E164 n m text plain.listed e)
-    (e164_read db n 2 m plain idle some few free plain.long_enough finds)
+e164_found : FindsSigned → (db : List Metadata) (n : Reading) (text : List ℕ) → IsBounded n → IsPlainE164 db n →
+    1 ≤ n.code.value → n.code.value ≤ 999 → is_prefix_free db ≡ true → printed db E164 None n ≡ Some text → IsFoundAs db (chars text) n None
+e164_found finds db n text bounded (m, plain) some few free e =
+    subst (λ t. IsFoundAs db (chars t) n None) (printed_text db E164 n m text plain.listed e)
+    (e164_parted db n 2 m bounded.national plain some few free plain.long_enough finds)
 
 -- the text of RFC 3966
-pub rfc3966_back : FindsTel → (db : List Metadata) (n : Reading) (text : List ℕ) → IsPlainRfc3966 db n → IsIdle db n.code.value (text_of n.national) →
-    printed db Rfc3966 None n ≡ Some text → IsReadAs db (chars text) n.code.value n.national n.extension
-rfc3966_back finds db n text p idle e =
+rfc3966_found : FindsTel → (db : List Metadata) (n : Reading) (text : List ℕ) → IsBounded n → IsPlainRfc3966 db n →
+    printed db Rfc3966 None n ≡ Some text → IsFoundAs db (chars text) n n.extension
+rfc3966_found finds db n text bounded p e =
     let q = chars (laid_out p.territory International None n) in
-    let all = list_all-text_of n.national p.plain.held in
+    let all = list_all-text_of n.national bounded.national in
     let only : list_all (λ c. is_digit c || is_separator c) q ≡ true = all_from_left is_separator between_digits q (ap (list_all is_digit) p.only_parted ∙ all) in
     let dialled : list_all is_dialled (hyphenated q) ≡ true = all_dialled between_digits q only in
     let left : filter is_digit (hyphenated q) ≡ text_of n.national = hyphenated-digits between_digits q only ∙ digits_left is_separator between_digits q only ∙ p.only_parted in
-    let fits : n.code.value < 2 ^ 64 = omega (arith, p.code_fits) in
+    let fits : n.code.value < 2 ^ 64 = omega (arith, bounded.code) in
     let whole = ap chars (sym (printed_text db Rfc3966 n p.territory text p.plain.listed e)) ∙ chars-rfc3966_text n fits p.territory p.extension dialled in
-    subst (λ t. IsReadAs db t n.code.value n.national n.extension) (sym whole)
-    (rfc3966_read db n 3 p.territory p.plain idle finds p.code_fits p.plain.long_enough p.extension (hyphenated q) dialled left)
+    subst (λ t. IsFoundAs db t n n.extension) (sym whole)
+    (rfc3966_parted db n 3 p.territory bounded.national p.plain finds bounded.code p.plain.long_enough p.extension (hyphenated q) dialled left)
 
 -- an extension is announced by ` ext. ` where the territory prefers nothing else
 by_default : (m : Metadata) (e : Option (List ℕ)) → (e ≡ None) ⊎ (m.preferred_extension_prefix ≡ None) → extension_part m e ≡ announced (codes " ext. ") e
@@ -203,17 +212,43 @@ by_default m (Some e) (inl none) = cc
 by_default m (Some e) (inr none) = rw none
 
 -- the international text
-pub international_back : FindsInternational → (db : List Metadata) (n : Reading) (text : List ℕ) (p : IsPlainInternational db n) →
-    IsIdle db n.code.value (text_of n.national) → 1 ≤ n.code.value → n.code.value ≤ 999 → is_prefix_free db ≡ true →
-    (n.extension ≡ None) ⊎ (p.territory.preferred_extension_prefix ≡ None) → printed db International None n ≡ Some text →
-    IsReadAs db (chars text) n.code.value n.national n.extension
-international_back finds db n text p idle some few free default e =
+international_found : FindsInternational → (db : List Metadata) (n : Reading) (text : List ℕ) → IsBounded n → IsUtf8 text → (p : IsPlainInternational db n) →
+    1 ≤ n.code.value → n.code.value ≤ 999 → is_prefix_free db ≡ true →
+    (n.extension ≡ None) ⊎ (p.territory.preferred_extension_prefix ≡ None) → printed db International None n ≡ Some text → IsFoundAs db (chars text) n n.extension
+international_found finds db n text bounded utf8 p some few free default e =
     let q = chars (laid_out p.territory International None n) in
-    let all = list_all-text_of n.national p.plain.held in
+    let all = list_all-text_of n.national bounded.national in
     let only : list_all (λ c. is_digit c || is_punctuation c) q ≡ true = all_from_left is_punctuation punctuated q (ap (list_all is_digit) p.only_parted ∙ all) in
     let left : filter is_digit q ≡ text_of n.national = digits_left is_punctuation punctuated q only ∙ p.only_parted in
     let fits : n.code.value < 2 ^ 64 = omega (arith, few) in
-    let whole = ap chars (sym (printed_text db International n p.territory text p.plain.listed e))
-    ∙ chars-international_text n fits p.territory p.extension (by_default p.territory n.extension default) p.utf8 in
-    subst (λ t. IsReadAs db t n.code.value n.national n.extension) (sym whole)
-    (international_read db n 2 p.territory p.plain idle some few free p.plain.long_enough finds p.extension p.few_digits q only p.no_indicator left)
+    let same = sym (printed_text db International n p.territory text p.plain.listed e) in
+    let whole = ap chars same
+    ∙ chars-international_text n fits p.territory p.extension (by_default p.territory n.extension default) (subst IsUtf8 same utf8) in
+    subst (λ t. IsFoundAs db t n n.extension) (sym whole)
+    (international_parted db n 2 p.territory bounded.national p.plain some few free p.plain.long_enough finds p.extension p.few_digits q only p.no_indicator left)
+
+module _ (finds : FindsSigned) (db : List Metadata) (n : Reading) (text : List ℕ) (bounded : IsBounded n) (p : IsPlainE164 db n)
+    (some : 1 ≤ n.code.value) (few : n.code.value ≤ 999) (free : is_prefix_free db ≡ true) (e : printed db E164 None n ≡ Some text) where
+  pub e164_back : IsIdle db n.code.value (text_of n.national) → IsReadAs db (chars text) n None
+  e164_back = read_as db (chars text) n None (e164_found finds db n text bounded p some few free e) (plain_number db n 2 p.0 bounded.national p.1 (omega arith))
+
+  pub e164_idle : rules_have_no_plus db ≡ true → IsReadAs db (chars text) n None → IsIdle db n.code.value (text_of n.national)
+  e164_idle = idle_as db (chars text) n None (e164_found finds db n text bounded p some few free e)
+
+module _ (finds : FindsTel) (db : List Metadata) (n : Reading) (text : List ℕ) (bounded : IsBounded n) (p : IsPlainRfc3966 db n) (e : printed db Rfc3966 None n ≡ Some text) where
+  pub rfc3966_back : IsIdle db n.code.value (text_of n.national) → IsReadAs db (chars text) n n.extension
+  rfc3966_back = read_as db (chars text) n n.extension (rfc3966_found finds db n text bounded p e) (plain_number db n 3 p.territory bounded.national p.plain (omega arith))
+
+  pub rfc3966_idle : rules_have_no_plus db ≡ true → IsReadAs db (chars text) n n.extension → IsIdle db n.code.value (text_of n.national)
+  rfc3966_idle = idle_as db (chars text) n n.extension (rfc3966_found finds db n text bounded p e)
+
+module _ (finds : FindsInternational) (db : List Metadata) (n : Reading) (text : List ℕ) (bounded : IsBounded n) (utf8 : IsUtf8 text) (p : IsPlainInternational db n)
+    (some : 1 ≤ n.code.value) (few : n.code.value ≤ 999) (free : is_prefix_free db ≡ true)
+    (default : (n.extension ≡ None) ⊎ (p.territory.preferred_extension_prefix ≡ None)) (e : printed db International None n ≡ Some text) where
+  pub international_back : IsIdle db n.code.value (text_of n.national) → IsReadAs db (chars text) n n.extension
+  international_back =
+      read_as db (chars text) n n.extension (international_found finds db n text bounded utf8 p some few free default e)
+      (plain_number db n 2 p.territory bounded.national p.plain (omega arith))
+
+  pub international_idle : rules_have_no_plus db ≡ true → IsReadAs db (chars text) n n.extension → IsIdle db n.code.value (text_of n.national)
+  international_idle = idle_as db (chars text) n n.extension (international_found finds db n text bounded utf8 p some few free default e)

@@ -1,8 +1,9 @@
 -- What a text is read as, from the parts that the readers find in it on.
-use Rattle.std.proofs.Common.{◌≡◌, inl, inr, ℕ, ◌<◌, ◌≤◌, ◌^◌, true, List, ◌∷◌, ◌++◌, length, Option, None, Some, option_map, Ok, refl, ap, ap₂, subst, ◌∙◌, arith, length-append}
+use Rattle.std.proofs.Common.{◌≡◌, inl, inr, ℕ, ◌<◌, ◌≤◌, ◌^◌, true, List, ◌∷◌, ◌++◌, length, Option, None, Some, option_map, Result, Ok, Err, refl, ap, ap₂, sym, subst, ◌∙◌, arith, length-append}
 use Rattle.std.proofs.Math.Seq.{drop-append_seam}
 use Rattle.std.proofs.lemmas.Fmt.{decimal_nonempty}
 use Rattle.std.specs.Fmt.{decimal}
+use Rattle.std.specs.Result.{result_map_both}
 use Rattle.phone_core.proofs.Norms.{norm_digits}
 use Rattle.phone_core.specs.Characters.{is_plus}
 use Rattle.phone_core.specs.Cuts.{after_front}
@@ -12,11 +13,14 @@ use Rattle.phone_core.specs.Numbers.{National, text_of}
 use Rattle.phone_core.specs.Viable.{IsViable}
 use Rattle.phone_core.specs.declared.country.Source.{Source}
 use Rattle.phone_core.specs.declared.country.Source.TheVariants.{Plus}
+use Rattle.phone_core.specs.declared.error.ParseError.{ParseError}
 use Rattle.phone_meta.specs.Codes.{is_listed, is_prefix_free, shortest}
 use Rattle.phone_meta.specs.declared.loader.Metadata.{Metadata}
 use Rattle.phone_parts.specs.Parts.{Parts}
 use Rattle.phone_parts.specs.Readers.{HasParts}
 use Rattle.phone_read.proofs.ListedFronts.{more_than_two, prefix_listed}
+use Rattle.phone_read.proofs.ReadingOnes.{reading_same}
+use Rattle.phone_read.proofs.ReadNumbers.{nsn-left}
 use Rattle.phone_read.specs.Codes.{code_by_front, code_by_prefix, code_of, with_three}
 use Rattle.phone_read.specs.Hints.{Coded}
 use Rattle.phone_read.specs.Numbering.{reading_of}
@@ -24,33 +28,68 @@ use Rattle.phone_read.specs.Readings
 use Rattle.phone_read.specs.Readings.{Reads, stripped, without_zeros}
 use Rattle.phone_read.specs.Regions.{home}
 use Rattle.phone_read.specs.Strips.{Stripped}
+use Rattle.phone_read.specs.TransformRules.{rules_have_no_plus}
 use Rattle.phone_read.specs.declared.reading.Reading.{Reading}
+use Rattle.phonenumber.specs.Again.{IsReadAs}
 use Rattle.phonenumber.specs.Plain.{IsIdle}
 use Rattle.phonenumber.proofs.BackCodes.{number_in-decimal, shortest-decimal}
 use Rattle.phonenumber.proofs.BackNumbers.{list_all-decimal}
 
--- without a hint the text is read as this code, national number and extension
-abbrev pub IsReadAs : List Metadata → List ℕ → ℕ → National → Option (List ℕ) → Type 0
-IsReadAs db t code national extension =
-    (m : Reading) × (Reads db None t (Ok m)) × (m.code.value ≡ code) × (m.national ≡ national) × (m.extension ≡ extension)
+-- what is found in a text before stripping: parts whose national part is viable, and a code that leaves the digits of the number
+pub record IsFoundAs (db : List Metadata) (t : List ℕ) (n : Reading) (extension : Option (List ℕ)) : Type 0 where
+  pub parts : Parts
+  pub source : Source
+  pub found : HasParts t (Some parts)
+  pub viable : IsViable parts.national
+  pub coded : code_of db None parts.national parts.prefix ≡ Ok (record { source = source; value = n.code.value; rest = text_of n.national })
+  pub same_extension : option_map norm parts.extension ≡ extension
 
--- idle digits are left as they are
-idle_left : (db : List Metadata) (code : ℕ) (digits : List ℕ) → IsIdle db code digits →
-    (stripped (home db code (without_zeros digits)) digits).national ≡ digits
+-- what stripping leaves of the digits after a code
+abbrev left : List Metadata → ℕ → List ℕ → Stripped
+left db code digits = stripped (home db code (without_zeros digits)) digits
+
+idle_left : (db : List Metadata) (code : ℕ) (digits : List ℕ) → IsIdle db code digits → (left db code digits).national ≡ digits
 idle_left db code digits (inl none) = ap (λ o. (stripped o digits).national) none
-idle_left db code digits (inr (m, there, left)) = ap (λ o. (stripped o digits).national) there ∙ left
+idle_left db code digits (inr (m, there, same)) = ap (λ o. (stripped o digits).national) there ∙ same
 
--- from the code on
-pub read_as : (db : List Metadata) (t : List ℕ) (p : Parts) (source : Source) (code : ℕ) (n : National) → HasParts t (Some p) → IsViable p.national →
-    code_of db None p.national p.prefix ≡ Ok (record { source = source; value = code; rest = text_of n }) → IsIdle db code (text_of n) → nsn (text_of n) ≡ Ok n →
-    IsReadAs db t code n (option_map norm p.extension)
-read_as db t p source code n parts viable coded idle number =
-    let c : Coded = record { source = source; value = code; rest = text_of n } in
-    let s : Stripped = stripped (home db code (without_zeros (text_of n))) (text_of n) in
-    let m : Reading = record { code = record { value = code; source = source }; national = n; extension = option_map norm p.extension; carrier = s.carrier } in
-    let left : nsn s.national ≡ Ok n = ap nsn (idle_left db code (text_of n) idle) ∙ number in
-    let whole : reading_of c (option_map norm p.extension) s ≡ Ok m = rw left in
-    (m, subst (λ r. Reads db None t r) whole (Readings.coded p c parts viable coded), refl, refl, refl)
+idle_of : (db : List Metadata) (code : ℕ) (digits : List ℕ) (o : Option Metadata) → home db code (without_zeros digits) ≡ o → (stripped o digits).national ≡ digits →
+    IsIdle db code digits
+idle_of db code digits None there same = inl there
+idle_of db code digits (Some m) there same = inr (m, there, same)
+
+ok_inside : (c : Coded) (e : Option (List ℕ)) (s : Stripped) (m : Reading) → Ok m ≡ reading_of c e s → nsn s.national ≡ Ok m.national
+ok_inside c e s m = at (nsn s.national)
+  where
+    at : (r : Result National ParseError) →
+        Ok m ≡ result_map_both (λ n. record { code = record { value = c.value; source = c.source }; national = n; extension = e; carrier = s.carrier }) (λ e. e) r → r ≡ Ok m.national
+    at (Ok n) h = cc
+    at (Err x) h = cc
+
+module _ (db : List Metadata) (t : List ℕ) (n : Reading) (extension : Option (List ℕ)) (f : IsFoundAs db t n extension) where
+  abbrev c : Coded
+  c = record { source = f.source; value = n.code.value; rest = text_of n.national }
+
+  reads : Reads db None t (reading_of c (option_map norm f.parts.extension) (left db n.code.value (text_of n.national)))
+  reads = Readings.coded f.parts c f.found f.viable f.coded
+
+  -- where stripping leaves the digits alone, the text is read as the number
+  pub read_as : nsn (text_of n.national) ≡ Ok n.national → IsIdle db n.code.value (text_of n.national) → IsReadAs db t n extension
+  read_as number idle =
+      let s = left db n.code.value (text_of n.national) in
+      let m : Reading = record { code = record { value = n.code.value; source = f.source }; national = n.national; extension = option_map norm f.parts.extension; carrier = s.carrier } in
+      let of_left : nsn s.national ≡ Ok n.national = ap nsn (idle_left db n.code.value (text_of n.national) idle) ∙ number in
+      let whole : reading_of c (option_map norm f.parts.extension) s ≡ Ok m = rw of_left in
+      (m, subst (λ r. Reads db None t r) whole reads, record { code = refl; national = refl; extension = f.same_extension })
+
+  -- and only there, where no transform rule has a plus sign
+  pub idle_as : rules_have_no_plus db ≡ true → IsReadAs db t n extension → IsIdle db n.code.value (text_of n.national)
+  idle_as plain (m, is_read, same) =
+      let digits = text_of n.national in
+      let s = left db n.code.value digits in
+      let whole : Ok m ≡ reading_of c (option_map norm f.parts.extension) s = reading_same db None t (Ok m) _ is_read reads in
+      let number : nsn s.national ≡ Ok m.national = ok_inside c (option_map norm f.parts.extension) s m whole in
+      let text : text_of m.national ≡ s.national = nsn-left db None f.parts.national f.parts.prefix c m.national plain f.coded number in
+      idle_of db n.code.value digits (home db n.code.value (without_zeros digits)) refl (sym text ∙ ap text_of same.national)
 
 module _ (db : List Metadata) (code : ℕ) (digits : List ℕ) (listed : is_listed code db ≡ true) where
   -- the code after a plus sign: the front of the digits that is the printed code

@@ -42,7 +42,7 @@ chars-low t h = chars-IsAscii t (IsAscii-low t h)
 low_append : (xs ys : List ℕ) → list_all is_low xs ≡ true → list_all is_low ys ≡ true → list_all is_low (xs ++ ys) ≡ true
 low_append xs ys a b = list_all-append is_low xs ys ∙ and_from _ _ a b
 
-low_digits : (t : List ℕ) → list_all is_digit t ≡ true → list_all is_low t ≡ true
+pub low_digits : (t : List ℕ) → list_all is_digit t ≡ true → list_all is_low t ≡ true
 low_digits t h = all_wider is_digit is_low low_digit t h
 
 -- an extension, announced by a text

@@ -1,3 +1,5 @@
+pub mod AgainLaws
+pub mod Reaches
 pub mod ReportRows
 pub mod ThinReadings
 pub mod ThinTexts

@@ -4,8 +4,7 @@ use Rattle.std.specs.List.{find}
 use Rattle.std.specs.Option.{option_or}
 use Rattle.phone_core.specs.declared.mode.Mode.{Mode}
 use Rattle.phone_core.specs.declared.mode.Mode.TheVariants.{E164, International, National, Rfc3966}
-pub use Rattle.phone_meta.specs.First.{is_whole_match}
-pub use Rattle.phone_meta.specs.Layouts.{filled_rule, laid_by, layout_pattern, layout_template, national_template, rule_for, ruled_template, suits, with_mark}
+use Rattle.phone_meta.specs.Layouts.{laid_by, layout_template, national_template, suits}
 use Rattle.phone_meta.specs.declared.loader.Format.{Format}
 use Rattle.phone_meta.specs.declared.loader.Metadata.{Metadata}
 

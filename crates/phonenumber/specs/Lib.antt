@@ -1,3 +1,4 @@
+pub mod Again
 pub mod Layouts
 pub mod Plain
 pub mod Printers

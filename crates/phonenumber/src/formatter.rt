@@ -6,6 +6,7 @@ ghost use Rattle.phone_core.specs.declared.mode.Mode.TheVariants as mode;
 ghost use Rattle.phonenumber.specs.Printers.{database_of, layout_of, mode_of, number_of, text_of};
 ghost use Rattle.phonenumber.specs.Texts.{printed};
 
+use crate::printing::Texts;
 use crate::{PhoneNumber, printing};
 use phone_core::Mode;
 use phone_meta::{Database, Format};
@@ -119,6 +120,28 @@ impl<'n, 'd, 'f> Formatter<'n, 'd, 'f> {
             self.number,
         ) {
             Ok(text) => Ok(text),
+            Err(_) => Err(FormatError::Memory),
+        }
+    }
+}
+
+impl Formatter<'_, '_, '_> {
+    /// The texts in the four modes, whatever the printer's own mode is, each as `to_text` would give it. The layout that the
+    /// international text and that of RFC 3966 share is looked for once.
+    pub fn to_texts(&self, alloc: Global) -> Result<Texts, FormatError>
+        ensures e164 { IfOk result (λ t. printed (database_of self.now) mode.E164 (layout_of self.now) (number_of self.now) ≡ Some (string_bytes t.e164)) }
+        ensures international { IfOk result (λ t. printed (database_of self.now) mode.International (layout_of self.now) (number_of self.now) ≡ Some (string_bytes t.international)) }
+        ensures national { IfOk result (λ t. printed (database_of self.now) mode.National (layout_of self.now) (number_of self.now) ≡ Some (string_bytes t.national)) }
+        ensures rfc3966 { IfOk result (λ t. printed (database_of self.now) mode.Rfc3966 (layout_of self.now) (number_of self.now) ≡ Some (string_bytes t.rfc3966)) }
+        ensures unknown { (result ≡ Err FormatError.UnknownCode) ↔ (text_of self.now ≡ None) }
+    {
+        let code = self.number.code().value();
+        let Some(m) = self.database.first_by_code(&code) else {
+            return Err(FormatError::UnknownCode);
+        };
+        let finder = self.database.first_group_finder();
+        match printing::texts_by(alloc, finder, m, self.format, self.number) {
+            Ok(texts) => Ok(texts),
             Err(_) => Err(FormatError::Memory),
         }
     }

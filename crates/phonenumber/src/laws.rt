@@ -1,16 +1,21 @@
 //! What holds of the definitions of this crate, and of its values. All but `hashes` do nothing; their contracts are the
 //! statements.
-ghost use Rattle.std.specs.Prelude.{◌≡◌, ◌↔◌, ◌||◌, ◌==◌, ◌++◌, ◌∷◌, ℕ, List, Option, Result, true, not};
+ghost use Rattle.std.specs.Prelude.{◌≡◌, ◌⊎◌, ◌↔◌, ◌≤◌, ◌||◌, ◌==◌, ◌++◌, ◌∷◌, ℕ, List, Option, None, Some, Result, Ok, IsUtf8, chars, length, true, not};
 ghost use Rattle.std.specs.List.{list_all};
 ghost use Rattle.phone_core.specs.Characters.{is_separator};
-ghost use Rattle.phone_core.specs.Numbers.{IsHeld};
+ghost use Rattle.phone_core.specs.Numbers.{IsHeld, text_of};
 ghost use Rattle.phone_core.specs.declared.country.Id.{Id};
 ghost use Rattle.phone_core.specs.declared.error.ParseError.{ParseError};
+ghost use Rattle.phone_core.specs.declared.mode.Mode.TheVariants as mode;
 ghost use Rattle.phone_meta.specs.Codes.{is_listed, is_prefix_free};
 ghost use Rattle.phone_meta.specs.declared.loader.Metadata as loader;
 ghost use Rattle.phone_read.specs.Readings.{Reads};
+ghost use Rattle.phone_read.specs.TransformRules.{rules_have_no_plus};
 ghost use Rattle.phone_read.specs.declared.reading.Reading.{Reading};
-ghost use Rattle.phonenumber.specs.Texts.{e164_text, hyphenated};
+ghost use Rattle.phonenumber.specs.Again.{IsReadAs};
+ghost use Rattle.phonenumber.specs.Layouts.{layout_for};
+ghost use Rattle.phonenumber.specs.Plain.{IsBounded, IsIdle, IsPlainE164, IsPlainInternational, IsPlainRfc3966};
+ghost use Rattle.phonenumber.specs.Texts.{e164_text, hyphenated, printed};
 ghost use Rattle.phonenumber.specs.Thin.{IsThinDatabase, ThinReads, is_thin};
 
 use crate::PhoneNumber;
@@ -28,6 +33,59 @@ pub fn thin_readings()
 pub fn key()
     ensures { (db : List loader.Metadata) (a b : Reading) → is_prefix_free db ≡ true → is_listed a.code.value db ≡ true → is_listed b.code.value db ≡ true →
         IsHeld a.national → IsHeld b.national → e164_text a ≡ e164_text b → (a.code.value ≡ b.code.value) × (a.national ≡ b.national) }
+{}
+
+/// The E.164 text of a plain number whose digits stripping leaves alone is read without a hint as its code and its national number,
+/// with no extension. The code has at most three digits, and no listed code's text begins another's: the code is found in the text.
+///
+/// Here and below: the bounds, and that a text is UTF-8, every `PhoneNumber` and every `String` keeps; [`again`](crate::again) asks
+/// for neither.
+pub fn e164_back()
+    ensures { (db : List loader.Metadata) (n : Reading) (text : List ℕ) → IsBounded n → IsPlainE164 db n →
+        IsIdle db n.code.value (text_of n.national) →
+        1 ≤ n.code.value → n.code.value ≤ 999 → is_prefix_free db ≡ true → printed db mode.E164 None n ≡ Some text → IsReadAs db (chars text) n None }
+{}
+
+/// The RFC 3966 text of a plain number whose digits stripping leaves alone is read without a hint as its code, its national number
+/// and its extension; the code may be any listed one, as the text says where it ends.
+pub fn rfc3966_back()
+    ensures { (db : List loader.Metadata) (n : Reading) (text : List ℕ) → IsBounded n → IsPlainRfc3966 db n →
+        IsIdle db n.code.value (text_of n.national) →
+        printed db mode.Rfc3966 None n ≡ Some text → IsReadAs db (chars text) n n.extension }
+{}
+
+/// The international text of a plain number whose digits stripping leaves alone is read without a hint as its code, its national
+/// number and its extension. The code is found as in the E.164 text; where there is an extension, its territory announces it by ` ext. `.
+pub fn international_back()
+    ensures { (db : List loader.Metadata) (n : Reading) (text : List ℕ) → IsBounded n → IsUtf8 text → (plain : IsPlainInternational db n) →
+        IsIdle db n.code.value (text_of n.national) →
+        1 ≤ n.code.value → n.code.value ≤ 999 → is_prefix_free db ≡ true →
+        (n.extension ≡ None) ⊎ (plain.territory.preferred_extension_prefix ≡ None) →
+        printed db mode.International None n ≡ Some text → IsReadAs db (chars text) n n.extension }
+{}
+
+/// How far reading back reaches. Where no transform rule has a plus sign, a plain number is read back from its text exactly where
+/// stripping leaves its digits alone, and each number that was read, under any hint, is plain for the E.164 text. A number that is
+/// plain for the E.164 text, has no extension and no layout is plain for the international text too and, with three digits, for that
+/// of RFC 3966.
+pub fn reach()
+    ensures e164_exactly { (db : List loader.Metadata) (n : Reading) (text : List ℕ) → IsBounded n → IsPlainE164 db n → rules_have_no_plus db ≡ true →
+        1 ≤ n.code.value → n.code.value ≤ 999 → is_prefix_free db ≡ true → printed db mode.E164 None n ≡ Some text →
+        (IsReadAs db (chars text) n None ↔ IsIdle db n.code.value (text_of n.national)) }
+    ensures rfc3966_exactly { (db : List loader.Metadata) (n : Reading) (text : List ℕ) → IsBounded n → IsPlainRfc3966 db n →
+        rules_have_no_plus db ≡ true →
+        printed db mode.Rfc3966 None n ≡ Some text → (IsReadAs db (chars text) n n.extension ↔ IsIdle db n.code.value (text_of n.national)) }
+    ensures international_exactly { (db : List loader.Metadata) (n : Reading) (text : List ℕ) → IsBounded n → IsUtf8 text →
+        (plain : IsPlainInternational db n) →
+        rules_have_no_plus db ≡ true → 1 ≤ n.code.value → n.code.value ≤ 999 → is_prefix_free db ≡ true →
+        (n.extension ≡ None) ⊎ (plain.territory.preferred_extension_prefix ≡ None) → printed db mode.International None n ≡ Some text →
+        (IsReadAs db (chars text) n n.extension ↔ IsIdle db n.code.value (text_of n.national)) }
+    ensures what_is_read { (db : List loader.Metadata) (hint : Option Id) (text : List ℕ) (n : Reading) → rules_have_no_plus db ≡ true →
+        Reads db hint text (Ok n) → IsPlainE164 db n }
+    ensures international_without_layout { (db : List loader.Metadata) (n : Reading) → IsBounded n → (plain : IsPlainE164 db n) → n.extension ≡ None →
+        layout_for plain.0 mode.International None (text_of n.national) ≡ None → IsPlainInternational db n }
+    ensures rfc3966_without_layout { (db : List loader.Metadata) (n : Reading) → IsBounded n → (plain : IsPlainE164 db n) → n.extension ≡ None →
+        layout_for plain.0 mode.International None (text_of n.national) ≡ None → 3 ≤ length (text_of n.national) → IsPlainRfc3966 db n }
 {}
 
 /// Whatever characters a number is laid out with, in the text of RFC 3966 the part between the hyphen after the code and

@@ -1,6 +1,7 @@
 //! Phone numbers: read from a text, printed, compared.
 #![tactic(auto)]
 
+pub mod again;
 mod formatter;
 mod hyphens;
 pub mod laws;
@@ -9,7 +10,6 @@ mod parser;
 mod phone_number;
 mod printing;
 mod queries;
-pub mod read_back;
 pub mod rows;
 
 pub use formatter::{FormatError, Formatter, format_with};
@@ -20,4 +20,5 @@ pub use phone_core::{
     is_viable,
 };
 pub use phone_number::PhoneNumber;
-pub use queries::{Country, is_valid_with};
+pub use printing::Texts;
+pub use queries::{Country, Queried, is_valid_with};

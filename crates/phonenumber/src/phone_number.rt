@@ -1,7 +1,7 @@
 //! A phone number.
-ghost use Rattle.std.specs.Prelude.{◌≡◌, ◌<◌, ◌^◌, IfOk};
+ghost use Rattle.std.specs.Prelude.{◌≡◌, IfOk};
 ghost use Rattle.std.specs.Option.{option_copied};
-ghost use Rattle.phone_core.specs.Numbers.{IsHeld};
+ghost use Rattle.phonenumber.specs.Plain.{IsBounded};
 
 use phone_core::country::Code;
 use phone_core::equality::SameValue;
@@ -81,8 +81,7 @@ impl PhoneNumber {
     /// A law, which does nothing: the national number of every number has at most 255 zeros and a value below 2^56, and its
     /// calling code is below 2^16.
     pub fn keeps_bounds(&self)
-        ensures national { IsHeld self.now.national }
-        ensures code { self.now.code.value < 2 ^ 16 }
+        ensures { IsBounded self.now }
     {
         self.national.keeps_bounds();
         let _code = self.code.value();

@@ -3,6 +3,7 @@ ghost use Rattle.std.specs.Prelude.{◌≡◌, ◌∷◌, ◌++◌, IfOk, chars,
 ghost use Rattle.std.specs.Fmt.{decimal};
 ghost use Rattle.std.specs.List.{find};
 ghost use Rattle.std.specs.Option.{option_copied};
+ghost use Rattle.phone_core.specs.declared.mode.Mode.TheVariants as mode;
 ghost use Rattle.phone_meta.specs.Layouts.{suits};
 ghost use Rattle.phonenumber.specs.Layouts.{layout_for, layouts_for};
 ghost use Rattle.phonenumber.specs.Texts.{extension_parameter, extension_part, hyphenated, laid_out, text_by};
@@ -34,6 +35,41 @@ pub(crate) fn text_by(
         Mode::Rfc3966 => rfc3966(alloc, laid.as_str(), number),
         _ => international(alloc, laid.as_str(), m, number),
     }
+}
+
+/// A number's texts in the four modes.
+#[derive(Clone, PartialEq, Eq, Debug, Drop)]
+pub struct Texts {
+    /// The E.164 text.
+    pub e164: String,
+    /// The international text.
+    pub international: String,
+    /// The national text.
+    pub national: String,
+    /// The text of RFC 3966.
+    pub rfc3966: String,
+}
+
+/// The texts in all modes, by a territory. The international text and that of RFC 3966 have one layout.
+pub(crate) fn texts_by(
+    alloc: Global,
+    finder: &FirstGroup,
+    m: &Metadata,
+    own: Option<&Format>,
+    number: &PhoneNumber,
+) -> Result<Texts, AllocError>
+    ensures e164 { IfOk result (λ t. string_bytes t.e164 ≡ text_by m.now mode.E164 (option_copied own.entry) number.now) }
+    ensures international { IfOk result (λ t. string_bytes t.international ≡ text_by m.now mode.International (option_copied own.entry) number.now) }
+    ensures national { IfOk result (λ t. string_bytes t.national ≡ text_by m.now mode.National (option_copied own.entry) number.now) }
+    ensures rfc3966 { IfOk result (λ t. string_bytes t.rfc3966 ≡ text_by m.now mode.Rfc3966 (option_copied own.entry) number.now) }
+{
+    let laid = laid_out(alloc, finder, m, Mode::International, own, number)?;
+    Ok(Texts {
+        e164: text_by(alloc, finder, m, Mode::E164, own, number)?,
+        international: international(alloc, laid.as_str(), m, number)?,
+        national: text_by(alloc, finder, m, Mode::National, own, number)?,
+        rfc3966: rfc3966(alloc, laid.as_str(), number)?,
+    })
 }
 
 /// The international text of a number that is laid out so.

@@ -12,6 +12,17 @@ use phone_read::validator;
 use std::alloc::{AllocError, Global};
 use std::marker::Model;
 
+/// What a database tells of a number.
+#[derive(Clone, Copy, PartialEq, Eq, Debug)]
+pub struct Queried {
+    /// The region's id, where it has one.
+    pub region: Option<Id>,
+    /// The kind of number.
+    pub kind: Type,
+    /// Whether it is valid.
+    pub is_valid: bool,
+}
+
 /// What a number tells of its country. Contracts see the number.
 #[derive(Drop)]
 pub struct Country<'a> {
@@ -88,6 +99,32 @@ impl PhoneNumber {
             Some(territory) => validator::number_type(territory, digits.as_str()),
             None => Ok(Type::Unknown),
         }
+    }
+
+    /// The number's region, kind and validity at once, as `country`, `number_type` and `is_valid_with` tell them: its territory
+    /// and its kind are looked for once where the number has no leading zeros. Refused only for memory.
+    pub fn queried(&self, database: &Database) -> Result<Queried, AllocError>
+        ensures region { IfOk result (λ q. q.region ≡ region_of_number database.now self.now) }
+        ensures kind { IfOk result (λ q. q.kind ≡ kind_of_number database.now self.now) }
+        ensures is_valid { IfOk result (λ q. q.is_valid ≡ is_valid database.now self.now) }
+    {
+        let value = self.value_text(database.allocator())?;
+        let (region, kind) = match validator::home(database, self.code().value(), value.as_str())? {
+            Some(territory) => (
+                territory.id().parse::<Id>().ok(),
+                validator::number_type(territory, value.as_str())?,
+            ),
+            None => (None, Type::Unknown),
+        };
+        let is_valid = match self.national().zeros() {
+            0 => kind != Type::Unknown,
+            _ => self.is_valid_with(database)?,
+        };
+        Ok(Queried {
+            region,
+            kind,
+            is_valid,
+        })
     }
 
     /// Whether the number is of a known kind in a territory, its leading zeros counted as digits. Refused only for memory.
