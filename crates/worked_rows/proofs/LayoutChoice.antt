@@ -5,8 +5,9 @@ use Rattle.std.specs.Option.{option_map_or}
 use Rattle.std.specs.Fmt.{digits}
 use Rattle.regex.specs.Patterns.{find_str}
 use Rattle.phone_core.specs.declared.mode.Mode.TheVariants.{International, National}
-use Rattle.phone_meta.specs.First.{at_start, first_match, Seen, seen_of}
-use Rattle.phonenumber.specs.Layouts.{is_whole_match, laid, layout_for, suits}
+use Rattle.phone_meta.specs.First.{at_start, first_match, is_whole_match, Seen, seen_of}
+use Rattle.phone_meta.specs.Layouts.{suits}
+use Rattle.phonenumber.specs.Layouts.{laid, layout_for}
 use Rattle.phonenumber.specs.Texts.{printed}
 use Rattle.worked_rows.proofs.Digits.{IsGrouped, groups, nd_ranges}
 use Rattle.worked_rows.proofs.Laid.{grouped_1_3_4, grouped_3_3}

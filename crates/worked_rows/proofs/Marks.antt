@@ -1,6 +1,6 @@
 -- Rules with their marks filled, and texts with hyphens for separators.
 use Rattle.std.proofs.Common.{◌≡◌, [], ◌∷◌, ◌++◌, codes, refl}
-use Rattle.phonenumber.specs.Layouts.{filled_rule}
+use Rattle.phone_meta.specs.Layouts.{filled_rule}
 use Rattle.phonenumber.specs.Texts.{hyphenated}
 
 pub all_three : filled_rule (codes "$NP $CC ($FG)") (codes "0") (codes "$1") (codes "12") ≡ codes "0 12 ($$1)"

@@ -1,6 +1,5 @@
 -- Numbers that the premises take.
-use Rattle.std.proofs.Common.{not, [], ◌∷◌, ◌++◌, None, Some, codes, filter, refl, ap, sym, arith, inr}
-use Rattle.std.specs.Char.{encode_utf8}
+use Rattle.std.proofs.Common.{not, [], ◌∷◌, None, Some, codes, filter, refl, ap, arith, inr}
 use Rattle.std.specs.Fmt.{digits}
 use Rattle.std.specs.List.{list_any}
 use Rattle.std.specs.Str.{chars}
@@ -12,11 +11,11 @@ use Rattle.worked_rows.specs.Samples.{ad, number, nz, us, world}
 
 nz_2 : IsPlain world (number 64 33316005 None None) 2 nz
 unfolding digits
-nz_2 = record { listed = refl; not_zero = omega arith; long_enough = omega arith; short_enough = omega arith; held = (omega arith, omega arith) }
+nz_2 = record { listed = refl; not_zero = omega arith; long_enough = omega arith; short_enough = omega arith }
 
 nz_3 : IsPlain world (number 64 33316005 None None) 3 nz
 unfolding digits
-nz_3 = record { listed = refl; not_zero = omega arith; long_enough = omega arith; short_enough = omega arith; held = (omega arith, omega arith) }
+nz_3 = record { listed = refl; not_zero = omega arith; long_enough = omega arith; short_enough = omega arith }
 
 pub nz_e164 : IsPlainE164 world (number 64 33316005 None None)
 nz_e164 = (nz, nz_2)
@@ -26,13 +25,12 @@ unfolding digits chars
 nz_rfc3966 = record {
   territory = nz;
   plain = nz_3;
-  code_fits = omega arith;
   extension = refl;
   only_parted = ap (λ t. filter (λ c. not (is_separator c)) (chars t)) nz_laid;
 }
 
 pub nz_international : IsPlainInternational world (number 64 33316005 None None)
-unfolding digits chars encode_utf8
+unfolding digits chars
 nz_international = record {
   territory = nz;
   plain = nz_2;
@@ -40,7 +38,6 @@ nz_international = record {
   few_digits = omega arith;
   only_parted = ap (λ t. filter (λ c. not (is_punctuation c)) (chars t)) nz_laid;
   no_indicator = ap (λ t. list_any (is_one_of (120 ∷ 126 ∷ 0xFF5E ∷ [])) (chars t)) nz_laid;
-  utf8 = (codes "+64 3 331 6005", (refl, ap (λ t. codes "+64 " ++ (t ++ [])) (sym nz_laid)));
 }
 
 pub nz_idle : IsIdle world 64 (codes "33316005")
@@ -49,11 +46,11 @@ nz_idle = inr (nz, refl, refl)
 
 us_2 : IsPlain world (number 1 6502530000 (Some []) None) 2 us
 unfolding digits
-us_2 = record { listed = refl; not_zero = omega arith; long_enough = omega arith; short_enough = omega arith; held = (omega arith, omega arith) }
+us_2 = record { listed = refl; not_zero = omega arith; long_enough = omega arith; short_enough = omega arith }
 
 us_3 : IsPlain world (number 1 6502530000 (Some []) None) 3 us
 unfolding digits
-us_3 = record { listed = refl; not_zero = omega arith; long_enough = omega arith; short_enough = omega arith; held = (omega arith, omega arith) }
+us_3 = record { listed = refl; not_zero = omega arith; long_enough = omega arith; short_enough = omega arith }
 
 pub us_e164 : IsPlainE164 world (number 1 6502530000 (Some []) None)
 us_e164 = (us, us_2)
@@ -63,13 +60,12 @@ unfolding digits chars
 us_rfc3966 = record {
   territory = us;
   plain = us_3;
-  code_fits = omega arith;
   extension = refl;
   only_parted = ap (λ t. filter (λ c. not (is_separator c)) (chars t)) us_laid;
 }
 
 pub us_international : IsPlainInternational world (number 1 6502530000 (Some []) None)
-unfolding digits chars encode_utf8
+unfolding digits chars
 us_international = record {
   territory = us;
   plain = us_2;
@@ -77,7 +73,6 @@ us_international = record {
   few_digits = omega arith;
   only_parted = ap (λ t. filter (λ c. not (is_punctuation c)) (chars t)) us_laid;
   no_indicator = ap (λ t. list_any (is_one_of (120 ∷ 126 ∷ 0xFF5E ∷ [])) (chars t)) us_laid;
-  utf8 = (codes "+1 650-253-0000 ext. ", (refl, ap (λ t. codes "+1 " ++ (t ++ codes " ext. ")) (sym us_laid)));
 }
 
 pub us_idle : IsIdle world 1 (codes "6502530000")
@@ -86,11 +81,11 @@ us_idle = inr (us, refl, refl)
 
 ad_2 : IsPlain world (number 376 123456 (Some (codes "5")) None) 2 ad
 unfolding digits
-ad_2 = record { listed = refl; not_zero = omega arith; long_enough = omega arith; short_enough = omega arith; held = (omega arith, omega arith) }
+ad_2 = record { listed = refl; not_zero = omega arith; long_enough = omega arith; short_enough = omega arith }
 
 ad_3 : IsPlain world (number 376 123456 (Some (codes "5")) None) 3 ad
 unfolding digits
-ad_3 = record { listed = refl; not_zero = omega arith; long_enough = omega arith; short_enough = omega arith; held = (omega arith, omega arith) }
+ad_3 = record { listed = refl; not_zero = omega arith; long_enough = omega arith; short_enough = omega arith }
 
 pub ad_e164 : IsPlainE164 world (number 376 123456 (Some (codes "5")) None)
 ad_e164 = (ad, ad_2)
@@ -100,13 +95,12 @@ unfolding digits chars
 ad_rfc3966 = record {
   territory = ad;
   plain = ad_3;
-  code_fits = omega arith;
   extension = refl;
   only_parted = ap (λ t. filter (λ c. not (is_separator c)) (chars t)) ad_laid;
 }
 
 pub ad_international : IsPlainInternational world (number 376 123456 (Some (codes "5")) None)
-unfolding digits chars encode_utf8
+unfolding digits chars
 ad_international = record {
   territory = ad;
   plain = ad_2;
@@ -114,7 +108,6 @@ ad_international = record {
   few_digits = omega arith;
   only_parted = ap (λ t. filter (λ c. not (is_punctuation c)) (chars t)) ad_laid;
   no_indicator = ap (λ t. list_any (is_one_of (120 ∷ 126 ∷ 0xFF5E ∷ [])) (chars t)) ad_laid;
-  utf8 = (codes "+376 123/456/ ext. 5", (refl, ap (λ t. codes "+376 " ++ (t ++ codes " ext. 5")) (sym ad_laid)));
 }
 
 pub ad_idle : IsIdle world 376 (codes "123456")

@@ -11,7 +11,8 @@ use Rattle.phone_meta.specs.First.{at_start, first_match, replaced}
 use Rattle.phone_meta.specs.declared.loader.Format.{Format}
 use Rattle.phone_meta.specs.declared.loader.Metadata.{Metadata}
 use Rattle.phone_read.specs.declared.reading.Reading.{Reading}
-use Rattle.phonenumber.specs.Layouts.{laid, layout_for, suits}
+use Rattle.phone_meta.specs.Layouts.{suits}
+use Rattle.phonenumber.specs.Layouts.{laid, layout_for}
 use Rattle.phonenumber.specs.Texts.{hyphenated, laid_out, printed}
 use Rattle.worked_rows.proofs.Laid as laid
 use Rattle.worked_rows.proofs.LayoutChoice.{whole_8}

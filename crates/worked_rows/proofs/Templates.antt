@@ -4,8 +4,8 @@ use Rattle.std.specs.List.{list_all}
 use Rattle.regex.specs.Patterns.{find_str}
 use Rattle.std.proofs.Common.{true, nat_lt, option_map}
 use Rattle.phone_meta.specs.First.{first_match, names_in, with_first_replaced, Seen, seen_of}
+use Rattle.phone_meta.specs.Layouts.{filled_rule, ruled_template}
 use Rattle.phone_meta.specs.Records.{first_group_pattern}
-use Rattle.phonenumber.specs.Layouts.{filled_rule, ruled_template}
 use Rattle.worked_rows.proofs.Digits.{nd_ranges}
 use Rattle.worked_rows.proofs.FirstGroups.{mark, read_mark}
 use Rattle.worked_rows.proofs.Searches.{searching, first_match-as_read}

@@ -1,7 +1,8 @@
 //! Rows of layouts: which one suits, how the marks of a rule are filled, how separators become hyphens.
 ghost use Rattle.std.specs.Prelude.{◌≡◌, [], ◌∷◌, ◌++◌, codes, Some, None, true, false};
 ghost use Rattle.phone_core.specs.declared.mode.Mode.TheVariants.{International, National};
-ghost use Rattle.phonenumber.specs.Layouts.{filled_rule, layout_for, suits};
+ghost use Rattle.phonenumber.specs.Layouts.{layout_for};
+ghost use Rattle.phone_meta.specs.Layouts.{filled_rule, suits};
 ghost use Rattle.phonenumber.specs.Texts.{hyphenated, printed};
 ghost use Rattle.worked_rows.specs.Samples.{led_by, number, with_layouts};
 
