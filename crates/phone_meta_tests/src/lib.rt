@@ -4,6 +4,8 @@
 #[cfg(test)]
 mod accessors;
 #[cfg(test)]
+mod layouts;
+#[cfg(test)]
 mod look_ups;
 #[cfg(test)]
 mod matching;

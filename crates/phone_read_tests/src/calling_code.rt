@@ -132,6 +132,15 @@ fn finds_the_calling_code(rt: HostRuntime) -> Result<(), Fail> {
     Ok(())
 }
 
+/// What a number is refused by, if it is; want of memory is passed on.
+fn refused_by(answer: Result<Number<'_>, ParseError>) -> Result<Option<ParseError>, ParseError> {
+    match answer {
+        Ok(_) => Ok(None),
+        Err(ParseError::Memory) => Err(ParseError::Memory),
+        Err(error) => Ok(Some(error)),
+    }
+}
+
 #[test]
 fn refuses_a_number_without_a_listed_code(rt: HostRuntime) -> Result<(), Fail> {
     let alloc = rt.alloc();
@@ -159,8 +168,8 @@ fn refuses_a_number_without_a_listed_code(rt: HostRuntime) -> Result<(), Fail> {
         ("+12", Some(Id::US), ParseError::TooShortNsn, "two digits"),
     ] {
         assert_eq!(rt;
-            helper::country_code(&db, hint, Number::of(text)),
-            Err(refusal),
+            refused_by(helper::country_code(&db, hint, Number::of(text)))?,
+            Some(refusal),
             "{why}"
         );
     }
@@ -186,8 +195,8 @@ fn refuses_a_number_without_a_listed_code(rt: HostRuntime) -> Result<(), Fail> {
         ),
     ] {
         assert_eq!(rt;
-            helper::country_code(&db, None, with_prefix(national, prefix)),
-            Err(refusal),
+            refused_by(helper::country_code(&db, None, with_prefix(national, prefix)))?,
+            Some(refusal),
             "{why}"
         );
     }
