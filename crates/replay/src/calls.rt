@@ -1,7 +1,7 @@
 //! The table of calls.
 use crate::table::Row;
 use crate::tally::Tally;
-use crate::{code_calls, core_calls, meta_calls, read_calls, validator_calls};
+use crate::{code_calls, core_calls, meta_calls, number_calls, read_calls, validator_calls};
 use anyhow::Result;
 use std::alloc::AllocGlobal;
 use std::fs::{self, Files};
@@ -19,6 +19,9 @@ fn answer<R: Files + AllocGlobal>(rt: &R, row: &Row) -> Result<Option<String>> {
         return Ok(Some(found));
     }
     if let Some(found) = code_calls::answer(rt, row)? {
+        return Ok(Some(found));
+    }
+    if let Some(found) = number_calls::answer(rt, row)? {
         return Ok(Some(found));
     }
     meta_calls::answer(rt, row)

@@ -8,6 +8,8 @@ mod code_calls;
 mod core_calls;
 mod meta_calls;
 mod named;
+mod number_calls;
+mod numbers;
 mod read_calls;
 mod readings;
 mod table;

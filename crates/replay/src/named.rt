@@ -1,8 +1,9 @@
-//! What a line names: a database, and in it a code, a territory and a kind of number.
+//! What a line names: a database, and in it a code, a territory and a kind of number; a mode.
+use crate::numbers::MODES;
 use crate::table::Row;
 use anyhow::{Result, anyhow};
-use phone_core::Type;
 use phone_core::country::Id;
+use phone_core::{Mode, Type};
 use phone_meta::{Database, Metadata, loader};
 use std::alloc::AllocGlobal;
 use std::fs::{self, Files};
@@ -68,5 +69,13 @@ pub fn kind(name: &str) -> Result<Type> {
     match KINDS.iter().find(|kind| kind.0 == name) {
         Some(kind) => Ok(kind.1),
         None => Err(anyhow!("no kind has this name")),
+    }
+}
+
+/// The mode of this name.
+pub fn mode(name: &str) -> Result<Mode> {
+    match MODES.iter().find(|mode| mode.0 == name) {
+        Some(mode) => Ok(mode.1),
+        None => Err(anyhow!("no mode has this name")),
     }
 }

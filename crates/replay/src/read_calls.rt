@@ -1,11 +1,11 @@
-//! The calls of `phone_read`.
+//! The calls of the two readers and `extract`, as `phone_read` passes them on.
 use crate::table::{Row, source};
 use phone_read::natural::NoReading;
 use phone_read::{Number, helper, natural, rfc3966};
 use std::alloc::{AllocError, Global};
 use std::borrow::CowStr;
 
-/// What the port answers to a call of this crate, as the table writes it; none for any other call.
+/// What the port answers to one of these calls, as the table writes it; none for any other call.
 pub fn answer(alloc: Global, row: &Row) -> Result<Option<String>, AllocError> {
     let text = row.argument(0);
     let answer = match row.call() {

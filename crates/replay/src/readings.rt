@@ -1,12 +1,13 @@
-//! The table of texts with what is read from them: database, hint and text, then either `ok` and the parts of the
-//! number, or `error` and the refusal. Of a number that is read, its E.164 text, source, extension, carrier and
-//! national text are replayed.
+//! The table of texts with what is read from them: database, hint and text, then either `ok` and what is told of the
+//! number, or `error` and the refusal. Of a number these are its texts in the four modes, its source, kind, region and
+//! validity, and its extension, carrier and national text.
 use crate::named::{hint, load};
+use crate::numbers::{queried, texts};
 use crate::table::{Row, refusal, source};
-use anyhow::Result;
+use anyhow::{Result, anyhow};
 use phone_core::ParseError;
 use phone_meta::Database;
-use phone_read::{Reading, read};
+use phonenumber::{PhoneNumber, format_with, parse_with};
 use std::alloc::{AllocError, AllocGlobal, Global};
 use std::fs::{self, Files};
 
@@ -18,16 +19,6 @@ const HINT: usize = 1;
 const TEXT: usize = 2;
 
 const OUTCOME: usize = 3;
-
-const E164: usize = 4;
-
-const SOURCE: usize = 8;
-
-const EXTENSION: usize = 12;
-
-const CARRIER: usize = 13;
-
-const NATIONAL: usize = 14;
 
 /// A database and its name.
 #[derive(Drop)]
@@ -49,7 +40,7 @@ fn of_name<R: Files + AllocGlobal>(rt: &R, at_hand: Option<Named>, name: &str) -
     })
 }
 
-/// Prints each line whose reading is another one here, then how many agree. Gives whether all do.
+/// Prints each line whose answer is another one here, then how many agree. Gives whether all do.
 pub fn replay<R: Files + AllocGlobal + Print>(rt: &R) -> Result<bool> {
     let alloc = rt.alloc();
     let text = fs::read_to_string(rt, "report.tsv")?;
@@ -61,7 +52,7 @@ pub fn replay<R: Files + AllocGlobal + Print>(rt: &R) -> Result<bool> {
         if row.is_text(TEXT) {
             all = all.saturating_add(1);
             let found = found(alloc, &named.database, &row)?;
-            if found.as_str() == wanted(alloc, &row)?.as_str() {
+            if found.as_str().as_bytes() == row.from_column(alloc, OUTCOME)?.as_slice() {
                 agree = agree.saturating_add(1);
             } else {
                 println!(rt; "{line}")?;
@@ -72,43 +63,40 @@ pub fn replay<R: Files + AllocGlobal + Print>(rt: &R) -> Result<bool> {
         }
         at_hand = Some(named);
     }
-    println!(rt; "reading: {agree} of {all} lines agree")?;
+    println!(rt; "report: {agree} of {all} lines agree")?;
     println!(rt; "{no_text} lines are no text")?;
     Ok(agree == all)
 }
 
-/// What a line wants: the outcome, and the parts of the number or the refusal's number.
-fn wanted(alloc: Global, row: &Row) -> Result<String, AllocError> {
-    let outcome = row.column(OUTCOME);
-    if outcome != "ok" {
-        let (number, text) = (row.column(E164), row.column(E164 + 1));
-        return format!(in alloc; "{outcome}\t{number}\t{text}");
-    }
-    let (e164, source, national) = (row.column(E164), row.column(SOURCE), row.column(NATIONAL));
-    let (extension, carrier) = (row.column(EXTENSION), row.column(CARRIER));
-    format!(in alloc; "ok\t{e164}\t{source}\t{extension}\t{carrier}\t{national}")
-}
-
-/// What is read here from the text of a line, in the same form.
+/// What is read here from the text of a line, in the form of the table.
 fn found(alloc: Global, database: &Database, row: &Row) -> Result<String> {
     let hint = hint(row.column(HINT))?;
-    match read(database, hint, row.column(TEXT)) {
-        Ok(reading) => Ok(told(alloc, &reading)?),
+    match parse_with(database, hint, row.column(TEXT)) {
+        Ok(number) => told(alloc, database, &number),
+        Err(ParseError::Memory) => Err(anyhow!("out of memory")),
         Err(error) => Ok(String::from_str(alloc, refusal(&error))?),
     }
 }
 
-/// A number that was read, in the form of the table. Its E.164 text is a plus sign, the code and the national number.
-fn told(alloc: Global, reading: &Reading) -> Result<String, AllocError> {
-    let (code, national) = (reading.code.value(), reading.national);
-    let source = source(reading.code.source());
-    let extension = match &reading.extension {
+/// A number that was read, in the form of the table.
+fn told(alloc: Global, database: &Database, number: &PhoneNumber) -> Result<String> {
+    let texts = texts(alloc, format_with(database, number), "")?;
+    let source = source(number.code().source());
+    let queried = queried(alloc, database, number)?;
+    let parts = parts(alloc, number)?;
+    Ok(format!(in alloc; "ok\t{texts}\t{source}\t{queried}\t{parts}")?)
+}
+
+/// Extension and carrier, each a hyphen where it is absent, and the national text, parted by tabs.
+fn parts(alloc: Global, number: &PhoneNumber) -> Result<String, AllocError> {
+    let extension = match number.extension() {
         Some(extension) => extension.as_str(),
         None => "-",
     };
-    let carrier = match &reading.carrier {
+    let carrier = match number.carrier() {
         Some(carrier) => carrier.as_str(),
         None => "-",
     };
-    format!(in alloc; "ok\t+{code}{national}\t{source}\t{extension}\t{carrier}\t{national}")
+    let national = number.national();
+    format!(in alloc; "{extension}\t{carrier}\t{national}")
 }

@@ -7,7 +7,7 @@ use anyhow::{Result, anyhow};
 use phone_core::ParseError;
 use phone_core::country::Source;
 use phone_core::cuts::split_first;
-use std::alloc::Global;
+use std::alloc::{AllocError, Global};
 
 /// Why a line could not be read.
 const MALFORMED: &str = "an escape of the table is malformed";
@@ -113,6 +113,18 @@ impl Row {
     /// A column, counted from 0; empty where it is no text.
     pub fn column(&self, at: usize) -> &str {
         std::str::from_utf8(self.bytes(at)).unwrap_or("")
+    }
+
+    /// The bytes of the columns from this one, counted from 0, to the last but one, parted by tabs.
+    pub fn from_column(&self, alloc: Global, at: usize) -> Result<Vec<u8>, AllocError> {
+        let mut out = Vec::new(alloc);
+        for place in at..self.columns.len().saturating_sub(1) {
+            if place > at {
+                out.push(b'\t')?;
+            }
+            out.extend_from_slice(self.bytes(place))?;
+        }
+        Ok(out)
     }
 
     /// The call's name.

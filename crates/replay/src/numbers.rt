@@ -1,0 +1,60 @@
+//! How the tables tell a number: its texts in the four modes, and what a database tells of it.
+use anyhow::{Result, anyhow};
+use phone_core::Mode;
+use phone_core::country::Id;
+use phone_meta::Database;
+use phonenumber::{FormatError, Formatter, PhoneNumber, Queried, Texts};
+use std::alloc::{AllocError, Global};
+
+/// The modes by their names, in the order of the tables.
+pub const MODES: [(&str, Mode); 4] = [
+    ("E164", Mode::E164),
+    ("International", Mode::International),
+    ("National", Mode::National),
+    ("Rfc3966", Mode::Rfc3966),
+];
+
+/// The text in each mode behind this sign, or `UnknownCode` for each, parted by tabs.
+pub fn texts(alloc: Global, printer: Formatter<'_, '_, '_>, sign: &str) -> Result<String> {
+    match printer.to_texts(alloc) {
+        Ok(texts) => Ok(parted(alloc, &texts, sign)?),
+        Err(FormatError::UnknownCode) => Ok(String::from_str(
+            alloc,
+            "UnknownCode\tUnknownCode\tUnknownCode\tUnknownCode",
+        )?),
+        Err(FormatError::Memory) => Err(anyhow!("out of memory")),
+    }
+}
+
+/// These texts, each behind the sign.
+fn parted(alloc: Global, texts: &Texts, sign: &str) -> Result<String, AllocError> {
+    let (e164, international) = (texts.e164.as_str(), texts.international.as_str());
+    let (national, rfc3966) = (texts.national.as_str(), texts.rfc3966.as_str());
+    format!(in alloc; "{sign}{e164}\t{sign}{international}\t{sign}{national}\t{sign}{rfc3966}")
+}
+
+/// What a database tells of a number, parted by tabs: its kind, its region or a hyphen, `valid` or `invalid`.
+pub fn queried(alloc: Global, database: &Database, number: &PhoneNumber) -> Result<String> {
+    let Queried {
+        region,
+        kind,
+        is_valid,
+    } = number.queried(database)?;
+    let kind = format!(in alloc; "{kind:?}")?;
+    let region = region_name(region);
+    let validity = validity(is_valid);
+    Ok(format!(in alloc; "{kind}\t{region}\t{validity}")?)
+}
+
+/// A region's id, or a hyphen.
+fn region_name(region: Option<Id>) -> &'static str {
+    match region {
+        Some(id) => id.as_str(),
+        None => "-",
+    }
+}
+
+/// Whether a number is valid, as the tables write it.
+fn validity(is_valid: bool) -> &'static str {
+    if is_valid { "valid" } else { "invalid" }
+}
