@@ -2,16 +2,8 @@
 use anyhow::{Result, anyhow};
 use phonenumber::country::{Id, Source};
 use phonenumber::metadata::Database;
-use phonenumber::{FormatError, Mode, ParseError, PhoneNumber, format_with, parse_with};
+use phonenumber::{FormatError, ParseError, PhoneNumber, Queried, Texts, format_with, parse_with};
 use std::alloc::{AllocError, Global};
-
-/// The modes of a report line's texts, in their order.
-const MODES: [Mode; 4] = [
-    Mode::E164,
-    Mode::International,
-    Mode::National,
-    Mode::Rfc3966,
-];
 
 /// The report line for a line, its columns parted by tabs. An error where the line has no tab or its hint is no region,
 /// and where memory is refused.
@@ -33,37 +25,35 @@ fn region(hint: &str) -> Result<Option<Id>> {
     Ok(Some(hint.parse::<Id>()?))
 }
 
-/// The report line of a number: `ok`, its four texts, and what else is told of it.
+/// The report line of a number: `ok`, its four texts, and what else is told of it. `UnknownCode` where the database lists no
+/// territory of its code, which no report line has. An error where memory is refused.
 fn told(alloc: Global, database: &Database, number: &PhoneNumber) -> Result<String> {
-    let mut out = String::from_str(alloc, "ok")?;
-    for mode in MODES {
-        let text = printed(alloc, database, number, mode)?;
-        out.push('\t')?;
-        out.push_str(text.as_str())?;
-    }
+    let texts = match format_with(database, number).to_texts(alloc) {
+        Ok(texts) => texts,
+        Err(FormatError::UnknownCode) => return Ok(String::from_str(alloc, "UnknownCode")?),
+        Err(FormatError::Memory) => return Err(anyhow!("out of memory")),
+    };
+    let Texts {
+        e164,
+        international,
+        national,
+        rfc3966,
+    } = texts;
     let told = queried(alloc, database, number)?;
-    out.push('\t')?;
-    out.push_str(told.as_str())?;
-    Ok(out)
-}
-
-/// The text of a number in a mode; `UnknownCode` where the database lists no territory of its code, which no report
-/// line has. An error where memory is refused.
-fn printed(alloc: Global, database: &Database, number: &PhoneNumber, mode: Mode) -> Result<String> {
-    match format_with(database, number).mode(mode).to_text(alloc) {
-        Ok(text) => Ok(text),
-        Err(FormatError::UnknownCode) => Ok(String::from_str(alloc, "UnknownCode")?),
-        Err(FormatError::Memory) => Err(anyhow!("out of memory")),
-    }
+    Ok(format!(in alloc; "ok\t{e164}\t{international}\t{national}\t{rfc3966}\t{told}")?)
 }
 
 /// How a number's code was found, its kind, its region or a hyphen, and `valid` or `invalid`, parted by tabs.
 fn queried(alloc: Global, database: &Database, number: &PhoneNumber) -> Result<String> {
+    let Queried {
+        region,
+        kind,
+        is_valid,
+    } = number.queried(database)?;
     let source = source(number.code().source());
-    let kind = number.number_type(database)?;
     let kind = format!(in alloc; "{kind:?}")?;
-    let region = region_of(database, number)?;
-    let validity = validity(database, number)?;
+    let region = region_name(region);
+    let validity = validity(is_valid);
     Ok(format!(in alloc; "{source}\t{kind}\t{region}\t{validity}")?)
 }
 
@@ -77,21 +67,17 @@ fn source(source: Source) -> &'static str {
     }
 }
 
-/// The region of a number, or a hyphen.
-fn region_of(database: &Database, number: &PhoneNumber) -> Result<&'static str> {
-    match number.country().id(database)? {
-        Some(id) => Ok(id.as_str()),
-        None => Ok("-"),
+/// A region's id, or a hyphen.
+fn region_name(region: Option<Id>) -> &'static str {
+    match region {
+        Some(id) => id.as_str(),
+        None => "-",
     }
 }
 
 /// Whether a number is valid, as the report writes it.
-fn validity(database: &Database, number: &PhoneNumber) -> Result<&'static str> {
-    if number.is_valid_with(database)? {
-        Ok("valid")
-    } else {
-        Ok("invalid")
-    }
+fn validity(is_valid: bool) -> &'static str {
+    if is_valid { "valid" } else { "invalid" }
 }
 
 /// The report line of a refusal: `error`, its number and its text.
