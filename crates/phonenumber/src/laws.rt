@@ -1,6 +1,7 @@
 //! What holds of the definitions of this crate, and of its values. All but `hashes` do nothing; their contracts are the
 //! statements.
-ghost use Rattle.std.specs.Prelude.{◌≡◌, ◌⊎◌, ◌↔◌, ◌≤◌, ◌||◌, ◌==◌, ◌++◌, ◌∷◌, ℕ, List, Option, None, Some, Result, Ok, IsUtf8, chars, length, true, not};
+ghost use Rattle.std.specs.Prelude.{◌≡◌, ◌⊎◌, ◌↔◌, ◌≤◌, ◌||◌, ◌==◌, ◌++◌, ◌∷◌, ℕ, List, Option, None, Some, Result, Ok, IsUtf8, chars, fold, length, true, not};
+ghost use Rattle.std.specs.Hash.DefaultHasher as sip;
 ghost use Rattle.std.specs.List.{list_all};
 ghost use Rattle.phone_core.specs.Characters.{is_separator};
 ghost use Rattle.phone_core.specs.Numbers.{IsHeld, text_of};
@@ -20,6 +21,7 @@ ghost use Rattle.phonenumber.specs.Thin.{IsThinDatabase, ThinReads, is_thin};
 
 use crate::PhoneNumber;
 use phone_core::equality;
+use std::hash::Hash;
 
 /// What a thin text is read as under a thin database is what it is read as: the short definition and the whole one agree.
 pub fn thin_readings()
@@ -95,9 +97,11 @@ pub fn rfc3966_hyphens()
     ensures apart { (laid before after : List ℕ) → ¬ (hyphenated laid ≡ before ++ 45 ∷ 45 ∷ after) }
 {}
 
-/// The hashes of two phone numbers by std's hasher: equal where the numbers are, source and carrier included.
+/// The hashes of two phone numbers by std's hasher, each its own: equal where the numbers are, source and carrier included.
 pub fn hashes(a: &PhoneNumber, b: &PhoneNumber) -> (u64, u64)
-    ensures { a.now ≡ b.now → result.0 ≡ result.1 }
+    ensures first { result.0 ≡ sip.finish (fold sip.write sip.initial (⟦<PhoneNumber as Hash>⟧.hash_input a.now)) }
+    ensures second { result.1 ≡ sip.finish (fold sip.write sip.initial (⟦<PhoneNumber as Hash>⟧.hash_input b.now)) }
+    ensures alike { a.now ≡ b.now → result.0 ≡ result.1 }
 {
     equality::hashes(a, b)
 }
