@@ -7,7 +7,7 @@ use Rattle.std.specs.Iterator.{YieldsFirstBy}
 use Rattle.std.specs.Iterator.Adapters.{filter_callee, filter_source, filter_steps}
 use Rattle.std.specs.declared.iter.Filter.{Filter}
 use Rattle.phone_meta.specs.Records.{has_code}
-use Rattle.phone_meta.specs.declared.loader.Metadata.{Metadata}
+use Rattle.phone_records.specs.declared.loader.Metadata.{Metadata}
 use Rattle.phone_meta.proofs.CodeLemmas.{filter-filter}
 use denote.Param.Members.{Mut}
 

@@ -3,9 +3,9 @@ use Rattle.std.proofs.Common.{◌≡◌, List, [], ◌∷◌, map, Option, None,
 use Rattle.std.proofs.lemmas.Option.{none-some}
 use Rattle.std.specs.List.{AllByRecursion}
 use Rattle.std.specs.Option.{IsSome}
-use Rattle.phone_meta.specs.Missing.{first_given, missing_if_none, missing_in, missing_in_descriptor, missing_in_format, descriptors_of, lacks_of}
-use Rattle.phone_meta.specs.declared.loader.Metadata.{Metadata}
-use Rattle.phone_meta.specs.declared.missing.Missing.{Missing}
+use Rattle.phone_records.specs.Missing.{first_given, missing_if_none, missing_in, missing_in_descriptor, missing_in_format, descriptors_of, lacks_of}
+use Rattle.phone_records.specs.declared.loader.Metadata.{Metadata}
+use Rattle.phone_records.specs.declared.missing.Missing.{Missing}
 
 pub first_given-none : {X : Type 0} (xs : List (Option X)) → first_given xs ≡ None → AllByRecursion (λ x. x ≡ None) xs
 first_given-none [] e = tt

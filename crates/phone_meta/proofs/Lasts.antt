@@ -8,7 +8,7 @@ use Rattle.std.specs.List.{AllByRecursion, Contains, IsDistinct, list_any}
 use Rattle.std.specs.Option.{option_or, unwrap_or}
 use Rattle.std.specs.Str.{bytes_eq}
 use Rattle.phone_meta.specs.Records.{has_id, id_of, last_where, last_with, lasts}
-use Rattle.phone_meta.specs.declared.loader.Metadata.{Metadata}
+use Rattle.phone_records.specs.declared.loader.Metadata.{Metadata}
 
 uncons : {X : Type 0} (x y : X) (xs : List X) → Contains (x ∷ xs) y → (x ≡ y) ⊎ Contains xs y
 uncons x y xs h = step (Contains-append_cases (x ∷ []) xs y h)

@@ -4,12 +4,12 @@ use Rattle.std.proofs.lemmas.Option.{none-some}
 use Rattle.std.specs.List.{AllByRecursion, flat_map, slice_get}
 use Rattle.std.specs.Option.{option_to_list, unwrap_or}
 use Rattle.phone_meta.specs.First.{IsPattern}
-use Rattle.phone_meta.specs.Missing.{descriptors_of, first_missing}
+use Rattle.phone_records.specs.Missing.{descriptors_of, first_missing}
 use Rattle.phone_meta.specs.Records.{first_group_pattern}
 use Rattle.phone_meta.specs.Refusals.{IsPatternRefusal, IsRefusedIn, IsRefusalOf, TellsMissing, patterns, patterns_in, patterns_in_descriptor, patterns_in_format}
-use Rattle.phone_meta.specs.declared.error.LoadMetadata.{LoadMetadata}
-use Rattle.phone_meta.specs.declared.error.LoadMetadata.TheVariants as error
-use Rattle.phone_meta.specs.declared.loader.Metadata.{Metadata}
+use Rattle.phone_records.specs.declared.error.LoadMetadata.{LoadMetadata}
+use Rattle.phone_records.specs.declared.error.LoadMetadata.TheVariants as error
+use Rattle.phone_records.specs.declared.loader.Metadata.{Metadata}
 
 abbrev Texts : Type 0
 Texts = List (List ℕ)

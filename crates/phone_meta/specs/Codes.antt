@@ -4,9 +4,9 @@ use Rattle.std.specs.Fmt.{decimal}
 use Rattle.std.specs.List.{list_all, list_any}
 use Rattle.std.specs.Str.{all_ascii_digits, bytes_eq}
 use Rattle.std.specs.Str.Parse.{digits_value}
-use Rattle.phone_meta.specs.Missing.{first_given}
+use Rattle.phone_records.specs.Missing.{first_given}
 use Rattle.phone_meta.specs.Records.{code_of, has_code, id_of}
-use Rattle.phone_meta.specs.declared.loader.Metadata.{Metadata}
+use Rattle.phone_records.specs.declared.loader.Metadata.{Metadata}
 
 -- a main territory of a calling code
 abbrev pub is_main_of : ℕ → Metadata → Bool

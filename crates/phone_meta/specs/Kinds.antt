@@ -2,8 +2,8 @@
 use Rattle.std.specs.Prelude.{Option}
 use Rattle.phone_core.specs.declared.kind.«Type».{«Type»}
 use Rattle.phone_core.specs.declared.kind.«Type».TheVariants as kind
-use Rattle.phone_meta.specs.declared.loader.Descriptor.{Descriptor}
-use Rattle.phone_meta.specs.declared.loader.Metadata.{Metadata}
+use Rattle.phone_records.specs.declared.loader.Descriptor.{Descriptor}
+use Rattle.phone_records.specs.declared.loader.Metadata.{Metadata}
 
 -- one descriptor for numbers of any kind and one for each kind, where it is given
 pub record Kinds : Type 0 where

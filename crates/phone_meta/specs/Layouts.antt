@@ -3,7 +3,7 @@ use Rattle.std.specs.Prelude.{ℕ, ◌-◌, ◌==◌, ◌&&◌, Bool, true, if�
 use Rattle.std.specs.Option.{option_or, option_map_or}
 use Rattle.phone_meta.specs.First.{Seen, at_start, first_match, is_whole_match, names_in, replaced, with_first_replaced}
 use Rattle.phone_meta.specs.Records.{first_group_pattern}
-use Rattle.phone_meta.specs.declared.loader.Format.{Format}
+use Rattle.phone_records.specs.declared.loader.Format.{Format}
 
 -- the text of a layout's pattern
 abbrev pub layout_pattern : Format → List ℕ

@@ -1,9 +1,6 @@
 pub mod Codes
-pub mod Empty
-pub mod Errors
 pub mod First
 pub mod Kinds
 pub mod Layouts
-pub mod Missing
 pub mod Records
 pub mod Refusals

@@ -3,15 +3,15 @@ use Rattle.std.specs.Prelude.{◌≡◌, ◌⊎◌, ℕ, List, [], ◌∷◌, �
 use Rattle.std.specs.List.{AllByRecursion, flat_map}
 use Rattle.std.specs.Option.{option_and_then, option_to_list}
 use Rattle.phone_meta.specs.First.{IsPattern}
-use Rattle.phone_meta.specs.Errors.{told}
-use Rattle.phone_meta.specs.Missing.{descriptors_of, first_missing, phase_of, name_of}
+use Rattle.phone_records.specs.Errors.{told}
+use Rattle.phone_records.specs.Missing.{descriptors_of, first_missing, phase_of, name_of}
 use Rattle.phone_meta.specs.Records.{first_group_pattern}
-use Rattle.phone_meta.specs.declared.error.LoadMetadata.{LoadMetadata}
-use Rattle.phone_meta.specs.declared.error.LoadMetadata.TheVariants as error
-use Rattle.phone_meta.specs.declared.loader.Descriptor.{Descriptor}
-use Rattle.phone_meta.specs.declared.loader.Format.{Format}
-use Rattle.phone_meta.specs.declared.loader.Metadata.{Metadata}
-use Rattle.phone_meta.specs.declared.missing.Missing.{Missing}
+use Rattle.phone_records.specs.declared.error.LoadMetadata.{LoadMetadata}
+use Rattle.phone_records.specs.declared.error.LoadMetadata.TheVariants as error
+use Rattle.phone_records.specs.declared.loader.Descriptor.{Descriptor}
+use Rattle.phone_records.specs.declared.loader.Format.{Format}
+use Rattle.phone_records.specs.declared.loader.Metadata.{Metadata}
+use Rattle.phone_records.specs.declared.missing.Missing.{Missing}
 
 -- the pattern of a descriptor
 abbrev pub patterns_in_descriptor : Option Descriptor → List (List ℕ)

@@ -5,7 +5,7 @@ ghost use Rattle.std.specs.List.{find, list_all, list_any};
 ghost use Rattle.std.specs.Option.{option_copied};
 ghost use Rattle.phone_meta.specs.Codes.{begins, first_of, front_number, if_any, is_listed, is_main_of, is_other_of, is_prefix_free, listed_front, regions, shortest, territories};
 ghost use Rattle.phone_meta.specs.Records.{code_of, id_of};
-ghost use Rattle.phone_meta.specs.declared.loader.Metadata as loader;
+ghost use Rattle.phone_records.specs.declared.loader.Metadata as loader;
 
 use crate::database::Database;
 use crate::metadata::Metadata;

@@ -8,13 +8,13 @@ ghost use Rattle.std.specs.Option.{option_copied};
 ghost use Rattle.phone_meta.specs.Codes.{if_any};
 ghost use Rattle.phone_meta.specs.Records.{last_with, last_place, places_where, has_code, has_id, first_group_pattern};
 ghost use Rattle.phone_meta.specs.First.{IsPattern, IsPatternOf};
-ghost use Rattle.phone_meta.specs.Missing.{first_missing};
+ghost use Rattle.phone_records.specs.Missing.{first_missing};
 ghost use Rattle.phone_meta.specs.Refusals.{patterns, IsRefusalOf, TellsMissing};
 
-use crate::error::LoadMetadata;
+use phone_records::LoadMetadata;
 use crate::loader;
 use crate::metadata::{self, Metadata};
-use crate::missing::{self, Missing};
+use phone_records::missing::{self, Missing};
 use crate::rules::FirstGroup;
 use phone_core::MetadataError;
 use regex::Regex;
@@ -40,7 +40,7 @@ impl Model for Database {
     ghost use Rattle.std.specs.HashMap.{get, get_by_text};
     ghost use Rattle.phone_meta.specs.Codes.{if_any};
     ghost use Rattle.phone_meta.specs.Records.{last_place, places_where, has_code, has_id};
-    ghost use Rattle.phone_meta.specs.declared.loader.Metadata as loader;
+    ghost use Rattle.phone_records.specs.declared.loader.Metadata as loader;
 
     ghost Value = { List loader.Metadata };
 
@@ -89,7 +89,9 @@ impl Database {
     }
 
     /// The same, as what layouts take.
-    pub fn first_group_finder(&self) -> &FirstGroup {
+    pub fn first_group_finder(&self) -> &FirstGroup
+        ensures { result.now ≡ first_group_pattern }
+    {
         &self.first_group
     }
 

@@ -3,11 +3,11 @@ ghost use Rattle.std.specs.Prelude.{◌≡◌, ◌==◌, false, length, None, So
 ghost use Rattle.std.specs.List.{AllByRecursion, list_any};
 ghost use Rattle.std.specs.Option.{option_copied};
 ghost use Rattle.phone_meta.specs.First.{IsPattern, IsPatternOf};
-ghost use Rattle.phone_meta.specs.Missing.{missing_in_descriptor};
+ghost use Rattle.phone_records.specs.Missing.{missing_in_descriptor};
 ghost use Rattle.phone_meta.specs.Refusals.{IsPatternRefusal, patterns_in_descriptor};
 ghost use Rattle.phone_meta.specs.Records.{allows_length, matches, pattern_of};
 
-use crate::error::LoadMetadata;
+use phone_records::LoadMetadata;
 use crate::loader::{self, Text};
 use crate::pattern::Pattern;
 use regex::Regex;
@@ -25,7 +25,7 @@ pub struct Descriptor {
 
 impl Model for Descriptor {
     ghost use Rattle.std.specs.Prelude.{Some};
-    ghost use Rattle.phone_meta.specs.declared.loader.Descriptor as loader;
+    ghost use Rattle.phone_records.specs.declared.loader.Descriptor as loader;
 
     ghost Value = { loader.Descriptor };
 

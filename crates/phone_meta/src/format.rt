@@ -1,15 +1,15 @@
 //! A layout of national numbers, with its patterns compiled.
-ghost use Rattle.std.specs.Prelude.{◌≡◌, ℕ, List, None, Some, map, option_map, IfOk, IfErr, string_bytes};
+ghost use Rattle.std.specs.Prelude.{◌≡◌, ℕ, List, [], true, None, Some, Ok, map, option_map, IfOk, IfErr, string_bytes};
 ghost use Rattle.std.specs.Borrow.{Bor};
 ghost use Rattle.std.specs.List.{AllByRecursion, flat_map};
 ghost use Rattle.std.specs.Option.{option_copied};
 ghost use Rattle.phone_meta.specs.First.{ArePatternsOf, IsPattern, IsLentPattern};
 ghost use Rattle.phone_meta.specs.Layouts.{laid_by, layout_template, national_template, rule_for, suits};
-ghost use Rattle.phone_meta.specs.Missing.{first_given, missing_in_format};
+ghost use Rattle.phone_records.specs.Missing.{first_given, missing_in_format};
 ghost use Rattle.phone_meta.specs.Records.{is_led};
 ghost use Rattle.phone_meta.specs.Refusals.{IsPatternRefusal, patterns_in_format};
 
-use crate::error::LoadMetadata;
+use phone_records::LoadMetadata;
 use crate::loader::{self, Text};
 use crate::pattern::{self, Pattern};
 use crate::rules::FirstGroup;
@@ -35,7 +35,7 @@ impl Model for Format {
     ghost use Rattle.std.specs.List.{AllByRecursion};
     ghost use Rattle.regex.specs.Strings.{regex_source, IsReadFrom};
     ghost use Rattle.phone_meta.specs.First.{names_in, IsUnderX};
-    ghost use Rattle.phone_meta.specs.declared.loader.Format as loader;
+    ghost use Rattle.phone_records.specs.declared.loader.Format as loader;
 
     ghost Value = { loader.Format };
 
@@ -95,9 +95,11 @@ impl Format {
     }
 
     /// Whether the layout is meant for these digits: it has no leading digits, or the first match of the last of these
-    /// patterns begins at the first byte. Refused only for memory.
+    /// patterns begins at the first byte. Where it has none nothing is searched, and nothing refused. Else refused only
+    /// for memory.
     pub fn is_led(&self, digits: &str) -> Result<bool, AllocError>
-        ensures { IfOk result (λ b. b ≡ is_led digits.now self.now) }
+        ensures led { IfOk result (λ b. b ≡ is_led digits.now self.now) }
+        ensures unsearched { self.now.leading_digits ≡ [] → result ≡ Ok true }
     {
         match self.leading_digits.split_last() {
             Some((last, _)) => pattern::is_at_start(self.pattern.allocator(), last, digits),
@@ -107,9 +109,10 @@ impl Format {
 
     /// Whether the layout suits digits: it names no leading digits, or the first match of the last of these patterns
     /// begins at the first byte and the pattern's first match is the whole text. The pattern is asked only where the
-    /// leading one matches. Refused only for memory.
+    /// leading one matches. Where it names none nothing is searched, and nothing refused. Else refused only for memory.
     pub fn suits(&self, digits: &str) -> Result<bool, AllocError>
-        ensures { IfOk result (λ b. b ≡ suits digits.now self.now) }
+        ensures suited { IfOk result (λ b. b ≡ suits digits.now self.now) }
+        ensures unsearched { self.now.leading_digits ≡ [] → result ≡ Ok true }
     {
         if self.leading_digits.is_empty() {
             return Ok(true);

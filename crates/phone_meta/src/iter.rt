@@ -4,7 +4,7 @@ ghost use Rattle.std.specs.Iterator.{YieldsFirstRef, item_count};
 ghost use Rattle.std.specs.List.{Contains, IsDistinct, list_any};
 ghost use Rattle.std.specs.Str.{bytes_eq};
 ghost use Rattle.phone_meta.specs.Records.{has_id, id_of, last_with};
-ghost use Rattle.phone_meta.specs.declared.loader.Metadata as loader;
+ghost use Rattle.phone_records.specs.declared.loader.Metadata as loader;
 
 use crate::database::Database;
 use crate::metadata::Metadata;
@@ -19,7 +19,7 @@ pub struct Iter<'a> {
 impl<'a> Model for Iter<'a> {
     ghost use Rattle.std.specs.Prelude.{List};
     ghost use Rattle.phone_meta.specs.Records.{lasts};
-    ghost use Rattle.phone_meta.specs.declared.loader.Metadata as loader;
+    ghost use Rattle.phone_records.specs.declared.loader.Metadata as loader;
 
     ghost Value = { List loader.Metadata };
 

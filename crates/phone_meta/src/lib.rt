@@ -5,12 +5,12 @@ mod codes;
 mod database;
 mod descriptor;
 mod descriptors;
-mod error;
+
 mod format;
 mod iter;
 pub mod loader;
 mod metadata;
-mod missing;
+
 mod pattern;
 mod placed;
 mod rules;
@@ -18,7 +18,7 @@ mod rules;
 pub use database::Database;
 pub use descriptor::Descriptor;
 pub use descriptors::Descriptors;
-pub use error::LoadMetadata;
+pub use phone_records::LoadMetadata;
 pub use format::Format;
 pub use iter::Iter;
 pub use metadata::Metadata;

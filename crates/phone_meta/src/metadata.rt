@@ -5,11 +5,11 @@ ghost use Rattle.std.specs.Option.{option_copied, option_to_list};
 ghost use Rattle.phone_meta.specs.Refusals.{IsPatternRefusal, patterns_in, patterns_in_descriptor};
 ghost use Rattle.phone_meta.specs.First.{IsPattern, IsLentPattern};
 ghost use Rattle.phone_meta.specs.Kinds.{kinds_of};
-ghost use Rattle.phone_meta.specs.Missing.{first_missing, missing_in, missing_in_descriptor};
+ghost use Rattle.phone_records.specs.Missing.{first_missing, missing_in, missing_in_descriptor};
 
 use crate::descriptor::Descriptor;
 use crate::descriptors::Descriptors;
-use crate::error::LoadMetadata;
+use phone_records::LoadMetadata;
 use crate::format::{self, Format};
 use crate::loader::{self, Text};
 use crate::pattern::Pattern;
@@ -40,7 +40,7 @@ pub struct Metadata {
 
 impl Model for Metadata {
     ghost use Rattle.std.specs.Prelude.{Some};
-    ghost use Rattle.phone_meta.specs.declared.loader.Metadata as loader;
+    ghost use Rattle.phone_records.specs.declared.loader.Metadata as loader;
 
     ghost Value = { loader.Metadata };
 

@@ -17,7 +17,7 @@ pub struct Placed<'a> {
 impl<'a> Model for Placed<'a> {
     ghost use Rattle.std.specs.Prelude.{List};
     ghost use Rattle.std.specs.List.{filter_map, slice_get};
-    ghost use Rattle.phone_meta.specs.declared.loader.Metadata as loader;
+    ghost use Rattle.phone_records.specs.declared.loader.Metadata as loader;
 
     ghost Value = { List loader.Metadata };
 

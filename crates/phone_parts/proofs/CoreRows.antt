@@ -1,12 +1,12 @@
 -- Cores, computed on their definition.
-use Rattle.std.proofs.Common.{◌≡◌, ◌⊎◌, inl, inr, ℕ, Bool, true, false, not, List, [], ◌∷◌, ◌++◌, length, drop, codes, refl, sym, append-nil}
+use Rattle.std.proofs.Common.{◌≡◌, ◌⊎◌, inl, inr, ℕ, Bool, true, false, not, List, [], ◌∷◌, ◌++◌, length, drop, codes, refl}
 use Rattle.std.proofs.lemmas.Bool.{not-true}
 use Rattle.std.specs.List.{list_any}
 use Rattle.ucd_table.proofs.TrieCheck.{all_below, all_below-at}
 use Rattle.ucd_category.proofs.Computing.{ucd_category}
 use Rattle.phone_core.specs.Cuts.{after_front}
 use Rattle.phone_parts.specs.Cores.{IsCore, IsBeforeSecondNumber, begins_second_number, is_start, is_last}
-use Rattle.phone_parts.proofs.Cores.{core_same}
+use Rattle.phone_parts.proofs.Cores.{core_same, undivided}
 
 unfoldable pub no_mark : List ℕ → ℕ → Bool
 no_mark text k = not (begins_second_number (drop k text))
@@ -24,12 +24,7 @@ before_mark first after none ended = record {
 
 pub no_second : (text : List ℕ) → all_below (no_mark text) (length text) ≡ true → IsBeforeSecondNumber text text
 unfolding no_mark
-no_second text none = record {
-  after = [];
-  whole = sym (append-nil text);
-  ended = inl refl;
-  earliest = λ k less. not-true _ (all_below-at (no_mark text) (length text) k none less);
-}
+no_second text none = undivided text (λ k less. not-true _ (all_below-at (no_mark text) (length text) k none less))
 
 pub brackets : IsCore (codes "(650) 253-0000..- ..") (codes "650) 253-0000")
 unfolding ucd_category no_mark

@@ -1,5 +1,5 @@
--- The core of a text is one.
-use Rattle.std.proofs.Common.{take, IsUtf8, encode_utf8_all, ◌≡◌, ◌⊎◌, inl, inr, ⊎_elim, ℕ, ◌<◌, ◌≤◌, Bool, true, false, not, ◌||◌, List, [], ◌∷◌, ◌++◌, length, drop, refl, ap, sym, subst, ◌∙◌, arith, length-append, true≢false}
+-- The core of a text is one, and what makes a text's front its core.
+use Rattle.std.proofs.Common.{take, IsUtf8, encode_utf8_all, ◌≡◌, ◌⊎◌, inl, inr, ⊎_elim, ℕ, ◌<◌, ◌≤◌, Bool, true, false, not, ◌||◌, List, [], ◌∷◌, ◌++◌, length, drop, refl, ap, sym, subst, ◌∙◌, arith, length-append, append-nil, true≢false}
 use Rattle.std.proofs.lemmas.Bool.{cases_lt, and_parts, not-true, not-false, or_parts, or_right}
 use Rattle.std.proofs.lemmas.List.{nil_from_length}
 use Rattle.std.proofs.lemmas.Str.{encodes-chars}
@@ -127,6 +127,30 @@ core_unique text a b g h =
     let from : g.from ≡ after_front (λ c. not (is_start c)) text =
     sym (ap (after_front (λ c. not (is_start c))) g.whole ∙ after_front_others is_start g.before g.from g.no_start g.starts) in
     sym (core_same text b g.kept a h (subst (λ t. IsTrimmed t g.kept) from g.trimmed) g.first)
+
+-- a text in which no second number begins is all before one
+pub undivided : (text : List ℕ) → ((k : ℕ) → k < length text → begins_second_number (drop k text) ≡ false) → IsBeforeSecondNumber text text
+undivided text none = record { after = []; whole = sym (append-nil text); ended = inl refl; earliest = none }
+
+-- a text from its start on, up to the last character in which a number may end, is the core if it is all before a second number
+pub kept_core : (kept trailing : List ℕ) → begins is_start (kept ++ trailing) ≡ true → ends is_last kept ≡ true → list_any is_last trailing ≡ false →
+    IsBeforeSecondNumber kept kept → IsCore (kept ++ trailing) kept
+kept_core kept trailing starts last none first = record {
+  before = [];
+  from = kept ++ trailing;
+  kept = kept;
+  whole = refl;
+  no_start = refl;
+  starts = starts;
+  trimmed = record { trailing = trailing; whole = refl; no_last = none; trimmed = inr last };
+  first = first;
+  not_empty = λ e. true≢false (sym last ∙ ap (ends is_last) e);
+}
+
+-- so a text behind which nothing is cut off is its own core
+pub whole_core : (text : List ℕ) → begins is_start text ≡ true → ends is_last text ≡ true → IsBeforeSecondNumber text text → IsCore text text
+whole_core text starts last first =
+    subst (λ t. IsCore t text) (append-nil text) (kept_core text [] (ap (begins is_start) (append-nil text) ∙ starts) last refl first)
 
 -- nothing is left of nothing
 pub nil_trimmed : (text kept : List ℕ) → text ≡ [] → IsTrimmed text kept → kept ≡ []

@@ -1,5 +1,5 @@
 -- Extensions, and readings of free text, computed on their definitions.
-use Rattle.std.proofs.Common.{◌≡◌, inr, ℕ, ◌≤◌, true, List, [], ◌∷◌, ◌++◌, length, codes, Some, None, Ok, Err, refl, sym, arith, append-nil}
+use Rattle.std.proofs.Common.{◌≡◌, ℕ, ◌≤◌, true, List, [], ◌∷◌, ◌++◌, length, codes, Some, None, Ok, Err, refl, arith}
 use Rattle.std.specs.List.{list_any, list_all}
 use Rattle.ucd_case.proofs.Computing.{ucd_case}
 use Rattle.ucd_category.proofs.Computing.{ucd_category}
@@ -13,6 +13,7 @@ use Rattle.phone_parts.specs.Texts.{begins, ends, is_like}
 use Rattle.phone_parts.specs.declared.natural.NoReading.TheVariants.{Error, Failure}
 use Rattle.phone_parts.specs.declared.suffix.Form.TheVariants.{Parameter, Indicated, NumberSign}
 use Rattle.phone_parts.proofs.CoreRows.{no_second, no_mark, no_start, sign_alone}
+use Rattle.phone_parts.proofs.Cores.{whole_core}
 use Rattle.phone_parts.proofs.SuffixTests.{fails_at, no_suffix, no_suffix_before}
 
 -- an extension of the indicated form, put together
@@ -70,17 +71,7 @@ other_word = indicated_row [] (codes "anexo") (codes ":") (codes "-") (codes "7"
 
 -- a text that is its own core
 pub own_core : (text : List ℕ) → begins is_start text ≡ true → ends is_last text ≡ true → all_below (no_mark text) (length text) ≡ true → ¬ (text ≡ []) → IsCore text text
-own_core text starts last none some = record {
-  before = [];
-  from = text;
-  kept = text;
-  whole = refl;
-  no_start = refl;
-  starts = starts;
-  trimmed = record { trailing = []; whole = sym (append-nil text); no_last = refl; trimmed = inr last };
-  first = no_second text none;
-  not_empty = some;
-}
+own_core text starts last none _ = whole_core text starts last (no_second text none)
 
 pub whole_text : IsNatural (codes "650253") (Ok (record { national = codes "650253"; prefix = None; extension = None }))
 unfolding ucd_case ucd_category no_mark fails_at

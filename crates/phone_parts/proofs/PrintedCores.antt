@@ -1,10 +1,11 @@
 -- The cores of texts that begin with a plus sign.
-use Rattle.std.proofs.Common.{◌≡◌, inl, inr, ℕ, Bool, true, false, not, ◌==◌, ◌||◌, ◌&&◌, zero, suc, List, [], ◌∷◌, ◌++◌, drop, refl, ap, sym, ◌∙◌, true≢false, append-nil}
+use Rattle.std.proofs.Common.{◌≡◌, ℕ, Bool, true, false, not, ◌==◌, ◌||◌, ◌&&◌, zero, suc, List, [], ◌∷◌, ◌++◌, drop, refl, ap, sym, ◌∙◌, true≢false}
 use Rattle.std.proofs.lemmas.Bool.{or_parts, not-false}
 use Rattle.std.specs.List.{list_any, list_all}
 use Rattle.phone_core.specs.Cuts.{after_front}
 use Rattle.phone_parts.specs.Cores.{IsCore, begins_second_number, is_last}
 use Rattle.phone_parts.specs.Texts.{begins, ends}
+use Rattle.phone_parts.proofs.Cores.{kept_core, undivided}
 use Rattle.phone_parts.proofs.Ends.{ends-append}
 use Rattle.phone_parts.proofs.PrintedTexts.{is_slash}
 
@@ -55,17 +56,7 @@ unmarked_before (c ∷ before) text none first later =
 -- a text from its plus sign on, up to the last character in which a number may end, is the core
 pub signed_core : (body trailing : List ℕ) → list_any is_last trailing ≡ false → ends is_last (43 ∷ body) ≡ true → IsUnmarked (43 ∷ body) →
     IsCore (43 ∷ (body ++ trailing)) (43 ∷ body)
-signed_core body trailing none last unmarked = record {
-  before = [];
-  from = 43 ∷ (body ++ trailing);
-  kept = 43 ∷ body;
-  whole = refl;
-  no_start = refl;
-  starts = refl;
-  trimmed = record { trailing = trailing; whole = refl; no_last = none; trimmed = inr last };
-  first = record { after = []; whole = sym (append-nil (43 ∷ body)); ended = inl refl; earliest = λ k less. unmarked k };
-  not_empty = λ e. cc;
-}
+signed_core body trailing none last unmarked = kept_core (43 ∷ body) trailing refl last none (undivided (43 ∷ body) (λ k less. unmarked k))
 
 -- a text is cut after its last member of a set
 pub record IsCutAfterLast (p : ℕ → Bool) (text : List ℕ) : Type 0 where

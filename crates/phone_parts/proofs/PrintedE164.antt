@@ -13,10 +13,12 @@ use Rattle.phone_parts.specs.Readers.{HasParts}
 use Rattle.phone_parts.specs.Suffixes.{HasNoSuffix}
 use Rattle.phone_parts.specs.Tel.{IsTel, is_phonedigit}
 use Rattle.phone_parts.specs.Texts.{begins, ends}
+use Rattle.phone_parts.proofs.Cores.{undivided, whole_core}
 use Rattle.phone_parts.proofs.Endings.{AreApart}
 use Rattle.phone_parts.proofs.Ends.{all_wider, ends-append_run}
 use Rattle.phone_parts.proofs.Openings.{is_opening, no_suffix}
-use Rattle.phone_parts.proofs.PrintedTexts.{digit_apart, digit_passes, is_slash, none_apart, signed_digits, whole_core}
+use Rattle.phone_parts.proofs.PrintedCores.{unslashed}
+use Rattle.phone_parts.proofs.PrintedTexts.{digit_apart, digit_passes, is_slash, none_apart, signed_digits}
 use Rattle.phone_parts.proofs.Tels.{tel_cuts}
 
 -- a number may end in a digit
@@ -49,7 +51,9 @@ ends_in_digit (c ∷ d) digits some =
 
 -- the text is its own core
 own_core : (d : List ℕ) → list_all is_digit d ≡ true → 1 ≤ length d → IsCore (43 ∷ d) (43 ∷ d)
-own_core d digits some = whole_core (43 ∷ d) refl (ends_in_digit d digits some) (none_apart is_slash is_digit (digit_apart is_slash refl) d digits)
+own_core d digits some =
+    let no_slash = none_apart is_slash is_digit (digit_apart is_slash refl) d digits in
+    whole_core (43 ∷ d) refl (ends_in_digit d digits some) (undivided (43 ∷ d) (λ k less. unslashed (43 ∷ d) no_slash k))
 
 -- and no character in it opens an extension
 pub no_extension : (d : List ℕ) → list_all is_digit d ≡ true → HasNoSuffix (43 ∷ d)

@@ -1,15 +1,14 @@
 -- What is true of ASCII digits in the readers' sets, and of texts made of them.
-use Rattle.std.proofs.Common.{◌≡◌, inl, inr, ℕ, zero, suc, ◌<◌, ◌≤◌, Bool, true, false, not, ◌||◌, List, [], ◌∷◌, ◌++◌, length, drop, Some, codes, refl, ap, sym, ◌∙◌, true≢false, arith, append-nil}
-use Rattle.std.proofs.lemmas.Bool.{and_parts, not-true, or_from, or_parts}
+use Rattle.std.proofs.Common.{◌≡◌, ℕ, ◌<◌, ◌≤◌, Bool, true, false, not, ◌||◌, List, [], ◌∷◌, ◌++◌, length, Some, codes, refl, ap, ◌∙◌, arith}
+use Rattle.std.proofs.lemmas.Bool.{and_parts, not-true, or_from}
 use Rattle.std.proofs.lemmas.Bool.Decides.{nat_tests}
 use Rattle.std.proofs.lemmas.List.Folds.{list_any-append}
 use Rattle.std.specs.List.{list_any, list_all}
 use Rattle.ucd_table.proofs.TrieCheck.{all_below, all_below-at}
 use Rattle.phone_core.specs.Characters.{is_digit, is_one_of}
-use Rattle.phone_parts.specs.Cores.{IsCore, IsBeforeSecondNumber, begins_second_number, is_start, is_last}
 use Rattle.phone_parts.specs.Tel
 use Rattle.phone_parts.specs.Tel.{IsSignedRun}
-use Rattle.phone_parts.specs.Texts.{begins, ends}
+use Rattle.phone_parts.specs.Texts.{begins}
 use Rattle.phone_parts.proofs.Endings.{AreApart, member_passes}
 use Rattle.phone_parts.proofs.Ends.{all_wider}
 use Rattle.phone_parts.proofs.Runs.{run_begins}
@@ -56,33 +55,3 @@ signed_digits d rest digits some ended =
 -- a second number begins with a slash
 abbrev pub is_slash : ℕ → Bool
 is_slash c = is_one_of (47 ∷ 92 ∷ []) c
-
--- without a slash none begins anywhere
-no_second_from : (k : ℕ) (text : List ℕ) → list_any is_slash text ≡ false → begins_second_number (drop k text) ≡ false
-no_second_from zero [] none = refl
-no_second_from zero (c ∷ cs) none = rw (or_parts (is_slash c) (list_any is_slash cs) none).0
-no_second_from (suc k) [] none = refl
-no_second_from (suc k) (c ∷ cs) none = no_second_from k cs (or_parts (is_slash c) (list_any is_slash cs) none).1
-
--- a text without a slash is all before the second number
-pub without_slash : (text : List ℕ) → list_any is_slash text ≡ false → IsBeforeSecondNumber text text
-without_slash text none = record {
-  after = [];
-  whole = sym (append-nil text);
-  ended = inl refl;
-  earliest = λ k less. no_second_from k text none;
-}
-
--- a text that begins and ends as a number does, without a slash, is its own core
-pub whole_core : (text : List ℕ) → begins is_start text ≡ true → ends is_last text ≡ true → list_any is_slash text ≡ false → IsCore text text
-whole_core text starts last none = record {
-  before = [];
-  from = text;
-  kept = text;
-  whole = refl;
-  no_start = refl;
-  starts = starts;
-  trimmed = record { trailing = []; whole = sym (append-nil text); no_last = refl; trimmed = inr last };
-  first = without_slash text none;
-  not_empty = λ e. true≢false (sym starts ∙ ap (begins is_start) e);
-}

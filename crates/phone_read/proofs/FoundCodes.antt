@@ -5,7 +5,7 @@ use Rattle.phone_core.specs.Norm.{norm}
 use Rattle.phone_core.specs.declared.country.Id.{Id}
 use Rattle.phone_core.specs.declared.country.Source.{Source}
 use Rattle.phone_core.specs.declared.country.Source.TheVariants.{Plus, Idd, Number, Default}
-use Rattle.phone_meta.specs.declared.loader.Metadata.{Metadata}
+use Rattle.phone_records.specs.declared.loader.Metadata.{Metadata}
 use Rattle.phone_parts.specs.declared.number.Number.{Number as Parts}
 use Rattle.phone_read.specs.Codes.{HasCode, code_by, code_by_front, code_of, dialled, found_in, international_prefix_of, prefix_of, with_three}
 use Rattle.phone_read.specs.Hints.{Coded, hinted}

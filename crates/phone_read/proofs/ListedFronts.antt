@@ -18,7 +18,7 @@ use Rattle.phone_core.specs.declared.error.ParseError.TheVariants.{InvalidCountr
 use Rattle.phone_core.proofs.Runs.{IsUtf8-after}
 use Rattle.phone_meta.specs.Codes.{first_of, front_number, is_listed, is_main_of, is_other_of, listed_front, listed_if_some, shortest, territories}
 use Rattle.phone_meta.specs.Records.{has_code}
-use Rattle.phone_meta.specs.declared.loader.Metadata.{Metadata}
+use Rattle.phone_records.specs.declared.loader.Metadata.{Metadata}
 use Rattle.phone_read.specs.Codes.{code_by_prefix, with_three}
 use Rattle.phone_read.specs.Hints.{Coded}
 

@@ -5,8 +5,8 @@ use Rattle.std.specs.Option.{option_map_or}
 use Rattle.phone_core.specs.declared.kind.«Type».{«Type»}
 use Rattle.phone_core.specs.declared.kind.«Type».TheVariants.{Unknown}
 use Rattle.phone_meta.specs.Kinds.{descriptor_for, kinds_of}
-use Rattle.phone_meta.specs.declared.loader.Descriptor.{Descriptor}
-use Rattle.phone_meta.specs.declared.loader.Metadata.{Metadata}
+use Rattle.phone_records.specs.declared.loader.Descriptor.{Descriptor}
+use Rattle.phone_records.specs.declared.loader.Metadata.{Metadata}
 use Rattle.phone_read.specs.Hints.{is_of}
 use Rattle.phone_read.specs.Regions.{line_or_mobile, type_of}
 use Rattle.phone_read.specs.declared.validator.TheConstants.{TRIED}

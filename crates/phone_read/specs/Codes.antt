@@ -19,7 +19,7 @@ use Rattle.phone_core.specs.declared.error.ParseError.{ParseError}
 use Rattle.phone_core.specs.declared.error.ParseError.TheVariants.{InvalidCountryCode, MalformedInteger, TooShortNsn}
 use Rattle.phone_meta.specs.First.{first_span}
 use Rattle.phone_meta.specs.Codes.{is_listed, shortest}
-use Rattle.phone_meta.specs.declared.loader.Metadata.{Metadata}
+use Rattle.phone_records.specs.declared.loader.Metadata.{Metadata}
 use Rattle.phone_parts.specs.Texts.{begins}
 use Rattle.phone_parts.specs.declared.number.Number.{Number as Parts}
 use Rattle.phone_read.specs.Hints.{Coded, hinted, code_by_hint}

@@ -8,8 +8,8 @@ use Rattle.phone_core.specs.declared.country.Id.{Id}
 use Rattle.phone_core.specs.declared.country.Source.{Source}
 use Rattle.phone_core.specs.declared.country.Source.TheVariants.{Number, Default}
 use Rattle.phone_meta.specs.Records.{code_of, last_with, matches}
-use Rattle.phone_meta.specs.declared.loader.Descriptor.{Descriptor}
-use Rattle.phone_meta.specs.declared.loader.Metadata.{Metadata}
+use Rattle.phone_records.specs.declared.loader.Descriptor.{Descriptor}
+use Rattle.phone_records.specs.declared.loader.Metadata.{Metadata}
 use Rattle.phone_parts.specs.Texts.{is_front}
 use Rattle.phone_read.specs.Verdicts.{verdict}
 

@@ -12,8 +12,8 @@ use Rattle.phone_core.specs.declared.kind.«Type».TheVariants.{FixedLine, Mobil
 use Rattle.phone_meta.specs.First.{at_start}
 use Rattle.phone_meta.specs.Codes.{first_of, regions, territories}
 use Rattle.phone_meta.specs.Records.{last_with, pattern_of}
-use Rattle.phone_meta.specs.declared.loader.Descriptor.{Descriptor}
-use Rattle.phone_meta.specs.declared.loader.Metadata.{Metadata}
+use Rattle.phone_records.specs.declared.loader.Descriptor.{Descriptor}
+use Rattle.phone_records.specs.declared.loader.Metadata.{Metadata}
 use Rattle.phone_read.specs.Hints.{is_of}
 
 -- the kinds in the order in which they are tried, each with its descriptor

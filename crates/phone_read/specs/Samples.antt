@@ -1,7 +1,7 @@
 -- A small database under which whole texts are read.
 use Rattle.std.specs.Prelude.{[], ◌∷◌, codes, Some}
-use Rattle.phone_meta.specs.Empty.{no_descriptor, no_metadata}
-use Rattle.phone_meta.specs.declared.loader.Metadata.{Metadata}
+use Rattle.phone_records.specs.Empty.{no_descriptor, no_metadata}
+use Rattle.phone_records.specs.declared.loader.Metadata.{Metadata}
 
 -- New Zealand: calling code 64, national prefix 0, numbers of eight digits
 abbrev pub nz : Metadata

@@ -2,7 +2,7 @@
 use Rattle.std.specs.Prelude.{◌==◌, not, Bool, true, List}
 use Rattle.std.specs.List.{list_all}
 use Rattle.std.specs.Option.{option_map_or}
-use Rattle.phone_meta.specs.declared.loader.Metadata.{Metadata}
+use Rattle.phone_records.specs.declared.loader.Metadata.{Metadata}
 
 -- no transform rule of the database has a plus sign
 abbrev pub rules_have_no_plus : List Metadata → Bool

@@ -7,8 +7,8 @@ use Rattle.phone_core.specs.declared.kind.«Type».TheVariants.{Unknown}
 use Rattle.phone_core.specs.declared.validator.Validation.{Validation}
 use Rattle.phone_core.specs.declared.validator.Validation.TheVariants.{IsPossible, IsPossibleLocalOnly, TooShort, InvalidLength, TooLong}
 use Rattle.phone_meta.specs.Kinds.{descriptor_for, kinds_of}
-use Rattle.phone_meta.specs.declared.loader.Descriptor.{Descriptor}
-use Rattle.phone_meta.specs.declared.loader.Metadata.{Metadata}
+use Rattle.phone_records.specs.declared.loader.Descriptor.{Descriptor}
+use Rattle.phone_records.specs.declared.loader.Metadata.{Metadata}
 
 -- the last of the lengths, as they stand; `least` where no more follow it
 abbrev pub last_of : ℕ → List ℕ → ℕ

@@ -4,7 +4,7 @@ ghost use Rattle.std.specs.Prelude.{◌≡◌, ◌++◌, ℕ, List, chars, Optio
 ghost use Rattle.std.specs.Fmt.{decimal};
 ghost use Rattle.phone_core.specs.declared.country.Id.{Id};
 ghost use Rattle.phone_core.specs.declared.error.ParseError.{ParseError};
-ghost use Rattle.phone_meta.specs.declared.loader.Metadata as loader;
+ghost use Rattle.phone_records.specs.declared.loader.Metadata as loader;
 ghost use Rattle.phone_meta.specs.Codes.{is_listed, shortest};
 ghost use Rattle.phone_read.specs.Codes.{code_of};
 ghost use Rattle.phone_read.specs.Hints.{Coded};

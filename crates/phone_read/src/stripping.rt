@@ -3,7 +3,7 @@ ghost use Rattle.std.specs.Prelude.{◌≡◌, ◌==◌, ℕ, List, IfOk, IfSome
 ghost use Rattle.std.specs.Cow.{cow_str_bytes};
 ghost use Rattle.std.specs.Option.{option_copied};
 ghost use Rattle.phone_meta.specs.First.{AreCuts, IsCut, captured};
-ghost use Rattle.phone_meta.specs.declared.loader.Metadata as loader;
+ghost use Rattle.phone_records.specs.declared.loader.Metadata as loader;
 ghost use Rattle.phone_read.specs.Readings.{stripped};
 ghost use Rattle.phone_read.specs.Strips.{Stripped, by_match, by_rule, held, once_more, step, strip, transformed};
 

@@ -5,7 +5,7 @@ use Rattle.phone_core.specs.declared.error.ParseError.{ParseError}
 use Rattle.phone_core.specs.declared.error.ParseError.TheVariants.{Memory}
 use Rattle.phone_core.specs.declared.mode.Mode.{Mode}
 use Rattle.phone_meta.specs.Codes.{first_of, territories}
-use Rattle.phone_meta.specs.declared.loader.Metadata.{Metadata}
+use Rattle.phone_records.specs.declared.loader.Metadata.{Metadata}
 use Rattle.phone_read.proofs.ReadingOnes.{reading_same}
 use Rattle.phone_read.specs.declared.reading.Reading.{Reading}
 use Rattle.phonenumber.specs.Again.{IsAgain, IsReadAs, IsReadOfPrinted}

@@ -20,7 +20,7 @@ use Rattle.phone_core.specs.declared.country.Source.TheVariants.{Plus}
 use Rattle.phone_core.specs.declared.mode.Mode.{Mode}
 use Rattle.phone_core.specs.declared.mode.Mode.TheVariants.{E164, International, Rfc3966}
 use Rattle.phone_meta.specs.Codes.{first_of, is_listed, is_prefix_free, territories}
-use Rattle.phone_meta.specs.declared.loader.Metadata.{Metadata}
+use Rattle.phone_records.specs.declared.loader.Metadata.{Metadata}
 use Rattle.phone_parts.proofs.Ends.{all_wider}
 use Rattle.phone_parts.specs.Readers.{HasParts}
 use Rattle.phone_read.proofs.ListedFronts.{listed_some}

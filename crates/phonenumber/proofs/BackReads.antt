@@ -15,7 +15,7 @@ use Rattle.phone_core.specs.declared.country.Source.{Source}
 use Rattle.phone_core.specs.declared.country.Source.TheVariants.{Plus}
 use Rattle.phone_core.specs.declared.error.ParseError.{ParseError}
 use Rattle.phone_meta.specs.Codes.{is_listed, is_prefix_free, shortest}
-use Rattle.phone_meta.specs.declared.loader.Metadata.{Metadata}
+use Rattle.phone_records.specs.declared.loader.Metadata.{Metadata}
 use Rattle.phone_parts.specs.Parts.{Parts}
 use Rattle.phone_parts.specs.Readers.{HasParts}
 use Rattle.phone_read.proofs.ListedFronts.{more_than_two, prefix_listed}

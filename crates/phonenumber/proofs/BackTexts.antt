@@ -12,8 +12,8 @@ use Rattle.phone_core.proofs.Runs.{IsUtf8-after}
 use Rattle.phone_core.specs.Characters.{is_digit, is_separator}
 use Rattle.phone_core.specs.Numbers.{IsHeld, text_of}
 use Rattle.phone_core.specs.declared.mode.Mode.TheVariants.{International, Rfc3966}
-use Rattle.phone_meta.specs.declared.loader.Format.{Format}
-use Rattle.phone_meta.specs.declared.loader.Metadata.{Metadata}
+use Rattle.phone_records.specs.declared.loader.Format.{Format}
+use Rattle.phone_records.specs.declared.loader.Metadata.{Metadata}
 use Rattle.phone_parts.proofs.Ends.{all_wider}
 use Rattle.phone_parts.specs.Texts.{begins}
 use Rattle.phone_read.specs.declared.reading.Reading.{Reading}

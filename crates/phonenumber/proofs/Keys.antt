@@ -10,7 +10,7 @@ use Rattle.phone_core.specs.Numbers.{National, IsHeld, text_of}
 use Rattle.phone_core.proofs.ReadBack.{text_of-injective}
 use Rattle.phone_meta.specs.Codes.{begins, is_listed, is_prefix_free}
 use Rattle.phone_meta.specs.Records.{code_of, has_code}
-use Rattle.phone_meta.specs.declared.loader.Metadata.{Metadata}
+use Rattle.phone_records.specs.declared.loader.Metadata.{Metadata}
 use Rattle.phone_read.specs.declared.reading.Reading.{Reading}
 use Rattle.phonenumber.specs.Texts.{e164_text}
 

@@ -9,8 +9,8 @@ use Rattle.phone_core.specs.Viable.{IsViable}
 use Rattle.phone_core.specs.declared.country.Id.{Id}
 use Rattle.phone_core.specs.declared.error.ParseError.{ParseError}
 use Rattle.phone_core.specs.declared.error.ParseError.TheVariants.{InvalidCountryCode}
-use Rattle.phone_meta.specs.declared.loader.Metadata.{Metadata}
-use Rattle.phone_meta.specs.Empty.{no_metadata}
+use Rattle.phone_records.specs.declared.loader.Metadata.{Metadata}
+use Rattle.phone_records.specs.Empty.{no_metadata}
 use Rattle.phone_meta.specs.Records.{last_with, has_id}
 use Rattle.phone_read.specs.Codes.{code_by, code_of, found_in, international_prefix_of}
 use Rattle.phone_parts.specs.Cores.{IsCore, is_start}

@@ -3,7 +3,7 @@ use Rattle.std.specs.Prelude.{◌≡◌, ◌⊎◌, ℕ, IsUtf8, List, Option, N
 use Rattle.phone_core.specs.declared.error.ParseError.{ParseError}
 use Rattle.phone_core.specs.declared.error.ParseError.TheVariants.{Memory}
 use Rattle.phone_core.specs.declared.mode.Mode.{Mode}
-use Rattle.phone_meta.specs.declared.loader.Metadata.{Metadata}
+use Rattle.phone_records.specs.declared.loader.Metadata.{Metadata}
 use Rattle.phone_read.specs.Readings.{Reads}
 use Rattle.phone_read.specs.declared.reading.Reading.{Reading}
 use Rattle.phonenumber.specs.Texts.{printed}

@@ -5,8 +5,8 @@ use Rattle.std.specs.Option.{option_or}
 use Rattle.phone_core.specs.declared.mode.Mode.{Mode}
 use Rattle.phone_core.specs.declared.mode.Mode.TheVariants.{E164, International, National, Rfc3966}
 use Rattle.phone_meta.specs.Layouts.{laid_by, layout_template, national_template, suits}
-use Rattle.phone_meta.specs.declared.loader.Format.{Format}
-use Rattle.phone_meta.specs.declared.loader.Metadata.{Metadata}
+use Rattle.phone_records.specs.declared.loader.Format.{Format}
+use Rattle.phone_records.specs.declared.loader.Metadata.{Metadata}
 
 -- the list, or another where it is empty
 abbrev pub or_else : List Format → List Format → List Format

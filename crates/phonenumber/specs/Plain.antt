@@ -6,7 +6,7 @@ use Rattle.phone_core.specs.Characters.{is_digit, is_one_of, is_punctuation, is_
 use Rattle.phone_core.specs.Numbers.{IsHeld, text_of}
 use Rattle.phone_core.specs.declared.mode.Mode.TheVariants.{International}
 use Rattle.phone_meta.specs.Codes.{first_of, territories}
-use Rattle.phone_meta.specs.declared.loader.Metadata.{Metadata}
+use Rattle.phone_records.specs.declared.loader.Metadata.{Metadata}
 use Rattle.phone_read.specs.Readings.{without_zeros}
 use Rattle.phone_read.specs.Regions.{home}
 use Rattle.phone_read.specs.Strips.{strip}

@@ -2,8 +2,8 @@
 use Rattle.std.specs.Prelude.{ℕ, List, Option}
 use Rattle.std.specs.Option.{option_copied}
 use Rattle.phone_core.specs.declared.mode.Mode.{Mode}
-use Rattle.phone_meta.specs.declared.loader.Format.{Format}
-use Rattle.phone_meta.specs.declared.loader.Metadata.{Metadata}
+use Rattle.phone_records.specs.declared.loader.Format.{Format}
+use Rattle.phone_records.specs.declared.loader.Metadata.{Metadata}
 use Rattle.phone_read.specs.declared.reading.Reading.{Reading}
 use Rattle.phonenumber.specs.Texts.{printed}
 use Rattle.phonenumber.specs.declared.formatter.Formatter.{Formatter}

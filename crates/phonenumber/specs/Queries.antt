@@ -7,7 +7,7 @@ use Rattle.phone_core.specs.Numbers.{text_of}
 use Rattle.phone_core.specs.declared.country.Id.{Id}
 use Rattle.phone_core.specs.declared.kind.«Type».{«Type»}
 use Rattle.phone_core.specs.declared.kind.«Type».TheVariants.{Unknown}
-use Rattle.phone_meta.specs.declared.loader.Metadata.{Metadata}
+use Rattle.phone_records.specs.declared.loader.Metadata.{Metadata}
 use Rattle.phone_read.specs.Regions.{home, is_known, type_of}
 use Rattle.phone_read.specs.declared.reading.Reading.{Reading}
 

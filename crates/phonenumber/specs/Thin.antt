@@ -8,9 +8,9 @@ use Rattle.phone_core.specs.Viable.{IsViable}
 use Rattle.phone_core.specs.declared.country.Id.{Id}
 use Rattle.phone_core.specs.declared.error.ParseError.{ParseError}
 use Rattle.phone_core.specs.declared.error.ParseError.TheVariants.{NoNumber, InvalidCountryCode}
-use Rattle.phone_meta.specs.Empty.{no_metadata}
-use Rattle.phone_meta.specs.declared.loader.Descriptor.{Descriptor}
-use Rattle.phone_meta.specs.declared.loader.Metadata.{Metadata}
+use Rattle.phone_records.specs.Empty.{no_metadata}
+use Rattle.phone_records.specs.declared.loader.Descriptor.{Descriptor}
+use Rattle.phone_records.specs.declared.loader.Metadata.{Metadata}
 use Rattle.phone_read.specs.Hints.{Coded, code_by_hint, hinted}
 use Rattle.phone_read.specs.Numbering.{reading_of}
 use Rattle.phone_parts.specs.Texts.{ends, without_front}

@@ -9,7 +9,7 @@ ghost use Rattle.phone_core.specs.declared.country.Id.{Id};
 ghost use Rattle.phone_core.specs.declared.error.ParseError.{ParseError};
 ghost use Rattle.phone_core.specs.declared.mode.Mode.TheVariants as mode;
 ghost use Rattle.phone_meta.specs.Codes.{is_listed, is_prefix_free};
-ghost use Rattle.phone_meta.specs.declared.loader.Metadata as loader;
+ghost use Rattle.phone_records.specs.declared.loader.Metadata as loader;
 ghost use Rattle.phone_read.specs.Readings.{Reads};
 ghost use Rattle.phone_read.specs.TransformRules.{rules_have_no_plus};
 ghost use Rattle.phone_read.specs.declared.reading.Reading.{Reading};

@@ -9,7 +9,7 @@ use Rattle.phone_core.specs.declared.country.Id.TheVariants.{NZ, US}
 use Rattle.phone_core.specs.declared.kind.«Type».{«Type»}
 use Rattle.phone_core.specs.declared.kind.«Type».TheVariants.{FixedLine, FixedLineOrMobile, Mobile, TollFree, Unknown}
 use Rattle.phone_meta.specs.First.{verbose, at_start, Seen, seen_of}
-use Rattle.phone_meta.specs.declared.loader.Descriptor.{Descriptor}
+use Rattle.phone_records.specs.declared.loader.Descriptor.{Descriptor}
 use Rattle.phone_read.specs.Regions.{is_known, line_or_mobile, type_of}
 use Rattle.phonenumber.specs.Queries.{is_valid, kind_of_number, region_of_number}
 use Rattle.regex.proofs.OnLiterals.{regex_on_literals, IsReadAs, ◌then◌, alone, alt-fail, cat-empty, cat_cong, class_is, same_refl}

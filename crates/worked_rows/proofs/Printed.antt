@@ -8,8 +8,8 @@ use Rattle.phone_core.specs.Numbers.{text_of}
 use Rattle.phone_core.specs.declared.mode.Mode.{Mode}
 use Rattle.phone_core.specs.declared.mode.Mode.TheVariants.{International, National, Rfc3966}
 use Rattle.phone_meta.specs.First.{at_start, first_match, replaced}
-use Rattle.phone_meta.specs.declared.loader.Format.{Format}
-use Rattle.phone_meta.specs.declared.loader.Metadata.{Metadata}
+use Rattle.phone_records.specs.declared.loader.Format.{Format}
+use Rattle.phone_records.specs.declared.loader.Metadata.{Metadata}
 use Rattle.phone_read.specs.declared.reading.Reading.{Reading}
 use Rattle.phone_meta.specs.Layouts.{suits}
 use Rattle.phonenumber.specs.Layouts.{laid, layout_for}

@@ -1,10 +1,10 @@
 -- Territories and numbers of the rows.
 use Rattle.std.specs.Prelude.{ℕ, true, List, [], ◌∷◌, codes, Option, None, Some}
 use Rattle.phone_core.specs.declared.country.Source.TheVariants.{Default}
-use Rattle.phone_meta.specs.Empty.{no_descriptor, no_format, no_metadata}
-use Rattle.phone_meta.specs.declared.loader.Descriptor.{Descriptor}
-use Rattle.phone_meta.specs.declared.loader.Format.{Format}
-use Rattle.phone_meta.specs.declared.loader.Metadata.{Metadata}
+use Rattle.phone_records.specs.Empty.{no_descriptor, no_format, no_metadata}
+use Rattle.phone_records.specs.declared.loader.Descriptor.{Descriptor}
+use Rattle.phone_records.specs.declared.loader.Format.{Format}
+use Rattle.phone_records.specs.declared.loader.Metadata.{Metadata}
 use Rattle.phone_read.specs.declared.reading.Reading.{Reading}
 
 -- numbers of this pattern, and of so many digits

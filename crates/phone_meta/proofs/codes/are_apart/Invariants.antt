@@ -2,7 +2,7 @@ use Rattle.std.proofs.Common.{◌≡◌, drop, not}
 use Rattle.std.specs.List.{list_all}
 use Rattle.phone_meta.specs.Codes.{begins}
 use Rattle.phone_meta.specs.Records.{code_of}
-use Rattle.phone_meta.specs.declared.loader.Metadata.{Metadata}
+use Rattle.phone_records.specs.declared.loader.Metadata.{Metadata}
 use Rattle.phone_meta.proofs.codes.are_apart.Given as goal
 
 abbrev pub invariant-loop-territory : goal.invariant-loop-territory

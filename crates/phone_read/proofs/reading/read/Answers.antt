@@ -6,7 +6,7 @@ use Rattle.phone_core.specs.Norm.{norm}
 use Rattle.phone_core.specs.Viable.{IsViable}
 use Rattle.phone_core.specs.declared.country.Id.{Id}
 use Rattle.phone_core.specs.declared.country.Source.{Source}
-use Rattle.phone_meta.specs.declared.loader.Metadata.{Metadata}
+use Rattle.phone_records.specs.declared.loader.Metadata.{Metadata}
 use Rattle.phone_parts.specs.Parts.{parts_of}
 use Rattle.phone_read.specs.Hints.{Coded}
 use Rattle.phone_read.specs.Numbering.{reading_of}

@@ -2,7 +2,7 @@ use Rattle.std.proofs.Common.{◌∙◌, Bor, List, filter, not, rules, tests}
 use Rattle.std.proofs.lemmas.Iterator.Consumers.{YieldsList-from_first}
 use Rattle.std.proofs.lemmas.Iterator.Search.{find_from_yields_List}
 use Rattle.phone_meta.specs.Records.{has_code}
-use Rattle.phone_meta.specs.declared.loader.Metadata.{Metadata}
+use Rattle.phone_records.specs.declared.loader.Metadata.{Metadata}
 use Rattle.phone_meta.proofs.CodeLemmas.{find-filter}
 use Rattle.phone_meta.proofs.database.Database.first_other.Goals as goal
 

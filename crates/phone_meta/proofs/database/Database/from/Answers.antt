@@ -1,6 +1,6 @@
 use Rattle.std.proofs.Common.{◌≡◌, None, [], ◌∷◌, rules}
 use Rattle.std.specs.List.{flat_map}
-use Rattle.phone_meta.specs.Missing.{first_missing}
+use Rattle.phone_records.specs.Missing.{first_missing}
 use Rattle.phone_meta.specs.Records.{first_group_pattern}
 use Rattle.phone_meta.specs.Refusals.{patterns_in}
 use Rattle.phone_meta.proofs.Refused.{both-patterns, refused-first_group, refused-territories}

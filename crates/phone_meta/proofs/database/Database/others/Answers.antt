@@ -1,6 +1,6 @@
 use Rattle.std.proofs.Common.{◌∙◌, not, rules, tests}
 use Rattle.std.proofs.lemmas.Iterator.Consumers.{map_from_collect}
-use Rattle.phone_meta.specs.declared.loader.Metadata.{Metadata}
+use Rattle.phone_records.specs.declared.loader.Metadata.{Metadata}
 use Rattle.phone_meta.proofs.Chains.{YieldsList-of_code}
 use Rattle.phone_meta.proofs.database.Database.others.Goals as goal
 

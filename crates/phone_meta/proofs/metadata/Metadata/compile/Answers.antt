@@ -1,5 +1,5 @@
 use Rattle.std.proofs.Common.{refl, sym, rules, ◌≡◌, None, subst}
-use Rattle.phone_meta.specs.Missing.{descriptors_of, missing_in_descriptor}
+use Rattle.phone_records.specs.Missing.{descriptors_of, missing_in_descriptor}
 use Rattle.phone_meta.proofs.Complete.{has_all}
 use Rattle.std.specs.List.{flat_map}
 use Rattle.phone_meta.specs.Refusals.{IsPatternRefusal, patterns_in_descriptor, patterns_in_format}

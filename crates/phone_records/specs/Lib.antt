@@ -1,0 +1,3 @@
+pub mod Empty
+pub mod Errors
+pub mod Missing
