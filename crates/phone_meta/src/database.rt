@@ -11,12 +11,12 @@ ghost use Rattle.phone_meta.specs.First.{IsPattern, IsPatternOf};
 ghost use Rattle.phone_records.specs.Missing.{first_missing};
 ghost use Rattle.phone_meta.specs.Refusals.{patterns, IsRefusalOf, TellsMissing};
 
-use phone_records::LoadMetadata;
 use crate::loader;
 use crate::metadata::{self, Metadata};
-use phone_records::missing::{self, Missing};
 use crate::rules::FirstGroup;
 use phone_core::MetadataError;
+use phone_records::LoadMetadata;
+use phone_records::missing::{self, Missing};
 use regex::Regex;
 use std::alloc::{AllocError, Global};
 use std::collections::HashMap;
@@ -89,9 +89,7 @@ impl Database {
     }
 
     /// The same, as what layouts take.
-    pub fn first_group_finder(&self) -> &FirstGroup
-        ensures { result.now ≡ first_group_pattern }
-    {
+    pub fn first_group_finder(&self) -> &FirstGroup {
         &self.first_group
     }
 

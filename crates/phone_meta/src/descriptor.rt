@@ -7,9 +7,9 @@ ghost use Rattle.phone_records.specs.Missing.{missing_in_descriptor};
 ghost use Rattle.phone_meta.specs.Refusals.{IsPatternRefusal, patterns_in_descriptor};
 ghost use Rattle.phone_meta.specs.Records.{allows_length, matches, pattern_of};
 
-use phone_records::LoadMetadata;
 use crate::loader::{self, Text};
 use crate::pattern::Pattern;
+use phone_records::LoadMetadata;
 use regex::Regex;
 use std::alloc::{AllocError, Global};
 use std::marker::Model;

@@ -9,10 +9,10 @@ ghost use Rattle.phone_records.specs.Missing.{first_given, missing_in_format};
 ghost use Rattle.phone_meta.specs.Records.{is_led};
 ghost use Rattle.phone_meta.specs.Refusals.{IsPatternRefusal, patterns_in_format};
 
-use phone_records::LoadMetadata;
 use crate::loader::{self, Text};
 use crate::pattern::{self, Pattern};
 use crate::rules::FirstGroup;
+use phone_records::LoadMetadata;
 use regex::{Regex, Template};
 use std::alloc::{AllocError, Global};
 use std::marker::Model;

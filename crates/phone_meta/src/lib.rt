@@ -5,12 +5,10 @@ mod codes;
 mod database;
 mod descriptor;
 mod descriptors;
-
 mod format;
 mod iter;
 pub mod loader;
 mod metadata;
-
 mod pattern;
 mod placed;
 mod rules;
@@ -18,9 +16,9 @@ mod rules;
 pub use database::Database;
 pub use descriptor::Descriptor;
 pub use descriptors::Descriptors;
-pub use phone_records::LoadMetadata;
 pub use format::Format;
 pub use iter::Iter;
 pub use metadata::Metadata;
 pub use pattern::{Captured, Pattern};
+pub use phone_records::LoadMetadata;
 pub use rules::FirstGroup;

@@ -9,10 +9,10 @@ ghost use Rattle.phone_records.specs.Missing.{first_missing, missing_in, missing
 
 use crate::descriptor::Descriptor;
 use crate::descriptors::Descriptors;
-use phone_records::LoadMetadata;
 use crate::format::{self, Format};
 use crate::loader::{self, Text};
 use crate::pattern::Pattern;
+use phone_records::LoadMetadata;
 use regex::Regex;
 use std::alloc::Global;
 use std::marker::Model;

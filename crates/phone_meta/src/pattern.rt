@@ -5,8 +5,8 @@ ghost use Rattle.regex.specs.Strings.{regex_source, captures_haystack, captures_
 ghost use Rattle.phone_meta.specs.First.{at_start, captured, first_span, is_whole_match, names_in, replaced, ArePatternsOf, AreCuts, IsCut, IsPattern, IsPatternOf, IsUnderX};
 ghost use Rattle.phone_meta.specs.Refusals.{IsPatternRefusal};
 
-use phone_records::LoadMetadata;
 use crate::loader::Text;
+use phone_records::LoadMetadata;
 use regex::{Captures, Error, Match, Regex, RegexBuilder, Template};
 use std::alloc::{AllocError, Global};
 use std::marker::Model;

@@ -6,10 +6,10 @@ ghost use Rattle.phone_meta.specs.Layouts.{filled_rule, ruled_template};
 ghost use Rattle.phone_meta.specs.Records.{first_group_pattern};
 ghost use Rattle.phone_meta.specs.Refusals.{IsPatternRefusal};
 
-use phone_records::LoadMetadata;
 use crate::loader::Text;
 use crate::pattern::Pattern;
 use phone_core::consts;
+use phone_records::LoadMetadata;
 use regex::Regex;
 use std::alloc::{AllocError, Global};
 use std::marker::Model;
