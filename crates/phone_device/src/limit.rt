@@ -21,8 +21,8 @@ pub enum Then {
     Zero,
 }
 
-/// A sink in memory that takes so many bytes, each write as many as it can. Contracts see the bytes, the room that is
-/// left, what is done then, and the faults so far.
+/// A sink in memory that takes so many bytes, each write as many as it can. No call but `new` takes memory. Contracts see
+/// the bytes, the room that is left, what is done then, and the faults so far.
 #[derive(Drop)]
 pub struct Limit {
     bytes: Vec<u8>,
@@ -43,7 +43,8 @@ impl Model for Limit {
 }
 
 impl Limit {
-    /// A sink that takes n bytes. It makes room for them at once; refused only for memory.
+    /// A sink that takes n bytes, and then does what `then` says. It makes room for n bytes at once; refused only for
+    /// memory.
     pub fn new(alloc: Global, n: usize, then: Then) -> Result<Limit, AllocError>
         ensures { IfOk result (λ s. s ≡ record { taken = []; left = n; after = then; faults = 0 }) }
     {

@@ -17,7 +17,8 @@ pub enum At {
     Byte(usize),
 }
 
-/// A source in memory that gives its bytes as far as it can, and fails at one place. Contracts see what is left of it.
+/// A source in memory that gives its bytes as far as it can, and fails at one place. No call takes memory. Contracts see
+/// what is left of it.
 #[derive(Drop)]
 pub struct Script {
     bytes: Vec<u8>,

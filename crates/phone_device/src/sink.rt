@@ -12,8 +12,8 @@ pub trait ByteSink {
     // How many calls have failed.
     ghost faults: { Self → ℕ };
 
-    /// Writes once. At `Ok(n)` the first n bytes of the slice were taken. A call that fails takes none, and counts as one
-    /// fault; so does one that takes none of some bytes.
+    /// Writes once. At `Ok(n)` the first n bytes of the slice were taken; n is at most its length. A call that fails takes
+    /// none, and counts as one fault; so does one that takes 0 bytes of a slice that has some.
     fn write(&mut self, bytes: &[u8]) -> Result<usize, Fault>
         ensures within { IfOk result (λ n. n ≤ length bytes.now) }
         ensures takes { IfOk result (λ n. Takes (taken self.old) (take n bytes.now) (taken self.new)) }

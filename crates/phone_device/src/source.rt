@@ -13,8 +13,8 @@ pub trait ByteSource {
     // How many calls have failed.
     ghost faults: { Self → ℕ };
 
-    /// Reads once. At `Ok(n)` the first n bytes of the slice are those that passed; none pass into room for some only
-    /// where none are to come. A call that fails passes none, and counts as one fault.
+    /// Reads once. At `Ok(n)` n bytes passed, and are the first n of the slice; n is at most its length. A read of 0 bytes
+    /// into a slice that has room says that none are to come. A call that fails passes none, and counts as one fault.
     fn read(&mut self, buf: &mut [u8]) -> Result<usize, Fault>
         ensures within { IfOk result (λ n. n ≤ length buf.old) }
         ensures passes { IfOk result (λ n. Passes (to_come self.old) (take n buf.new) (to_come self.new)) }

@@ -6,8 +6,8 @@ ghost use Rattle.phone_device.specs.Passing.{Passes, IsAtEnd, Takes, faults_of_w
 use crate::{ByteSink, ByteSource, Count, Fault};
 use std::io::{Read, Write};
 
-/// A device over a reader or a writer of std. It tells nothing of its bytes. A call that std refuses is a fault, one
-/// that was interrupted among them: it is not tried again.
+/// A device over a reader or a writer of std. It tells nothing of its bytes. A call that the reader or writer refuses is a
+/// fault, one that was interrupted among them: it is not tried again.
 #[derive(Drop)]
 pub struct Std<D: Drop> {
     /// The reader or writer below.

@@ -4,6 +4,8 @@
 #[cfg(test)]
 mod blocks;
 #[cfg(test)]
+mod counts;
+#[cfg(test)]
 mod limits;
 #[cfg(test)]
 mod memory;

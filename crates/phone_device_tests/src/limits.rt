@@ -33,7 +33,11 @@ fn writes_beyond_the_limit_fail_or_take_nothing(rt: HostRuntime) -> Result<(), F
     let alloc = rt.alloc();
     for (then, answers, flushed) in [
         (Then::Fail, [Ok(2), Ok(1), Err(Fault), Err(Fault)], Ok(())),
-        (Then::FlushFail, [Ok(2), Ok(1), Err(Fault), Err(Fault)], Err(Fault)),
+        (
+            Then::FlushFail,
+            [Ok(2), Ok(1), Err(Fault), Err(Fault)],
+            Err(Fault),
+        ),
         (Then::Zero, [Ok(2), Ok(1), Ok(0), Ok(0)], Ok(())),
     ] {
         let mut sink = Limit::new(alloc, 3, then)?;

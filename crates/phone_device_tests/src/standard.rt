@@ -1,6 +1,6 @@
 //! Readers and writers of std as devices.
 use phone_device::{ByteSink, ByteSource, Fault, ReadError, Std, read_all, write_all};
-use std::io::{self, Error, ErrorKind, Read, Write};
+use std::io::{self, BufWriter, Error, ErrorKind, Read, Write};
 use std::test::Fail;
 
 /// A reader and writer that gives and takes one byte, and is then interrupted, once and again.
@@ -56,6 +56,18 @@ fn a_writer_of_std_is_written_to(rt: HostRuntime) -> Result<(), Fail> {
     assert_eq!(rt; write_all(&mut sink, b"\n"), Ok(()));
     assert_eq!(rt; sink.flush(), Ok(()));
     assert_eq!(rt; written.as_slice(), "+6433316005\n".as_bytes());
+    Ok(())
+}
+
+#[test]
+fn a_flush_hands_on_what_a_writer_of_std_holds_back(rt: HostRuntime) -> Result<(), Fail> {
+    let alloc = rt.alloc();
+    let mut written = Vec::new(alloc);
+    let mut sink = Std::new(BufWriter::new(alloc, &mut written)?);
+    assert_eq!(rt; write_all(&mut sink, b"ok\n"), Ok(()));
+    assert!(rt; sink.device.get_ref().is_empty());
+    assert_eq!(rt; sink.flush(), Ok(()));
+    assert_eq!(rt; sink.device.get_ref().as_slice(), "ok\n".as_bytes());
     Ok(())
 }
 
