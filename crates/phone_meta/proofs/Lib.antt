@@ -6,3 +6,4 @@ pub mod Marks
 pub mod Matches
 pub mod Places
 pub mod Refused
+pub mod TextFaults

@@ -4,3 +4,4 @@ pub mod Kinds
 pub mod Layouts
 pub mod Records
 pub mod Refusals
+pub mod Texts

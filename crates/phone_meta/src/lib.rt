@@ -9,6 +9,7 @@ mod format;
 mod iter;
 pub mod loader;
 mod metadata;
+mod parse;
 mod pattern;
 mod placed;
 mod rules;

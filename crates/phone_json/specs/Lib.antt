@@ -1,0 +1,4 @@
+pub mod Faults
+pub mod Fields
+pub mod Records
+pub mod Told

@@ -1,0 +1,193 @@
+//! The records of a database text in which no value is wrong; a wrong one would count as absent.
+ghost use Rattle.std.specs.Prelude.{◌≡◌, IfOk, map, codes};
+ghost use Rattle.std.specs.Option.{option_map_or};
+ghost use Rattle.serde_json.specs.Find.{as_str};
+ghost use Rattle.serde_json.specs.View.{view};
+ghost use Rattle.phone_json.specs.Fields.{field, text_at, texts_at, numbers_at, items_in};
+ghost use Rattle.phone_json.specs.Records.{descriptor_of, descriptor_at, format_of, formats_at, defaults_of, metadata_of, with_descriptors};
+ghost use Rattle.phone_records.specs.Empty.{no_descriptor, no_format, no_defaults};
+
+use crate::fields::{field, items_at, items_in, number_at, small_number, truth_at};
+use phone_records::loader::{Defaults, Descriptor, Format, Items, Metadata, Text};
+use serde_json::Value;
+use std::alloc::{AllocError, Global};
+
+fn text_of(alloc: Global, value: &Value) -> Result<Option<Text>, AllocError>
+    ensures { IfOk result (λ t. t ≡ as_str (view value.now)) }
+{
+    match value.as_str() {
+        Some(text) => Ok(Some(Text::from(String::from_str(alloc, text)?))),
+        None => Ok(None),
+    }
+}
+
+fn text_at(alloc: Global, object: &Value, key: &str) -> Result<Option<Text>, AllocError>
+    ensures { IfOk result (λ t. t ≡ text_at key.now (view object.now)) }
+{
+    match field(object, key) {
+        Some(value) => text_of(alloc, value),
+        None => Ok(None),
+    }
+}
+
+fn texts_at(alloc: Global, object: &Value, key: &str) -> Result<Items<Text>, AllocError>
+    ensures { IfOk result (λ ts. ts ≡ texts_at key.now (view object.now)) }
+{
+    let mut texts = Vec::new(alloc);
+    for item in items_at(object, key) {
+        if let Some(text) = text_of(alloc, item)? {
+            texts.push(text)?;
+        }
+    }
+    Ok(Items::from(texts))
+}
+
+fn numbers_at(alloc: Global, object: &Value, key: &str) -> Result<Items<u16>, AllocError>
+    ensures { IfOk result (λ ns. ns ≡ numbers_at key.now (view object.now)) }
+{
+    let mut numbers = Vec::new(alloc);
+    for item in items_at(object, key) {
+        if let Some(number) = small_number(item) {
+            numbers.push(number)?;
+        }
+    }
+    Ok(Items::from(numbers))
+}
+
+#[tactic(auto, unfolding(crate::specs::Records::descriptor_of))]
+fn descriptor(alloc: Global, object: &Value) -> Result<Descriptor, AllocError>
+    ensures { IfOk result (λ d. d ≡ descriptor_of (view object.now)) }
+{
+    Ok(Descriptor {
+        national_number: text_at(alloc, object, "national_number")?,
+        possible_length: numbers_at(alloc, object, "possible_length")?,
+        possible_local_length: numbers_at(alloc, object, "possible_local_length")?,
+        example: text_at(alloc, object, "example")?,
+    })
+}
+
+fn descriptor_at(alloc: Global, object: &Value, key: &str) -> Result<Option<Descriptor>, AllocError>
+    ensures { IfOk result (λ d. d ≡ descriptor_at key.now (view object.now)) }
+{
+    match field(object, key) {
+        Some(value) => Ok(Some(descriptor(alloc, value)?)),
+        None => Ok(None),
+    }
+}
+
+#[tactic(auto, unfolding(crate::specs::Records::format_of))]
+fn format(alloc: Global, object: &Value) -> Result<Format, AllocError>
+    ensures { IfOk result (λ f. f ≡ format_of (view object.now)) }
+{
+    Ok(Format {
+        pattern: text_at(alloc, object, "pattern")?,
+        format: text_at(alloc, object, "format")?,
+        leading_digits: texts_at(alloc, object, "leading_digits")?,
+        national_prefix_formatting_rule: text_at(alloc, object, "national_prefix_formatting_rule")?,
+        national_prefix_optional_when_formatting: truth_at(
+            object,
+            "national_prefix_optional_when_formatting",
+        ),
+        domestic_carrier: text_at(alloc, object, "domestic_carrier")?,
+    })
+}
+
+fn formats_at(alloc: Global, object: &Value, key: &str) -> Result<Items<Format>, AllocError>
+    ensures { IfOk result (λ fs. fs ≡ formats_at key.now (view object.now)) }
+{
+    let mut formats = Vec::new(alloc);
+    for item in items_at(object, key) {
+        formats.push(format(alloc, item)?)?;
+    }
+    Ok(Items::from(formats))
+}
+
+fn default_format(alloc: Global, object: &Value) -> Result<Format, AllocError>
+    ensures { IfOk result (λ f. f ≡ option_map_or format_of (field (codes "format") (view object.now)) no_format) }
+{
+    match field(object, "format") {
+        Some(value) => format(alloc, value),
+        None => Ok(Format::empty(alloc)),
+    }
+}
+
+fn default_descriptor(alloc: Global, object: &Value) -> Result<Descriptor, AllocError>
+    ensures { IfOk result (λ d. d ≡ option_map_or descriptor_of (field (codes "descriptor") (view object.now)) no_descriptor) }
+{
+    match field(object, "descriptor") {
+        Some(value) => descriptor(alloc, value),
+        None => Ok(Descriptor::empty(alloc)),
+    }
+}
+
+#[tactic(auto, unfolding(crate::specs::Records::defaults_of))]
+fn defaults_at(alloc: Global, object: &Value) -> Result<Defaults, AllocError>
+    ensures { IfOk result (λ d. d ≡ option_map_or defaults_of (field (codes "defaults") (view object.now)) no_defaults) }
+{
+    let Some(value) = field(object, "defaults") else {
+        return Ok(Defaults::empty(alloc));
+    };
+    Ok(Defaults {
+        format: default_format(alloc, value)?,
+        descriptor: default_descriptor(alloc, value)?,
+    })
+}
+
+#[tactic(auto, unfolding(crate::specs::Records::with_descriptors))]
+fn with_descriptors(alloc: Global, object: &Value) -> Result<Metadata, AllocError>
+    ensures { IfOk result (λ m. m ≡ with_descriptors (view object.now)) }
+{
+    Ok(Metadata {
+        general: descriptor_at(alloc, object, "general")?,
+        fixed_line: descriptor_at(alloc, object, "fixed_line")?,
+        mobile: descriptor_at(alloc, object, "mobile")?,
+        toll_free: descriptor_at(alloc, object, "toll_free")?,
+        premium_rate: descriptor_at(alloc, object, "premium_rate")?,
+        shared_cost: descriptor_at(alloc, object, "shared_cost")?,
+        personal_number: descriptor_at(alloc, object, "personal_number")?,
+        voip: descriptor_at(alloc, object, "voip")?,
+        pager: descriptor_at(alloc, object, "pager")?,
+        uan: descriptor_at(alloc, object, "uan")?,
+        emergency: descriptor_at(alloc, object, "emergency")?,
+        voicemail: descriptor_at(alloc, object, "voicemail")?,
+        short_code: descriptor_at(alloc, object, "short_code")?,
+        standard_rate: descriptor_at(alloc, object, "standard_rate")?,
+        carrier: descriptor_at(alloc, object, "carrier")?,
+        no_international: descriptor_at(alloc, object, "no_international")?,
+        ..Metadata::empty(alloc)
+    })
+}
+
+#[tactic(auto, unfolding(crate::specs::Records::metadata_of))]
+fn metadata(alloc: Global, object: &Value) -> Result<Metadata, AllocError>
+    ensures { IfOk result (λ m. m ≡ metadata_of (view object.now)) }
+{
+    Ok(Metadata {
+        id: text_at(alloc, object, "id")?,
+        country_code: number_at(object, "country_code"),
+        international_prefix: text_at(alloc, object, "international_prefix")?,
+        preferred_international_prefix: text_at(alloc, object, "preferred_international_prefix")?,
+        national_prefix: text_at(alloc, object, "national_prefix")?,
+        preferred_extension_prefix: text_at(alloc, object, "preferred_extension_prefix")?,
+        national_prefix_for_parsing: text_at(alloc, object, "national_prefix_for_parsing")?,
+        national_prefix_transform_rule: text_at(alloc, object, "national_prefix_transform_rule")?,
+        formats: formats_at(alloc, object, "formats")?,
+        international_formats: formats_at(alloc, object, "international_formats")?,
+        main_country_for_code: truth_at(object, "main_country_for_code"),
+        leading_digits: text_at(alloc, object, "leading_digits")?,
+        mobile_number_portable: truth_at(object, "mobile_number_portable"),
+        defaults: defaults_at(alloc, object)?,
+        ..with_descriptors(alloc, object)?
+    })
+}
+
+/// The records of a list of objects; refused only for memory.
+pub fn records(alloc: Global, value: &Value) -> Result<Vec<Metadata>, AllocError>
+    ensures { IfOk result (λ v. v.items ≡ map metadata_of (items_in (view value.now))) }
+{
+    let mut records = Vec::new(alloc);
+    for item in items_in(value) {
+        records.push(metadata(alloc, item)?)?;
+    }
+    Ok(records)
+}

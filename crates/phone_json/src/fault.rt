@@ -1,0 +1,37 @@
+//! What may be wrong with a value of a database text.
+ghost use Rattle.std.specs.Prelude.{◌≡◌, IfOk};
+ghost use Rattle.phone_records.specs.Errors.{told};
+ghost use Rattle.phone_json.specs.Told.{refusal_of};
+
+use phone_core::MetadataError;
+use phone_records::LoadMetadata;
+use std::alloc::{AllocError, Global};
+
+/// Why a value is refused.
+#[derive(Clone, Copy)]
+pub enum Fault<'v> {
+    /// A record of this kind may not have this key.
+    UnknownKey { phase: &'v str, key: &'v str },
+    /// In a record of this kind the value of this field is of the wrong kind.
+    WrongKind { phase: &'v str, name: &'v str },
+}
+
+impl<'v> Fault<'v> {
+    /// The error that tells it; refused only for memory.
+    pub fn into_refusal(self, alloc: Global) -> Result<LoadMetadata, AllocError>
+        ensures { IfOk result (λ e. told e ≡ refusal_of self.entry) }
+    {
+        match self {
+            Fault::UnknownKey { phase, key } => Ok(LoadMetadata::Metadata(
+                MetadataError::UnhandledElement {
+                    phase: String::from_str(alloc, phase)?,
+                    name: String::from_str(alloc, key)?,
+                },
+            )),
+            Fault::WrongKind { phase, name } => Ok(LoadMetadata::Kind {
+                phase: String::from_str(alloc, phase)?,
+                name: String::from_str(alloc, name)?,
+            }),
+        }
+    }
+}
