@@ -6,10 +6,11 @@ use phone_core::MetadataError;
 use std::alloc::{AllocError, AllocFailed};
 use thiserror::Error;
 
-/// Why a database was refused. `Json`, `Kind` and `Io` are kept for database texts, which are to come: no call gives them.
+/// Why a database was refused. `Json`, `Kind` and `Metadata(UnhandledElement)` speak of database texts, `Io` of sources and
+/// files.
 #[derive(Debug, Drop, Error)]
 pub enum LoadMetadata {
-    /// What is wrong with a record; so far only that a value is missing.
+    /// What is wrong with a record: a value is missing, or a key stands there that it may not have.
     #[error(transparent)]
     Metadata(MetadataError),
 
