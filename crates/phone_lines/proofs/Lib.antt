@@ -1,0 +1,4 @@
+pub mod AnswerLemmas
+pub mod CutLemmas
+pub mod LineLemmas
+pub mod Progress

@@ -1,0 +1,8 @@
+//! Lines of a source, each answered by a line to a sink, in blocks.
+#![tactic(auto)]
+
+mod answers;
+mod desk;
+
+
+pub use answers::Answers;
