@@ -3,8 +3,8 @@ use Rattle.std.proofs.Common.{◌≡◌, ◌==◌, ℕ, Bool, true, false, ◌||
 use Rattle.std.proofs.lemmas.List.{append-nil}
 use Rattle.std.proofs.lemmas.List.Folds.{list_any-append}
 use Rattle.std.specs.List.{AllByRecursion, list_any}
-use Rattle.phone_device.specs.Passing.{Takes, TakesFront}
-use Rattle.phone_lines.specs.Lines.{AreCut, AreLines, IsUnbroken, ended, last_line, without_return}
+use Rattle.phone_device.specs.Passing.{TakesFront}
+use Rattle.phone_lines.specs.Lines.{AreCut, IsUnbroken, ended, last_line, without_return}
 use Rattle.phone_lines.specs.Reports.{AreAnswers, Gives, HasOneAnswer, IsReport, IsReportOnEnded, IsReportOnFirst, TakesBeginning}
 use Rattle.phone_lines.specs.Reports.AreAnswers.{none, next}
 
@@ -64,6 +64,7 @@ has_feed l rest text h e = true≢false (sym (there l rest) ∙ ap (list_any (λ
     last_true : (b : Bool) → (b || true) ≡ true
     last_true true = refl
     last_true false = refl
+
     there : (l rest : List ℕ) → list_any (λ c. c == 10) (l ++ 10 ∷ rest) ≡ true
     there l rest = list_any-append (λ c. c == 10) l (10 ∷ rest) ∙ last_true _
 

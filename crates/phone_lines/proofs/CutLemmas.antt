@@ -1,9 +1,9 @@
 -- Bytes cut at line feeds, as they come one after the other.
-use Rattle.std.proofs.Common.{◌≡◌, ℕ, ◌==◌, Bool, true, false, if◌then◌else◌, List, [], ◌∷◌, ◌++◌, refl, sym, ap, ◌∙◌, append_assoc, ne_eqb, eq-eqb, eqb-true, nat_eq, subst, true≢false}
+use Rattle.std.proofs.Common.{◌≡◌, ℕ, ◌==◌, Bool, true, false, List, [], ◌∷◌, ◌++◌, refl, sym, ap, ◌∙◌, append_assoc, ne_eqb, eq-eqb, eqb-true, nat_eq, subst, true≢false}
 use Rattle.std.proofs.lemmas.List.{append-nil}
 use Rattle.std.proofs.lemmas.List.Folds.{list_any-append}
-use Rattle.std.specs.List.{AllByRecursion, list_any}
-use Rattle.phone_lines.specs.Lines.{AreCut, IsUnbroken, ended, last_line}
+use Rattle.std.specs.List.{AllByRecursion}
+use Rattle.phone_lines.specs.Lines.{AreCut, IsUnbroken, ended}
 
 -- nothing is cut into nothing
 pub AreCut-nothing : AreCut [] [] []
@@ -35,9 +35,9 @@ pub AreCut-ended : (bytes : List ℕ) (lines : List (List ℕ)) (last : List ℕ
     AreCut (bytes ++ x ∷ []) (lines ++ last ∷ []) []
 AreCut-ended bytes lines last x cut is = record {
   whole =
-    ap (λ t. t ++ x ∷ []) cut.whole ∙ append_assoc (ended lines) last (x ∷ []) ∙ ap (λ c. ended lines ++ (last ++ c ∷ [])) is
-    ∙ ap (λ t. ended lines ++ t) (sym (append-nil (last ++ 10 ∷ []))) ∙ sym (ended-append lines (last ∷ []))
-    ∙ sym (append-nil (ended (lines ++ last ∷ [])));
+      ap (λ t. t ++ x ∷ []) cut.whole ∙ append_assoc (ended lines) last (x ∷ []) ∙ ap (λ c. ended lines ++ (last ++ c ∷ [])) is
+      ∙ ap (λ t. ended lines ++ t) (sym (append-nil (last ++ 10 ∷ []))) ∙ sym (ended-append lines (last ∷ []))
+      ∙ sym (append-nil (ended (lines ++ last ∷ [])));
   unbroken = unbroken-append lines (last ∷ []) cut.unbroken (cut.last_unbroken, tt);
   last_unbroken = refl;
 }

@@ -9,7 +9,7 @@ prepended c x d cs = refl
 -- a line whose last byte this is
 pub without_return-last : (front : List ℕ) (x : ℕ) → without_return (front ++ x ∷ []) ≡ (if x == 13 then front else front ++ x ∷ [])
 without_return-last [] x = refl
-without_return-last (c ∷ []) x = one (x == 13) 
+without_return-last (c ∷ []) x = one (x == 13)
   where
     one : (b : Bool) → c ∷ (if b then [] else x ∷ []) ≡ (if b then c ∷ [] else c ∷ x ∷ [])
     one true = refl

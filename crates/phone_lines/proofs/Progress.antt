@@ -1,13 +1,13 @@
 -- How far a run is after one more byte, or after the sink has taken more.
-use Rattle.std.proofs.Common.{◌≡◌, add-one, ℕ, suc, ◌+◌, ◌<◌, take, drop, length, get_or, List, [], ◌∷◌, ◌++◌, Option, Some, None, refl, sym, ap, ◌∙◌, append_assoc, subst}
+use Rattle.std.proofs.Common.{◌≡◌, add-one, ℕ, ◌+◌, ◌<◌, take, drop, length, get_or, List, [], ◌∷◌, ◌++◌, Option, Some, None, refl, sym, ap, ◌∙◌, append_assoc, subst}
 use Rattle.std.proofs.lemmas.List.{append-nil, take-append-drop}
 use Rattle.std.proofs.Math.Seq.{take-suc}
 use Rattle.phone_device.specs.Passing.{Takes, TakesFront}
-use Rattle.phone_lines.specs.Lines.{AreCut, last_line, without_return}
+use Rattle.phone_lines.specs.Lines.{last_line, without_return}
 use Rattle.phone_lines.specs.Reports.{AreAnswers, Gives, IsReport, IsReportOnEnded, IsReportOnFirst}
 use Rattle.phone_lines.specs.Reports.AreAnswers.{none}
-use Rattle.phone_lines.specs.Runs.{BreaksOff, Holds, IsSoFar, Stands}
-use Rattle.phone_lines.proofs.AnswerLemmas.{AreAnswers-then, TakesFront-begins}
+use Rattle.phone_lines.specs.Runs.{BreaksOff, Holds, IsSoFar, Stands, TakesA}
+use Rattle.phone_lines.proofs.AnswerLemmas.{AreAnswers-then, IsReportOnEnded-first, TakesFront-begins, TakesFront-report}
 use Rattle.phone_lines.proofs.CutLemmas.{AreCut-ended, AreCut-grown, AreCut-nothing, cut_on}
 
 -- a byte that is no line feed
@@ -105,3 +105,48 @@ at_place bytes block i = append_assoc bytes (take i block) (drop i block) ∙ ap
 -- and up to the next place
 pub next_place : (bytes block : List ℕ) (i d : ℕ) → i < length block → (bytes ++ take i block) ++ get_or block i d ∷ [] ≡ bytes ++ take (i + 1) block
 next_place bytes block i d h = append_assoc bytes (take i block) (get_or block i d ∷ []) ∙ ap (λ t. bytes ++ t) (rw add-one (sym (take-suc block i d h)))
+
+-- what is so far, where the last piece is no line
+pub Stands-whole : (gives : Gives) (bytes line held : List ℕ) (before after : Option (List ℕ)) → line ≡ [] → Stands gives bytes line held before after →
+    Holds (IsReport gives bytes) held before after
+Stands-whole gives bytes line held before after e s = record {
+  written = s.written;
+  taken = s.taken;
+  text = (s.so_far.lines, (s.so_far.lines, line, s.so_far.cut, sym (ap (λ l. s.so_far.lines ++ last_line l) e ∙ append-nil s.so_far.lines)), s.so_far.answered);
+}
+
+one_line : (line : List ℕ) → (line ≡ [] → ⊥) → last_line line ≡ line ∷ []
+one_line [] some = absurd (some refl)
+one_line (c ∷ cs) some = refl
+
+-- and where it is one, and was answered
+pub Stands-last : (gives : Gives) (bytes line held answer : List ℕ) (before after : Option (List ℕ)) → (line ≡ [] → ⊥) → Stands gives bytes line held before after →
+    gives (without_return line) answer → Holds (IsReport gives bytes) (held ++ (answer ++ 10 ∷ [])) before after
+Stands-last gives bytes line held answer before after some s given = record {
+  written = s.written;
+  taken = s.taken;
+  text = (
+    s.so_far.lines ++ line ∷ [],
+    (s.so_far.lines, line, s.so_far.cut, ap (λ l. s.so_far.lines ++ l) (sym (one_line line some))),
+    subst (λ t. AreAnswers gives (s.so_far.lines ++ line ∷ []) t) (append_assoc s.written held (answer ++ 10 ∷ []))
+        (AreAnswers-then gives s.so_far.lines (s.written ++ held) line answer s.so_far.answered given),
+  );
+}
+
+-- what was written out of what is held
+pub Holds-out : (is_text : List ℕ → Type 0) (held : List ℕ) (before middle after : Option (List ℕ)) → Holds is_text held before middle → Takes middle held after →
+    TakesA is_text before after
+Holds-out is_text held before middle after h t = (h.written ++ held, h.text, takes_then before middle after h.written held h.taken t)
+
+-- and where a sink fails in the middle of the whole report
+pub Holds-report-breaks : (gives : Gives) (bytes held : List ℕ) (before middle after : Option (List ℕ)) → Holds (IsReport gives bytes) held before middle →
+    TakesFront middle held after → BreaksOff gives bytes before after
+Holds-report-breaks gives bytes held before middle after h f =
+    TakesFront-report gives bytes (h.written ++ held) before after h.text (front_then before middle after h.written held h.taken f)
+
+-- or of the report on the ended lines
+pub Holds-ended-breaks : (gives : Gives) (bytes held : List ℕ) (before middle after : Option (List ℕ)) → Holds (IsReportOnEnded gives bytes) held before middle →
+    TakesFront middle held after → BreaksOff gives bytes before after
+Holds-ended-breaks gives bytes held before middle after h f =
+    TakesFront-begins gives bytes (h.written ++ held) before after (IsReportOnEnded-first gives bytes (h.written ++ held) h.text)
+    (front_then before middle after h.written held h.taken f)

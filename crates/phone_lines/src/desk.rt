@@ -1,7 +1,7 @@
 //! What a run holds: the line that isn't ended yet, and answers that aren't written yet.
 ghost use Rattle.std.specs.Prelude.{◌≡◌, ◌+◌, ◌++◌, ◌∷◌, [], ℕ, List, Option, Err, OnOk, OnErr};
 ghost use Rattle.phone_device.specs.Passing.{Takes, TakesFront};
-ghost use Rattle.phone_lines.specs.Reports.{IsReportOnFirst};
+ghost use Rattle.phone_lines.specs.Reports.{IsReport, IsReportOnFirst};
 ghost use Rattle.phone_lines.specs.Faults.{faults_of};
 ghost use Rattle.phone_lines.specs.Runs.{BreaksOff, Holds, IsSoFar, Stands};
 ghost use Rattle.phone_lines.specs.declared.desk.Refusal.TheVariants as refusal;
@@ -98,6 +98,31 @@ impl Desk {
                 return Err(Refusal::Fault);
             };
         }
+        Ok(())
+    }
+
+    /// Writes all answers that are held, and has the sink hand on what it holds back.
+    pub fn write_out<W: ByteSink>(&self, sink: &mut W) -> Result<(), Fault>
+        ensures all { OnOk result (Takes (W.taken sink.old) self.now.answers.items (W.taken sink.new)) }
+        ensures no_fault { OnOk result (W.faults sink.new ≡ W.faults sink.old) }
+        ensures front { OnErr result (TakesFront (W.taken sink.old) self.now.answers.items (W.taken sink.new)) }
+        ensures fault { OnErr result (W.faults sink.new ≡ W.faults sink.old + 1) }
+    {
+        write_all(sink, self.answers.as_slice())?;
+        sink.flush()
+    }
+
+    /// Answers what stands after the last line feed, where it has a byte. Refused only for memory.
+    pub fn take_last<A: Answers>(&mut self, alloc: Global, answers: &A) -> Result<(), AllocError>
+        ensures taken { OnOk result ((bytes : List ℕ) (before : Option (List ℕ)) (after : Option (List ℕ)) → Stands (A.gives answers.now) bytes self.old.line.items self.old.answers.items before after → Holds (IsReport (A.gives answers.now) bytes) self.new.answers.items before after) }
+        ensures kept { OnErr result (self.new.answers.items ≡ self.old.answers.items) }
+        ensures line_kept { OnErr result (self.new.line.items ≡ self.old.line.items) }
+    {
+        let line = self.line.as_slice();
+        if line.is_empty() {
+            return Ok(());
+        }
+        add_answer(alloc, answers, line, &mut self.answers)?;
         Ok(())
     }
 }

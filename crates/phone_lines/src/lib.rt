@@ -2,7 +2,8 @@
 #![tactic(auto)]
 
 mod answers;
+mod blocks;
 mod desk;
 
-
 pub use answers::Answers;
+pub use blocks::{RunError, answer_lines};

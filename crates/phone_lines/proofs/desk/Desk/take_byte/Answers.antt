@@ -1,6 +1,4 @@
-use Rattle.std.proofs.Common.{◌≡◌, ◌++◌, ◌∷◌, [], ℕ, List, sym, subst}
-use Rattle.phone_lines.specs.Runs.{IsSoFar}
-use Rattle.phone_lines.proofs.Progress.{IsSoFar-ended, IsSoFar-grown}
+use Rattle.phone_lines.proofs.Progress.{IsSoFar-ended}
 use Rattle.phone_lines.proofs.desk.Desk.take_byte.Goals as goal
 
 pub returns-clause-taken : goal.returns-clause-taken
