@@ -1,0 +1,126 @@
+-- Answers to lines, one after the other; and what begins whatever is the report.
+use Rattle.std.proofs.Common.{◌≡◌, ◌==◌, ℕ, Bool, true, false, ◌||◌, List, [], ◌∷◌, ◌++◌, Option, refl, sym, ap, ap₂, ◌∙◌, append_assoc, subst, true≢false}
+use Rattle.std.proofs.lemmas.List.{append-nil}
+use Rattle.std.proofs.lemmas.List.Folds.{list_any-append}
+use Rattle.std.specs.List.{AllByRecursion, list_any}
+use Rattle.phone_device.specs.Passing.{TakesFront}
+use Rattle.phone_lines.specs.Lines.{AreCut, IsUnbroken, ended, last_line, without_return}
+use Rattle.phone_lines.specs.Reports.{AreAnswers, Gives, HasOneAnswer, IsReport, IsReportOnEnded, IsReportOnFirst, TakesBeginning}
+use Rattle.phone_lines.specs.Reports.AreAnswers.{none, next}
+
+-- the answers to lines, and to one more
+pub AreAnswers-then : (gives : Gives) (lines : List (List ℕ)) (answers line answer : List ℕ) → AreAnswers gives lines answers → gives (without_return line) answer →
+    AreAnswers gives (lines ++ line ∷ []) (answers ++ (answer ++ 10 ∷ []))
+AreAnswers-then gives _ _ line answer none h = next line answer [] [] h none
+AreAnswers-then gives _ _ line answer (next l a ls others g rest) h =
+    subst (λ t. AreAnswers gives (l ∷ (ls ++ line ∷ [])) t) (sym (append_assoc a (10 ∷ others) (answer ++ 10 ∷ [])))
+    (next l a (ls ++ line ∷ []) (others ++ (answer ++ 10 ∷ [])) g (AreAnswers-then gives ls others line answer rest h))
+
+-- what is answered to first lines begins what is answered to all of them
+pub record Begun (r whole : List ℕ) : Type 0 where
+  pub rest : List ℕ
+  pub is : whole ≡ r ++ rest
+
+begun_then : (a r whole b : List ℕ) → a ≡ b → Begun r whole → Begun (a ++ 10 ∷ r) (b ++ 10 ∷ whole)
+begun_then a r whole b e h = record { rest = h.rest; is = ap₂ (λ x y. x ++ 10 ∷ y) (sym e) h.is ∙ sym (append_assoc a (10 ∷ r) h.rest) }
+
+pub begun : (gives : Gives) → HasOneAnswer gives → (first others : List (List ℕ)) (r whole : List ℕ) →
+    AreAnswers gives first r → AreAnswers gives (first ++ others) whole → Begun r whole
+begun gives one _ others _ whole none h = record { rest = whole; is = refl }
+begun gives one _ others _ _ (next l a ls r g rest) (next _ b _ whole g' rest') = begun_then a r whole b (one _ a b g g') (begun gives one ls others r whole rest rest')
+
+abbrev head_or_zero : List ℕ → ℕ
+head_or_zero [] = 0
+head_or_zero (c ∷ cs) = c
+
+abbrev tail_of : List ℕ → List ℕ
+tail_of [] = []
+tail_of (c ∷ cs) = cs
+
+no_feed : (c : ℕ) (cs : List ℕ) → 10 ≡ c → IsUnbroken (c ∷ cs) → ⊥
+no_feed c cs e h = true≢false (subst (λ d. list_any (λ x. x == 10) (d ∷ cs) ≡ false) (sym e) h)
+
+unbroken_tail : (c : ℕ) (cs : List ℕ) → IsUnbroken (c ∷ cs) → IsUnbroken cs
+unbroken_tail c cs h = second (c == 10) _ h
+  where
+    second : (a b : Bool) → (a || b) ≡ false → b ≡ false
+    second false b h = h
+    second true b h = absurd (true≢false h)
+
+both_grow : (c d : ℕ) (x y u v : List ℕ) → c ≡ d → (x ≡ y) × (u ≡ v) → (c ∷ x ≡ d ∷ y) × (u ≡ v)
+both_grow c d x y u v e h = (ap₂ (λ a b. a ∷ b) e h.0, h.1)
+
+-- two texts that are the same: what stands before the first line feed of each, and what stands after it
+pub same_first : (x y u v : List ℕ) → IsUnbroken x → IsUnbroken y → x ++ 10 ∷ u ≡ y ++ 10 ∷ v → (x ≡ y) × (u ≡ v)
+same_first [] [] u v p q e = (refl, ap tail_of e)
+same_first [] (c ∷ y) u v p q e = absurd (no_feed c y (ap head_or_zero e) q)
+same_first (c ∷ x) [] u v p q e = absurd (no_feed c x (sym (ap head_or_zero e)) p)
+same_first (c ∷ x) (d ∷ y) u v p q e =
+    both_grow c d x y u v (ap head_or_zero e) (same_first x y u v (unbroken_tail c x p) (unbroken_tail d y q) (ap tail_of e))
+
+has_feed : (l rest : List ℕ) (text : List ℕ) → IsUnbroken text → text ≡ l ++ 10 ∷ rest → ⊥
+has_feed l rest text h e = true≢false (sym (there l rest) ∙ ap (list_any (λ c. c == 10)) (sym e) ∙ h)
+  where
+    last_true : (b : Bool) → (b || true) ≡ true
+    last_true true = refl
+    last_true false = refl
+
+    there : (l rest : List ℕ) → list_any (λ c. c == 10) (l ++ 10 ∷ rest) ≡ true
+    there l rest = list_any-append (λ c. c == 10) l (10 ∷ rest) ∙ last_true _
+
+-- the same pieces
+pub record SamePieces (lines others : List (List ℕ)) (last end : List ℕ) : Type 0 where
+  pub lines_are : lines ≡ others
+  pub last_is : last ≡ end
+
+one_more : (l k : List ℕ) (lines others : List (List ℕ)) (last end : List ℕ) → l ≡ k → SamePieces lines others last end → SamePieces (l ∷ lines) (k ∷ others) last end
+one_more l k lines others last end e h = record { lines_are = ap₂ (λ a b. a ∷ b) e h.lines_are; last_is = h.last_is }
+
+seam : (l r last : List ℕ) → ((l ++ 10 ∷ []) ++ r) ++ last ≡ l ++ 10 ∷ (r ++ last)
+seam l r last = append_assoc (l ++ 10 ∷ []) r last ∙ append_assoc l (10 ∷ []) (r ++ last)
+
+-- bytes are cut in one way alone
+pub same_pieces : (lines others : List (List ℕ)) (last end : List ℕ) → AllByRecursion IsUnbroken lines → AllByRecursion IsUnbroken others →
+    IsUnbroken last → IsUnbroken end → ended lines ++ last ≡ ended others ++ end → SamePieces lines others last end
+same_pieces [] [] last end p q h k e = record { lines_are = refl; last_is = e }
+same_pieces [] (l ∷ others) last end p q h k e = absurd (has_feed l (ended others ++ end) last h (e ∙ seam l (ended others) end))
+same_pieces (l ∷ lines) [] last end p q h k e = absurd (has_feed l (ended lines ++ last) end k (sym e ∙ seam l (ended lines) last))
+same_pieces (l ∷ lines) (m ∷ others) last end p q h k e =
+    let s = same_first l m (ended lines ++ last) (ended others ++ end) p.0 q.0 (sym (seam l (ended lines) last) ∙ e ∙ seam m (ended others) end) in
+    one_more l m lines others last end s.0 (same_pieces lines others last end p.1 q.1 h k s.1)
+
+-- whatever is the report on bytes begins with the report on some first lines of them
+pub IsReportOnFirst-begins : (gives : Gives) → HasOneAnswer gives → (bytes r whole : List ℕ) → IsReportOnFirst gives bytes r → IsReport gives bytes whole → Begun r whole
+IsReportOnFirst-begins gives one bytes r whole (first, others, last, cut, answers) (lines, (ended_ones, end, cut', all), answers') =
+    let same = same_pieces (first ++ others) ended_ones last end cut.unbroken cut'.unbroken cut.last_unbroken cut'.last_unbroken (sym cut.whole ∙ cut'.whole) in
+    begun gives one first (others ++ last_line end) r whole answers
+    (subst (λ t. AreAnswers gives t whole) (all ∙ ap (λ t. t ++ last_line end) (sym same.lines_are) ∙ append_assoc first others (last_line end)) answers')
+
+further : (before after : Option (List ℕ)) (r whole : List ℕ) → Begun r whole → TakesFront before r after → TakesFront before whole after
+further before after r whole b t = record {
+  front = t.front;
+  rest = t.rest ++ b.rest;
+  whole = b.is ∙ ap (λ x. x ++ b.rest) t.whole ∙ append_assoc t.front t.rest b.rest;
+  taken = t.taken;
+}
+
+-- a sink that took a beginning of the report on some first lines took a beginning of whatever is the report
+pub TakesFront-begins : (gives : Gives) (bytes r : List ℕ) (before after : Option (List ℕ)) → IsReportOnFirst gives bytes r → TakesFront before r after →
+    HasOneAnswer gives → TakesBeginning gives bytes before after
+TakesFront-begins gives bytes r before after first taken one whole is = further before after r whole (IsReportOnFirst-begins gives one bytes r whole first is) taken
+
+-- of the ended lines all are some first ones
+pub IsReportOnEnded-first : (gives : Gives) (bytes r : List ℕ) → IsReportOnEnded gives bytes r → IsReportOnFirst gives bytes r
+IsReportOnEnded-first gives bytes r (lines, last, cut, answers) = (lines, [], last, subst (λ t. AreCut bytes t last) (sym (append-nil lines)) cut, answers)
+
+-- bytes have at most one report
+pub one_report : (gives : Gives) → HasOneAnswer gives → (bytes r whole : List ℕ) → IsReport gives bytes r → IsReport gives bytes whole → Begun r whole
+one_report gives one bytes r whole (lines, (front, last, cut, all), answers) (lines', (front', end, cut', all'), answers') =
+    let same = same_pieces front front' last end cut.unbroken cut'.unbroken cut.last_unbroken cut'.last_unbroken (sym cut.whole ∙ cut'.whole) in
+    begun gives one lines [] r whole answers
+    (subst (λ t. AreAnswers gives t whole) (all' ∙ ap₂ (λ x y. x ++ last_line y) (sym same.lines_are) (sym same.last_is) ∙ sym all ∙ sym (append-nil lines)) answers')
+
+-- a sink that took a beginning of the report took a beginning of whatever is the report
+pub TakesFront-report : (gives : Gives) (bytes r : List ℕ) (before after : Option (List ℕ)) → IsReport gives bytes r → TakesFront before r after →
+    HasOneAnswer gives → TakesBeginning gives bytes before after
+TakesFront-report gives bytes r before after first taken one whole is = further before after r whole (one_report gives one bytes r whole first is) taken

@@ -1,0 +1,5 @@
+pub mod AnswerLemmas
+pub mod CutLemmas
+pub mod Ends
+pub mod LineLemmas
+pub mod Progress

@@ -1,0 +1,9 @@
+//! Lines of a source, each answered by a line to a sink, in blocks.
+#![tactic(auto)]
+
+mod answers;
+mod blocks;
+mod desk;
+
+pub use answers::Answers;
+pub use blocks::{RunError, answer_lines};
