@@ -1,0 +1,22 @@
+-- The report on bytes that are lines of phone numbers.
+use Rattle.std.specs.Prelude.{ℕ, List, Option}
+use Rattle.phone_core.specs.declared.country.Id.{Id}
+use Rattle.phone_lines.specs.Reports as on_lines
+use Rattle.phone_records.specs.declared.loader.Metadata.{Metadata}
+use Rattle.phonenumber.specs.Reports.{IsReportLine}
+
+-- the report under a database and a hint: a report line for each line of the bytes
+abbrev pub IsReport : List Metadata → Option Id → List ℕ → List ℕ → Type 0
+IsReport db hint bytes report = on_lines.IsReport (IsReportLine db hint) bytes report
+
+-- the report on the lines that a line feed ends
+abbrev pub IsReportOnEnded : List Metadata → Option Id → List ℕ → List ℕ → Type 0
+IsReportOnEnded db hint bytes report = on_lines.IsReportOnEnded (IsReportLine db hint) bytes report
+
+-- the report on some first ones of them
+abbrev pub IsReportOnFirst : List Metadata → Option Id → List ℕ → List ℕ → Type 0
+IsReportOnFirst db hint bytes report = on_lines.IsReportOnFirst (IsReportLine db hint) bytes report
+
+-- a sink took a beginning of whatever is the report
+abbrev pub TakesBeginning : List Metadata → Option Id → List ℕ → Option (List ℕ) → Option (List ℕ) → Type 0
+TakesBeginning db hint bytes before after = on_lines.TakesBeginning (IsReportLine db hint) bytes before after

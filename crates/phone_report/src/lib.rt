@@ -1,0 +1,12 @@
+//! The report on lines of phone numbers: what is said of each line, the run over a source of bytes, and the program.
+#![tactic(auto)]
+
+mod line;
+mod program;
+mod report;
+mod words;
+
+pub use line::Reporter;
+pub use phone_lines::RunError;
+pub use program::program;
+pub use report::{one_report_line, run};

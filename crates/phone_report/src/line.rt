@@ -1,0 +1,74 @@
+//! What the report says of one line.
+ghost use Rattle.std.specs.Prelude.{◌≡◌, None, Some, Err, IfOk, string_bytes};
+ghost use Rattle.phone_meta.specs.Codes.{first_of, territories};
+ghost use Rattle.phone_records.specs.declared.loader.Metadata.{Metadata};
+ghost use Rattle.phonenumber.specs.Reports.{IsReportLine, number_line};
+
+use crate::words::{kind_word, refusal_line, region_word, source_word, validity_word};
+use phone_lines::Answers;
+use phonenumber::country::Id;
+use phonenumber::metadata::Database;
+use phonenumber::{FormatError, ParseError, PhoneNumber, Texts, format_with, parse_with};
+use std::alloc::{AllocError, Global};
+use std::marker::Model;
+
+/// What answers lines by the report on them, under a database and a hint.
+#[derive(Clone, Copy)]
+pub struct Reporter<'d> {
+    /// The database that reads, prints and tells.
+    pub database: &'d Database,
+    /// The region under which lines are read.
+    pub hint: Option<Id>,
+}
+
+/// The report line of a number. Refused by `UnknownCode` where no territory has its code, and by `Memory`.
+fn number_line(
+    alloc: Global,
+    database: &Database,
+    number: &PhoneNumber,
+) -> Result<String, FormatError>
+    ensures line { IfOk result (λ line. (m : Metadata) × (first_of (territories number.now.code.value database.now) ≡ Some m) × (string_bytes line ≡ number_line database.now m number.now)) }
+    ensures unknown { result ≡ Err FormatError.UnknownCode → first_of (territories number.now.code.value database.now) ≡ None }
+{
+    let Texts {
+        e164,
+        international,
+        national,
+        rfc3966,
+    } = format_with(database, number).to_texts(alloc)?;
+    let Ok(queried) = number.queried(database) else {
+        return Err(FormatError::Memory);
+    };
+    let source = source_word(number.code().source());
+    let kind = kind_word(queried.kind);
+    let region = region_word(queried.region);
+    let validity = validity_word(queried.is_valid);
+    match format!(in alloc; "ok\t{e164}\t{international}\t{national}\t{rfc3966}\t{source}\t{kind}\t{region}\t{validity}")
+    {
+        Ok(line) => Ok(line),
+        Err(_) => Err(FormatError::Memory),
+    }
+}
+
+impl<'d> Answers for Reporter<'d> {
+    ghost use Rattle.phonenumber.specs.Reports.{IsReportLine};
+
+    ghost gives = { λ r line answer. IsReportLine r.database.now r.hint line answer };
+
+    /// The report line of a line, which is without its end.
+    fn answer(&self, alloc: Global, line: &[u8]) -> Result<String, AllocError> {
+        let Ok(text) = std::str::from_utf8(line) else {
+            return String::from_str(alloc, "error\t0\tnot UTF-8");
+        };
+        let number = match parse_with(self.database, self.hint, text) {
+            Ok(number) => number,
+            Err(ParseError::Memory) => return Err(AllocError),
+            Err(error) => return refusal_line(alloc, error),
+        };
+        match number_line(alloc, self.database, &number) {
+            Ok(line) => Ok(line),
+            Err(FormatError::Memory) => Err(AllocError),
+            Err(FormatError::UnknownCode) => unreachable!(),
+        }
+    }
+}

@@ -1,0 +1,52 @@
+//! The run over all lines of a source, and laws of its report.
+ghost use Rattle.std.specs.Prelude.{◌≡◌, ◌+◌, ◌⊎◌, ℕ, List, Option, Err, OnOk, length};
+ghost use Rattle.phone_core.specs.declared.country.Id.{Id};
+ghost use Rattle.phone_device.specs.Passing.{IsAtEnd};
+ghost use Rattle.phone_lines.specs.Faults.{sink_faults_of};
+ghost use Rattle.phone_lines.specs.Runs.{OfRead, TakesA, most_bytes};
+ghost use Rattle.phone_lines.specs.declared.blocks.RunError.TheVariants as error;
+ghost use Rattle.phone_records.specs.declared.loader.Metadata as loader;
+ghost use Rattle.phonenumber.specs.Reports.{IsReportLine};
+ghost use Rattle.phone_report.specs.Report.{IsReport, IsReportOnEnded, IsReportOnFirst, TakesBeginning};
+
+use crate::line::Reporter;
+use phone_device::{ByteSink, ByteSource};
+use phone_lines::{RunError, answer_lines};
+use phonenumber::country::Id;
+use phonenumber::metadata::Database;
+
+/// Reads lines from a source and writes the report on them to a sink.
+///
+/// The input is cut at each line feed; what stands after the last one is a line where it has a byte; one carriage return at
+/// a line's end is dropped. Each line gives one report line, ended by a line feed, its fields parted by one tab. A number:
+/// `ok`, its E.164, international, national and RFC 3966 text, how its calling code was found (`plus`, `idd`, `number`,
+/// `default`), its kind, the id of its region or `-`, and `valid` or `invalid`. A refusal: `error`, its number and its
+/// words. A line that isn't UTF-8: `error`, `0`, `not UTF-8`. Nothing in memory grows with the number of lines.
+///
+/// Refused by `Input` where the source failed, or 2^64 - 1 bytes were read: then the report on all lines that a line feed
+/// ended is written. By `Output` where the sink failed, or took no byte of some: then a beginning of the report is
+/// written. By `Memory` where memory was refused: then the report lines of some first lines are written, each whole.
+pub fn run<S: ByteSource, W: ByteSink>(
+    database: &Database,
+    hint: Option<Id>,
+    source: &mut S,
+    sink: &mut W,
+) -> Result<(), RunError>
+    ensures end { OnOk result (IsAtEnd (S.to_come source.new)) }
+    ensures report { OnOk result (OfRead (S.to_come source.old) (S.to_come source.new) (λ bytes. TakesA (IsReport database.now hint bytes) (W.taken sink.old) (W.taken sink.new))) }
+    ensures no_fault { OnOk result (S.faults source.new ≡ S.faults source.old) }
+    ensures ended { result ≡ Err error.Input → OfRead (S.to_come source.old) (S.to_come source.new) (λ bytes. TakesA (IsReportOnEnded database.now hint bytes) (W.taken sink.old) (W.taken sink.new)) }
+    ensures cause { result ≡ Err error.Input → (S.faults source.new ≡ S.faults source.old + 1) ⊎ OfRead (S.to_come source.old) (S.to_come source.new) (λ bytes. length bytes ≡ most_bytes) }
+    ensures beginning { result ≡ Err error.Output → OfRead (S.to_come source.old) (S.to_come source.new) (λ bytes. TakesBeginning database.now hint bytes (W.taken sink.old) (W.taken sink.new)) }
+    ensures first { result ≡ Err error.Memory → OfRead (S.to_come source.old) (S.to_come source.new) (λ bytes. TakesA (IsReportOnFirst database.now hint bytes) (W.taken sink.old) (W.taken sink.new)) }
+    ensures no_fault_without_memory { result ≡ Err error.Memory → S.faults source.new ≡ S.faults source.old }
+    ensures sink_faults { W.faults sink.new ≡ W.faults sink.old + sink_faults_of result }
+{
+    let reporter = Reporter { database, hint };
+    answer_lines(database.allocator(), &reporter, source, sink)
+}
+
+/// A line has one report line at most, under each database and hint.
+pub fn one_report_line()
+    ensures { (db : List loader.Metadata) (hint : Option Id) (line a b : List ℕ) → IsReportLine db hint line a → IsReportLine db hint line b → a ≡ b }
+{}

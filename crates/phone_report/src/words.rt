@@ -1,0 +1,77 @@
+//! The words of a report's fields.
+ghost use Rattle.std.specs.Prelude.{◌≡◌, ◌∷◌, [], IfOk, string_bytes};
+ghost use Rattle.phonenumber.specs.Reports.{kind_word, refusal_line, region_word, source_word, validity_word};
+
+use phonenumber::country::{Id, Source};
+use phonenumber::{ParseError, Type};
+use std::alloc::{AllocError, Global};
+
+/// How a calling code was found, in a word.
+pub(crate) fn source_word(source: Source) -> &'static str
+    ensures { result.now ≡ source_word source }
+{
+    match source {
+        Source::Plus => "plus",
+        Source::Idd => "idd",
+        Source::Number => "number",
+        Source::Default => "default",
+    }
+}
+
+/// A kind's name.
+pub(crate) fn kind_word(kind: Type) -> &'static str
+    ensures { result.now ≡ kind_word kind }
+{
+    match kind {
+        Type::FixedLine => "FixedLine",
+        Type::Mobile => "Mobile",
+        Type::FixedLineOrMobile => "FixedLineOrMobile",
+        Type::TollFree => "TollFree",
+        Type::PremiumRate => "PremiumRate",
+        Type::SharedCost => "SharedCost",
+        Type::PersonalNumber => "PersonalNumber",
+        Type::Voip => "Voip",
+        Type::Pager => "Pager",
+        Type::Uan => "Uan",
+        Type::Emergency => "Emergency",
+        Type::Voicemail => "Voicemail",
+        Type::ShortCode => "ShortCode",
+        Type::StandardRate => "StandardRate",
+        Type::Carrier => "Carrier",
+        Type::NoInternational => "NoInternational",
+        Type::Unknown => "Unknown",
+    }
+}
+
+/// A region by its id, or a hyphen.
+pub(crate) fn region_word(region: Option<Id>) -> &'static str
+    ensures { result.now ≡ region_word region }
+{
+    match region {
+        Some(id) => id.as_str(),
+        None => "-",
+    }
+}
+
+/// Valid or not, in a word.
+pub(crate) fn validity_word(is_valid: bool) -> &'static str
+    ensures { result.now ≡ validity_word is_valid }
+{
+    if is_valid { "valid" } else { "invalid" }
+}
+
+/// The report line of a refusal. Refused only for memory.
+pub(crate) fn refusal_line(alloc: Global, error: ParseError) -> Result<String, AllocError>
+    ensures { IfOk result (λ line. string_bytes line ≡ refusal_line error) }
+{
+    let line = match error {
+        ParseError::NoNumber => "error\t1\tnot a number",
+        ParseError::InvalidCountryCode => "error\t2\tinvalid country code",
+        ParseError::TooShortAfterIdd => "error\t3\tthe number is too short after IDD",
+        ParseError::TooShortNsn => "error\t4\tthe number is too short after the country code",
+        ParseError::TooLong => "error\t5\tthe number is too long",
+        ParseError::MalformedInteger => "error\t6\tmalformed integer",
+        ParseError::Memory => "error\t7\tout of memory",
+    };
+    String::from_str(alloc, line)
+}
