@@ -7,8 +7,7 @@ use Rattle.phone_records.specs.declared.error.LoadMetadata.TheVariants as error
 use Rattle.phone_records.specs.declared.loader.Metadata.{Metadata}
 use Rattle.phone_meta.specs.Refusals.{IsRefusalOf}
 
--- a text is refused as the records that it is are refused, or, where it isn't records, by what is told of it; or memory was
--- refused
+-- a text is refused as its records are, or, where it isn't records, by what is told of it; or memory was refused
 abbrev pub IsTextRefusal : List ℕ → LoadMetadata → Type 0
 IsTextRefusal text e = MatchResult (records_of text) (λ records. IsRefusalOf records e) (λ refusal. told e ≡ refusal) ⊎ (e ≡ error.Memory)
 

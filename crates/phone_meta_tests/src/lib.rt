@@ -13,4 +13,6 @@ mod matching;
 mod refusals;
 #[cfg(test)]
 mod searches;
+#[cfg(test)]
+mod texts;
 mod told;
