@@ -1,1 +1,2 @@
+pub mod NumberLines
 pub mod OneLine

@@ -1,5 +1,6 @@
 -- A line has one report line, and a number that was read has a territory.
-use Rattle.std.proofs.Common.{◌≡◌, ℕ, ⊤, List, Option, None, Some, Result, Ok, Err, chars, refl, sym, ap, ap₂, ◌∙◌, subst, true≢false}
+use Rattle.std.proofs.Common.{◌≡◌, ℕ, List, Option, None, Some, Result, Ok, Err, chars, refl, sym, ap, ap₂, ◌∙◌, subst, true≢false}
+use Rattle.std.specs.Prelude.{⊤}
 use Rattle.std.proofs.lemmas.Option.{none-some, same_Some}
 use Rattle.std.proofs.lemmas.Result.{IfErr-at_err, IfOk-at_ok, MatchResult-at_err}
 use Rattle.phone_core.specs.declared.country.Id.{Id}
@@ -14,7 +15,8 @@ use Rattle.phone_records.specs.declared.loader.Metadata.{Metadata}
 use Rattle.phonenumber.specs.Reports.{IsReportLine, number_line, refusal_line}
 use Rattle.phonenumber.specs.Reports.IsReportLine.{no_text, refused, read}
 
-no_both : {T E : Type 0} (x : T) (e : E) → ◌≡◌ {A = Result T E} (Ok x) (Err e) → ⊥
+-- a result is no `Ok` and `Err` at once
+pub no_both : {T E : Type 0} (x : T) (e : E) → ◌≡◌ {A = Result T E} (Ok x) (Err e) → ⊥
 no_both x e is = MatchResult-at_err {r = Ok x} (λ _. ⊤) (λ _. ⊥) e is tt
 
 same_number : (db : List Metadata) (n k : Reading) (m l : Metadata) → n ≡ k → first_of (territories n.code.value db) ≡ Some m → first_of (territories k.code.value db) ≡ Some l →

@@ -2,11 +2,11 @@
 #![tactic(auto)]
 
 mod line;
-mod program;
 mod report;
+mod tool;
 mod words;
 
 pub use line::Reporter;
 pub use phone_lines::RunError;
-pub use program::program;
 pub use report::{one_report_line, run};
+pub use tool::program;

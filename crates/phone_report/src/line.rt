@@ -1,14 +1,14 @@
 //! What the report says of one line.
-ghost use Rattle.std.specs.Prelude.{◌≡◌, None, Some, Err, IfOk, string_bytes};
+ghost use Rattle.std.specs.Prelude.{◌≡◌, [], ◌∷◌, ◌++◌, None, Some, Err, IfOk, codes, string_bytes};
 ghost use Rattle.phone_meta.specs.Codes.{first_of, territories};
 ghost use Rattle.phone_records.specs.declared.loader.Metadata.{Metadata};
-ghost use Rattle.phonenumber.specs.Reports.{IsReportLine, number_line};
+ghost use Rattle.phonenumber.specs.Reports.{IsReportLine, number_line, tabbed};
 
 use crate::words::{kind_word, refusal_line, region_word, source_word, validity_word};
 use phone_lines::Answers;
 use phonenumber::country::Id;
 use phonenumber::metadata::Database;
-use phonenumber::{FormatError, ParseError, PhoneNumber, Texts, format_with, parse_with};
+use phonenumber::{FormatError, PhoneNumber, Texts, format_with, parse_with};
 use std::alloc::{AllocError, Global};
 use std::marker::Model;
 
@@ -30,24 +30,46 @@ fn number_line(
     ensures line { IfOk result (λ line. (m : Metadata) × (first_of (territories number.now.code.value database.now) ≡ Some m) × (string_bytes line ≡ number_line database.now m number.now)) }
     ensures unknown { result ≡ Err FormatError.UnknownCode → first_of (territories number.now.code.value database.now) ≡ None }
 {
-    let Texts {
-        e164,
-        international,
-        national,
-        rfc3966,
-    } = format_with(database, number).to_texts(alloc)?;
+    let texts = format_with(database, number).to_texts(alloc)?;
     let Ok(queried) = number.queried(database) else {
+        return Err(FormatError::Memory);
+    };
+    let Ok(front) = texts_in_front(alloc, &texts) else {
         return Err(FormatError::Memory);
     };
     let source = source_word(number.code().source());
     let kind = kind_word(queried.kind);
     let region = region_word(queried.region);
     let validity = validity_word(queried.is_valid);
-    match format!(in alloc; "ok\t{e164}\t{international}\t{national}\t{rfc3966}\t{source}\t{kind}\t{region}\t{validity}")
-    {
+    match with_words(alloc, front.as_str(), source, kind, region, validity) {
         Ok(line) => Ok(line),
         Err(_) => Err(FormatError::Memory),
     }
+}
+
+/// `ok` and the four texts of a number, parted by tabs. Refused only for memory.
+fn texts_in_front(alloc: Global, texts: &Texts) -> Result<String, AllocError>
+    ensures { IfOk result (λ line. string_bytes line ≡ tabbed (codes "ok" ∷ string_bytes texts.now.e164 ∷ string_bytes texts.now.international ∷ string_bytes texts.now.national ∷ string_bytes texts.now.rfc3966 ∷ [])) }
+{
+    let e164 = texts.e164.as_str();
+    let international = texts.international.as_str();
+    let national = texts.national.as_str();
+    let rfc3966 = texts.rfc3966.as_str();
+    format!(in alloc; "ok\t{e164}\t{international}\t{national}\t{rfc3966}")
+}
+
+/// A front of a line and four more fields, parted by tabs. Refused only for memory.
+fn with_words(
+    alloc: Global,
+    front: &str,
+    source: &str,
+    kind: &str,
+    region: &str,
+    validity: &str,
+) -> Result<String, AllocError>
+    ensures { IfOk result (λ line. string_bytes line ≡ front.now ++ 9 ∷ tabbed (source.now ∷ kind.now ∷ region.now ∷ validity.now ∷ [])) }
+{
+    format!(in alloc; "{front}\t{source}\t{kind}\t{region}\t{validity}")
 }
 
 impl<'d> Answers for Reporter<'d> {
@@ -62,7 +84,6 @@ impl<'d> Answers for Reporter<'d> {
         };
         let number = match parse_with(self.database, self.hint, text) {
             Ok(number) => number,
-            Err(ParseError::Memory) => return Err(AllocError),
             Err(error) => return refusal_line(alloc, error),
         };
         match number_line(alloc, self.database, &number) {

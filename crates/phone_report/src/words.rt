@@ -1,5 +1,6 @@
 //! The words of a report's fields.
-ghost use Rattle.std.specs.Prelude.{◌≡◌, ◌∷◌, [], IfOk, string_bytes};
+ghost use Rattle.std.specs.Prelude.{◌≡◌, IfOk, IsErr, string_bytes};
+ghost use Rattle.phone_core.specs.declared.error.ParseError.TheVariants as refusal;
 ghost use Rattle.phonenumber.specs.Reports.{kind_word, refusal_line, region_word, source_word, validity_word};
 
 use phonenumber::country::{Id, Source};
@@ -60,9 +61,10 @@ pub(crate) fn validity_word(is_valid: bool) -> &'static str
     if is_valid { "valid" } else { "invalid" }
 }
 
-/// The report line of a refusal. Refused only for memory.
+/// The report line of a refusal. Refused only for memory, and where that is the refusal.
 pub(crate) fn refusal_line(alloc: Global, error: ParseError) -> Result<String, AllocError>
-    ensures { IfOk result (λ line. string_bytes line ≡ refusal_line error) }
+    ensures line { IfOk result (λ line. string_bytes line ≡ refusal_line error) }
+    ensures memory { error ≡ refusal.Memory → IsErr result }
 {
     let line = match error {
         ParseError::NoNumber => "error\t1\tnot a number",
@@ -71,7 +73,7 @@ pub(crate) fn refusal_line(alloc: Global, error: ParseError) -> Result<String, A
         ParseError::TooShortNsn => "error\t4\tthe number is too short after the country code",
         ParseError::TooLong => "error\t5\tthe number is too long",
         ParseError::MalformedInteger => "error\t6\tmalformed integer",
-        ParseError::Memory => "error\t7\tout of memory",
+        ParseError::Memory => return Err(AllocError),
     };
     String::from_str(alloc, line)
 }
