@@ -4,7 +4,7 @@ use Rattle.std.proofs.lemmas.List.{append-nil}
 use Rattle.std.proofs.lemmas.List.Folds.{list_any-append}
 use Rattle.std.specs.List.{AllByRecursion, list_any}
 use Rattle.phone_device.specs.Passing.{TakesFront}
-use Rattle.phone_lines.specs.Lines.{AreCut, IsUnbroken, ended, last_line, without_return}
+use Rattle.phone_lines.specs.Lines.{AreCut, AreLines, IsUnbroken, ended, last_line, without_return}
 use Rattle.phone_lines.specs.Reports.{AreAnswers, Gives, HasOneAnswer, IsReport, IsReportOnEnded, IsReportOnFirst, TakesBeginning}
 use Rattle.phone_lines.specs.Reports.AreAnswers.{none, next}
 
@@ -113,14 +113,23 @@ TakesFront-begins gives bytes r before after first taken one whole is = further 
 pub IsReportOnEnded-first : (gives : Gives) (bytes r : List ℕ) → IsReportOnEnded gives bytes r → IsReportOnFirst gives bytes r
 IsReportOnEnded-first gives bytes r (lines, last, cut, answers) = (lines, [], last, subst (λ t. AreCut bytes t last) (sym (append-nil lines)) cut, answers)
 
+-- the answers to lines are determined
+same_answers : (gives : Gives) → HasOneAnswer gives → (lines : List (List ℕ)) (a b : List ℕ) → AreAnswers gives lines a → AreAnswers gives lines b → a ≡ b
+same_answers gives one _ _ _ none none = refl
+same_answers gives one _ _ _ (next l x ls a g rest) (next _ y _ b g' rest') = ap₂ (λ u v. u ++ 10 ∷ v) (one _ x y g g') (same_answers gives one ls a b rest rest')
+
+-- bytes have their lines in one way alone
+pub same_lines : (bytes : List ℕ) (lines others : List (List ℕ)) → AreLines bytes lines → AreLines bytes others → lines ≡ others
+same_lines bytes lines others (front, last, cut, all) (front', last', cut', all') =
+    let same = same_pieces front front' last last' cut.unbroken cut'.unbroken cut.last_unbroken cut'.last_unbroken (sym cut.whole ∙ cut'.whole) in
+    all ∙ ap₂ (λ x y. x ++ last_line y) same.lines_are same.last_is ∙ sym all'
+
 -- bytes have at most one report
-pub one_report : (gives : Gives) → HasOneAnswer gives → (bytes r whole : List ℕ) → IsReport gives bytes r → IsReport gives bytes whole → Begun r whole
-one_report gives one bytes r whole (lines, (front, last, cut, all), answers) (lines', (front', end, cut', all'), answers') =
-    let same = same_pieces front front' last end cut.unbroken cut'.unbroken cut.last_unbroken cut'.last_unbroken (sym cut.whole ∙ cut'.whole) in
-    begun gives one lines [] r whole answers
-    (subst (λ t. AreAnswers gives t whole) (all' ∙ ap₂ (λ x y. x ++ last_line y) (sym same.lines_are) (sym same.last_is) ∙ sym all ∙ sym (append-nil lines)) answers')
+pub same_report : (gives : Gives) → HasOneAnswer gives → (bytes a b : List ℕ) → IsReport gives bytes a → IsReport gives bytes b → a ≡ b
+same_report gives one bytes a b (lines, are, answers) (others, are', answers') =
+    same_answers gives one lines a b answers (subst (λ t. AreAnswers gives t b) (same_lines bytes others lines are' are) answers')
 
 -- a sink that took a beginning of the report took a beginning of whatever is the report
 pub TakesFront-report : (gives : Gives) (bytes r : List ℕ) (before after : Option (List ℕ)) → IsReport gives bytes r → TakesFront before r after →
     HasOneAnswer gives → TakesBeginning gives bytes before after
-TakesFront-report gives bytes r before after first taken one whole is = further before after r whole (one_report gives one bytes r whole first is) taken
+TakesFront-report gives bytes r before after first taken one whole is = subst (λ t. TakesFront before t after) (same_report gives one bytes r whole first is) taken

@@ -3,3 +3,4 @@ pub mod CutLemmas
 pub mod Ends
 pub mod LineLemmas
 pub mod Progress
+pub mod ReportLemmas

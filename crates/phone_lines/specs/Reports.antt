@@ -11,6 +11,10 @@ Gives = List ℕ → List ℕ → Type 0
 abbrev pub HasOneAnswer : Gives → Type 0
 HasOneAnswer gives = (line a b : List ℕ) → gives line a → gives line b → a ≡ b
 
+-- a line has an answer, whatever it is
+abbrev pub HasAnAnswer : Gives → Type 0
+HasAnAnswer gives = (line : List ℕ) → (answer : List ℕ) × gives line answer
+
 -- the answers to lines, in their order: to each without the carriage return at its end, and each ended by a line feed
 pub data AreAnswers (gives : List ℕ → List ℕ → Type 0) : List (List ℕ) → List ℕ → Type 0 where
   none : AreAnswers gives [] []

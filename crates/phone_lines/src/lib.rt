@@ -4,6 +4,7 @@
 mod answers;
 mod blocks;
 mod desk;
+pub mod laws;
 
 pub use answers::Answers;
 pub use blocks::{RunError, answer_lines};
