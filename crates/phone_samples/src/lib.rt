@@ -1,13 +1,30 @@
-//! Small databases that the tests of the other crates share. Each function gives the records of one.
+//! Small databases that the tests of the other crates share: each is a text, with a function that reads its records.
 #![tactic(auto)]
 
-mod of_three;
 pub mod parts;
-mod with_extensions;
-mod with_fronts;
-mod with_rules;
+mod texts;
 
-pub use of_three::three;
-pub use with_extensions::extensions;
-pub use with_fronts::fronts;
-pub use with_rules::rules;
+use phone_records::LoadMetadata;
+use phone_records::loader::Metadata;
+use std::alloc::Global;
+pub use texts::{EXTENSIONS, FRONTS, RULES, THREE};
+
+/// The records of `THREE`.
+pub fn three(alloc: Global) -> Result<Vec<Metadata>, LoadMetadata> {
+    phone_json::records(alloc, THREE)
+}
+
+/// The records of `RULES`.
+pub fn rules(alloc: Global) -> Result<Vec<Metadata>, LoadMetadata> {
+    phone_json::records(alloc, RULES)
+}
+
+/// The records of `FRONTS`.
+pub fn fronts(alloc: Global) -> Result<Vec<Metadata>, LoadMetadata> {
+    phone_json::records(alloc, FRONTS)
+}
+
+/// The records of `EXTENSIONS`.
+pub fn extensions(alloc: Global) -> Result<Vec<Metadata>, LoadMetadata> {
+    phone_json::records(alloc, EXTENSIONS)
+}

@@ -1,5 +1,5 @@
 //! The parts of which records are put together.
-use phone_meta::loader::{Descriptor, Format, Items, Metadata, Text};
+use phone_records::loader::{Descriptor, Format, Items, Metadata, Text};
 use std::alloc::{AllocError, Global};
 
 /// A text of its own.
@@ -28,23 +28,6 @@ pub fn descriptor<const N: usize>(
     let mut descriptor = Descriptor::empty(alloc);
     descriptor.national_number = pattern;
     descriptor.possible_length = lengths;
-    Ok(Some(descriptor))
-}
-
-/// The same, with lengths for dialling inside an area.
-pub fn with_local<const N: usize, const M: usize>(
-    alloc: Global,
-    pattern: &str,
-    lengths: [u16; N],
-    local: [u16; M],
-) -> Result<Option<Descriptor>, AllocError> {
-    let pattern = text(alloc, pattern)?;
-    let lengths = list(alloc, lengths)?;
-    let local = list(alloc, local)?;
-    let mut descriptor = Descriptor::empty(alloc);
-    descriptor.national_number = pattern;
-    descriptor.possible_length = lengths;
-    descriptor.possible_local_length = local;
     Ok(Some(descriptor))
 }
 

@@ -12,3 +12,5 @@ mod printing;
 mod thin;
 #[cfg(test)]
 mod values;
+#[cfg(test)]
+mod written;
