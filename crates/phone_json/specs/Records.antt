@@ -46,9 +46,9 @@ defaults_of d = record {
   descriptor = option_map_or descriptor_of (field (codes "descriptor") d) no_descriptor;
 }
 
--- a territory of which only the descriptors are given
-unfoldable pub with_descriptors : Data → Metadata
-with_descriptors d = record no_metadata {
+-- a territory with the first eight descriptors that an object gives
+unfoldable pub with_first_kinds : Data → Metadata → Metadata
+with_first_kinds d m = record m {
   general = descriptor_at (codes "general") d;
   fixed_line = descriptor_at (codes "fixed_line") d;
   mobile = descriptor_at (codes "mobile") d;
@@ -57,6 +57,11 @@ with_descriptors d = record no_metadata {
   shared_cost = descriptor_at (codes "shared_cost") d;
   personal_number = descriptor_at (codes "personal_number") d;
   voip = descriptor_at (codes "voip") d;
+}
+
+-- a territory with the last eight descriptors that an object gives
+unfoldable pub with_last_kinds : Data → Metadata → Metadata
+with_last_kinds d m = record m {
   pager = descriptor_at (codes "pager") d;
   uan = descriptor_at (codes "uan") d;
   emergency = descriptor_at (codes "emergency") d;
@@ -67,17 +72,22 @@ with_descriptors d = record no_metadata {
   no_international = descriptor_at (codes "no_international") d;
 }
 
--- the territory that an object is
-unfoldable pub metadata_of : Data → Metadata
-metadata_of d = record (with_descriptors d) {
-  id = text_at (codes "id") d;
-  country_code = number_at (codes "country_code") d;
+-- a territory with the prefixes that an object gives
+unfoldable pub with_prefixes : Data → Metadata → Metadata
+with_prefixes d m = record m {
   international_prefix = text_at (codes "international_prefix") d;
   preferred_international_prefix = text_at (codes "preferred_international_prefix") d;
   national_prefix = text_at (codes "national_prefix") d;
   preferred_extension_prefix = text_at (codes "preferred_extension_prefix") d;
   national_prefix_for_parsing = text_at (codes "national_prefix_for_parsing") d;
   national_prefix_transform_rule = text_at (codes "national_prefix_transform_rule") d;
+}
+
+-- a territory with the other fields that an object gives
+unfoldable pub with_others : Data → Metadata → Metadata
+with_others d m = record m {
+  id = text_at (codes "id") d;
+  country_code = number_at (codes "country_code") d;
   formats = formats_at (codes "formats") d;
   international_formats = formats_at (codes "international_formats") d;
   main_country_for_code = truth_at (codes "main_country_for_code") d;
@@ -85,6 +95,10 @@ metadata_of d = record (with_descriptors d) {
   mobile_number_portable = truth_at (codes "mobile_number_portable") d;
   defaults = option_map_or defaults_of (field (codes "defaults") d) no_defaults;
 }
+
+-- the territory that an object is
+unfoldable pub metadata_of : Data → Metadata
+metadata_of d = with_others d (with_prefixes d (with_last_kinds d (with_first_kinds d no_metadata)))
 
 -- the territories that a list of objects is, unless one of them has a fault
 abbrev pub records_in : Data → Result (List Metadata) Refusal

@@ -1,10 +1,10 @@
 //! The records of a database text in which no value is wrong; a wrong one would count as absent.
-ghost use Rattle.std.specs.Prelude.{◌≡◌, IfOk, map, codes};
+ghost use Rattle.std.specs.Prelude.{◌≡◌, IfOk, OnOk, map, codes};
 ghost use Rattle.std.specs.Option.{option_map_or};
 ghost use Rattle.serde_json.specs.Find.{as_str};
 ghost use Rattle.serde_json.specs.View.{view};
 ghost use Rattle.phone_json.specs.Fields.{field, text_at, texts_at, numbers_at, items_in};
-ghost use Rattle.phone_json.specs.Records.{descriptor_of, descriptor_at, format_of, formats_at, defaults_of, metadata_of, with_descriptors};
+ghost use Rattle.phone_json.specs.Records.{descriptor_of, descriptor_at, format_of, formats_at, defaults_of, with_first_kinds, with_last_kinds, with_prefixes, with_others, metadata_of};
 ghost use Rattle.phone_records.specs.Empty.{no_descriptor, no_format, no_defaults};
 
 use crate::fields::{field, items_at, items_in, number_at, small_number, truth_at};
@@ -133,52 +133,74 @@ fn defaults_at(alloc: Global, object: &Value) -> Result<Defaults, AllocError>
     })
 }
 
-#[tactic(auto, unfolding(crate::specs::Records::with_descriptors))]
-fn with_descriptors(alloc: Global, object: &Value) -> Result<Metadata, AllocError>
-    ensures { IfOk result (λ m. m ≡ with_descriptors (view object.now)) }
+#[tactic(auto, unfolding(crate::specs::Records::with_first_kinds))]
+fn read_first_kinds(alloc: Global, object: &Value, m: &mut Metadata) -> Result<(), AllocError>
+    ensures { OnOk result (m.new ≡ with_first_kinds (view object.now) m.old) }
 {
-    Ok(Metadata {
-        general: descriptor_at(alloc, object, "general")?,
-        fixed_line: descriptor_at(alloc, object, "fixed_line")?,
-        mobile: descriptor_at(alloc, object, "mobile")?,
-        toll_free: descriptor_at(alloc, object, "toll_free")?,
-        premium_rate: descriptor_at(alloc, object, "premium_rate")?,
-        shared_cost: descriptor_at(alloc, object, "shared_cost")?,
-        personal_number: descriptor_at(alloc, object, "personal_number")?,
-        voip: descriptor_at(alloc, object, "voip")?,
-        pager: descriptor_at(alloc, object, "pager")?,
-        uan: descriptor_at(alloc, object, "uan")?,
-        emergency: descriptor_at(alloc, object, "emergency")?,
-        voicemail: descriptor_at(alloc, object, "voicemail")?,
-        short_code: descriptor_at(alloc, object, "short_code")?,
-        standard_rate: descriptor_at(alloc, object, "standard_rate")?,
-        carrier: descriptor_at(alloc, object, "carrier")?,
-        no_international: descriptor_at(alloc, object, "no_international")?,
-        ..Metadata::empty(alloc)
-    })
+    m.general = descriptor_at(alloc, object, "general")?;
+    m.fixed_line = descriptor_at(alloc, object, "fixed_line")?;
+    m.mobile = descriptor_at(alloc, object, "mobile")?;
+    m.toll_free = descriptor_at(alloc, object, "toll_free")?;
+    m.premium_rate = descriptor_at(alloc, object, "premium_rate")?;
+    m.shared_cost = descriptor_at(alloc, object, "shared_cost")?;
+    m.personal_number = descriptor_at(alloc, object, "personal_number")?;
+    m.voip = descriptor_at(alloc, object, "voip")?;
+    Ok(())
+}
+
+#[tactic(auto, unfolding(crate::specs::Records::with_last_kinds))]
+fn read_last_kinds(alloc: Global, object: &Value, m: &mut Metadata) -> Result<(), AllocError>
+    ensures { OnOk result (m.new ≡ with_last_kinds (view object.now) m.old) }
+{
+    m.pager = descriptor_at(alloc, object, "pager")?;
+    m.uan = descriptor_at(alloc, object, "uan")?;
+    m.emergency = descriptor_at(alloc, object, "emergency")?;
+    m.voicemail = descriptor_at(alloc, object, "voicemail")?;
+    m.short_code = descriptor_at(alloc, object, "short_code")?;
+    m.standard_rate = descriptor_at(alloc, object, "standard_rate")?;
+    m.carrier = descriptor_at(alloc, object, "carrier")?;
+    m.no_international = descriptor_at(alloc, object, "no_international")?;
+    Ok(())
+}
+
+#[tactic(auto, unfolding(crate::specs::Records::with_prefixes))]
+fn read_prefixes(alloc: Global, object: &Value, m: &mut Metadata) -> Result<(), AllocError>
+    ensures { OnOk result (m.new ≡ with_prefixes (view object.now) m.old) }
+{
+    m.international_prefix = text_at(alloc, object, "international_prefix")?;
+    m.preferred_international_prefix = text_at(alloc, object, "preferred_international_prefix")?;
+    m.national_prefix = text_at(alloc, object, "national_prefix")?;
+    m.preferred_extension_prefix = text_at(alloc, object, "preferred_extension_prefix")?;
+    m.national_prefix_for_parsing = text_at(alloc, object, "national_prefix_for_parsing")?;
+    m.national_prefix_transform_rule = text_at(alloc, object, "national_prefix_transform_rule")?;
+    Ok(())
+}
+
+#[tactic(auto, unfolding(crate::specs::Records::with_others))]
+fn read_others(alloc: Global, object: &Value, m: &mut Metadata) -> Result<(), AllocError>
+    ensures { OnOk result (m.new ≡ with_others (view object.now) m.old) }
+{
+    m.id = text_at(alloc, object, "id")?;
+    m.country_code = number_at(object, "country_code");
+    m.formats = formats_at(alloc, object, "formats")?;
+    m.international_formats = formats_at(alloc, object, "international_formats")?;
+    m.main_country_for_code = truth_at(object, "main_country_for_code");
+    m.leading_digits = text_at(alloc, object, "leading_digits")?;
+    m.mobile_number_portable = truth_at(object, "mobile_number_portable");
+    m.defaults = defaults_at(alloc, object)?;
+    Ok(())
 }
 
 #[tactic(auto, unfolding(crate::specs::Records::metadata_of))]
 fn metadata(alloc: Global, object: &Value) -> Result<Metadata, AllocError>
     ensures { IfOk result (λ m. m ≡ metadata_of (view object.now)) }
 {
-    Ok(Metadata {
-        id: text_at(alloc, object, "id")?,
-        country_code: number_at(object, "country_code"),
-        international_prefix: text_at(alloc, object, "international_prefix")?,
-        preferred_international_prefix: text_at(alloc, object, "preferred_international_prefix")?,
-        national_prefix: text_at(alloc, object, "national_prefix")?,
-        preferred_extension_prefix: text_at(alloc, object, "preferred_extension_prefix")?,
-        national_prefix_for_parsing: text_at(alloc, object, "national_prefix_for_parsing")?,
-        national_prefix_transform_rule: text_at(alloc, object, "national_prefix_transform_rule")?,
-        formats: formats_at(alloc, object, "formats")?,
-        international_formats: formats_at(alloc, object, "international_formats")?,
-        main_country_for_code: truth_at(object, "main_country_for_code"),
-        leading_digits: text_at(alloc, object, "leading_digits")?,
-        mobile_number_portable: truth_at(object, "mobile_number_portable"),
-        defaults: defaults_at(alloc, object)?,
-        ..with_descriptors(alloc, object)?
-    })
+    let mut m = Metadata::empty(alloc);
+    read_first_kinds(alloc, object, &mut m)?;
+    read_last_kinds(alloc, object, &mut m)?;
+    read_prefixes(alloc, object, &mut m)?;
+    read_others(alloc, object, &mut m)?;
+    Ok(m)
 }
 
 /// The records of a list of objects; refused only for memory.
