@@ -1,0 +1,7 @@
+//! Tests of the report: lines and their report lines, failing devices, and the program with its statuses.
+#![tactic(auto)]
+
+#[cfg(test)]
+mod called;
+#[cfg(test)]
+mod reports;

@@ -1,0 +1,106 @@
+//! The report on lines, and how a run ends where a device fails.
+use phone_device::{At, Limit, MemorySink, MemorySource, Script, Then};
+use phone_meta::Database;
+use phone_report::{RunError, run};
+use phonenumber::country::Id;
+use std::alloc::Global;
+use std::test::Fail;
+
+/// Three lines: a number of New Zealand, an empty one, and one of the code 800 that no line feed ends.
+const LINES: &[u8] = b"03-331 6005\n\n+800 12345678";
+
+/// Their report.
+const REPORT: &str =
+    "ok\t+6433316005\t+64 3 331 6005\t03 331 6005\ttel:+64-3-331-6005\tdefault\tFixedLine\tNZ\tvalid\nerror\t1\tnot a number\nok\t+80012345678\t+800 12345678\t12345678\ttel:+800-12345678\tplus\tTollFree\t-\tvalid\n";
+
+/// What is written for these bytes under a hint.
+fn written(
+    alloc: Global,
+    db: &Database,
+    hint: Option<Id>,
+    bytes: &[u8],
+) -> Result<(Result<(), RunError>, MemorySink), Fail> {
+    let mut source = MemorySource::new(bytes);
+    let mut sink = MemorySink::new(alloc);
+    let end = run(db, hint, &mut source, &mut sink);
+    Ok((end, sink))
+}
+
+#[test]
+fn each_line_has_its_report_line(rt: HostRuntime) -> Result<(), Fail> {
+    let alloc = rt.alloc();
+    let db = Database::parse(alloc, phone_samples::THREE)?;
+    for (bytes, report) in [
+        (b"" as &[u8], ""),
+        (b"\n", "error\t1\tnot a number\n"),
+        (b"\r", "error\t1\tnot a number\n"),
+        (
+            b"12\r\n",
+            "ok\t+6412\t+64 12\t12\ttel:+64-12\tdefault\tUnknown\tNZ\tinvalid\n",
+        ),
+        (b"\xff\n", "error\t0\tnot UTF-8\n"),
+        (b"+999 12345\n", "error\t2\tinvalid country code\n"),
+        (
+            b"+64 3\n",
+            "error\t4\tthe number is too short after the country code\n",
+        ),
+        (
+            b"+64 333160050000000000\n",
+            "error\t5\tthe number is too long\n",
+        ),
+        (b"0000000000000000000", "error\t6\tmalformed integer\n"),
+        (
+            b"1\n\xc3\n",
+            "error\t1\tnot a number\nerror\t0\tnot UTF-8\n",
+        ),
+        (LINES, REPORT),
+    ] {
+        let (end, sink) = written(alloc, &db, Some(Id::NZ), bytes)?;
+        assert_eq!(rt; end, Ok(()));
+        assert_eq!(rt; std::str::from_utf8(sink.bytes()), Ok(report));
+    }
+    Ok(())
+}
+
+#[test]
+fn a_run_without_a_hint_reads_what_tells_its_code(rt: HostRuntime) -> Result<(), Fail> {
+    let alloc = rt.alloc();
+    let db = Database::parse(alloc, phone_samples::THREE)?;
+    let (end, sink) = written(alloc, &db, None, b"03-331 6005\n+64 3 331 6005\n")?;
+    assert_eq!(rt; end, Ok(()));
+    assert_eq!(rt;
+        std::str::from_utf8(sink.bytes()),
+        Ok(
+            "error\t2\tinvalid country code\nok\t+6433316005\t+64 3 331 6005\t03 331 6005\ttel:+64-3-331-6005\tplus\tFixedLine\tNZ\tvalid\n"
+        )
+    );
+    Ok(())
+}
+
+#[test]
+fn a_device_that_fails_ends_the_run(rt: HostRuntime) -> Result<(), Fail> {
+    let alloc = rt.alloc();
+    let db = Database::parse(alloc, phone_samples::THREE)?;
+    let report = REPORT.as_bytes();
+    for (at, whole) in [(0, 0), (11, 0), (12, 88), (13, 109), (25, 109)] {
+        let mut source = Script::new(Vec::from_slice(alloc, LINES)?, Some(At::Byte(at)));
+        let mut sink = MemorySink::new(alloc);
+        let end = run(&db, Some(Id::NZ), &mut source, &mut sink);
+        assert_eq!(rt; end, Err(RunError::Input));
+        assert_eq!(rt; sink.bytes().len(), whole, "{at}");
+        assert!(rt; report.starts_with(sink.bytes()), "{at}");
+    }
+    for (limit, then) in [
+        (0, Then::Zero),
+        (1, Then::Fail),
+        (100, Then::Zero),
+        (500, Then::FlushFail),
+    ] {
+        let mut source = MemorySource::new(LINES);
+        let mut sink = Limit::new(alloc, limit, then)?;
+        let end = run(&db, Some(Id::NZ), &mut source, &mut sink);
+        assert_eq!(rt; end, Err(RunError::Output));
+        assert_eq!(rt; sink.taken(), &report[..limit.min(report.len())], "{limit}");
+    }
+    Ok(())
+}
