@@ -1,4 +1,4 @@
--- How often a sink failed.
+-- What a refusal tells: how often a sink failed, and its number.
 use Rattle.std.specs.Prelude.{ℕ, Result, Ok, Err}
 use Rattle.phone_lines.specs.declared.desk.Refusal.{Refusal}
 use Rattle.phone_lines.specs.declared.desk.Refusal.TheVariants.{Fault, Memory}
@@ -17,3 +17,9 @@ sink_faults_of (Ok x) = 0
 sink_faults_of (Err Input) = 0
 sink_faults_of (Err Output) = 1
 sink_faults_of (Err NoMemory) = 0
+
+-- which of the refusals it is
+abbrev pub number_of : RunError → ℕ
+number_of Input = 1
+number_of Output = 2
+number_of NoMemory = 3

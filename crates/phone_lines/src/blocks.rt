@@ -1,7 +1,7 @@
 //! The run over all lines.
 ghost use Rattle.std.specs.Prelude.{◌≡◌, ◌+◌, ◌⊎◌, ℕ, List, Ok, Err, OnOk, OnErr, length};
 ghost use Rattle.phone_device.specs.Passing.{IsAtEnd};
-ghost use Rattle.phone_lines.specs.Faults.{sink_faults_of};
+ghost use Rattle.phone_lines.specs.Faults.{number_of, sink_faults_of};
 ghost use Rattle.phone_lines.specs.Reports.{HasOneAnswer, IsReport, IsReportOnEnded, IsReportOnFirst, TakesBeginning};
 ghost use Rattle.phone_lines.specs.Runs.{BreaksOff, Holds, IsFresh, OfRead, Stands, TakesA, most_bytes};
 ghost use Rattle.phone_lines.specs.declared.blocks.End.TheVariants as end;
@@ -27,7 +27,9 @@ pub enum RunError {
 
 impl RunError {
     /// Which one it is: 1 the input, 2 the output, 3 memory.
-    pub fn number(self) -> u8 {
+    pub fn number(self) -> u8
+        ensures { result ≡ number_of self }
+    {
         match self {
             RunError::Input => 1,
             RunError::Output => 2,

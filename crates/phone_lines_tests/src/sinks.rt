@@ -35,71 +35,26 @@ fn a_sink_takes_as_many_bytes_of_the_report_as_it_can(rt: HostRuntime) -> Result
 fn a_sink_fails_in_each_block_that_it_is_given(rt: HostRuntime) -> Result<(), Fail> {
     let alloc = rt.alloc();
     let answers = repeated(alloc, b"0\n1\n2\n9\n", 5000)?;
-    for (limit, then, fault, wanted, why) in [
-        (0, Then::Fail, None, Err(RunError::Output), "takes nothing"),
-        (
-            1,
-            Then::Zero,
-            None,
-            Err(RunError::Output),
-            "breaks an answer off",
-        ),
-        (
-            8191,
-            Then::Fail,
-            None,
-            Err(RunError::Output),
-            "all of a block but its last byte",
-        ),
-        (8192, Then::Zero, None, Err(RunError::Output), "a block"),
-        (
-            8193,
-            Then::Fail,
-            None,
-            Err(RunError::Output),
-            "and a byte of the next",
-        ),
-        (
-            30000,
-            Then::Fail,
-            None,
-            Err(RunError::Output),
-            "some blocks",
-        ),
-        (
-            39999,
-            Then::Zero,
-            None,
-            Err(RunError::Output),
-            "all but the last byte",
-        ),
-        (40000, Then::Fail, None, Ok(()), "all"),
-        (
-            40000,
-            Then::FlushFail,
-            None,
-            Err(RunError::Output),
-            "all, but doesn't hand it on",
-        ),
-        (
-            8192,
-            Then::Fail,
-            Some(At::Call(9)),
-            Err(RunError::Output),
-            "before the source fails",
-        ),
-        (
-            8192,
-            Then::Fail,
-            Some(At::Call(3)),
-            Err(RunError::Output),
-            "after the source failed",
-        ),
+    for (limit, then, call, is_whole, why) in [
+        (0, Then::Fail, 99, false, "takes nothing"),
+        (1, Then::Zero, 99, false, "breaks an answer off"),
+        (8191, Then::Fail, 99, false, "a block but its last byte"),
+        (8192, Then::Zero, 99, false, "a block"),
+        (8193, Then::Fail, 99, false, "and a byte of the next"),
+        (40000, Then::Fail, 99, true, "all"),
+        (40000, Then::FlushFail, 99, false, "but doesn't hand it on"),
+        (8192, Then::Fail, 9, false, "before the source fails"),
+        (8192, Then::Fail, 3, false, "after the source failed"),
     ] {
         let bytes = repeated(alloc, b"\na\nbb\nccccccccc\n", 5000)?;
-        let mut source = Script::new(bytes, fault);
+        let mut source = Script::new(bytes, Some(At::Call(call)));
         let mut sink = Limit::new(alloc, limit, then)?;
         let end = run(alloc, &mut source, &mut sink)?;
+        let wanted = if is_whole {
+            Ok(())
+        } else {
+            Err(RunError::Output)
+        };
         assert_eq!(rt; end, wanted, "{limit}: {why}");
         assert_eq!(rt; Some(sink.taken()), answers.get(..limit), "{limit}: {why}");
     }
