@@ -26,39 +26,56 @@ fn outcome(
     format!(in alloc; "{status}|{out}|{errors}")
 }
 
-#[test]
-fn each_refusal_has_its_status_and_its_line(rt: HostRuntime) -> Result<(), Fail> {
+/// What the program answers to these words, over the line `12`.
+fn answer(rt: &HostRuntime, words: &[&str]) -> Result<String, AllocError> {
     let alloc = rt.alloc();
-    let good = path_for(&rt, "good")?;
-    let cut = path_for(&rt, "cut")?;
+    let mut source = MemorySource::new(b"12\n");
+    let mut out = MemorySink::new(alloc);
+    let mut errors = MemorySink::new(alloc);
+    let status = program(rt, words, &mut source, &mut out, &mut errors);
+    outcome(alloc, status, &out, &errors)
+}
+
+#[test]
+fn wrong_words_give_status_2_before_the_file_is_opened(rt: HostRuntime) -> Result<(), Fail> {
     let none = path_for(&rt, "none")?;
-    fs::write(&rt, good.as_str(), phone_samples::THREE)?;
+    let region = String::from_str(rt.alloc(), "nz")?;
+    let usage = "2||usage: phone_tool DATABASE [REGION]\n";
+    assert_eq!(rt; answer(&rt, &[])?.as_str(), usage);
+    let words = [none.as_str(), region.as_str()];
+    assert_eq!(rt; answer(&rt, &words)?.as_str(), "2||unknown region\n");
+    let words = [none.as_str(), region.as_str(), region.as_str()];
+    assert_eq!(rt; answer(&rt, &words)?.as_str(), usage);
+    Ok(())
+}
+
+#[test]
+fn a_database_is_refused_by_its_number(rt: HostRuntime) -> Result<(), Fail> {
+    let none = path_for(&rt, "no_file")?;
+    let cut = path_for(&rt, "cut")?;
     fs::write(&rt, cut.as_str(), "[")?;
-    let (good, cut, none) = (good.as_str(), cut.as_str(), none.as_str());
-    for (words, wanted) in [
-        (&[] as &[&str], "2||usage: phone_tool DATABASE [REGION]\n"),
-        (
-            &[good, "NZ", "more"],
-            "2||usage: phone_tool DATABASE [REGION]\n",
-        ),
-        (&[good, "nz"], "2||unknown region\n"),
-        (&[none, "nz"], "2||unknown region\n"),
-        (&[cut], "3||database refused: 3\n"),
-        (&[none], "3||database refused: 6\n"),
-        (
-            &[good, "NZ"],
-            "0|ok\t+6412\t+64 12\t12\ttel:+64-12\tdefault\tUnknown\tNZ\tinvalid\n|",
-        ),
-        (&[good], "0|error\t2\tinvalid country code\n|"),
-    ] {
-        let mut source = MemorySource::new(b"12\n");
-        let mut out = MemorySink::new(alloc);
-        let mut errors = MemorySink::new(alloc);
-        let status = program(&rt, words, &mut source, &mut out, &mut errors);
-        assert_eq!(rt; outcome(alloc, status, &out, &errors)?.as_str(), wanted);
-    }
-    fs::remove_file(&rt, good)?;
-    fs::remove_file(&rt, cut)?;
+    let of_none = answer(&rt, &[none.as_str()])?;
+    let of_cut = answer(&rt, &[cut.as_str()])?;
+    fs::remove_file(&rt, cut.as_str())?;
+    assert_eq!(rt; of_none.as_str(), "3||database refused: 6\n");
+    assert_eq!(rt; of_cut.as_str(), "3||database refused: 3\n");
+    Ok(())
+}
+
+#[test]
+fn a_report_that_was_written_gives_status_0(rt: HostRuntime) -> Result<(), Fail> {
+    let good = path_for(&rt, "good")?;
+    let region = String::from_str(rt.alloc(), "NZ")?;
+    fs::write(&rt, good.as_str(), phone_samples::THREE)?;
+    let words = [good.as_str(), region.as_str()];
+    let hinted = answer(&rt, &words)?;
+    let unhinted = answer(&rt, &[good.as_str()])?;
+    fs::remove_file(&rt, good.as_str())?;
+    assert_eq!(rt;
+        hinted.as_str(),
+        "0|ok\t+6412\t+64 12\t12\ttel:+64-12\tdefault\tUnknown\tNZ\tinvalid\n|"
+    );
+    assert_eq!(rt; unhinted.as_str(), "0|error\t2\tinvalid country code\n|");
     Ok(())
 }
 
