@@ -1,5 +1,5 @@
 //! The run over all lines.
-ghost use Rattle.std.specs.Prelude.{◌≡◌, ◌+◌, ◌⊎◌, ℕ, List, Ok, Err, OnOk, OnErr, length};
+ghost use Rattle.std.specs.Prelude.{◌≡◌, ◌+◌, ◌<◌, ◌⊎◌, ℕ, List, Ok, Err, OnOk, OnErr, length, vec_len};
 ghost use Rattle.phone_device.specs.Passing.{IsAtEnd};
 ghost use Rattle.phone_lines.specs.Faults.{number_of, sink_faults_of};
 ghost use Rattle.phone_lines.specs.Reports.{HasOneAnswer, IsReport, IsReportOnEnded, IsReportOnFirst, TakesBeginning};
@@ -9,7 +9,7 @@ ghost use Rattle.phone_lines.specs.declared.blocks.RunError.TheVariants as error
 
 use crate::answers::Answers;
 use crate::desk::{Desk, Refusal};
-use phone_device::{Block, ByteSink, ByteSource, Fault};
+use phone_device::{BLOCK_LENGTH, Block, ByteSink, ByteSource, Fault};
 use std::alloc::Global;
 
 /// Why a run ended before all lines were answered.
@@ -65,6 +65,7 @@ fn take_blocks<A: Answers, S: ByteSource, W: ByteSink>(
     ensures memory { result ≡ Ok end.Memory → IsFresh (A.gives answers.now) desk.old.line.items desk.old.answers.items (W.taken sink.old) → OfRead (S.to_come source.old) (S.to_come source.new) (λ bytes. Holds (IsReportOnFirst (A.gives answers.now) bytes) desk.new.answers.items (W.taken sink.old) (W.taken sink.new)) }
     ensures no_fault_without_memory { result ≡ Ok end.Memory → S.faults source.new ≡ S.faults source.old }
     ensures broken { OnErr result (IsFresh (A.gives answers.now) desk.old.line.items desk.old.answers.items (W.taken sink.old) → OfRead (S.to_come source.old) (S.to_come source.new) (λ bytes. BreaksOff (A.gives answers.now) bytes (W.taken sink.old) (W.taken sink.new))) }
+    ensures short { result ≡ Ok end.Whole → vec_len desk.old.answers < BLOCK_LENGTH → vec_len desk.new.answers < BLOCK_LENGTH }
     ensures sink_no_fault { OnOk result (W.faults sink.new ≡ W.faults sink.old) }
     ensures sink_fault { OnErr result (W.faults sink.new ≡ W.faults sink.old + 1) }
 {

@@ -1,5 +1,5 @@
 //! What a run holds: the line that isn't ended yet, and answers that aren't written yet.
-ghost use Rattle.std.specs.Prelude.{◌≡◌, ◌+◌, ◌++◌, ◌∷◌, [], ℕ, List, Option, Err, OnOk, OnErr};
+ghost use Rattle.std.specs.Prelude.{◌≡◌, ◌+◌, ◌<◌, ◌++◌, ◌∷◌, [], ℕ, List, Option, Err, OnOk, OnErr, vec_len};
 ghost use Rattle.phone_device.specs.Passing.{Takes, TakesFront};
 ghost use Rattle.phone_lines.specs.Reports.{IsReport, IsReportOnFirst};
 ghost use Rattle.phone_lines.specs.Faults.{faults_of};
@@ -63,6 +63,7 @@ impl Desk {
     /// Writes the answers that are held, once they fill a block.
     fn hand_on<W: ByteSink>(&mut self, sink: &mut W) -> Result<(), Fault>
         ensures line { self.new.line.items ≡ self.old.line.items }
+        ensures short { OnOk result (vec_len self.new.answers < BLOCK_LENGTH) }
         ensures handed { OnOk result ((written : List ℕ) × (self.old.answers.items ≡ written ++ self.new.answers.items) × Takes (W.taken sink.old) written (W.taken sink.new)) }
         ensures no_fault { OnOk result (W.faults sink.new ≡ W.faults sink.old) }
         ensures front { OnErr result (TakesFront (W.taken sink.old) self.old.answers.items (W.taken sink.new)) }
@@ -89,6 +90,7 @@ impl Desk {
         ensures memory { result ≡ Err refusal.Memory → (bytes : List ℕ) (before : Option (List ℕ)) → Stands (A.gives answers.now) bytes self.old.line.items self.old.answers.items before (W.taken sink.old) → Holds (IsReportOnFirst (A.gives answers.now) (bytes ++ block.now)) self.new.answers.items before (W.taken sink.new) }
         ensures broken { result ≡ Err refusal.Fault → (bytes : List ℕ) (before : Option (List ℕ)) → Stands (A.gives answers.now) bytes self.old.line.items self.old.answers.items before (W.taken sink.old) → BreaksOff (A.gives answers.now) (bytes ++ block.now) before (W.taken sink.new) }
         ensures faults { W.faults sink.new ≡ W.faults sink.old + faults_of result }
+        ensures short { OnOk result (vec_len self.old.answers < BLOCK_LENGTH → vec_len self.new.answers < BLOCK_LENGTH) }
     {
         for byte in block {
             let Ok(()) = self.take_byte(alloc, answers, *byte) else {

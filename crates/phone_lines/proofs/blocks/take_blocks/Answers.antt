@@ -16,6 +16,7 @@ blocks-2-preserved g c =
           λ fresh. c.in-Ok-take_block.ensures.taken was.0 _ (was.2.1 fresh),
         ),
       );
+      short = λ h. c.in-Ok-take_block.ensures.short (c.blocks-2.invariant.short h);
       source_faults = c.in-Ok.ensures.no_fault ∙ c.blocks-2.invariant.source_faults;
       sink_faults = omega (arith, c.in-Ok-take_block.ensures.faults, c.blocks-2.invariant.sink_faults);
     }

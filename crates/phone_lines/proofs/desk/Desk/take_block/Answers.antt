@@ -40,5 +40,6 @@ loop-byte-preserved g c = record {
       rw c.in-Ok-hand_on.ensures.line
       (subst (λ t. Stands gives t c.take_byte.new.self.line.items c.hand_on.new.self.answers.items before (g.W.ByteSink.taken c.hand_on.new.sink))
       (next_place bytes block i 0 c.loop-byte-test.true) next);
+  short = λ _. c.in-Ok-hand_on.ensures.short;
   same_faults = c.in-Ok-hand_on.ensures.no_fault ∙ c.loop-byte.invariant.same_faults;
 }
