@@ -1,6 +1,7 @@
 //! What a territory lends, and what records do.
 use phone_core::Type;
-use phone_meta::{Database, Descriptors, Format, Metadata, loader};
+use phone_meta::{Database, Descriptors, Format, LoadMetadata, Metadata, loader};
+use phone_samples::THREE;
 use phone_samples::parts::{territory, text};
 use std::alloc::{AllocError, Global};
 use std::test::Fail;
@@ -57,10 +58,15 @@ fn described(alloc: Global, db: &Database, id: &str) -> Result<String, AllocErro
     Ok(all)
 }
 
+/// The same under three territories.
+fn described_under_three(alloc: Global, id: &str) -> Result<String, LoadMetadata> {
+    let db = Database::parse(alloc, THREE)?;
+    Ok(described(alloc, &db, id)?)
+}
+
 #[test]
 fn lends_the_fields_of_a_record(rt: HostRuntime) -> Result<(), Fail> {
     let alloc = rt.alloc();
-    let db = Database::from(alloc, phone_samples::three(alloc)?)?;
     for (id, words) in [
         (
             "US",
@@ -71,8 +77,14 @@ fn lends_the_fields_of_a_record(rt: HostRuntime) -> Result<(), Fail> {
             "NZ 64 00 - 0 - - - - 1 0 false false; \\d{8} 1 0 -; (\\d)(\\d{3})(\\d{4}) $1 $2 $3 $NP$FG false - 1",
         ),
     ] {
-        assert_eq!(rt; described(alloc, &db, id)?.as_str(), words);
+        assert_eq!(rt; described_under_three(alloc, id)?.as_str(), words);
     }
+    Ok(())
+}
+
+#[test]
+fn lends_the_pattern_of_a_first_group(rt: HostRuntime) -> Result<(), Fail> {
+    let db = Database::parse(rt.alloc(), THREE)?;
     assert_eq!(rt; db.first_group().as_str(), "(\\$\\d)");
     Ok(())
 }
@@ -109,18 +121,23 @@ fn kinds(d: &Descriptors) -> (usize, usize) {
 
 #[test]
 fn gives_the_descriptor_of_a_kind(rt: HostRuntime) -> Result<(), Fail> {
-    let alloc = rt.alloc();
-    let db = Database::from(alloc, phone_samples::three(alloc)?)?;
+    let db = Database::parse(rt.alloc(), THREE)?;
     let found = db.by_id("US").map(|us| kinds(us.descriptors()));
     assert_eq!(rt; found, Some((2, 2)));
     Ok(())
 }
 
-/// A record, its copy, and what is read back from its text, each as text.
-fn written(alloc: Global) -> Result<[String; 3], Fail> {
+/// A territory with leading digits.
+fn led(alloc: Global) -> Result<loader::Metadata, AllocError> {
     let leading = text(alloc, "3")?;
     let mut m = territory(alloc, "NZ", 64, "\\d{8}", [8])?;
     m.leading_digits = leading;
+    Ok(m)
+}
+
+/// A record, its copy, and what is read back from its text, each as text.
+fn written(alloc: Global) -> Result<[String; 3], Fail> {
+    let m = led(alloc)?;
     let copy = m.clone(alloc)?;
     let first = serde_json::to_string(alloc, &m)?;
     let second = serde_json::to_string(alloc, &copy)?;
@@ -137,12 +154,17 @@ fn copies_a_record_and_reads_back_what_it_writes(rt: HostRuntime) -> Result<(), 
     Ok(())
 }
 
+/// What descriptors start from.
+fn descriptor(defaults: &loader::Defaults) -> &loader::Descriptor {
+    &defaults.descriptor
+}
+
 #[test]
 fn writes_an_empty_descriptor(rt: HostRuntime) -> Result<(), Fail> {
     let alloc = rt.alloc();
     let defaults = loader::Defaults::empty(alloc).clone(alloc)?;
     assert_eq!(rt;
-        serde_json::to_string(alloc, &defaults.descriptor)?.as_str(),
+        serde_json::to_string(alloc, descriptor(&defaults))?.as_str(),
         "{\"national_number\":null,\"possible_length\":[],\"possible_local_length\":[],\"example\":null}"
     );
     Ok(())

@@ -3,7 +3,9 @@ use crate::told;
 use phone_meta::loader::Metadata;
 use phone_meta::{Database, LoadMetadata};
 use phone_samples::parts::territory;
+use phone_samples::{FRONTS, RULES, THREE};
 use std::alloc::{AllocError, Global};
+use std::process::Abort;
 use std::test::Fail;
 
 /// A look-up by id or calling code.
@@ -25,83 +27,127 @@ fn ask(alloc: Global, db: &Database, asked: Asked) -> Result<String, AllocError>
     }
 }
 
-/// A main territory of its code.
-fn main_territory(
+/// Each look-up with what it gives, and a few words.
+fn each_gives(
+    rt: &impl Abort,
     alloc: Global,
-    id: &str,
-    code: u16,
-    pattern: &str,
-) -> Result<Metadata, AllocError> {
-    let mut m = territory(alloc, id, code, pattern, [])?;
-    m.main_country_for_code = true;
-    Ok(m)
-}
-
-fn mains_of_seven(alloc: Global) -> Result<Database, LoadMetadata> {
-    let mut records = Vec::new(alloc);
-    records.push(territory(alloc, "X", 7, "\\d{3}", [3])?)?;
-    records.push(main_territory(alloc, "Y", 7, "\\d{3}")?)?;
-    records.push(main_territory(alloc, "Z", 7, "\\d{3}")?)?;
-    Database::from(alloc, records)
-}
-
-/// Ids that stand twice, with two codes and with one.
-fn repeated(alloc: Global) -> Result<Database, LoadMetadata> {
-    let mut records = Vec::new(alloc);
-    records.push(territory(alloc, "NZ", 64, "\\d{8}", [8])?)?;
-    records.push(territory(alloc, "NZ", 65, "\\d{6}", [6])?)?;
-    records.push(territory(alloc, "AC", 247, "6\\d{3}", [4])?)?;
-    records.push(territory(alloc, "AC", 247, "\\d{5}", [5])?)?;
-    Database::from(alloc, records)
-}
-
-fn shared(alloc: Global) -> Result<Database, LoadMetadata> {
-    let mut records = Vec::new(alloc);
-    records.push(territory(alloc, "GG", 44, "\\d{10}", [10])?)?;
-    records.push(main_territory(alloc, "JE", 44, "\\d{10}")?)?;
-    records.push(main_territory(alloc, "GB", 44, "\\d{10}")?)?;
-    records.push(territory(alloc, "IM", 44, "\\d{10}", [10])?)?;
-    Database::from(alloc, records)
-}
-
-/// Two codes whose territories arrive in turn.
-fn in_turn(alloc: Global) -> Result<Database, LoadMetadata> {
-    let mut records = Vec::new(alloc);
-    records.push(territory(alloc, "BB", 1, "\\d{6}", [6])?)?;
-    records.push(main_territory(alloc, "FR", 33, "\\d{9}")?)?;
-    records.push(main_territory(alloc, "US", 1, "\\d{10}")?)?;
-    records.push(territory(alloc, "MF", 33, "\\d{8}", [8])?)?;
-    records.push(territory(alloc, "CA", 1, "\\d{7}", [7])?)?;
-    Database::from(alloc, records)
-}
-
-/// A database of two codes.
-fn of_codes(alloc: Global, first: u16, second: u16) -> Result<Database, LoadMetadata> {
-    let mut records = Vec::new(alloc);
-    records.push(territory(alloc, "AC", first, "\\d{6}", [6])?)?;
-    records.push(territory(alloc, "AD", second, "\\d{6}", [6])?)?;
-    Database::from(alloc, records)
-}
-
-#[test]
-fn gives_main_territories_latest_first(rt: HostRuntime) -> Result<(), Fail> {
-    let alloc = rt.alloc();
-    let db = mains_of_seven(alloc)?;
-    for (asked, answer) in [
-        (Asked::Code(7), "Z/7/\\d{3} Y/7/\\d{3} X/7/\\d{3}"),
-        (Asked::Region(7), "Z Y X"),
-        (Asked::First(7), "Z/7/\\d{3}"),
-    ] {
-        assert_eq!(rt; ask(alloc, &db, asked)?.as_str(), answer);
+    db: &Database,
+    rows: &[(Asked, &str, &str)],
+) -> Result<(), Fail> {
+    for (asked, answer, why) in rows {
+        assert_eq!(rt; ask(alloc, db, *asked)?.as_str(), *answer, "{why}");
     }
     Ok(())
 }
 
+/// The same under the database of a text.
+fn each_gives_under(
+    rt: &impl Abort,
+    alloc: Global,
+    text: &str,
+    rows: &[(Asked, &str, &str)],
+) -> Result<(), Fail> {
+    let db = Database::parse(alloc, text)?;
+    each_gives(rt, alloc, &db, rows)
+}
+
+/// One territory that isn't a main one of its code, and two that are.
+const MAINS_OF_SEVEN: &str = r#"[
+  {
+    "id": "X", "country_code": 7,
+    "general": {"national_number": "\\d{3}", "possible_length": [3]}
+  },
+  {
+    "id": "Y", "country_code": 7, "main_country_for_code": true,
+    "general": {"national_number": "\\d{3}"}
+  },
+  {
+    "id": "Z", "country_code": 7, "main_country_for_code": true,
+    "general": {"national_number": "\\d{3}"}
+  }
+]"#;
+
+/// Ids that stand twice, with two codes and with one.
+const REPEATED: &str = r#"[
+  {
+    "id": "NZ", "country_code": 64,
+    "general": {"national_number": "\\d{8}", "possible_length": [8]}
+  },
+  {
+    "id": "NZ", "country_code": 65,
+    "general": {"national_number": "\\d{6}", "possible_length": [6]}
+  },
+  {
+    "id": "AC", "country_code": 247,
+    "general": {"national_number": "6\\d{3}", "possible_length": [4]}
+  },
+  {
+    "id": "AC", "country_code": 247,
+    "general": {"national_number": "\\d{5}", "possible_length": [5]}
+  }
+]"#;
+
+/// Four territories of one code, of which two are main ones.
+const SHARED: &str = r#"[
+  {
+    "id": "GG", "country_code": 44,
+    "general": {"national_number": "\\d{10}", "possible_length": [10]}
+  },
+  {
+    "id": "JE", "country_code": 44, "main_country_for_code": true,
+    "general": {"national_number": "\\d{10}"}
+  },
+  {
+    "id": "GB", "country_code": 44, "main_country_for_code": true,
+    "general": {"national_number": "\\d{10}"}
+  },
+  {
+    "id": "IM", "country_code": 44,
+    "general": {"national_number": "\\d{10}", "possible_length": [10]}
+  }
+]"#;
+
+/// Two codes whose territories arrive in turn.
+const IN_TURN: &str = r#"[
+  {
+    "id": "BB", "country_code": 1,
+    "general": {"national_number": "\\d{6}", "possible_length": [6]}
+  },
+  {
+    "id": "FR", "country_code": 33, "main_country_for_code": true,
+    "general": {"national_number": "\\d{9}"}
+  },
+  {
+    "id": "US", "country_code": 1, "main_country_for_code": true,
+    "general": {"national_number": "\\d{10}"}
+  },
+  {
+    "id": "MF", "country_code": 33,
+    "general": {"national_number": "\\d{8}", "possible_length": [8]}
+  },
+  {
+    "id": "CA", "country_code": 1,
+    "general": {"national_number": "\\d{7}", "possible_length": [7]}
+  }
+]"#;
+
+#[test]
+fn gives_main_territories_latest_first(rt: HostRuntime) -> Result<(), Fail> {
+    let rows = [
+        (
+            Asked::Code(7),
+            "Z/7/\\d{3} Y/7/\\d{3} X/7/\\d{3}",
+            "all of the code",
+        ),
+        (Asked::Region(7), "Z Y X", "their ids"),
+        (Asked::First(7), "Z/7/\\d{3}", "the latest main one"),
+    ];
+    each_gives_under(&rt, rt.alloc(), MAINS_OF_SEVEN, &rows)
+}
+
 #[test]
 fn keeps_the_last_record_of_an_id(rt: HostRuntime) -> Result<(), Fail> {
-    let alloc = rt.alloc();
-    let db = repeated(alloc)?;
-    for (asked, answer, why) in [
+    let rows = [
         (Asked::Id("NZ"), "NZ/65/\\d{6}", "two codes"),
         (Asked::Id("AC"), "AC/247/\\d{5}", "one code"),
         (
@@ -109,56 +155,46 @@ fn keeps_the_last_record_of_an_id(rt: HostRuntime) -> Result<(), Fail> {
             "AC/247/6\\d{3} AC/247/\\d{5}",
             "one id twice",
         ),
-    ] {
-        assert_eq!(rt; ask(alloc, &db, asked)?.as_str(), answer, "{why}");
-    }
-    Ok(())
+    ];
+    each_gives_under(&rt, rt.alloc(), REPEATED, &rows)
 }
 
 #[test]
 fn gives_the_territories_of_a_shared_code(rt: HostRuntime) -> Result<(), Fail> {
-    let alloc = rt.alloc();
-    let db = shared(alloc)?;
-    for (asked, answer, why) in [
+    let rows = [
         (Asked::Region(44), "GB JE GG IM", "main ones latest first"),
         (Asked::First(44), "GB/44/\\d{10}", "the latest main one"),
         (Asked::Region(999), "none", "not listed"),
         (Asked::Code(999), "none", "not listed"),
         (Asked::First(999), "none", "not listed"),
         (Asked::Id("gb"), "none", "small letters"),
-    ] {
-        assert_eq!(rt; ask(alloc, &db, asked)?.as_str(), answer, "{why}");
-    }
-    Ok(())
+    ];
+    each_gives_under(&rt, rt.alloc(), SHARED, &rows)
 }
 
 #[test]
 fn keeps_codes_apart_whose_territories_arrive_in_turn(rt: HostRuntime) -> Result<(), Fail> {
-    let alloc = rt.alloc();
-    let db = in_turn(alloc)?;
-    for (asked, answer) in [
-        (Asked::Code(1), "US/1/\\d{10} BB/1/\\d{6} CA/1/\\d{7}"),
-        (Asked::Region(33), "FR MF"),
-        (Asked::First(1), "US/1/\\d{10}"),
-        (Asked::First(33), "FR/33/\\d{9}"),
-        (Asked::Code(0), "none"),
-    ] {
-        assert_eq!(rt; ask(alloc, &db, asked)?.as_str(), answer);
-    }
-    Ok(())
+    let rows = [
+        (
+            Asked::Code(1),
+            "US/1/\\d{10} BB/1/\\d{6} CA/1/\\d{7}",
+            "the main one first",
+        ),
+        (Asked::Region(33), "FR MF", "the ids of the other code"),
+        (Asked::First(1), "US/1/\\d{10}", "it arrives second"),
+        (Asked::First(33), "FR/33/\\d{9}", "it arrives first"),
+        (Asked::Code(0), "none", "not listed"),
+    ];
+    each_gives_under(&rt, rt.alloc(), IN_TURN, &rows)
 }
 
 #[test]
 fn gives_territories_without_a_main_one_in_order_of_arrival(rt: HostRuntime) -> Result<(), Fail> {
-    let alloc = rt.alloc();
-    let db = Database::from(alloc, phone_samples::rules(alloc)?)?;
-    for (asked, answer) in [
-        (Asked::First(870), "001/870/\\d{8}"),
-        (Asked::Region(870), "001 QQ"),
-    ] {
-        assert_eq!(rt; ask(alloc, &db, asked)?.as_str(), answer);
-    }
-    Ok(())
+    let rows = [
+        (Asked::First(870), "001/870/\\d{8}", "the first to arrive"),
+        (Asked::Region(870), "001 QQ", "both ids"),
+    ];
+    each_gives_under(&rt, rt.alloc(), RULES, &rows)
 }
 
 /// What an iteration gives, in words, sorted, since it promises no order.
@@ -179,16 +215,28 @@ fn each(alloc: Global, db: &Database) -> Result<String, AllocError> {
 #[test]
 fn goes_over_the_last_record_of_each_id(rt: HostRuntime) -> Result<(), Fail> {
     let alloc = rt.alloc();
-    let db = repeated(alloc)?;
+    let db = Database::parse(alloc, REPEATED)?;
     assert_eq!(rt; each(alloc, &db)?.as_str(), "AC/247/\\d{5} NZ/65/\\d{6} ");
+    Ok(())
+}
+
+/// Each text with the code that the shortest listed front of it is, and a few words, under the database of a text.
+fn each_begins_with(
+    rt: &impl Abort,
+    alloc: Global,
+    database: &str,
+    rows: &[(&str, Option<u16>, &str)],
+) -> Result<(), Fail> {
+    let db = Database::parse(alloc, database)?;
+    for (text, code, why) in rows {
+        assert_eq!(rt; db.shortest(text), *code, "{why}");
+    }
     Ok(())
 }
 
 #[test]
 fn takes_the_shortest_listed_front(rt: HostRuntime) -> Result<(), Fail> {
-    let alloc = rt.alloc();
-    let db = Database::from(alloc, phone_samples::three(alloc)?)?;
-    for (text, code, why) in [
+    let rows = [
         ("80012345678", Some(800), "three digits"),
         ("64", Some(64), "the whole text"),
         ("6", None, "no code"),
@@ -197,31 +245,37 @@ fn takes_the_shortest_listed_front(rt: HostRuntime) -> Result<(), Fail> {
         ("1\u{e9}", Some(1), "one digit suffices"),
         ("\u{661}", None, "an Arabic digit"),
         ("", None, "empty"),
-    ] {
-        assert_eq!(rt; db.shortest(text), code, "{why}");
-    }
-    Ok(())
+    ];
+    each_begins_with(&rt, rt.alloc(), THREE, &rows)
 }
 
 #[test]
 fn tries_one_digit_before_three_and_never_four(rt: HostRuntime) -> Result<(), Fail> {
-    let alloc = rt.alloc();
-    let db = Database::from(alloc, phone_samples::fronts(alloc)?)?;
-    for (text, code, why) in [
+    let rows = [
         ("376123", Some(3), "3 begins 376"),
         ("1234567", None, "a code of four digits"),
-    ] {
-        assert_eq!(rt; db.shortest(text), code, "{why}");
-    }
-    Ok(())
+    ];
+    each_begins_with(&rt, rt.alloc(), FRONTS, &rows)
+}
+
+/// A database of two codes.
+fn of_codes(alloc: Global, first: u16, second: u16) -> Result<Database, LoadMetadata> {
+    let mut records = Vec::new(alloc);
+    records.push(territory(alloc, "AC", first, "\\d{6}", [6])?)?;
+    records.push(territory(alloc, "AD", second, "\\d{6}", [6])?)?;
+    Database::from(alloc, records)
 }
 
 #[test]
 fn never_takes_a_listed_zero(rt: HostRuntime) -> Result<(), Fail> {
-    let alloc = rt.alloc();
-    let db = of_codes(alloc, 0, 9)?;
+    let db = of_codes(rt.alloc(), 0, 9)?;
     assert_eq!(rt; db.shortest("0"), None);
     Ok(())
+}
+
+/// Whether neither of two codes begins the other.
+fn are_apart(alloc: Global, first: u16, second: u16) -> Result<bool, LoadMetadata> {
+    Ok(of_codes(alloc, first, second)?.codes_prefix_free())
 }
 
 #[test]
@@ -236,29 +290,29 @@ fn tells_whether_a_code_begins_another(rt: HostRuntime) -> Result<(), Fail> {
         (0, 9, true, "0 begins no other number"),
         (6, 65535, false, "five digits"),
     ] {
-        assert_eq!(rt;
-            of_codes(alloc, first, second)?.codes_prefix_free(),
-            free,
-            "{why}"
-        );
+        assert_eq!(rt; are_apart(alloc, first, second)?, free, "{why}");
     }
     Ok(())
 }
 
 /// Whether no code of these records begins another.
-fn is_prefix_free(alloc: Global, records: Vec<Metadata>) -> Result<bool, LoadMetadata> {
-    Ok(Database::from(alloc, records)?.codes_prefix_free())
+fn is_prefix_free(
+    alloc: Global,
+    records: Result<Vec<Metadata>, LoadMetadata>,
+) -> Result<bool, LoadMetadata> {
+    Ok(Database::from(alloc, records?)?.codes_prefix_free())
 }
 
 #[test]
 fn finds_only_one_of_the_small_databases_not_prefix_free(rt: HostRuntime) -> Result<(), Fail> {
     let alloc = rt.alloc();
-    let three = is_prefix_free(alloc, phone_samples::three(alloc)?)?;
-    let rules = is_prefix_free(alloc, phone_samples::rules(alloc)?)?;
-    let fronts = is_prefix_free(alloc, phone_samples::fronts(alloc)?)?;
+    let three = is_prefix_free(alloc, phone_samples::three(alloc))?;
+    let rules = is_prefix_free(alloc, phone_samples::rules(alloc))?;
+    let fronts = is_prefix_free(alloc, phone_samples::fronts(alloc))?;
+    let extensions = is_prefix_free(alloc, phone_samples::extensions(alloc))?;
     assert_eq!(rt;
-        [three, rules, fronts].as_slice(),
-        [true, true, false].as_slice()
+        [three, rules, fronts, extensions].as_slice(),
+        [true, true, false, true].as_slice()
     );
     Ok(())
 }

@@ -1,25 +1,23 @@
 //! When a text is a number of a kind.
 use phone_core::Type;
 use phone_meta::{Database, LoadMetadata};
-use phone_samples::parts::{descriptor, territory};
+use phone_samples::parts::territory;
 use std::alloc::{AllocError, Global};
+use std::process::Abort;
 use std::test::Fail;
 
-/// One territory with four kinds of numbers.
-fn of_kinds(alloc: Global) -> Result<Database, LoadMetadata> {
-    let fixed_line = descriptor(alloc, " [ 3 ] \\d # two", [8])?;
-    let mobile = descriptor(alloc, "12$", [])?;
-    let voip = descriptor(alloc, "\\d{3}$", [])?;
-    let no_international = descriptor(alloc, "a15", [])?;
-    let pager = descriptor(alloc, "\\d+", [6])?;
-    let mut m = territory(alloc, "ZA", 27, "3 \\d{7} # local", [8])?;
-    m.fixed_line = fixed_line;
-    m.mobile = mobile;
-    m.voip = voip;
-    m.no_international = no_international;
-    m.pager = pager;
-    Database::from(alloc, vec![in alloc; m]?)
-}
+/// One territory with five kinds of numbers, of which three may have any length.
+const KINDS: &str = r#"[
+  {
+    "id": "ZA", "country_code": 27,
+    "general": {"national_number": "3 \\d{7} # local", "possible_length": [8]},
+    "fixed_line": {"national_number": " [ 3 ] \\d # two", "possible_length": [8]},
+    "mobile": {"national_number": "12$"},
+    "voip": {"national_number": "\\d{3}$"},
+    "no_international": {"national_number": "a15"},
+    "pager": {"national_number": "\\d+", "possible_length": [6]}
+  }
+]"#;
 
 fn is_match(db: &Database, kind: Type, text: &str) -> Result<Option<bool>, AllocError> {
     let Some(m) = db.by_id("ZA") else {
@@ -31,11 +29,31 @@ fn is_match(db: &Database, kind: Type, text: &str) -> Result<Option<bool>, Alloc
     }
 }
 
+/// Each text with the kind that is asked for, whether it is such a number, and a few words.
+fn each_matches(
+    rt: &impl Abort,
+    db: &Database,
+    rows: &[(Type, &str, Option<bool>, &str)],
+) -> Result<(), Fail> {
+    for (kind, text, answer, why) in rows {
+        assert_eq!(rt; is_match(db, *kind, text)?, *answer, "{why}");
+    }
+    Ok(())
+}
+
+/// The same where a territory has the kinds.
+fn each_matches_by_kind(
+    rt: &impl Abort,
+    alloc: Global,
+    rows: &[(Type, &str, Option<bool>, &str)],
+) -> Result<(), Fail> {
+    let db = Database::parse(alloc, KINDS)?;
+    each_matches(rt, &db, rows)
+}
+
 #[test]
 fn matches_at_the_first_byte_and_in_a_listed_length(rt: HostRuntime) -> Result<(), Fail> {
-    let alloc = rt.alloc();
-    let db = of_kinds(alloc)?;
-    for (kind, text, answer, why) in [
+    let rows = [
         (
             Type::Unknown,
             "33316005",
@@ -71,67 +89,57 @@ fn matches_at_the_first_byte_and_in_a_listed_length(rt: HostRuntime) -> Result<(
             "behind the match the text goes on",
         ),
         (Type::TollFree, "33316005", None, "no such kind"),
-    ] {
-        assert_eq!(rt; is_match(&db, kind, text)?, answer, "{why}");
-    }
-    Ok(())
+    ];
+    each_matches_by_kind(&rt, rt.alloc(), &rows)
 }
 
 #[test]
 fn compares_true_lengths(rt: HostRuntime) -> Result<(), Fail> {
     let alloc = rt.alloc();
-    let db = of_kinds(alloc)?;
     let mut long = String::new(alloc);
     for _i in 0..65542 {
         long.push('1')?;
     }
-    assert_eq!(rt; is_match(&db, Type::Pager, "111111")?, Some(true));
-    assert_eq!(rt;
-        is_match(&db, Type::Pager, long.as_str())?,
-        Some(false),
-        "65542 digits are no six"
-    );
-    Ok(())
+    let rows = [
+        (Type::Pager, "111111", Some(true), "six digits"),
+        (
+            Type::Pager,
+            long.as_str(),
+            Some(false),
+            "65542 digits are no six",
+        ),
+    ];
+    each_matches_by_kind(&rt, alloc, &rows)
 }
 
-/// One territory whose general descriptor has this pattern and these lengths.
-fn of_general<const N: usize>(
+/// Each text, whether it is a number of one territory whose general descriptor has this pattern and these lengths, and a
+/// few words.
+fn each_is_general<const N: usize>(
+    rt: &impl Abort,
     alloc: Global,
     pattern: &str,
     lengths: [u16; N],
-) -> Result<Database, LoadMetadata> {
+    rows: &[(Type, &str, Option<bool>, &str)],
+) -> Result<(), Fail> {
     let m = territory(alloc, "ZA", 27, pattern, lengths)?;
-    Database::from(alloc, vec![in alloc; m]?)
+    let db = Database::from(alloc, vec![in alloc; m]?)?;
+    each_matches(rt, &db, rows)
 }
 
 #[test]
 fn asks_where_the_first_match_begins(rt: HostRuntime) -> Result<(), Fail> {
-    let db = of_general(rt.alloc(), "0", [])?;
-    assert_eq!(rt;
-        is_match(&db, Type::Unknown, "10")?,
-        Some(false),
-        "not at the front"
-    );
-    assert_eq!(rt;
-        is_match(&db, Type::Unknown, "01")?,
-        Some(true),
-        "at the front"
-    );
-    Ok(())
+    let rows = [
+        (Type::Unknown, "10", Some(false), "not at the front"),
+        (Type::Unknown, "01", Some(true), "at the front"),
+    ];
+    each_is_general(&rt, rt.alloc(), "0", [], &rows)
 }
 
 #[test]
 fn counts_the_bytes_of_a_text(rt: HostRuntime) -> Result<(), Fail> {
-    let db = of_general(rt.alloc(), "\\d+", [5, 8, 10])?;
-    assert_eq!(rt;
-        is_match(&db, Type::Unknown, "1\u{e9}\u{e9}")?,
-        Some(true),
-        "five bytes"
-    );
-    assert_eq!(rt;
-        is_match(&db, Type::Unknown, "123")?,
-        Some(false),
-        "three bytes"
-    );
-    Ok(())
+    let rows = [
+        (Type::Unknown, "1\u{e9}\u{e9}", Some(true), "five bytes"),
+        (Type::Unknown, "123", Some(false), "three bytes"),
+    ];
+    each_is_general(&rt, rt.alloc(), "\\d+", [5, 8, 10], &rows)
 }
