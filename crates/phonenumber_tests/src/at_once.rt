@@ -1,95 +1,108 @@
 //! All texts of a number at once, and all that a database tells of it at once.
+use phone_samples::THREE;
 use phonenumber::country::{Code, Id, Source};
 use phonenumber::metadata::{Database, LoadMetadata};
 use phonenumber::{
-    FormatError, NationalNumber, PhoneNumber, Queried, Type, format_with, parse_with,
+    FormatError, NationalNumber, ParseError, PhoneNumber, Queried, Type, format_with, parse_with,
 };
 use std::alloc::Global;
+use std::process::Abort;
 use std::test::Fail;
 
-/// New Zealand, the United States, and the code 800 of no region.
-fn three(alloc: Global) -> Result<Database, LoadMetadata> {
-    Database::from(alloc, phone_samples::three(alloc)?)
+/// The four texts of the number that a line is read as under three territories, each in a line.
+fn texts(alloc: Global, line: &str) -> Result<String, Fail> {
+    let db = Database::parse(alloc, THREE)?;
+    let number = parse_with(&db, None, line)?;
+    let texts = format_with(&db, &number).to_texts(alloc)?;
+    let (e164, international) = (texts.e164.as_str(), texts.international.as_str());
+    let (national, rfc3966) = (texts.national.as_str(), texts.rfc3966.as_str());
+    Ok(format!(in alloc; "{e164}\n{international}\n{national}\n{rfc3966}")?)
 }
 
 #[test]
 fn prints_all_four_texts_at_once(rt: HostRuntime) -> Result<(), Fail> {
     let alloc = rt.alloc();
-    let db = three(alloc)?;
-    for (line, e164, international, national, rfc3966) in [
+    for (line, answer) in [
         (
             "+64 3 331 6005 ext. 7",
-            "+6433316005",
-            "+64 3 331 6005 ext. 7",
-            "03 331 6005 ext. 7",
-            "tel:+64-3-331-6005;ext=7",
+            "+6433316005\n+64 3 331 6005 ext. 7\n03 331 6005 ext. 7\ntel:+64-3-331-6005;ext=7",
         ),
         (
             "+1 6502530000",
-            "+16502530000",
-            "+1 650-253-0000",
-            "(650) 253-0000",
-            "tel:+1-650-253-0000",
+            "+16502530000\n+1 650-253-0000\n(650) 253-0000\ntel:+1-650-253-0000",
         ),
     ] {
-        let number = parse_with(&db, None, line)?;
-        let texts = format_with(&db, &number).to_texts(alloc)?;
-        assert_eq!(rt; texts.e164.as_str(), e164);
-        assert_eq!(rt; texts.international.as_str(), international);
-        assert_eq!(rt; texts.national.as_str(), national);
-        assert_eq!(rt; texts.rfc3966.as_str(), rfc3966);
+        assert_eq!(rt; texts(alloc, line)?.as_str(), answer);
     }
     Ok(())
 }
 
+/// The number of a code whose national text is so many zeros and this value.
+fn number(code: u16, zeros: u8, value: u64) -> Result<PhoneNumber, ParseError> {
+    let code = Code::new(code, Source::Default);
+    let national = NationalNumber::new(value, zeros)?;
+    Ok(PhoneNumber::from_parts(code, national, None, None))
+}
+
+/// Whether no text is printed of a number, since its code isn't listed.
+fn is_unknown(alloc: Global, number: &PhoneNumber) -> Result<bool, LoadMetadata> {
+    let db = Database::parse(alloc, THREE)?;
+    match format_with(&db, number).to_texts(alloc) {
+        Ok(_) => Ok(false),
+        Err(FormatError::UnknownCode) => Ok(true),
+        Err(FormatError::Memory) => Err(LoadMetadata::Memory),
+    }
+}
+
 #[test]
 fn prints_no_text_of_a_code_that_is_not_listed(rt: HostRuntime) -> Result<(), Fail> {
-    let alloc = rt.alloc();
-    let db = three(alloc)?;
-    let code = Code::new(999, Source::Default);
-    let number = PhoneNumber::from_parts(code, NationalNumber::new(12345678, 0)?, None, None);
-    match format_with(&db, &number).to_texts(alloc) {
-        Ok(_) => assert!(rt; false, "it was printed"),
-        Err(error) => assert_eq!(rt; error, FormatError::UnknownCode),
+    let number = number(999, 0, 12345678)?;
+    assert!(rt; is_unknown(rt.alloc(), &number)?);
+    Ok(())
+}
+
+/// What is told at once of a number, after it was told one by one as well.
+fn told(alloc: Global, code: u16, zeros: u8, value: u64) -> Result<[Queried; 2], Fail> {
+    let db = Database::parse(alloc, THREE)?;
+    let number = number(code, zeros, value)?;
+    let one_by_one = Queried {
+        region: number.country().id(&db)?,
+        kind: number.number_type(&db)?,
+        is_valid: number.is_valid_with(&db)?,
+    };
+    Ok([number.queried(&db)?, one_by_one])
+}
+
+/// Code, zeros and value of each number, with its region, its kind, and whether it is valid.
+fn each_is_told(
+    rt: &impl Abort,
+    alloc: Global,
+    rows: &[(u16, u8, u64, Option<Id>, Type, bool)],
+) -> Result<(), Fail> {
+    for (code, zeros, value, region, kind, is_valid) in rows {
+        let answer = Queried {
+            region: *region,
+            kind: *kind,
+            is_valid: *is_valid,
+        };
+        let [at_once, one_by_one] = told(alloc, *code, *zeros, *value)?;
+        assert_eq!(rt; at_once, answer, "{code} {zeros} {value}");
+        assert_eq!(rt; one_by_one, answer, "{code} {zeros} {value}");
     }
     Ok(())
 }
 
 #[test]
 fn tells_region_kind_and_validity_at_once(rt: HostRuntime) -> Result<(), Fail> {
-    let alloc = rt.alloc();
-    let db = three(alloc)?;
-    for (code, value, zeros, region, kind, is_valid) in [
-        (64, 33316005, 0, Some(Id::NZ), Type::FixedLine, true),
-        (64, 33316005, 1, Some(Id::NZ), Type::FixedLine, false),
-        (64, 12, 0, Some(Id::NZ), Type::Unknown, false),
-        (
-            1,
-            6502530000,
-            0,
-            Some(Id::US),
-            Type::FixedLineOrMobile,
-            true,
-        ),
-        (800, 12345678, 0, None, Type::TollFree, true),
-        (999, 12345678, 0, None, Type::Unknown, false),
-    ] {
-        let national = NationalNumber::new(value, zeros)?;
-        let number = PhoneNumber::from_parts(
-            Code::new(code, Source::Default),
-            national,
-            None,
-            None,
-        );
-        let told = Queried {
-            region,
-            kind,
-            is_valid,
-        };
-        assert_eq!(rt; number.queried(&db)?, told);
-        assert_eq!(rt; number.number_type(&db)?, kind);
-        assert_eq!(rt; number.is_valid_with(&db)?, is_valid);
-        assert_eq!(rt; number.country().id(&db)?, region);
-    }
-    Ok(())
+    let nz = Some(Id::NZ);
+    let us = Some(Id::US);
+    let rows = [
+        (64, 0, 33316005, nz, Type::FixedLine, true),
+        (64, 1, 33316005, nz, Type::FixedLine, false),
+        (64, 0, 12, nz, Type::Unknown, false),
+        (1, 0, 6502530000, us, Type::FixedLineOrMobile, true),
+        (800, 0, 12345678, None, Type::TollFree, true),
+        (999, 0, 12345678, None, Type::Unknown, false),
+    ];
+    each_is_told(&rt, rt.alloc(), &rows)
 }

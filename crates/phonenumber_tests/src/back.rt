@@ -1,41 +1,21 @@
 //! Numbers that are printed, and what their texts are read as without a hint: the same number where it keeps the premises
 //! of the mode, and for each premise another number or a refusal where it isn't kept.
+use phone_samples::{EXTENSIONS, FRONTS, RULES, THREE};
 use phonenumber::country::{Code, Source};
-use phonenumber::metadata::{Database, LoadMetadata};
+use phonenumber::metadata::Database;
 use phonenumber::{
     Extension, FormatError, Mode, NationalNumber, ParseError, PhoneNumber, again, format_with,
 };
 use std::alloc::{AllocError, Global};
+use std::process::Abort;
 use std::test::Fail;
 
-/// New Zealand, the United States, and the code 800 of no region.
-fn three(alloc: Global) -> Result<Database, LoadMetadata> {
-    Database::from(alloc, phone_samples::three(alloc)?)
-}
+/// A calling code, and a national text of so many zeros and a value, perhaps with an extension.
+type Parts = (u16, u8, u64, Option<&'static str>);
 
-/// Territories with rules for parsing, and with odd layouts.
-fn rules(alloc: Global) -> Result<Database, LoadMetadata> {
-    Database::from(alloc, phone_samples::rules(alloc)?)
-}
-
-/// The codes 3, 376 and 1234.
-fn fronts(alloc: Global) -> Result<Database, LoadMetadata> {
-    Database::from(alloc, phone_samples::fronts(alloc)?)
-}
-
-/// Territories with extension prefixes of their own.
-fn extensions(alloc: Global) -> Result<Database, LoadMetadata> {
-    Database::from(alloc, phone_samples::extensions(alloc)?)
-}
-
-/// The number of a code whose national text is so many zeros and this value, perhaps with an extension.
-fn number(
-    alloc: Global,
-    code: u16,
-    zeros: u8,
-    value: u64,
-    extension: Option<&str>,
-) -> Result<PhoneNumber, ParseError> {
+/// The number of these parts.
+fn number(alloc: Global, parts: Parts) -> Result<PhoneNumber, ParseError> {
+    let (code, zeros, value, extension) = parts;
     let code = Code::new(code, Source::Default);
     let national = NationalNumber::new(value, zeros)?;
     let extension = match extension {
@@ -43,31 +23,6 @@ fn number(
         None => None,
     };
     Ok(PhoneNumber::from_parts(code, national, extension, None))
-}
-
-/// A number's text in a mode, then what it is read as. Want of memory is told of nothing.
-fn back(
-    alloc: Global,
-    db: &Database,
-    mode: Mode,
-    number: &PhoneNumber,
-) -> Result<String, ParseError> {
-    let again = match mode {
-        Mode::E164 => again::e164(db, number),
-        Mode::Rfc3966 => again::rfc3966(db, number),
-        _ => again::international(db, number),
-    };
-    let read = match again {
-        Ok(read) => parts(alloc, &read)?,
-        Err(ParseError::Memory) => return Err(ParseError::Memory),
-        Err(error) => format!(in alloc; "{error:?}")?,
-    };
-    let text = match format_with(db, number).mode(mode).to_text(alloc) {
-        Ok(text) => text,
-        Err(FormatError::UnknownCode) => String::from_str(alloc, "no text")?,
-        Err(FormatError::Memory) => return Err(ParseError::Memory),
-    };
-    Ok(format!(in alloc; "{text} is {read}")?)
 }
 
 /// Code, source and national text of a number, then extension and carrier, each after its sign.
@@ -86,344 +41,388 @@ fn parts(alloc: Global, number: &PhoneNumber) -> Result<String, AllocError> {
     Ok(told)
 }
 
-#[test]
-fn brings_back_a_number_without_an_extension(rt: HostRuntime) -> Result<(), Fail> {
-    let alloc = rt.alloc();
-    let db = three(alloc)?;
-    let plain = number(alloc, 64, 0, 33316005, None)?;
-    for (mode, answer) in [
-        (Mode::E164, "+6433316005 is 64 Plus 33316005"),
-        (Mode::International, "+64 3 331 6005 is 64 Plus 33316005"),
-        (Mode::Rfc3966, "tel:+64-3-331-6005 is 64 Plus 33316005"),
-    ] {
-        assert_eq!(rt; back(alloc, &db, mode, &plain)?.as_str(), answer);
+/// What a number's text in a mode is read as. Want of memory is told of nothing.
+fn read_back(
+    alloc: Global,
+    db: &Database,
+    mode: Mode,
+    number: &PhoneNumber,
+) -> Result<String, ParseError> {
+    let again = match mode {
+        Mode::E164 => again::e164(db, number),
+        Mode::Rfc3966 => again::rfc3966(db, number),
+        _ => again::international(db, number),
+    };
+    match again {
+        Ok(read) => Ok(parts(alloc, &read)?),
+        Err(ParseError::Memory) => Err(ParseError::Memory),
+        Err(error) => Ok(format!(in alloc; "{error:?}")?),
+    }
+}
+
+/// A number's text in a mode, or that it has none. Want of memory is told of nothing.
+fn printed(
+    alloc: Global,
+    db: &Database,
+    mode: Mode,
+    number: &PhoneNumber,
+) -> Result<String, ParseError> {
+    match format_with(db, number).mode(mode).to_text(alloc) {
+        Ok(text) => Ok(text),
+        Err(FormatError::UnknownCode) => Ok(String::from_str(alloc, "no text")?),
+        Err(FormatError::Memory) => Err(ParseError::Memory),
+    }
+}
+
+/// The text of these parts in a mode, then what it is read as.
+fn back(alloc: Global, db: &Database, parts: Parts, mode: Mode) -> Result<String, ParseError> {
+    let number = number(alloc, parts)?;
+    let text = printed(alloc, db, mode, &number)?;
+    let read = read_back(alloc, db, mode, &number)?;
+    Ok(format!(in alloc; "{text} is {read}")?)
+}
+
+/// Parts with a mode, each with its text and what that is read as.
+fn each_gives(
+    rt: &impl Abort,
+    alloc: Global,
+    db: &Database,
+    rows: &[(Parts, Mode, &str)],
+) -> Result<(), Fail> {
+    for (parts, mode, answer) in rows {
+        assert_eq!(rt; back(alloc, db, *parts, *mode)?.as_str(), *answer);
     }
     Ok(())
 }
 
+/// The same under the database of a text.
+fn each_gives_under(
+    rt: &impl Abort,
+    alloc: Global,
+    database: &str,
+    rows: &[(Parts, Mode, &str)],
+) -> Result<(), Fail> {
+    let db = Database::parse(alloc, database)?;
+    each_gives(rt, alloc, &db, rows)
+}
+
+#[test]
+fn brings_back_a_number_without_an_extension(rt: HostRuntime) -> Result<(), Fail> {
+    let plain = (64, 0, 33316005, None);
+    let rows = [
+        (plain, Mode::E164, "+6433316005 is 64 Plus 33316005"),
+        (
+            plain,
+            Mode::International,
+            "+64 3 331 6005 is 64 Plus 33316005",
+        ),
+        (
+            plain,
+            Mode::Rfc3966,
+            "tel:+64-3-331-6005 is 64 Plus 33316005",
+        ),
+    ];
+    each_gives_under(&rt, rt.alloc(), THREE, &rows)
+}
+
 #[test]
 fn brings_back_an_extension_of_no_digits(rt: HostRuntime) -> Result<(), Fail> {
-    let alloc = rt.alloc();
-    let db = three(alloc)?;
-    let extended = number(alloc, 1, 0, 6502530000, Some(""))?;
-    for (mode, answer) in [
-        (Mode::E164, "+16502530000 is 1 Plus 6502530000"),
+    let extended = (1, 0, 6502530000, Some(""));
+    let rows = [
+        (extended, Mode::E164, "+16502530000 is 1 Plus 6502530000"),
         (
+            extended,
             Mode::International,
             "+1 650-253-0000 ext.  is 1 Plus 6502530000 x",
         ),
         (
+            extended,
             Mode::Rfc3966,
             "tel:+1-650-253-0000;ext= is 1 Plus 6502530000 x",
         ),
-    ] {
-        assert_eq!(rt; back(alloc, &db, mode, &extended)?.as_str(), answer);
-    }
-    Ok(())
+    ];
+    each_gives_under(&rt, rt.alloc(), THREE, &rows)
 }
 
 #[test]
 fn brings_back_an_extension_after_a_layout_that_ends_in_a_slash(
     rt: HostRuntime,
 ) -> Result<(), Fail> {
-    let alloc = rt.alloc();
-    let db = rules(alloc)?;
-    let extended = number(alloc, 376, 0, 123456, Some("5"))?;
-    for (mode, answer) in [
-        (Mode::E164, "+376123456 is 376 Plus 123456"),
+    let extended = (376, 0, 123456, Some("5"));
+    let rows = [
+        (extended, Mode::E164, "+376123456 is 376 Plus 123456"),
         (
+            extended,
             Mode::International,
             "+376 123/456/ ext. 5 is 376 Plus 123456 x5",
         ),
         (
+            extended,
             Mode::Rfc3966,
             "tel:+376-123-456-;ext=5 is 376 Plus 123456 x5",
         ),
-    ] {
-        assert_eq!(rt; back(alloc, &db, mode, &extended)?.as_str(), answer);
-    }
-    Ok(())
+    ];
+    each_gives_under(&rt, rt.alloc(), RULES, &rows)
 }
 
 #[test]
 fn brings_back_zeros_that_stripping_leaves(rt: HostRuntime) -> Result<(), Fail> {
-    let alloc = rt.alloc();
-    let db = rules(alloc)?;
-    let zeros = number(alloc, 870, 9, 12345678, None)?;
-    for (mode, answer) in [
+    let zeros = (870, 9, 12345678, None);
+    let rows = [
         (
+            zeros,
             Mode::E164,
             "+87000000000012345678 is 870 Plus 00000000012345678",
         ),
         (
+            zeros,
             Mode::International,
             "+870 00000000012345678 is 870 Plus 00000000012345678",
         ),
         (
+            zeros,
             Mode::Rfc3966,
             "tel:+870-00000000012345678 is 870 Plus 00000000012345678",
         ),
-    ] {
-        assert_eq!(rt; back(alloc, &db, mode, &zeros)?.as_str(), answer);
-    }
-    Ok(())
+    ];
+    each_gives_under(&rt, rt.alloc(), RULES, &rows)
 }
 
 #[test]
 fn needs_a_layout_that_announces_no_extension(rt: HostRuntime) -> Result<(), Fail> {
-    let alloc = rt.alloc();
-    let db = rules(alloc)?;
-    for (extension, mode, answer) in [
-        (None, Mode::International, "+43 123x456 is 43 Plus 123 x456"),
+    let rows = [
         (
-            Some("5"),
+            (43, 0, 123456, None),
+            Mode::International,
+            "+43 123x456 is 43 Plus 123 x456",
+        ),
+        (
+            (43, 0, 123456, Some("5")),
             Mode::International,
             "+43 123x456 ext. 5 is 43 Plus 1239456 x5",
         ),
-        (None, Mode::Rfc3966, "tel:+43-123-456 is 43 Plus 123456"),
         (
-            Some("5"),
+            (43, 0, 123456, None),
+            Mode::Rfc3966,
+            "tel:+43-123-456 is 43 Plus 123456",
+        ),
+        (
+            (43, 0, 123456, Some("5")),
             Mode::Rfc3966,
             "tel:+43-123-456;ext=5 is 43 Plus 123456 x5",
         ),
-    ] {
-        let parted = number(alloc, 43, 0, 123456, extension)?;
-        assert_eq!(rt; back(alloc, &db, mode, &parted)?.as_str(), answer);
-    }
-    Ok(())
+    ];
+    each_gives_under(&rt, rt.alloc(), RULES, &rows)
 }
 
 #[test]
 fn needs_a_layout_that_writes_all_digits(rt: HostRuntime) -> Result<(), Fail> {
-    let alloc = rt.alloc();
-    let db = rules(alloc)?;
-    let replaced = number(alloc, 374, 0, 12345678, None)?;
-    for (mode, answer) in [
-        (Mode::International, "+374 number is 374 Plus 686237"),
-        (Mode::Rfc3966, "tel:+374-number is 374 Plus 686237"),
-        (Mode::E164, "+37412345678 is 374 Plus 12345678"),
-    ] {
-        assert_eq!(rt; back(alloc, &db, mode, &replaced)?.as_str(), answer);
-    }
-    Ok(())
+    let replaced = (374, 0, 12345678, None);
+    let rows = [
+        (
+            replaced,
+            Mode::International,
+            "+374 number is 374 Plus 686237",
+        ),
+        (
+            replaced,
+            Mode::Rfc3966,
+            "tel:+374-number is 374 Plus 686237",
+        ),
+        (replaced, Mode::E164, "+37412345678 is 374 Plus 12345678"),
+    ];
+    each_gives_under(&rt, rt.alloc(), RULES, &rows)
 }
 
 #[test]
 fn needs_an_extension_of_seven_digits_in_international_text(rt: HostRuntime) -> Result<(), Fail> {
-    let alloc = rt.alloc();
-    let db = three(alloc)?;
-    for (extension, mode, answer) in [
+    let rows = [
         (
-            "12345678",
+            (64, 0, 33316005, Some("12345678")),
             Mode::International,
             "+64 3 331 6005 ext. 12345678 is TooLong",
         ),
         (
-            "1234567",
+            (64, 0, 33316005, Some("1234567")),
             Mode::International,
             "+64 3 331 6005 ext. 1234567 is 64 Plus 33316005 x1234567",
         ),
         (
-            "12345678",
+            (64, 0, 33316005, Some("12345678")),
             Mode::Rfc3966,
             "tel:+64-3-331-6005;ext=12345678 is 64 Plus 33316005 x12345678",
         ),
-    ] {
-        let extended = number(alloc, 64, 0, 33316005, Some(extension))?;
-        assert_eq!(rt; back(alloc, &db, mode, &extended)?.as_str(), answer);
-    }
-    Ok(())
+    ];
+    each_gives_under(&rt, rt.alloc(), THREE, &rows)
 }
 
 #[test]
 fn needs_an_extension_of_digits(rt: HostRuntime) -> Result<(), Fail> {
-    let alloc = rt.alloc();
-    let db = three(alloc)?;
-    for (extension, mode, answer) in [
+    let rows = [
         (
-            "1x2",
+            (64, 0, 33316005, Some("1x2")),
             Mode::International,
             "+64 3 331 6005 ext. 1x2 is 64 Plus 333160053981 x2",
         ),
         (
-            "1x2",
+            (64, 0, 33316005, Some("1x2")),
             Mode::Rfc3966,
             "tel:+64-3-331-6005;ext=1x2 is 64 Plus 33316005 x192",
         ),
         (
-            "5;6",
+            (64, 0, 33316005, Some("5;6")),
             Mode::Rfc3966,
             "tel:+64-3-331-6005;ext=5;6 is 64 Plus 33316005 x5",
         ),
-    ] {
-        let extended = number(alloc, 64, 0, 33316005, Some(extension))?;
-        assert_eq!(rt; back(alloc, &db, mode, &extended)?.as_str(), answer);
-    }
-    Ok(())
+    ];
+    each_gives_under(&rt, rt.alloc(), THREE, &rows)
 }
 
 #[test]
 fn needs_no_extension_prefix_of_the_territory(rt: HostRuntime) -> Result<(), Fail> {
-    let alloc = rt.alloc();
-    let db = extensions(alloc)?;
-    for (code, mode, answer) in [
+    let rows = [
         (
-            355,
+            (355, 0, 123456, Some("5")),
             Mode::International,
             "+355 123 456 e 5 is 355 Plus 12345635",
         ),
-        (43, Mode::International, "+43 123/456/ x5 is 43 Plus 123456"),
         (
-            355,
+            (43, 0, 123456, Some("5")),
+            Mode::International,
+            "+43 123/456/ x5 is 43 Plus 123456",
+        ),
+        (
+            (355, 0, 123456, Some("5")),
             Mode::Rfc3966,
             "tel:+355-123-456;ext=5 is 355 Plus 123456 x5",
         ),
-    ] {
-        let extended = number(alloc, code, 0, 123456, Some("5"))?;
-        assert_eq!(rt; back(alloc, &db, mode, &extended)?.as_str(), answer);
-    }
-    Ok(())
+    ];
+    each_gives_under(&rt, rt.alloc(), EXTENSIONS, &rows)
 }
 
 #[test]
 fn needs_three_digits_in_the_text_of_rfc_3966(rt: HostRuntime) -> Result<(), Fail> {
-    let alloc = rt.alloc();
-    let db = rules(alloc)?;
-    for (value, mode, answer) in [
-        (12, Mode::Rfc3966, "tel:+376-12 is NoNumber"),
-        (123, Mode::Rfc3966, "tel:+376-123 is 376 Plus 123"),
-        (12, Mode::International, "+376 12 is 376 Plus 12"),
-        (12, Mode::E164, "+37612 is 376 Plus 12"),
-    ] {
-        let short = number(alloc, 376, 0, value, None)?;
-        assert_eq!(rt; back(alloc, &db, mode, &short)?.as_str(), answer);
-    }
-    Ok(())
+    let rows = [
+        ((376, 0, 12, None), Mode::Rfc3966, "tel:+376-12 is NoNumber"),
+        (
+            (376, 0, 123, None),
+            Mode::Rfc3966,
+            "tel:+376-123 is 376 Plus 123",
+        ),
+        (
+            (376, 0, 12, None),
+            Mode::International,
+            "+376 12 is 376 Plus 12",
+        ),
+        ((376, 0, 12, None), Mode::E164, "+37612 is 376 Plus 12"),
+    ];
+    each_gives_under(&rt, rt.alloc(), RULES, &rows)
 }
 
 #[test]
 fn needs_two_digits(rt: HostRuntime) -> Result<(), Fail> {
-    let alloc = rt.alloc();
-    let db = three(alloc)?;
-    let short = number(alloc, 64, 0, 3, None)?;
-    for (mode, answer) in [
-        (Mode::E164, "+643 is TooShortNsn"),
-        (Mode::International, "+64 3 is TooShortNsn"),
-        (Mode::Rfc3966, "tel:+64-3 is NoNumber"),
-    ] {
-        assert_eq!(rt; back(alloc, &db, mode, &short)?.as_str(), answer);
-    }
-    Ok(())
+    let short = (64, 0, 3, None);
+    let rows = [
+        (short, Mode::E164, "+643 is TooShortNsn"),
+        (short, Mode::International, "+64 3 is TooShortNsn"),
+        (short, Mode::Rfc3966, "tel:+64-3 is NoNumber"),
+    ];
+    each_gives_under(&rt, rt.alloc(), THREE, &rows)
 }
 
 #[test]
 fn needs_no_more_than_seventeen_digits(rt: HostRuntime) -> Result<(), Fail> {
-    let alloc = rt.alloc();
-    let db = rules(alloc)?;
-    let long = number(alloc, 870, 10, 12345678, None)?;
-    for (mode, answer) in [
-        (Mode::E164, "+870000000000012345678 is TooLong"),
-        (Mode::International, "+870 000000000012345678 is TooLong"),
-        (Mode::Rfc3966, "tel:+870-000000000012345678 is TooLong"),
-    ] {
-        assert_eq!(rt; back(alloc, &db, mode, &long)?.as_str(), answer);
-    }
-    Ok(())
+    let long = (870, 10, 12345678, None);
+    let rows = [
+        (long, Mode::E164, "+870000000000012345678 is TooLong"),
+        (
+            long,
+            Mode::International,
+            "+870 000000000012345678 is TooLong",
+        ),
+        (
+            long,
+            Mode::Rfc3966,
+            "tel:+870-000000000012345678 is TooLong",
+        ),
+    ];
+    each_gives_under(&rt, rt.alloc(), RULES, &rows)
 }
 
 #[test]
 fn needs_a_value_beside_the_zeros(rt: HostRuntime) -> Result<(), Fail> {
-    let alloc = rt.alloc();
-    let db = rules(alloc)?;
-    let zeros = number(alloc, 376, 2, 0, None)?;
-    for (mode, answer) in [
-        (Mode::E164, "+376000 is MalformedInteger"),
-        (Mode::International, "+376 000 is MalformedInteger"),
-        (Mode::Rfc3966, "tel:+376-000 is MalformedInteger"),
-    ] {
-        assert_eq!(rt; back(alloc, &db, mode, &zeros)?.as_str(), answer);
-    }
-    Ok(())
+    let zeros = (376, 2, 0, None);
+    let rows = [
+        (zeros, Mode::E164, "+376000 is MalformedInteger"),
+        (zeros, Mode::International, "+376 000 is MalformedInteger"),
+        (zeros, Mode::Rfc3966, "tel:+376-000 is MalformedInteger"),
+    ];
+    each_gives_under(&rt, rt.alloc(), RULES, &rows)
 }
 
 #[test]
 fn needs_a_code_that_no_listed_code_begins(rt: HostRuntime) -> Result<(), Fail> {
-    let alloc = rt.alloc();
-    let db = fronts(alloc)?;
-    let begun = number(alloc, 376, 0, 123456, None)?;
-    for (mode, answer) in [
-        (Mode::E164, "+376123456 is 3 Plus 76123456"),
-        (Mode::International, "+376 123456 is 3 Plus 76123456"),
-        (Mode::Rfc3966, "tel:+376-123456 is 376 Plus 123456"),
-    ] {
-        assert_eq!(rt; back(alloc, &db, mode, &begun)?.as_str(), answer);
-    }
-    Ok(())
+    let begun = (376, 0, 123456, None);
+    let rows = [
+        (begun, Mode::E164, "+376123456 is 3 Plus 76123456"),
+        (begun, Mode::International, "+376 123456 is 3 Plus 76123456"),
+        (begun, Mode::Rfc3966, "tel:+376-123456 is 376 Plus 123456"),
+    ];
+    each_gives_under(&rt, rt.alloc(), FRONTS, &rows)
 }
 
 #[test]
 fn needs_a_code_of_at_most_three_digits(rt: HostRuntime) -> Result<(), Fail> {
-    let alloc = rt.alloc();
-    let db = fronts(alloc)?;
-    let long = number(alloc, 1234, 0, 567890, None)?;
-    for (mode, answer) in [
-        (Mode::E164, "+1234567890 is InvalidCountryCode"),
-        (Mode::International, "+1234 567890 is InvalidCountryCode"),
-        (Mode::Rfc3966, "tel:+1234-567890 is 1234 Plus 567890"),
-    ] {
-        assert_eq!(rt; back(alloc, &db, mode, &long)?.as_str(), answer);
-    }
-    Ok(())
+    let long = (1234, 0, 567890, None);
+    let rows = [
+        (long, Mode::E164, "+1234567890 is InvalidCountryCode"),
+        (
+            long,
+            Mode::International,
+            "+1234 567890 is InvalidCountryCode",
+        ),
+        (long, Mode::Rfc3966, "tel:+1234-567890 is 1234 Plus 567890"),
+    ];
+    each_gives_under(&rt, rt.alloc(), FRONTS, &rows)
 }
 
 #[test]
 fn needs_a_listed_code(rt: HostRuntime) -> Result<(), Fail> {
-    let alloc = rt.alloc();
-    let db = three(alloc)?;
-    let unlisted = number(alloc, 99, 0, 12345, None)?;
-    for mode in [Mode::E164, Mode::International, Mode::Rfc3966] {
-        assert_eq!(rt;
-            back(alloc, &db, mode, &unlisted)?.as_str(),
-            "no text is InvalidCountryCode"
-        );
-    }
-    Ok(())
+    let unlisted = (99, 0, 12345, None);
+    let rows = [
+        (unlisted, Mode::E164, "no text is InvalidCountryCode"),
+        (
+            unlisted,
+            Mode::International,
+            "no text is InvalidCountryCode",
+        ),
+        (unlisted, Mode::Rfc3966, "no text is InvalidCountryCode"),
+    ];
+    each_gives_under(&rt, rt.alloc(), THREE, &rows)
 }
 
 #[test]
-fn needs_digits_that_stripping_leaves_alone(rt: HostRuntime) -> Result<(), Fail> {
-    let alloc = rt.alloc();
-    let three = three(alloc)?;
-    let rules = rules(alloc)?;
-    let prefixed = number(alloc, 64, 2, 33316005, None)?;
-    let rewritten = number(alloc, 355, 1, 234567, None)?;
-    for (db, stripped, mode, answer) in [
+fn needs_digits_that_keep_their_national_prefix(rt: HostRuntime) -> Result<(), Fail> {
+    let prefixed = (64, 2, 33316005, None);
+    let rows = [
+        (prefixed, Mode::E164, "+640033316005 is 64 Plus 33316005"),
         (
-            &three,
-            &prefixed,
-            Mode::E164,
-            "+640033316005 is 64 Plus 33316005",
-        ),
-        (
-            &three,
-            &prefixed,
+            prefixed,
             Mode::International,
             "+64 0033316005 is 64 Plus 33316005",
         ),
         (
-            &three,
-            &prefixed,
+            prefixed,
             Mode::Rfc3966,
             "tel:+64-0033316005 is 64 Plus 33316005",
         ),
-        (
-            &rules,
-            &rewritten,
-            Mode::E164,
-            "+3550234567 is 355 Plus 5234567",
-        ),
-    ] {
-        assert_eq!(rt; back(alloc, db, mode, stripped)?.as_str(), answer);
-    }
-    Ok(())
+    ];
+    each_gives_under(&rt, rt.alloc(), THREE, &rows)
+}
+
+#[test]
+fn needs_digits_that_no_rule_writes_anew(rt: HostRuntime) -> Result<(), Fail> {
+    let rewritten = (355, 1, 234567, None);
+    let rows = [(rewritten, Mode::E164, "+3550234567 is 355 Plus 5234567")];
+    each_gives_under(&rt, rt.alloc(), RULES, &rows)
 }
