@@ -3,20 +3,21 @@ use phone_core::ParseError;
 use phone_core::country::{Id, Source};
 use phone_meta::{Database, LoadMetadata};
 use phone_read::{Number, helper};
-use phone_samples::parts::{territory, text};
+use phone_samples::THREE;
 use std::alloc::{AllocError, Global};
 use std::borrow::CowStr;
+use std::process::Abort;
 use std::test::Fail;
 
-/// A database of one territory, NZ, with this international prefix.
-fn dialling(alloc: Global, pattern: &str) -> Result<Database, LoadMetadata> {
-    let international_prefix = text(alloc, pattern)?;
-    let mut m = territory(alloc, "NZ", 64, "\\d{8}", [8])?;
-    m.international_prefix = international_prefix;
-    Database::from(alloc, vec![in alloc; m]?)
-}
+/// A territory with the international prefixes 003 and 009.
+const DIALLING: &str = r#"[
+  {
+    "id": "NZ", "country_code": 64, "international_prefix": "00[39]",
+    "general": {"national_number": "\\d{8}", "possible_length": [8]}
+  }
+]"#;
 
-/// What is left of a national part after NZ's international prefix.
+/// What is left of a national part after New Zealand's international prefix.
 fn dialled<'a>(alloc: Global, db: &Database, national: &'a str) -> Result<Number<'a>, AllocError> {
     let pattern = match db.by_id("NZ") {
         Some(m) => m.international_prefix(),
@@ -43,162 +44,191 @@ fn as_str<'a>(part: &'a Option<CowStr<'a>>) -> Option<&'a str> {
     }
 }
 
+/// Source, prefix, national part and extension of a number, `none` for a part that isn't there.
+fn told(alloc: Global, number: &Number<'_>) -> Result<String, AllocError> {
+    let (source, national) = (number.country, number.national.as_str());
+    let prefix = as_str(&number.prefix).unwrap_or("none");
+    let extension = as_str(&number.extension).unwrap_or("none");
+    format!(in alloc; "{source:?} {prefix} {national} {extension}")
+}
+
+/// What is left of a national part under the territory with two international prefixes.
+fn told_dialled(alloc: Global, db: &Database, national: &str) -> Result<String, AllocError> {
+    told(alloc, &dialled(alloc, db, national)?)
+}
+
+/// Each national part with what is left of it, and a few words.
+fn each_is_dialled(
+    rt: &impl Abort,
+    alloc: Global,
+    db: &Database,
+    rows: &[(&str, &str, &str)],
+) -> Result<(), Fail> {
+    for (text, answer, why) in rows {
+        let told = told_dialled(alloc, db, text)?;
+        assert_eq!(rt; told.as_str(), *answer, "{why}");
+    }
+    Ok(())
+}
+
 #[test]
 fn drops_what_is_dialled_before_a_calling_code(rt: HostRuntime) -> Result<(), Fail> {
     let alloc = rt.alloc();
-    let db = dialling(alloc, "00[39]")?;
-    for (text, source, digits, why) in [
-        ("0034567700-3898003", Source::Idd, "45677003898003", "003"),
-        ("00945677003898003", Source::Idd, "45677003898003", "009"),
+    let db = Database::parse(alloc, DIALLING)?;
+    let rows = [
+        ("0034567700-3898003", "Idd none 45677003898003 none", "003"),
+        ("00945677003898003", "Idd none 45677003898003 none", "009"),
         (
             "00 9 45677003898003",
-            Source::Idd,
-            "45677003898003",
+            "Idd none 45677003898003 none",
             "a space in it",
         ),
         (
             "+45677003898003",
-            Source::Plus,
-            "45677003898003",
+            "Plus none 45677003898003 none",
             "a plus sign",
         ),
-        ("+0034567700", Source::Plus, "4567700", "both"),
+        ("+0034567700", "Plus none 4567700 none", "both"),
         (
             "45677003898003",
-            Source::Default,
-            "45677003898003",
+            "Default none 45677003898003 none",
             "neither",
         ),
-        ("0030123", Source::Default, "0030123", "a zero after it"),
-        ("1003456", Source::Default, "1003456", "not at the front"),
-    ] {
-        let number = dialled(alloc, &db, text)?;
-        assert_eq!(rt; number.country, source, "{why}");
-        assert_eq!(rt; number.national.as_str(), digits, "{why}");
-        assert!(rt; number.prefix == None, "{why}");
-    }
-    Ok(())
+        ("0030123", "Default none 0030123 none", "a zero after it"),
+        ("1003456", "Default none 1003456 none", "not at the front"),
+    ];
+    each_is_dialled(&rt, alloc, &db, &rows)
+}
+
+/// What is left of the national part 003-45 behind the prefix that a reader gave.
+fn kept(alloc: Global) -> Result<String, AllocError> {
+    told(
+        alloc,
+        &helper::international_prefix(alloc, None, with_prefix("003-45", "6-4"))?,
+    )
 }
 
 #[test]
 fn keeps_the_prefix_of_a_reader(rt: HostRuntime) -> Result<(), Fail> {
-    let number = helper::international_prefix(rt.alloc(), None, with_prefix("003-45", "6-4"))?;
-    assert_eq!(rt; number.country, Source::Plus);
-    assert_eq!(rt; number.national.as_str(), "00345");
-    assert_eq!(rt; as_str(&number.prefix), Some("64"));
-    assert_eq!(rt; as_str(&number.extension), Some("12"));
+    assert_eq!(rt; kept(rt.alloc())?.as_str(), "Plus 64 00345 12");
     Ok(())
+}
+
+/// What is found of a number by its hint, or the name of the error; want of memory stays an error.
+fn found(
+    alloc: Global,
+    db: &Database,
+    hint: Option<Id>,
+    number: Number<'_>,
+) -> Result<String, ParseError> {
+    match helper::country_code(db, hint, number) {
+        Ok(number) => Ok(told(alloc, &number)?),
+        Err(ParseError::Memory) => Err(ParseError::Memory),
+        Err(error) => Ok(format!(in alloc; "{error:?}")?),
+    }
+}
+
+/// Each text with its hint, what is found of it, and a few words.
+fn each_is_found(
+    rt: &impl Abort,
+    alloc: Global,
+    db: &Database,
+    rows: &[(Option<Id>, &str, &str, &str)],
+) -> Result<(), Fail> {
+    for (hint, text, answer, why) in rows {
+        let found = found(alloc, db, *hint, Number::of(text))?;
+        assert_eq!(rt; found.as_str(), *answer, "{why}");
+    }
+    Ok(())
+}
+
+/// The same under three territories.
+fn each_is_found_under_three(
+    rt: &impl Abort,
+    alloc: Global,
+    rows: &[(Option<Id>, &str, &str, &str)],
+) -> Result<(), Fail> {
+    let db = Database::parse(alloc, THREE)?;
+    each_is_found(rt, alloc, &db, rows)
 }
 
 #[test]
 fn finds_the_calling_code(rt: HostRuntime) -> Result<(), Fail> {
-    let alloc = rt.alloc();
-    let db = Database::from(alloc, phone_samples::three(alloc)?)?;
-    for (text, source, prefix, digits, why) in [
-        ("011112-3456789", Source::Idd, "1", "123456789", "after 011"),
+    let us = Some(Id::US);
+    let rows = [
+        (us, "011112-3456789", "Idd 1 123456789 none", "after 011"),
         (
+            us,
             "+80012345678",
-            Source::Plus,
-            "800",
-            "12345678",
+            "Plus 800 12345678 none",
             "after a plus sign",
         ),
         (
+            us,
             "+12345",
-            Source::Plus,
-            "1",
-            "2345",
+            "Plus 1 2345 none",
             "the shortest listed front",
         ),
-        ("2345-6789", Source::Default, "1", "23456789", "the hint's"),
+        (us, "2345-6789", "Default 1 23456789 none", "the hint's"),
         (
+            us,
             "(1 610) 619 4466",
-            Source::Number,
-            "1",
-            "6106194466",
+            "Number 1 6106194466 none",
             "the hint's, written",
         ),
-    ] {
-        let number = helper::country_code(&db, Some(Id::US), Number::of(text))?;
-        assert_eq!(rt; number.country, source, "{why}");
-        assert_eq!(rt; as_str(&number.prefix), Some(prefix), "{why}");
-        assert_eq!(rt; number.national.as_str(), digits, "{why}");
-    }
-    let number = helper::country_code(&db, None, with_prefix("3 331", "64"))?;
-    assert_eq!(rt; number.country, Source::Plus);
-    assert_eq!(rt; as_str(&number.prefix), Some("64"));
-    assert_eq!(rt; number.national.as_str(), "3331");
-    assert_eq!(rt; as_str(&number.extension), Some("12"));
-    Ok(())
-}
-
-/// What a number is refused by, if it is; want of memory is passed on.
-fn refused_by(answer: Result<Number<'_>, ParseError>) -> Result<Option<ParseError>, ParseError> {
-    match answer {
-        Ok(_) => Ok(None),
-        Err(ParseError::Memory) => Err(ParseError::Memory),
-        Err(error) => Ok(Some(error)),
-    }
+    ];
+    each_is_found_under_three(&rt, rt.alloc(), &rows)
 }
 
 #[test]
 fn refuses_a_number_without_a_listed_code(rt: HostRuntime) -> Result<(), Fail> {
-    let alloc = rt.alloc();
-    let db = Database::from(alloc, phone_samples::three(alloc)?)?;
-    for (text, hint, refusal, why) in [
+    let us = Some(Id::US);
+    let rows = [
         (
+            us,
             "0119991123456789",
-            Some(Id::US),
-            ParseError::InvalidCountryCode,
+            "InvalidCountryCode",
             "999 is not listed",
         ),
         (
+            us,
             "+0123456",
-            Some(Id::US),
-            ParseError::InvalidCountryCode,
+            "InvalidCountryCode",
             "no code begins with 0",
         ),
-        ("2345-6789", None, ParseError::InvalidCountryCode, "no hint"),
+        (None, "2345-6789", "InvalidCountryCode", "no hint"),
         (
-            "2345-6789",
             Some(Id::FR),
-            ParseError::InvalidCountryCode,
+            "2345-6789",
+            "InvalidCountryCode",
             "no record of the hint",
         ),
-        ("+12", Some(Id::US), ParseError::TooShortNsn, "two digits"),
-    ] {
-        assert_eq!(rt;
-            refused_by(helper::country_code(&db, hint, Number::of(text)))?,
-            Some(refusal),
-            "{why}"
-        );
+        (us, "+12", "TooShortNsn", "two digits"),
+    ];
+    each_is_found_under_three(&rt, rt.alloc(), &rows)
+}
+
+/// What is found of a national part behind the prefix that a reader gave, under three territories.
+fn found_behind(alloc: Global, prefix: &str, national: &str) -> Result<String, LoadMetadata> {
+    let db = Database::parse(alloc, THREE)?;
+    match found(alloc, &db, None, with_prefix(national, prefix)) {
+        Ok(found) => Ok(found),
+        Err(_) => Err(LoadMetadata::Memory),
     }
-    for (national, prefix, refusal, why) in [
-        (
-            "33316005",
-            "65536",
-            ParseError::MalformedInteger,
-            "past 16 bits",
-        ),
-        ("33316005", "-", ParseError::MalformedInteger, "no digit"),
-        (
-            "33316005",
-            "999",
-            ParseError::InvalidCountryCode,
-            "not listed",
-        ),
-        (
-            "33",
-            "65536",
-            ParseError::TooShortNsn,
-            "the digits are counted first",
-        ),
+}
+
+#[test]
+fn takes_the_prefix_of_a_reader_for_the_code(rt: HostRuntime) -> Result<(), Fail> {
+    let alloc = rt.alloc();
+    for (prefix, national, answer, why) in [
+        ("64", "3 331", "Plus 64 3331 12", "a listed code"),
+        ("65536", "33316005", "MalformedInteger", "past 16 bits"),
+        ("-", "33316005", "MalformedInteger", "no digit"),
+        ("999", "33316005", "InvalidCountryCode", "not listed"),
+        ("65536", "33", "TooShortNsn", "the digits are counted first"),
     ] {
-        assert_eq!(rt;
-            refused_by(helper::country_code(&db, None, with_prefix(national, prefix)))?,
-            Some(refusal),
-            "{why}"
-        );
+        let found = found_behind(alloc, prefix, national)?;
+        assert_eq!(rt; found.as_str(), answer, "{why}");
     }
     Ok(())
 }

@@ -1,6 +1,23 @@
 //! Texts that were made to break readers.
 use phone_read::helper::extract;
 use phone_read::{natural, rfc3966};
+use std::process::Abort;
+
+/// Neither reader takes a national part with two digits from the text.
+fn has_no_digits(rt: &impl Abort, text: &str) {
+    if let Some(number) = rfc3966::phone_number(text) {
+        assert!(rt;
+            !phone_core::is_viable(number.national.as_str()),
+            "{text:?} as a tel: text"
+        );
+    }
+    if let Ok(number) = natural::phone_number(text) {
+        assert!(rt;
+            !phone_core::is_viable(number.national.as_str()),
+            "{text:?} as free text"
+        );
+    }
+}
 
 #[test]
 fn gives_no_national_part_with_two_digits_for_hostile_texts(rt: HostRuntime) {
@@ -21,18 +38,20 @@ fn gives_no_national_part_with_two_digits_for_hostile_texts(rt: HostRuntime) {
         "tel:+\u{FF1B}phone-context=",
         "+\u{FFFC};phone-context=\u{FFFC}",
     ] {
-        if let Some(number) = rfc3966::phone_number(text) {
-            assert!(rt;
-                !phone_core::is_viable(number.national.as_str()),
-                "{text:?} as a tel: text"
-            );
-        }
-        if let Ok(number) = natural::phone_number(text) {
-            assert!(rt;
-                !phone_core::is_viable(number.national.as_str()),
-                "{text:?} as free text"
-            );
-        }
+        has_no_digits(&rt, text);
+    }
+}
+
+/// What is read of a text is no longer than the text.
+fn is_within(rt: &impl Abort, text: &str) {
+    if let Some(core) = extract(text) {
+        assert!(rt; core.len() <= text.len());
+    }
+    if let Ok(number) = natural::phone_number(text) {
+        assert!(rt; number.national.as_str().len() <= text.len());
+    }
+    if let Some(number) = rfc3966::phone_number(text) {
+        assert!(rt; number.national.as_str().len() <= text.len());
     }
 }
 
@@ -43,15 +62,7 @@ fn answers_for_each_front_of_a_text(rt: HostRuntime) {
     for end in 0..text.len() {
         if text.is_char_boundary(end) {
             let front = &text[..end];
-            if let Some(core) = extract(front) {
-                assert!(rt; core.len() <= front.len());
-            }
-            if let Ok(number) = natural::phone_number(front) {
-                assert!(rt; number.national.as_str().len() <= front.len());
-            }
-            if let Some(number) = rfc3966::phone_number(front) {
-                assert!(rt; number.national.as_str().len() <= front.len());
-            }
+            is_within(&rt, front);
         }
     }
 }

@@ -3,6 +3,7 @@ use phone_core::country::Source;
 use phone_read::Number;
 use phone_read::natural::{NoReading, phone_number};
 use std::borrow::CowStr;
+use std::process::Abort;
 
 /// A number of these parts.
 fn parts<'a>(national: &'a str, extension: Option<&'a str>) -> Number<'a> {
@@ -18,9 +19,19 @@ fn parts<'a>(national: &'a str, extension: Option<&'a str>) -> Number<'a> {
     }
 }
 
+/// Each text is parted into a national part and an extension; with a few words.
+fn each_is_parted(rt: &impl Abort, rows: &[(&str, &str, &str, &str)]) {
+    for (text, national, extension, why) in rows {
+        assert!(rt;
+            phone_number(text) == Ok(parts(national, Some(extension))),
+            "{text:?}: {why}"
+        );
+    }
+}
+
 #[test]
 fn parts_a_number_from_its_extension(rt: HostRuntime) {
-    for (text, national, extension, why) in [
+    let rows = [
         (
             "650 253 0000 extn. 4567",
             "650 253 0000",
@@ -72,9 +83,15 @@ fn parts_a_number_from_its_extension(rt: HostRuntime) {
             "\u{661}\u{662}",
             "digits of another script",
         ),
-    ] {
+    ];
+    each_is_parted(&rt, &rows);
+}
+
+/// Each text is all national part; with a few words.
+fn each_is_whole(rt: &impl Abort, rows: &[(&str, &str)]) {
+    for (text, why) in rows {
         assert!(rt;
-            phone_number(text) == Ok(parts(national, Some(extension))),
+            phone_number(text) == Ok(parts(text, None)),
             "{text:?}: {why}"
         );
     }
@@ -82,7 +99,7 @@ fn parts_a_number_from_its_extension(rt: HostRuntime) {
 
 #[test]
 fn takes_the_whole_text_where_no_end_is_an_extension(rt: HostRuntime) {
-    for (text, why) in [
+    let rows = [
         ("650 253 0000", "no indicator"),
         ("650 253 0000 ext 12345678", "eight digits"),
         ("650\u{130}NT5", "a dotted capital folds to another letter"),
@@ -92,12 +109,8 @@ fn takes_the_whole_text_where_no_end_is_an_extension(rt: HostRuntime) {
             "650 extensi\u{301}n 5",
             "the accent stands on the wrong letter",
         ),
-    ] {
-        assert!(rt;
-            phone_number(text) == Ok(parts(text, None)),
-            "{text:?}: {why}"
-        );
-    }
+    ];
+    each_is_whole(&rt, &rows);
 }
 
 #[test]

@@ -1,20 +1,12 @@
 //! The whole way from a text to calling code and national number.
 use phone_core::ParseError;
 use phone_core::country::Id;
-use phone_meta::{Database, LoadMetadata};
+use phone_meta::Database;
 use phone_read::{Reading, read};
+use phone_samples::{FRONTS, RULES, THREE};
 use std::alloc::{AllocError, Global};
+use std::process::Abort;
 use std::test::Fail;
-
-/// New Zealand, the United States, and the code 800 of no region.
-fn three(alloc: Global) -> Result<Database, LoadMetadata> {
-    Database::from(alloc, phone_samples::three(alloc)?)
-}
-
-/// Territories with rules for parsing.
-fn rules(alloc: Global) -> Result<Database, LoadMetadata> {
-    Database::from(alloc, phone_samples::rules(alloc)?)
-}
 
 /// What is read from a text: code, source and national text, then extension and carrier, each after its sign; or the
 /// refusal's name. Want of memory is told of nothing.
@@ -41,11 +33,37 @@ fn parts(alloc: Global, reading: &Reading) -> Result<String, AllocError> {
     Ok(told)
 }
 
+/// A hint, a text, what is read from it, and a few words.
+type Row<'a> = (Option<Id>, &'a str, &'a str, &'a str);
+
+/// What is read from each text.
+fn each_is_read(
+    rt: &impl Abort,
+    alloc: Global,
+    db: &Database,
+    rows: &[Row<'_>],
+) -> Result<(), Fail> {
+    for (hint, text, answer, why) in rows {
+        let told = told(alloc, db, *hint, text)?;
+        assert_eq!(rt; told.as_str(), *answer, "{text}: {why}");
+    }
+    Ok(())
+}
+
+/// The same under the database of a text.
+fn each_is_read_under(
+    rt: &impl Abort,
+    alloc: Global,
+    database: &str,
+    rows: &[Row<'_>],
+) -> Result<(), Fail> {
+    let db = Database::parse(alloc, database)?;
+    each_is_read(rt, alloc, &db, rows)
+}
+
 #[test]
 fn finds_how_the_calling_code_was_written(rt: HostRuntime) -> Result<(), Fail> {
-    let alloc = rt.alloc();
-    let db = three(alloc)?;
-    for (hint, text, answer, why) in [
+    let rows = [
         (
             Some(Id::NZ),
             "0064 3 331 6005",
@@ -107,21 +125,13 @@ fn finds_how_the_calling_code_was_written(rt: HostRuntime) -> Result<(), Fail> {
             "a code of no region",
         ),
         (None, "+64 *2345", "64 Plus 2345", "a star among the digits"),
-    ] {
-        assert_eq!(rt;
-            told(alloc, &db, hint, text)?.as_str(),
-            answer,
-            "{text}: {why}"
-        );
-    }
-    Ok(())
+    ];
+    each_is_read_under(&rt, rt.alloc(), THREE, &rows)
 }
 
 #[test]
 fn drops_the_national_prefix(rt: HostRuntime) -> Result<(), Fail> {
-    let alloc = rt.alloc();
-    let db = three(alloc)?;
-    for (hint, text, answer, why) in [
+    let rows = [
         (
             Some(Id::NZ),
             "033316005",
@@ -166,21 +176,13 @@ fn drops_the_national_prefix(rt: HostRuntime) -> Result<(), Fail> {
             "64 Default 800474992",
             "letters are digits by their keys",
         ),
-    ] {
-        assert_eq!(rt;
-            told(alloc, &db, hint, text)?.as_str(),
-            answer,
-            "{text}: {why}"
-        );
-    }
-    Ok(())
+    ];
+    each_is_read_under(&rt, rt.alloc(), THREE, &rows)
 }
 
 #[test]
 fn reads_texts_of_the_tel_scheme(rt: HostRuntime) -> Result<(), Fail> {
-    let alloc = rt.alloc();
-    let db = three(alloc)?;
-    for (hint, text, answer, why) in [
+    let rows = [
         (
             Some(Id::NZ),
             "tel:03-331-6005;phone-context=+64",
@@ -229,61 +231,50 @@ fn reads_texts_of_the_tel_scheme(rt: HostRuntime) -> Result<(), Fail> {
             "1 Plus 6502530000 x",
             "the same in free text",
         ),
-    ] {
-        assert_eq!(rt;
-            told(alloc, &db, hint, text)?.as_str(),
-            answer,
-            "{text}: {why}"
-        );
-    }
-    Ok(())
+    ];
+    each_is_read_under(&rt, rt.alloc(), THREE, &rows)
 }
 
 #[test]
 fn reads_digits_of_other_scripts(rt: HostRuntime) -> Result<(), Fail> {
-    let alloc = rt.alloc();
-    let db = three(alloc)?;
-    for (text, answer, why) in [
+    let rows = [
         (
+            None,
             "+\u{666}\u{664}-3-331-6005",
             "64 Plus 33316005",
             "Arabic digits in the code",
         ),
         (
+            None,
             "\u{FF11}\u{FF12}\u{FF13}",
             "NoNumber",
             "wide digits alone are not viable",
         ),
         (
+            None,
             "\u{FF0B}64 3 331 6005",
             "64 Plus 33316005",
             "a wide plus sign",
         ),
         (
+            None,
             "+64 3 331 6005\u{3000}ext\u{FF0E}\u{661}\u{662}",
             "64 Plus 33316005 x12",
             "an extension in Arabic digits",
         ),
         (
+            None,
             "+64 3 331 6005 \u{FF58}\u{FF54} 7",
             "64 Plus 33316005 x7",
             "wide letters before an extension",
         ),
-    ] {
-        assert_eq!(rt;
-            told(alloc, &db, None, text)?.as_str(),
-            answer,
-            "{text}: {why}"
-        );
-    }
-    Ok(())
+    ];
+    each_is_read_under(&rt, rt.alloc(), THREE, &rows)
 }
 
 #[test]
 fn refuses_a_text_by_its_first_fault(rt: HostRuntime) -> Result<(), Fail> {
-    let alloc = rt.alloc();
-    let db = three(alloc)?;
-    for (hint, text, answer, why) in [
+    let rows = [
         (Some(Id::NZ), "", "NoNumber", "nothing"),
         (
             Some(Id::US),
@@ -355,21 +346,13 @@ fn refuses_a_text_by_its_first_fault(rt: HostRuntime) -> Result<(), Fail> {
             "MalformedInteger",
             "zeros alone, of which two are cut off",
         ),
-    ] {
-        assert_eq!(rt;
-            told(alloc, &db, hint, text)?.as_str(),
-            answer,
-            "{text}: {why}"
-        );
-    }
-    Ok(())
+    ];
+    each_is_read_under(&rt, rt.alloc(), THREE, &rows)
 }
 
 #[test]
 fn refuses_more_digits_than_a_number_may_have(rt: HostRuntime) -> Result<(), Fail> {
-    let alloc = rt.alloc();
-    let db = three(alloc)?;
-    for (hint, text, answer, why) in [
+    let rows = [
         (
             None,
             "+64 99999999999999999",
@@ -395,92 +378,114 @@ fn refuses_more_digits_than_a_number_may_have(rt: HostRuntime) -> Result<(), Fai
             "TooLong",
             "18 zeros are left",
         ),
-    ] {
-        assert_eq!(rt;
-            told(alloc, &db, hint, text)?.as_str(),
-            answer,
-            "{text}: {why}"
-        );
-    }
-    Ok(())
+    ];
+    each_is_read_under(&rt, rt.alloc(), THREE, &rows)
 }
 
 #[test]
 fn reads_by_the_rules_of_a_territory(rt: HostRuntime) -> Result<(), Fail> {
-    let alloc = rt.alloc();
-    let db = rules(alloc)?;
-    for (text, answer, why) in [
+    let rows = [
         (
+            None,
             "+870 12345678",
             "870 Plus 12345678",
             "a code of several ids, the first of no region",
         ),
         (
+            None,
             "tel:+376-12",
             "NoNumber",
             "two digits and a hyphen are not viable",
         ),
         (
+            None,
             "+376 1-2",
             "376 Plus 12",
             "a text that the tel: reader doesn't take",
         ),
-        ("+376 000", "MalformedInteger", "zeros alone"),
+        (None, "+376 000", "MalformedInteger", "zeros alone"),
         (
+            None,
             "+376 123/456/ ext. 5",
             "376 Plus 123456 x5",
             "slashes between the digits and at their end",
         ),
-    ] {
-        assert_eq!(rt;
-            told(alloc, &db, None, text)?.as_str(),
-            answer,
-            "{text}: {why}"
-        );
-    }
-    Ok(())
+    ];
+    each_is_read_under(&rt, rt.alloc(), RULES, &rows)
 }
 
 #[test]
 fn takes_the_shortest_code_unless_it_is_written_apart(rt: HostRuntime) -> Result<(), Fail> {
-    let alloc = rt.alloc();
-    let db = Database::from(alloc, phone_samples::fronts(alloc)?)?;
-    for (text, answer, why) in [
+    let rows = [
         (
+            None,
             "+376123456",
             "3 Plus 76123456",
             "3 is a code, and 376 begins with it",
         ),
         (
+            None,
             "tel:+376-123-456",
             "376 Plus 123456",
             "376 stands before a hyphen",
         ),
         (
+            None,
             "+1234567890",
             "InvalidCountryCode",
             "at most three digits are looked up",
         ),
         (
+            None,
             "tel:+1234-567890",
             "1234 Plus 567890",
             "four digits before a hyphen",
         ),
-    ] {
-        assert_eq!(rt;
-            told(alloc, &db, None, text)?.as_str(),
-            answer,
-            "{text}: {why}"
-        );
+    ];
+    each_is_read_under(&rt, rt.alloc(), FRONTS, &rows)
+}
+
+/// What is read from a text a second time and the first time: want of memory the first time does no harm.
+fn told_twice(
+    alloc: Global,
+    db: &Database,
+    hint: Option<Id>,
+    text: &str,
+) -> Result<(String, Result<String, ParseError>), ParseError> {
+    let first = told(alloc, db, hint, text);
+    let again = told(alloc, db, hint, text)?;
+    Ok((again, first))
+}
+
+/// What is read from each text, both times.
+fn each_is_read_again(
+    rt: &impl Abort,
+    alloc: Global,
+    db: &Database,
+    rows: &[Row<'_>],
+) -> Result<(), Fail> {
+    for (hint, text, answer, why) in rows {
+        let (again, first) = told_twice(alloc, db, *hint, text)?;
+        assert_eq!(rt; again.as_str(), *answer, "{text}, again: {why}");
+        assert_eq!(rt; first?.as_str(), *answer, "{text}: {why}");
     }
     Ok(())
 }
 
+/// The same under the database of a text.
+fn each_is_read_again_under(
+    rt: &impl Abort,
+    alloc: Global,
+    database: &str,
+    rows: &[Row<'_>],
+) -> Result<(), Fail> {
+    let db = Database::parse(alloc, database)?;
+    each_is_read_again(rt, alloc, &db, rows)
+}
+
 #[test]
 fn reads_or_tells_want_of_memory(rt: HostRuntime) -> Result<(), Fail> {
-    let alloc = rt.alloc();
-    let db = three(alloc)?;
-    for (hint, text, answer, why) in [
+    let rows = [
         (
             Some(Id::NZ),
             "03-331 6005",
@@ -523,20 +528,13 @@ fn reads_or_tells_want_of_memory(rt: HostRuntime) -> Result<(), Fail> {
             "1 Default 5305836985 x302",
             "a second extension",
         ),
-    ] {
-        let first = told(alloc, &db, hint, text);
-        let again = told(alloc, &db, hint, text)?;
-        assert_eq!(rt; again.as_str(), answer, "{text}, again: {why}");
-        assert_eq!(rt; first?.as_str(), answer, "{text}: {why}");
-    }
-    Ok(())
+    ];
+    each_is_read_again_under(&rt, rt.alloc(), THREE, &rows)
 }
 
 #[test]
 fn reads_by_parsing_rules_or_tells_want_of_memory(rt: HostRuntime) -> Result<(), Fail> {
-    let alloc = rt.alloc();
-    let db = rules(alloc)?;
-    for (hint, text, answer, why) in [
+    let rows = [
         (
             Some(Id::BR),
             "012 3121286979",
@@ -561,11 +559,6 @@ fn reads_by_parsing_rules_or_tells_want_of_memory(rt: HostRuntime) -> Result<(),
             "247 Default 0 by 000",
             "written anew as a plus sign and zeros",
         ),
-    ] {
-        let first = told(alloc, &db, hint, text);
-        let again = told(alloc, &db, hint, text)?;
-        assert_eq!(rt; again.as_str(), answer, "{text}, again: {why}");
-        assert_eq!(rt; first?.as_str(), answer, "{text}: {why}");
-    }
-    Ok(())
+    ];
+    each_is_read_again_under(&rt, rt.alloc(), RULES, &rows)
 }

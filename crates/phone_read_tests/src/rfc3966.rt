@@ -3,6 +3,7 @@ use phone_core::country::Source;
 use phone_read::Number;
 use phone_read::rfc3966::phone_number;
 use std::borrow::CowStr;
+use std::process::Abort;
 
 /// A part, lent.
 fn lent(part: Option<&str>) -> Option<CowStr<'_>> {
@@ -23,9 +24,22 @@ fn parts<'a>(national: &'a str, prefix: Option<&'a str>, extension: Option<&'a s
     }
 }
 
+/// A text with the national part, the prefix and the extension that it has, and a few words.
+type Row<'a> = (&'a str, &'a str, Option<&'a str>, Option<&'a str>, &'a str);
+
+/// Each text is parted so.
+fn each_is_parted(rt: &impl Abort, rows: &[Row<'_>]) {
+    for (text, national, prefix, extension, why) in rows {
+        assert!(rt;
+            phone_number(text) == Some(parts(national, *prefix, *extension)),
+            "{text:?}: {why}"
+        );
+    }
+}
+
 #[test]
 fn parts_prefix_national_part_and_extension(rt: HostRuntime) {
-    for (text, national, prefix, extension, why) in [
+    let rows = [
         (
             "tel:2034567890;ext=456;phone-context=+44",
             "2034567890",
@@ -93,12 +107,8 @@ fn parts_prefix_national_part_and_extension(rt: HostRuntime) {
             Some(""),
             "an empty value",
         ),
-    ] {
-        assert!(rt;
-            phone_number(text) == Some(parts(national, prefix, extension)),
-            "{text:?}: {why}"
-        );
-    }
+    ];
+    each_is_parted(&rt, &rows);
 }
 
 #[test]

@@ -1,10 +1,13 @@
 //! What is cut off the digits of a national number.
 use phone_core::country::Source;
+use phone_meta::loader::Metadata;
 use phone_meta::{Database, LoadMetadata};
 use phone_read::{Number, helper};
 use phone_samples::parts::{territory, text};
+use phone_samples::{RULES, THREE};
 use std::alloc::{AllocError, Global};
 use std::borrow::CowStr;
+use std::process::Abort;
 use std::test::Fail;
 
 /// A number with all parts, which stripping is to keep.
@@ -35,11 +38,37 @@ fn left(alloc: Global, db: &Database, id: &str, national: &str) -> Result<String
     }
 }
 
+/// An id, a national part, what is left of it, and a few words.
+type Row<'a> = (&'a str, &'a str, &'a str, &'a str);
+
+/// What is left of each national part.
+fn each_is_left(
+    rt: &impl Abort,
+    alloc: Global,
+    db: &Database,
+    rows: &[Row<'_>],
+) -> Result<(), Fail> {
+    for (id, national, answer, why) in rows {
+        let left = left(alloc, db, id, national)?;
+        assert_eq!(rt; left.as_str(), *answer, "{national}: {why}");
+    }
+    Ok(())
+}
+
+/// The same under the database of a text.
+fn each_is_left_under(
+    rt: &impl Abort,
+    alloc: Global,
+    database: &str,
+    rows: &[Row<'_>],
+) -> Result<(), Fail> {
+    let db = Database::parse(alloc, database)?;
+    each_is_left(rt, alloc, &db, rows)
+}
+
 #[test]
 fn cuts_off_the_national_prefix_once(rt: HostRuntime) -> Result<(), Fail> {
-    let alloc = rt.alloc();
-    let db = Database::from(alloc, phone_samples::three(alloc)?)?;
-    for (id, national, answer, why) in [
+    let rows = [
         (
             "NZ",
             "033316005",
@@ -52,32 +81,28 @@ fn cuts_off_the_national_prefix_once(rt: HostRuntime) -> Result<(), Fail> {
         ("NZ", "", ",7", "nothing at all"),
         ("US", "033316005", "033316005,7", "another prefix"),
         ("001", "033316005", "033316005,7", "no prefix"),
-    ] {
-        assert_eq!(rt;
-            left(alloc, &db, id, national)?.as_str(),
-            answer,
-            "{national}: {why}"
-        );
+    ];
+    each_is_left_under(&rt, rt.alloc(), THREE, &rows)
+}
+
+/// Whether a number is left under three territories as another one, in all its parts.
+fn is_left_as(alloc: Global, national: &str, left: &str) -> Result<bool, LoadMetadata> {
+    let db = Database::parse(alloc, THREE)?;
+    match db.by_id("NZ") {
+        Some(m) => Ok(helper::national_number(m, whole(national))? == whole(left)),
+        None => Ok(false),
     }
-    Ok(())
 }
 
 #[test]
 fn keeps_source_prefix_and_extension(rt: HostRuntime) -> Result<(), Fail> {
-    let alloc = rt.alloc();
-    let db = Database::from(alloc, phone_samples::three(alloc)?)?;
-    if let Some(m) = db.by_id("NZ") {
-        let number = helper::national_number(m, whole("033316005"))?;
-        assert!(rt; number == whole("33316005"));
-    }
+    assert!(rt; is_left_as(rt.alloc(), "033316005", "33316005")?);
     Ok(())
 }
 
 #[test]
 fn writes_digits_anew_by_a_rule(rt: HostRuntime) -> Result<(), Fail> {
-    let alloc = rt.alloc();
-    let db = Database::from(alloc, phone_samples::rules(alloc)?)?;
-    for (id, national, answer, why) in [
+    let rows = [
         (
             "BR",
             "0123121286979",
@@ -99,31 +124,28 @@ fn writes_digits_anew_by_a_rule(rt: HostRuntime) -> Result<(), Fail> {
         ("AL", "0234567", "5234567", "group 1 took no part"),
         ("AL", "0134567", "34567", "the last group took no part"),
         ("AC", "9000", "+0000,000", "a plus sign in the rule"),
-    ] {
-        assert_eq!(rt;
-            left(alloc, &db, id, national)?.as_str(),
-            answer,
-            "{national}: {why}"
-        );
-    }
-    Ok(())
+    ];
+    each_is_left_under(&rt, rt.alloc(), RULES, &rows)
 }
 
-/// A territory of general numbers of this length, with this parsing pattern and perhaps this rule.
+/// A territory of general numbers of this length, with this parsing pattern.
 fn parsing(
     alloc: Global,
     general: &str,
     length: u16,
     pattern: &str,
-    rule: Option<&str>,
-) -> Result<Database, LoadMetadata> {
+) -> Result<Metadata, AllocError> {
     let pattern = text(alloc, pattern)?;
     let mut m = territory(alloc, "NZ", 64, general, [length])?;
     m.national_prefix_for_parsing = pattern;
-    if let Some(rule) = rule {
-        m.national_prefix_transform_rule = text(alloc, rule)?;
-    }
-    Database::from(alloc, vec![in alloc; m]?)
+    Ok(m)
+}
+
+/// What a parsing pattern leaves of a national part.
+fn parsed(alloc: Global, pattern: &str, national: &str) -> Result<String, LoadMetadata> {
+    let m = parsing(alloc, "\\d{8}", 8, pattern)?;
+    let db = Database::from(alloc, vec![in alloc; m]?)?;
+    Ok(left(alloc, &db, "NZ", national)?)
 }
 
 #[test]
@@ -141,34 +163,33 @@ fn cuts_off_the_first_match_of_a_parsing_pattern(rt: HostRuntime) -> Result<(), 
         ("1", "0123", "0123,7", "not at the front"),
         ("", "33316005", "33316005,", "nothing matches at the front"),
     ] {
-        let db = parsing(alloc, "\\d{8}", 8, pattern, None)?;
-        assert_eq!(rt;
-            left(alloc, &db, "NZ", national)?.as_str(),
-            answer,
-            "{pattern}: {why}"
-        );
+        let left = parsed(alloc, pattern, national)?;
+        assert_eq!(rt; left.as_str(), answer, "{pattern}: {why}");
     }
     Ok(())
 }
 
+/// Nine digits that begin with 9, which a rule takes off.
+const OF_NINE: &str = r#"[
+  {
+    "id": "NZ", "country_code": 64,
+    "national_prefix_for_parsing": "9(\\d{8})",
+    "national_prefix_transform_rule": "$1",
+    "general": {"national_number": "9\\d{8}", "possible_length": [9]}
+  }
+]"#;
+
 #[test]
 fn keeps_a_number_that_would_leave_its_kind(rt: HostRuntime) -> Result<(), Fail> {
-    let alloc = rt.alloc();
-    let db = parsing(alloc, "9\\d{8}", 9, "9(\\d{8})", Some("$1"))?;
-    for (national, answer, why) in [
-        ("912345678", "912345678,7", "it would no longer fit"),
+    let rows = [
+        ("NZ", "912345678", "912345678,7", "it would no longer fit"),
         (
+            "NZ",
             "9123456789",
             "123456789,12345678",
             "it fits neither before nor after",
         ),
-        ("9912345678", "912345678,91234567", "it fits after"),
-    ] {
-        assert_eq!(rt;
-            left(alloc, &db, "NZ", national)?.as_str(),
-            answer,
-            "{national}: {why}"
-        );
-    }
-    Ok(())
+        ("NZ", "9912345678", "912345678,91234567", "it fits after"),
+    ];
+    each_is_left_under(&rt, rt.alloc(), OF_NINE, &rows)
 }
