@@ -19,6 +19,10 @@ IsByteRefusal bytes e = (¬ (IsUtf8 bytes) × (e ≡ error.Json)) ⊎ (IsUtf8 by
 abbrev pub IsCutShort : LoadMetadata → Type 0
 IsCutShort e = (e ≡ error.Io) ⊎ (e ≡ error.Memory)
 
+-- a refusal of a database that was read from bytes, whatever they were: the read was cut short, or some bytes are refused so
+abbrev pub IsRefusalOfSome : LoadMetadata → Type 0
+IsRefusalOfSome e = IsCutShort e ⊎ ((bytes : List ℕ) × IsByteRefusal bytes e)
+
 -- the faults of a source that was read for a database: one where the answer is `Io`
 abbrev pub faults_of : Result (List Metadata) LoadMetadata → ℕ
 faults_of (Err error.Io) = 1

@@ -8,7 +8,7 @@ ghost use Rattle.phone_records.specs.Missing.{first_missing};
 ghost use Rattle.phone_records.specs.declared.error.LoadMetadata.TheVariants as error;
 ghost use Rattle.phone_meta.specs.First.{IsPattern};
 ghost use Rattle.phone_meta.specs.Refusals.{patterns};
-ghost use Rattle.phone_meta.specs.Texts.{IsTextRefusal, IsByteRefusal, IsCutShort, faults_of};
+ghost use Rattle.phone_meta.specs.Texts.{IsTextRefusal, IsByteRefusal, IsCutShort, IsRefusalOfSome, faults_of};
 
 use crate::database::Database;
 use phone_device::{ByteSource, ReadError, Std, read_all};
@@ -50,6 +50,7 @@ impl Database {
         ensures complete { IfOk result (λ d. first_missing d ≡ None) }
         ensures read { IfOk result (λ d. AllByRecursion IsPattern (patterns d)) }
         ensures refused { IfErr result (λ e. IsCutShort e ⊎ IfSome (S.to_come source.old) (λ bytes. IsByteRefusal bytes e)) }
+        ensures refused_for_some { IfErr result IsRefusalOfSome }
 
         // All bytes were read, unless a read failed or memory was refused.
         ensures end { OnOk result (IsAtEnd (S.to_come source.new)) }
@@ -61,7 +62,18 @@ impl Database {
             Err(ReadError::Fault) => return Err(LoadMetadata::Io),
             Err(ReadError::Memory) => return Err(LoadMetadata::Memory),
         };
-        match std::str::from_utf8(bytes.as_slice()) {
+        Database::of_bytes(alloc, bytes.as_slice())
+    }
+
+    /// The database that these bytes are, as `parse` answers them; `Json` where they are no text.
+    fn of_bytes(alloc: Global, bytes: &[u8]) -> Result<Database, LoadMetadata>
+        ensures no_io { faults_of result ≡ 0 }
+        ensures accepted { IfOk result (λ d. IsUtf8 bytes.now × (records_of bytes.now ≡ Ok d)) }
+        ensures complete { IfOk result (λ d. first_missing d ≡ None) }
+        ensures read { IfOk result (λ d. AllByRecursion IsPattern (patterns d)) }
+        ensures refused { IfErr result (IsByteRefusal bytes.now) }
+    {
+        match std::str::from_utf8(bytes) {
             Ok(text) => Database::parse(alloc, text),
             Err(_) => Err(LoadMetadata::Json),
         }
@@ -74,6 +86,7 @@ impl Database {
     pub fn load<R: Files + AllocGlobal>(rt: &R, path: &str) -> Result<Database, LoadMetadata>
         ensures complete { IfOk result (λ d. first_missing d ≡ None) }
         ensures read { IfOk result (λ d. AllByRecursion IsPattern (patterns d)) }
+        ensures refused { IfErr result IsRefusalOfSome }
     {
         match fs::open(rt, path) {
             Ok(file) => Database::read_from(rt.alloc(), &mut Std::new(file)),
