@@ -12,14 +12,17 @@ use phone_core::Mode;
 use phone_meta::{Database, Format};
 use std::alloc::Global;
 use std::fmt;
+use thiserror::Error;
 
 /// Why a number was not printed.
-#[derive(Clone, Copy, PartialEq, Eq, Debug)]
+#[derive(Clone, Copy, PartialEq, Eq, Debug, Error)]
 pub enum FormatError {
     /// The database lists no territory of the number's calling code.
+    #[error("unknown calling code")]
     UnknownCode,
 
     /// Memory was refused.
+    #[error("out of memory")]
     Memory,
 }
 
