@@ -1,0 +1,23 @@
+//! Five things that a user of this library does, one module each: it reads lines, prints a number, checks a form field, keys
+//! a table by numbers, and makes a database. Its stored run shows what each prints; `docs/USING.md` tells of them.
+#![tactic(auto)]
+
+mod database;
+mod form;
+mod key;
+mod print;
+mod read;
+
+use anyhow::Result;
+use phonenumber::metadata::Database;
+use std::process::ExitCode;
+
+fn main(rt: HostRuntime) -> Result<ExitCode> {
+    let database = Database::load(&rt, "three.json")?;
+    read::example(&rt, &database)?;
+    print::example(&rt, &database)?;
+    form::example(&rt, &database)?;
+    key::example(&rt, &database)?;
+    database::example(&rt)?;
+    Ok(ExitCode::from(0))
+}
