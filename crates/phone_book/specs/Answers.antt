@@ -32,7 +32,7 @@ IsRead db line r = Reads db line.0 (chars line.1) r
 -- what a place says of a number and of the entries before it and after it
 abbrev pub IsPlaced : List Reading → Reading → Place → List Reading → Type 0
 IsPlaced before n (Added k) after = (is_among n before ≡ false) × (k ≡ length before) × (after ≡ before ++ n ∷ [])
-IsPlaced before n (Present k) after = (e : Reading) × (slice_get before k ≡ Some e) × (is_same_number n e ≡ true) × (after ≡ before)
+IsPlaced before n (Present k) after = (e : Reading) × (slice_get before k ≡ Some e) × (is_same_number e n ≡ true) × (after ≡ before)
 
 -- what an answer says of a line, and of the entries before it and after it
 abbrev pub IsAnswered : List Metadata → List Reading → Line → Answer → List Reading → Type 0
@@ -42,10 +42,9 @@ IsAnswered db before line (Err Memory) after = after ≡ before
 
 -- one answer a line, in order, each by the entries that the lines before it left
 abbrev pub AreAnswered : List Metadata → List Reading → List Line → List Answer → List Reading → Type 0
-AreAnswered db before [] [] after = after ≡ before
-AreAnswered db before [] (a ∷ as) after = 0
-AreAnswered db before (l ∷ ls) [] after = 0
-AreAnswered db before (l ∷ ls) (a ∷ as) after = (between : List Reading) × (IsAnswered db before l a between) × AreAnswered db between ls as after
+AreAnswered db before [] answers after = (answers ≡ []) × (after ≡ before)
+AreAnswered db before (l ∷ ls) answers after = (a : Answer) × (others : List Answer) × (between : List Reading) × (answers ≡ a ∷ others) ×
+    (IsAnswered db before l a between) × AreAnswered db between ls others after
 
 -- the numbers of a line: the one that it is read as; none where it is refused, and where memory was
 abbrev pub HasNumbers : List Metadata → Line → Answer → List Reading → Type 0
@@ -55,7 +54,6 @@ HasNumbers db line (Err Memory) ns = ns ≡ []
 
 -- the numbers of lines with their answers, in order
 abbrev pub HaveNumbers : List Metadata → List Line → List Answer → List Reading → Type 0
-HaveNumbers db [] [] ns = ns ≡ []
-HaveNumbers db [] (a ∷ as) ns = 0
-HaveNumbers db (l ∷ ls) [] ns = 0
-HaveNumbers db (l ∷ ls) (a ∷ as) ns = (first rest : List Reading) × (HasNumbers db l a first) × (HaveNumbers db ls as rest) × (ns ≡ first ++ rest)
+HaveNumbers db [] answers ns = (answers ≡ []) × (ns ≡ [])
+HaveNumbers db (l ∷ ls) answers ns = (a : Answer) × (others : List Answer) × (first rest : List Reading) × (answers ≡ a ∷ others) ×
+    (HasNumbers db l a first) × (HaveNumbers db ls others rest) × (ns ≡ first ++ rest)

@@ -14,7 +14,7 @@ is_same_number a b = (a.code.value == b.code.value) && is_same_national a.nation
 
 -- a number of the same calling code and national number is among these
 abbrev pub is_among : Reading → List Reading → Bool
-is_among n ns = list_any (is_same_number n) ns
+is_among n ns = list_any (λ m. is_same_number m n) ns
 
 -- the numbers before which none of the same calling code and national number stands, in order
 abbrev pub firsts : List Reading → List Reading

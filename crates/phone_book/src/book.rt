@@ -1,8 +1,9 @@
 //! A contact list without repeated numbers.
-ghost use Rattle.std.specs.Prelude.{◌≡◌, ◌↔◌, ◌++◌, [], List, false, true, length, map, slice_get, IfErr, IfOk, IsErr, OnErr};
+ghost use Rattle.std.specs.Prelude.{◌≡◌, ◌↔◌, ◌++◌, [], List, false, true, length, map, slice_get, string_bytes, IfErr, IfOk, IsErr, OnErr};
 ghost use Rattle.std.specs.Option.{option_copied};
 ghost use Rattle.phone_meta.specs.Codes.{is_listed, is_prefix_free};
 ghost use Rattle.phone_read.specs.declared.reading.Reading.{Reading};
+ghost use Rattle.phonenumber.specs.Texts.{e164_text};
 ghost use Rattle.phone_book.specs.Answers.{AreAnswered, HasNumbers, HaveNumbers, IsAnswered, IsPlaced, line_of};
 ghost use Rattle.phone_book.specs.Firsts.{firsts};
 ghost use Rattle.phone_book.specs.declared.answers.BookNewError.TheVariants as new_error;
@@ -85,6 +86,13 @@ impl Book {
         Iter::new(self.entries.values())
     }
 
+    /// The key of a number: its E.164 text. Refused only for memory.
+    fn key_of(&self, number: &PhoneNumber) -> Result<String, AllocError>
+        ensures { IfOk result (λ key. string_bytes key ≡ e164_text number.now) }
+    {
+        number.to_string(self.database.allocator())
+    }
+
     /// The place of a number: that of the one of the same calling code and national number, or a new one at the end. Refused only
     /// for memory.
     fn place(&mut self, number: PhoneNumber) -> Result<Place, AllocError>
@@ -95,8 +103,8 @@ impl Book {
     {
         number.keeps_bounds();
         laws::key();
-        let key = number.to_string(self.database.allocator())?;
-        if let Some(n) = self.entries.get_index_of(key.as_str()) {
+        let key = self.key_of(&number)?;
+        if let Some(n) = self.entries.get_index_of(&key) {
             return Ok(Place::Present(n));
         }
         let n = self.entries.len();

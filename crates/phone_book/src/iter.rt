@@ -1,4 +1,6 @@
 //! The numbers of a contact book, one after the other.
+ghost use Rattle.std.specs.Prelude.{◌≡◌};
+
 use indexmap::map::Values;
 use phonenumber::PhoneNumber;
 use std::marker::Model;

@@ -4,3 +4,5 @@
 
 #[cfg(test)]
 mod answers;
+#[cfg(test)]
+mod refused_memory;
