@@ -1,5 +1,5 @@
 -- The first numbers of a list, after one more came.
-use Rattle.std.proofs.Common.{◌≡◌, ℕ, ◌==◌, ◌&&◌, ◌||◌, not, Bool, true, false, cond, List, [], ◌∷◌, ◌++◌, filter, slice_get, Option, None, Some, refl, ap, ap₂, sym, subst, ◌∙◌, true≢false, eqb-true}
+use Rattle.std.proofs.Common.{◌≡◌, ℕ, ◌==◌, ◌&&◌, ◌||◌, not, Bool, true, false, cond, List, [], ◌∷◌, ◌++◌, filter, slice_get, Some, refl, ap, ap₂, sym, ◌∙◌, true≢false, eqb-true}
 use Rattle.std.proofs.lemmas.Bool.{and_parts}
 use Rattle.std.proofs.lemmas.List.{append-nil}
 use Rattle.std.proofs.lemmas.List.Elements.{filter-append}
@@ -13,10 +13,11 @@ use Rattle.phone_book.specs.Firsts.{firsts, is_among, is_same_national, is_same_
 pub same-parts : (a b : Reading) → is_same_number a b ≡ true → (a.code.value ≡ b.code.value) × (a.national ≡ b.national)
 same-parts a b e =
     let both = and_parts (a.code.value == b.code.value) (is_same_national a.national b.national) e in
-    let parts = and_parts (a.national.zeros == b.national.zeros) (a.national.value == b.national.value) both.1 in
-    (eqb-true a.code.value b.code.value both.0,
-        ap₂ (λ z v. let n : National = record { zeros = z; value = v } in n) (eqb-true a.national.zeros b.national.zeros parts.0)
-        (eqb-true a.national.value b.national.value parts.1))
+    let parts = and_parts (a.national.zeros == b.national.zeros) (a.national.value == b.national.value) both.1 in (
+      eqb-true a.code.value b.code.value both.0,
+      ap₂ (λ z v. let n : National = record { zeros = z; value = v } in n) (eqb-true a.national.zeros b.national.zeros parts.0)
+          (eqb-true a.national.value b.national.value parts.1),
+    )
 
 -- of two same numbers each is the same as a third, or none
 pub same-alike : (a b n : Reading) → is_same_number a b ≡ true → is_same_number a n ≡ is_same_number b n

@@ -1,6 +1,6 @@
 -- Entries whose keys are the texts of their numbers: a key is there exactly where a number of the same calling code and national
 -- number is.
-use Rattle.std.proofs.Common.{◌≡◌, ◌==◌, ◌&&◌, ◌||◌, Bool, true, false, cond, List, [], ◌∷◌, ◌++◌, map, Option, None, Some, is_some, String, Global, string_bytes, string_eq, refl, ap, ap₂, sym, subst, ◌∙◌, true≢false}
+use Rattle.std.proofs.Common.{◌≡◌, ◌==◌, ◌||◌, Bool, true, false, cond, List, [], ◌∷◌, ◌++◌, Option, None, Some, is_some, String, Global, string_bytes, string_eq, refl, ap, ap₂, sym, subst, ◌∙◌, true≢false}
 use Rattle.std.proofs.lemmas.Bool.{and_from, eq-eqb}
 use Rattle.std.proofs.lemmas.List.{map-append}
 use Rattle.std.proofs.lemmas.Map.Made.{is_some-lookup}
@@ -106,9 +106,9 @@ module _ (law : TellsNumbers) (db : List Metadata) (free : is_prefix_free db ≡
       let fresh : is_among n (values_of es) ≡ false = sym (is_some-among es kept) ∙ sym none in
       let last : values_of (es ++ (key, n) ∷ []) ≡ values_of es ++ n ∷ [] = map-append (λ p. p.1) es ((key, n) ∷ []) in
       record {
-          fresh = fresh;
-          numbers = ap values_of pushed ∙ last;
-          all_first = subst (λ xs. firsts (values_of xs) ≡ values_of xs) (sym pushed)
-          (ap firsts last ∙ firsts-new (values_of es) n fresh ∙ ap (λ ns. ns ++ n ∷ []) all_first ∙ sym last);
-          kept = subst (AreKept db) (sym pushed) (AreKept-push db es (key, n) kept is_key listed held)
+        fresh = fresh;
+        numbers = ap values_of pushed ∙ last;
+        all_first = subst (λ xs. firsts (values_of xs) ≡ values_of xs) (sym pushed)
+            (ap firsts last ∙ firsts-new (values_of es) n fresh ∙ ap (λ ns. ns ++ n ∷ []) all_first ∙ sym last);
+        kept = subst (AreKept db) (sym pushed) (AreKept-push db es (key, n) kept is_key listed held);
       }

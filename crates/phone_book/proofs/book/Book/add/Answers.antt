@@ -1,4 +1,4 @@
-use Rattle.std.proofs.Common.{◌≡◌, inl, inr, Ok, Err, chars, sym, subst}
+use Rattle.std.proofs.Common.{◌≡◌, inl, inr, Ok, chars, sym, subst}
 use Rattle.phone_read.specs.Readings.{Reads}
 use Rattle.phone_read.specs.declared.reading.Reading.{Reading}
 use Rattle.phone_book.specs.Firsts.{firsts}
@@ -13,7 +13,7 @@ returns-in-Ok-place-clause-entries c =
       | inr r ↦ r
     ] in
     let read : Reads c.args.self.now.database c.args.hint (chars c.args.line.now) (Ok n) =
-        subst (λ b. Reads b.database c.args.hint (chars c.args.line.now) (Ok n)) c.self.view_is inside in
+    subst (λ b. Reads b.database c.args.hint (chars c.args.line.now) (Ok n)) c.self.view_is inside in
     let kept : c.args.self.now.entries ≡ firsts c.args.self.now.entries = subst (λ b. b.entries ≡ firsts b.entries) c.self.view_is (sym c.self.invariant.1) in
     line-firsts c.args.self.now.database c.args.self.now.entries c.args.self.now.entries (c.args.hint, c.args.line.now) (Ok c.in-Ok-place.place)
     c.place.new.self.entries kept (n, read, c.in-Ok-place.ensures.placed)

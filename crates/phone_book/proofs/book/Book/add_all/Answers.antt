@@ -19,16 +19,16 @@ loop-hint-preserved c =
     let none : Option Id × Bor (List ℕ) = (None, record { ref_ptr = (0, 0); now = [] }) in
     let line = get_or xs k none in
     let lines : map line_of (take (k + 1) xs) ≡ map line_of (take k xs) ++ line_of line ∷ [] =
-        ap (map line_of) (take_more xs k none c.loop-hint-test.true) ∙ map-append line_of (take k xs) (line ∷ []) in
+    ap (map line_of) (take_more xs k none c.loop-hint-test.true) ∙ map-append line_of (take k xs) (line ∷ []) in
     let answer : IsAnswered now.database c.loop-hint.self.entries (line_of line) c.add.result c.add.new.self.entries =
-        subst (λ db. IsAnswered db c.loop-hint.self.entries (line_of line) c.add.result c.add.new.self.entries) kept.database c.add.ensures.answer in
+    subst (λ db. IsAnswered db c.loop-hint.self.entries (line_of line) c.add.result c.add.new.self.entries) kept.database c.add.ensures.answer in
     record {
-        room = omega (arith, counted, turn.capacity, kept.room, c.loop-hint-test.true);
-        within = omega (arith, c.loop-hint-test.true);
-        database = c.add.ensures.database ∙ kept.database;
-        answered = subst₂ (λ ls answers. AreAnswered now.database now.entries ls answers c.add.new.self.entries) (sym lines) (sym turn.items)
-        (answered-push now.database now.entries (map line_of (take k xs)) c.loop-hint.answers.items c.loop-hint.self.entries (line_of line) c.add.result c.add.new.self.entries
-            kept.answered answer)
+      room = omega (arith, counted, turn.capacity, kept.room, c.loop-hint-test.true);
+      within = omega (arith, c.loop-hint-test.true);
+      database = c.add.ensures.database ∙ kept.database;
+      answered = subst₂ (λ ls answers. AreAnswered now.database now.entries ls answers c.add.new.self.entries) (sym lines) (sym turn.items)
+          (answered-push now.database now.entries (map line_of (take k xs)) c.loop-hint.answers.items c.loop-hint.self.entries (line_of line) c.add.result c.add.new.self.entries
+          kept.answered answer);
     }
 
 pub returns-clause-entries : goal.returns-clause-entries
@@ -40,4 +40,4 @@ returns-clause-entries c =
     let all : take c.loop-hint.hint-index xs ≡ xs = ap (λ k. take k xs) end ∙ take-length xs in
     subst (λ ls. (ns : List Reading) × (HaveNumbers now.database (map line_of ls) c.loop-hint.answers.items ns) × (c.loop-hint.self.entries ≡ firsts (now.entries ++ ns))) all
     (lines-firsts now.database now.entries now.entries (map line_of (take c.loop-hint.hint-index xs)) c.loop-hint.answers.items c.loop-hint.self.entries kept
-        c.loop-hint.invariant.answered)
+    c.loop-hint.invariant.answered)
