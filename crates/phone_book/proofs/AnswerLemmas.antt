@@ -36,6 +36,7 @@ lines-firsts db seen before (l ∷ ls) answers after e h =
 pub answered-push : (db : List Metadata) (before : List Reading) (ls : List Line) (answers : List Answer) (between : List Reading) (l : Line) (a : Answer)
     (after : List Reading) → AreAnswered db before ls answers between → IsAnswered db between l a after →
     AreAnswered db before (ls ++ l ∷ []) (answers ++ a ∷ []) after
-answered-push db before [] answers between l a after h g = (a, [], after, ap (λ xs. xs ++ a ∷ []) h.0, subst (λ es. IsAnswered db es l a after) h.1 g, (refl, refl))
+answered-push db before [] answers between l a after h g =
+    (a, [], after, ap (λ xs. xs ++ a ∷ []) h.0, subst (λ es. IsAnswered db es l a after) h.1 g, (refl, refl))
 answered-push db before (m ∷ ls) answers between l a after h g =
     (h.0, h.1 ++ a ∷ [], h.2, ap (λ xs. xs ++ a ∷ []) h.3, h.4, answered-push db h.2 ls h.1 between l a after h.5 g)

@@ -1,5 +1,6 @@
 -- The first numbers of a list, after one more came.
-use Rattle.std.proofs.Common.{◌≡◌, ℕ, ◌==◌, ◌&&◌, ◌||◌, not, Bool, true, false, cond, List, [], ◌∷◌, ◌++◌, filter, slice_get, Some, refl, ap, ap₂, sym, ◌∙◌, true≢false, eqb-true}
+use Rattle.std.proofs.Common.{◌≡◌, ℕ, ◌==◌, ◌&&◌, ◌||◌, not, Bool, true, false, cond, List, []}
+use Rattle.std.proofs.Common.{◌∷◌, ◌++◌, filter, get_or, slice_get, Some, refl, ap, ap₂, sym, ◌∙◌, true≢false, eqb-true}
 use Rattle.std.proofs.lemmas.Bool.{and_parts}
 use Rattle.std.proofs.lemmas.List.{append-nil}
 use Rattle.std.proofs.lemmas.List.Elements.{filter-append}
@@ -92,4 +93,6 @@ firsts-present (e ∷ xs) n f = at (firsts-present xs n) (is_same_number e n) (i
 
 -- a number that stands at a place is among them
 pub among-at : (n e : Reading) (xs : List Reading) (k : ℕ) → slice_get xs k ≡ Some e → is_same_number e n ≡ true → is_among n xs ≡ true
-among-at n e xs k at same = list_any_at (λ m. is_same_number m n) xs k e (slice_get_within xs k e at) (ap (λ m. is_same_number m n) (get_or_from_slice_get xs k e e at) ∙ same)
+among-at n e xs k at same =
+    let stands : is_same_number (get_or xs k e) n ≡ true = ap (λ m. is_same_number m n) (get_or_from_slice_get xs k e e at) ∙ same in
+    list_any_at (λ m. is_same_number m n) xs k e (slice_get_within xs k e at) stands

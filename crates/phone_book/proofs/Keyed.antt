@@ -1,12 +1,13 @@
 -- Entries whose keys are the texts of their numbers: a key is there exactly where a number of the same calling code and national
 -- number is.
-use Rattle.std.proofs.Common.{◌≡◌, ◌==◌, ◌||◌, Bool, true, false, cond, List, [], ◌∷◌, ◌++◌, Option, None, Some, is_some, String, Global, string_bytes, string_eq, refl, ap, ap₂, sym, subst, ◌∙◌, true≢false}
+use Rattle.std.proofs.Common.{◌≡◌, ◌==◌, ◌||◌, Bool, true, false, cond, List, [], ◌∷◌, ◌++◌, Option, None}
+use Rattle.std.proofs.Common.{Some, is_some, String, Global, string_bytes, string_eq, refl, ap, ap₂, sym, subst, ◌∙◌, true≢false}
 use Rattle.std.proofs.lemmas.Bool.{and_from, eq-eqb}
 use Rattle.std.proofs.lemmas.List.{map-append}
 use Rattle.std.proofs.lemmas.Map.Made.{is_some-lookup}
 use Rattle.std.proofs.lemmas.Slice.Eq.{bytes_eq-Decides}
 use Rattle.std.specs.Fmt.{decimal}
-use Rattle.std.specs.List.{AllByRecursion, list_any}
+use Rattle.std.specs.List.{list_any}
 use Rattle.std.specs.Map.{keys_of, lookup, values_of}
 use Rattle.indexmap.proofs.CallerLemmas.{insert_entry-new}
 use Rattle.indexmap.specs.IndexMap.{IndexMap, insert_entry}
@@ -15,15 +16,9 @@ use Rattle.phone_meta.specs.Codes.{is_listed, is_prefix_free}
 use Rattle.phone_records.specs.declared.loader.Metadata.{Metadata}
 use Rattle.phone_read.specs.declared.reading.Reading.{Reading}
 use Rattle.phonenumber.specs.Texts.{e164_text}
+use Rattle.phone_book.specs.Books.{AreKept, Entry, IsKept}
 use Rattle.phone_book.specs.Firsts.{firsts, is_among, is_same_number}
 use Rattle.phone_book.proofs.FirstLemmas.{firsts-new, same-parts}
-
-abbrev pub Entry : Type 0
-Entry = String Global × Reading
-
--- each entry stands at its number's text, and its calling code is listed
-abbrev pub AreKept : List Metadata → List Entry → Type 0
-AreKept db es = AllByRecursion (λ p. (string_bytes p.0 ≡ e164_text p.1) × (is_listed p.1.code.value db ≡ true) × IsHeld p.1.national) es
 
 pub AreKept-push : (db : List Metadata) (es : List Entry) (p : Entry) → AreKept db es → string_bytes p.0 ≡ e164_text p.1 →
     is_listed p.1.code.value db ≡ true → IsHeld p.1.national → AreKept db (es ++ p ∷ [])
@@ -55,8 +50,7 @@ TellsNumbers = (db : List Metadata) (a b : Reading) → is_prefix_free db ≡ tr
 module _ (law : TellsNumbers) (db : List Metadata) (free : is_prefix_free db ≡ true) (n : Reading) (listed : is_listed n.code.value db ≡ true)
     (held : IsHeld n.national) (key : String Global) (is_key : string_bytes key ≡ e164_text n) where
   -- numbers are the same where their keys are
-  same-key : (p : Entry) → (string_bytes p.0 ≡ e164_text p.1) × (is_listed p.1.code.value db ≡ true) × IsHeld p.1.national →
-      string_eq key p.0 ≡ is_same_number p.1 n
+  same-key : (p : Entry) → IsKept db p → string_eq key p.0 ≡ is_same_number p.1 n
   same-key p h = both_ways (string_eq key p.0) (is_same_number p.1 n) there back
     where
       there : string_eq key p.0 ≡ true → is_same_number p.1 n ≡ true
@@ -98,7 +92,8 @@ module _ (law : TellsNumbers) (db : List Metadata) (free : is_prefix_free db ≡
     pub all_first : firsts (values_of new) ≡ values_of new
     pub kept : AreKept db new
 
-  pub after-new : {S : Type 0} (m : IndexMap (String Global) Reading S) (new : List Entry) → AreKept db m.entries → firsts (values_of m.entries) ≡ values_of m.entries →
+  pub after-new : {S : Type 0} (m : IndexMap (String Global) Reading S) (new : List Entry) → AreKept db m.entries →
+      firsts (values_of m.entries) ≡ values_of m.entries →
       new ≡ insert_entry string_eq m.entries key n → false ≡ is_some (lookup (string_eq key) m.entries) → IsAfterNew m.entries new
   after-new m new kept all_first added none =
       let es = m.entries in

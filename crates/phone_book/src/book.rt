@@ -28,20 +28,17 @@ pub struct Book {
 }
 
 impl Model for Book {
-    ghost use Rattle.std.specs.Prelude.{◌≡◌, string_bytes, true};
-    ghost use Rattle.std.specs.List.{AllByRecursion};
+    ghost use Rattle.std.specs.Prelude.{◌≡◌, true};
     ghost use Rattle.indexmap.specs.IndexMap.{values};
-    ghost use Rattle.phone_core.specs.Numbers.{IsHeld};
-    ghost use Rattle.phone_meta.specs.Codes.{is_listed, is_prefix_free};
-    ghost use Rattle.phonenumber.specs.Texts.{e164_text};
-    ghost use Rattle.phone_book.specs.Books.{Contacts};
+    ghost use Rattle.phone_meta.specs.Codes.{is_prefix_free};
+    ghost use Rattle.phone_book.specs.Books.{AreKept, Contacts};
     ghost use Rattle.phone_book.specs.Firsts.{firsts};
 
     ghost Value = { Contacts };
 
     ghost view = { λ b. record { database = b.database; entries = values b.entries } };
 
-    ghost invariant = { λ b. (is_prefix_free b.database ≡ true) × (firsts (values b.entries) ≡ values b.entries) × AllByRecursion (λ p. (string_bytes p.0 ≡ e164_text p.1) × (is_listed p.1.code.value b.database ≡ true) × IsHeld p.1.national) b.entries.entries };
+    ghost invariant = { λ b. (is_prefix_free b.database ≡ true) × (firsts (values b.entries) ≡ values b.entries) × AreKept b.database b.entries.entries };
 }
 
 impl Book {
@@ -121,7 +118,8 @@ impl Book {
     /// there. `Refused` where the line is read as no number, with the reason, and `Memory` where memory was refused: both leave the
     /// book as it was.
     pub fn add(&mut self, hint: Option<Id>, line: &str) -> Result<Place, BookError>
-        ensures entries { (ns : List Reading) × (HasNumbers self.old.database (hint, line.now) result ns) × (self.new.entries ≡ firsts (self.old.entries ++ ns)) }
+        ensures entries { (ns : List Reading) × (HasNumbers self.old.database (hint, line.now) result ns) ×
+            (self.new.entries ≡ firsts (self.old.entries ++ ns)) }
         ensures answer { IsAnswered self.old.database self.old.entries (hint, line.now) result self.new.entries }
         ensures database { self.new.database ≡ self.old.database }
         ensures kept { OnErr result (self.new ≡ self.old) }
@@ -145,7 +143,9 @@ impl Book {
         &mut self,
         lines: &[(Option<Id>, &str)],
     ) -> Result<Vec<Result<Place, BookError>>, AllocError>
-        ensures entries { IfOk result (λ answers. (ns : List Reading) × (HaveNumbers self.old.database (map line_of lines.now) answers.items ns) × (self.new.entries ≡ firsts (self.old.entries ++ ns))) }
+        ensures entries { IfOk result (λ answers. (ns : List Reading) ×
+            (HaveNumbers self.old.database (map line_of lines.now) answers.items ns) ×
+            (self.new.entries ≡ firsts (self.old.entries ++ ns))) }
         ensures answers { IfOk result (λ answers. AreAnswered self.old.database self.old.entries (map line_of lines.now) answers.items self.new.entries) }
         ensures database { self.new.database ≡ self.old.database }
         ensures kept { OnErr result (self.new ≡ self.old) }

@@ -15,7 +15,8 @@ loop-hint-preserved c =
     let k = c.loop-hint.hint-index in
     let turn = c.push_reserved.ensures in
     let kept = c.loop-hint.invariant in
-    let counted : length c.push_reserved.new.self.items ≡ length c.loop-hint.answers.items + 1 = ap length turn.items ∙ length_push c.loop-hint.answers.items c.add.result in
+    let counted : length c.push_reserved.new.self.items ≡ length c.loop-hint.answers.items + 1 =
+    ap length turn.items ∙ length_push c.loop-hint.answers.items c.add.result in
     let none : Option Id × Bor (List ℕ) = (None, record { ref_ptr = (0, 0); now = [] }) in
     let line = get_or xs k none in
     let lines : map line_of (take (k + 1) xs) ≡ map line_of (take k xs) ++ line_of line ∷ [] =
@@ -27,7 +28,8 @@ loop-hint-preserved c =
       within = omega (arith, c.loop-hint-test.true);
       database = c.add.ensures.database ∙ kept.database;
       answered = subst₂ (λ ls answers. AreAnswered now.database now.entries ls answers c.add.new.self.entries) (sym lines) (sym turn.items)
-          (answered-push now.database now.entries (map line_of (take k xs)) c.loop-hint.answers.items c.loop-hint.self.entries (line_of line) c.add.result c.add.new.self.entries
+          (answered-push now.database now.entries (map line_of (take k xs)) c.loop-hint.answers.items c.loop-hint.self.entries (line_of line)
+          c.add.result c.add.new.self.entries
           kept.answered answer);
     }
 
@@ -38,6 +40,7 @@ returns-clause-entries c =
     let kept : now.entries ≡ firsts now.entries = subst (λ b. b.entries ≡ firsts b.entries) c.self.view_is (sym c.self.invariant.1) in
     let end : c.loop-hint.hint-index ≡ length xs = omega (arith, c.loop-hint-test.false, c.loop-hint.invariant.within) in
     let all : take c.loop-hint.hint-index xs ≡ xs = ap (λ k. take k xs) end ∙ take-length xs in
-    subst (λ ls. (ns : List Reading) × (HaveNumbers now.database (map line_of ls) c.loop-hint.answers.items ns) × (c.loop-hint.self.entries ≡ firsts (now.entries ++ ns))) all
+    subst (λ ls. (ns : List Reading) × (HaveNumbers now.database (map line_of ls) c.loop-hint.answers.items ns) ×
+    (c.loop-hint.self.entries ≡ firsts (now.entries ++ ns))) all
     (lines-firsts now.database now.entries now.entries (map line_of (take c.loop-hint.hint-index xs)) c.loop-hint.answers.items c.loop-hint.self.entries kept
     c.loop-hint.invariant.answered)

@@ -3,8 +3,9 @@ use Rattle.std.proofs.lemmas.List.{length-map}
 use Rattle.std.specs.Map.{values_of}
 use Rattle.phone_meta.specs.Codes.{is_listed}
 use Rattle.phone_read.specs.declared.reading.Reading.{Reading}
+use Rattle.phone_book.specs.Books.{AreKept}
 use Rattle.phone_book.specs.Firsts.{firsts, is_among}
-use Rattle.phone_book.proofs.Keyed.{AreKept, after-new, found-same, some_from}
+use Rattle.phone_book.proofs.Keyed.{after-new, found-same, some_from}
 use Rattle.phone_book.proofs.book.Book.place.Goals as goal
 
 pub returns-in-Some-clause-placed : goal.returns-in-Some-clause-placed
@@ -40,6 +41,8 @@ returns-in-Ok-clause-placed c =
 
 pub invariant_of-self-2 : goal.invariant_of-self-2
 invariant_of-self-2 c =
-    let kept : (firsts (values_of c.insert.new.self.entries) ≡ values_of c.insert.new.self.entries) × AreKept c.self.inside.database c.insert.new.self.entries =
-    subst (λ xs. (firsts (values_of xs) ≡ values_of xs) × AreKept c.self.inside.database xs) (sym c.in-Err.ensures.err) (c.self.invariant.1, c.self.invariant.2) in
+    let es = c.insert.new.self.entries in
+    let kept : (firsts (values_of es) ≡ values_of es) × AreKept c.self.inside.database es =
+    subst (λ xs. (firsts (values_of xs) ≡ values_of xs) × AreKept c.self.inside.database xs) (sym c.in-Err.ensures.err)
+    (c.self.invariant.1, c.self.invariant.2) in
     (c.self.invariant.0, kept.0, kept.1)
