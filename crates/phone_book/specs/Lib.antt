@@ -1,0 +1,4 @@
+pub mod Answers
+pub mod Books
+pub mod Firsts
+pub mod Samples

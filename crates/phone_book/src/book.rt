@@ -1,0 +1,159 @@
+//! A contact list without repeated numbers.
+ghost use Rattle.std.specs.Prelude.{◌≡◌, ◌↔◌, ◌++◌, [], List, false, true, length, map, slice_get, string_bytes, IfErr, IfOk, IsErr, OnErr};
+ghost use Rattle.std.specs.Option.{option_copied};
+ghost use Rattle.phone_meta.specs.Codes.{is_listed, is_prefix_free};
+ghost use Rattle.phone_read.specs.declared.reading.Reading.{Reading};
+ghost use Rattle.phonenumber.specs.Texts.{e164_text};
+ghost use Rattle.phone_book.specs.Answers.{AreAnswered, HasNumbers, HaveNumbers, IsAnswered, IsPlaced, line_of};
+ghost use Rattle.phone_book.specs.Firsts.{firsts};
+ghost use Rattle.phone_book.specs.declared.answers.BookNewError.TheVariants as new_error;
+
+use crate::answers::{BookError, BookNewError, Place};
+use crate::iter::Iter;
+use indexmap::IndexMap;
+use phone_core::ParseError;
+use phone_core::country::Id;
+use phone_meta::Database;
+use phone_read::number_laws;
+use phonenumber::{PhoneNumber, laws, parse_with};
+use std::alloc::AllocError;
+use std::marker::Model;
+
+/// Numbers under one database, in order of arrival, of which no two have one calling code and one national number: each stays
+/// as it was first written. Contracts see the records of the database and the numbers.
+#[derive(Drop)]
+pub struct Book {
+    database: Database,
+    entries: IndexMap<String, PhoneNumber>,
+}
+
+impl Model for Book {
+    ghost use Rattle.std.specs.Prelude.{◌≡◌, true};
+    ghost use Rattle.indexmap.specs.IndexMap.{values};
+    ghost use Rattle.phone_meta.specs.Codes.{is_prefix_free};
+    ghost use Rattle.phone_book.specs.Books.{AreKept, Contacts};
+    ghost use Rattle.phone_book.specs.Firsts.{firsts};
+
+    ghost Value = { Contacts };
+
+    ghost view = { λ b. record { database = b.database; entries = values b.entries } };
+
+    ghost invariant = { λ b. (is_prefix_free b.database ≡ true) × (firsts (values b.entries) ≡ values b.entries) × AreKept b.database b.entries.entries };
+}
+
+impl Book {
+    /// An empty book over a database, whose allocator it uses. Takes no memory.
+    ///
+    /// Refused by `Ambiguous`, with the database given back, exactly where a listed calling code begins another: two numbers may have
+    /// one E.164 text then.
+    pub fn new(database: Database) -> Result<Book, (BookNewError, Database)>
+        ensures accepted { IfOk result (λ b. b ≡ record { database = database; entries = [] }) }
+        ensures refused { IfErr result (λ e. e ≡ (new_error.Ambiguous, database)) }
+        ensures ambiguous { IsErr result ↔ (is_prefix_free database ≡ false) }
+    {
+        if !database.codes_prefix_free() {
+            return Err((BookNewError::Ambiguous, database));
+        }
+        let alloc = database.allocator();
+        Ok(Book {
+            database,
+            entries: IndexMap::new(alloc),
+        })
+    }
+
+    /// How many numbers there are. Takes no memory.
+    pub fn len(&self) -> usize
+        ensures { result ≡ length self.now.entries }
+    {
+        self.entries.len()
+    }
+
+    /// The number at a place, counted from 0; none from `len` on. Takes no memory.
+    pub fn get(&self, n: usize) -> Option<&PhoneNumber>
+        ensures { option_copied result ≡ slice_get self.now.entries n }
+    {
+        let (_, number) = self.entries.get_index(n)?;
+        Some(number)
+    }
+
+    /// The numbers in order of arrival. Takes no memory.
+    pub fn iter(&self) -> Iter<'_>
+        ensures { result ≡ self.now.entries }
+    {
+        Iter::new(self.entries.values())
+    }
+
+    /// The key of a number: its E.164 text. Refused only for memory.
+    fn key_of(&self, number: &PhoneNumber) -> Result<String, AllocError>
+        ensures { IfOk result (λ key. string_bytes key ≡ e164_text number.now) }
+    {
+        number.to_string(self.database.allocator())
+    }
+
+    /// The place of a number: that of the one of the same calling code and national number, or a new one at the end. Refused only
+    /// for memory.
+    fn place(&mut self, number: PhoneNumber) -> Result<Place, AllocError>
+        requires { is_listed number.code.value self.old.database ≡ true }
+        ensures placed { IfOk result (λ p. IsPlaced self.old.entries number p self.new.entries) }
+        ensures database { self.new.database ≡ self.old.database }
+        ensures kept { OnErr result (self.new ≡ self.old) }
+    {
+        number.keeps_bounds();
+        laws::key();
+        let key = self.key_of(&number)?;
+        if let Some(n) = self.entries.get_index_of(&key) {
+            return Ok(Place::Present(n));
+        }
+        let n = self.entries.len();
+        match self.entries.insert(key, number) {
+            Ok(_) => Ok(Place::Added(n)),
+            Err(_) => Err(AllocError),
+        }
+    }
+
+    /// Reads a line under a hint, as `parse_with` does, and adds its number, unless one of the same calling code and national number is
+    /// there: source, extension and carrier don't count, and the first one stays as it was written.
+    ///
+    /// `Added` with the place of the new number, which is the count of those before it; `Present` with the place of the one that is
+    /// there. `Refused` where the line is read as no number, with the reason, and `Memory` where memory was refused: both leave the
+    /// book as it was.
+    pub fn add(&mut self, hint: Option<Id>, line: &str) -> Result<Place, BookError>
+        ensures entries { (ns : List Reading) × (HasNumbers self.old.database (hint, line.now) result ns) ×
+            (self.new.entries ≡ firsts (self.old.entries ++ ns)) }
+        ensures answer { IsAnswered self.old.database self.old.entries (hint, line.now) result self.new.entries }
+        ensures database { self.new.database ≡ self.old.database }
+        ensures kept { OnErr result (self.new ≡ self.old) }
+    {
+        number_laws::code_is_listed();
+        match parse_with(&self.database, hint, line) {
+            Ok(number) => match self.place(number) {
+                Ok(place) => Ok(place),
+                Err(_) => Err(BookError::Memory),
+            },
+            Err(ParseError::Memory) => Err(BookError::Memory),
+            Err(error) => Err(BookError::Refused(error)),
+        }
+    }
+
+    /// Adds each line in order, as `add` does, whatever the answers to the lines before it were. One answer a line, in order; an answer of
+    /// `Memory` is that line's alone.
+    ///
+    /// Room for the answers is made first: where memory for it is refused, the book stays as it was.
+    pub fn add_all(
+        &mut self,
+        lines: &[(Option<Id>, &str)],
+    ) -> Result<Vec<Result<Place, BookError>>, AllocError>
+        ensures entries { IfOk result (λ answers. (ns : List Reading) ×
+            (HaveNumbers self.old.database (map line_of lines.now) answers.items ns) ×
+            (self.new.entries ≡ firsts (self.old.entries ++ ns))) }
+        ensures answers { IfOk result (λ answers. AreAnswered self.old.database self.old.entries (map line_of lines.now) answers.items self.new.entries) }
+        ensures database { self.new.database ≡ self.old.database }
+        ensures kept { OnErr result (self.new ≡ self.old) }
+    {
+        let mut answers = Vec::with_capacity(self.database.allocator(), lines.len())?;
+        for (hint, line) in lines {
+            answers.push_reserved(self.add(*hint, line));
+        }
+        Ok(answers)
+    }
+}
