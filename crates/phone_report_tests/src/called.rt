@@ -26,13 +26,28 @@ fn outcome(
     format!(in alloc; "{status}|{out}|{errors}")
 }
 
-/// What the program answers to these words, over the line `12`.
+/// Refused where the program told want of memory, or where there was none for what it told.
+fn unless_memory(status: u8, errors: &[u8]) -> Result<(), AllocError> {
+    let told = errors == "database refused: 7\n".as_bytes()
+        || errors == "out of memory\n".as_bytes();
+    if told || status != 0 && errors.is_empty() {
+        return Err(AllocError);
+    }
+    Ok(())
+}
+
+/// What the program answers to these words, over the line `12`. Refused for want of memory, be it that of the devices,
+/// which fail for no other reason.
 fn answer(rt: &HostRuntime, words: &[&str]) -> Result<String, AllocError> {
     let alloc = rt.alloc();
     let mut source = MemorySource::new(b"12\n");
     let mut out = MemorySink::new(alloc);
     let mut errors = MemorySink::new(alloc);
     let status = program(rt, words, &mut source, &mut out, &mut errors);
+    unless_memory(status, errors.bytes())?;
+    if errors.bytes() == "output failed\n".as_bytes() {
+        return Err(AllocError);
+    }
     outcome(alloc, status, &out, &errors)
 }
 
@@ -89,6 +104,7 @@ fn a_device_that_fails_gives_status_1(rt: HostRuntime) -> Result<(), Fail> {
     let mut out = MemorySink::new(alloc);
     let mut errors = MemorySink::new(alloc);
     let status = program(&rt, &words, &mut source, &mut out, &mut errors);
+    unless_memory(status, errors.bytes())?;
     assert_eq!(rt;
         outcome(alloc, status, &out, &errors)?.as_str(),
         "1||input failed\n"
@@ -97,6 +113,7 @@ fn a_device_that_fails_gives_status_1(rt: HostRuntime) -> Result<(), Fail> {
     let mut out = Limit::new(alloc, 3, Then::Fail)?;
     let mut errors = MemorySink::new(alloc);
     let status = program(&rt, &words, &mut source, &mut out, &mut errors);
+    unless_memory(status, errors.bytes())?;
     assert_eq!(rt; status, 1);
     assert_eq!(rt; out.taken(), "err".as_bytes());
     assert_eq!(rt; errors.bytes(), "output failed\n".as_bytes());

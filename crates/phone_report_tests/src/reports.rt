@@ -3,7 +3,7 @@ use phone_device::{At, Limit, MemorySink, MemorySource, Script, Then};
 use phone_meta::Database;
 use phone_report::{RunError, run};
 use phonenumber::country::Id;
-use std::alloc::Global;
+use std::alloc::{AllocError, Global};
 use std::test::Fail;
 
 /// Three lines: a number of New Zealand, an empty one, and one of the code 800 that no line feed ends.
@@ -13,7 +13,24 @@ const LINES: &[u8] = b"03-331 6005\n\n+800 12345678";
 const REPORT: &str =
     "ok\t+6433316005\t+64 3 331 6005\t03 331 6005\ttel:+64-3-331-6005\tdefault\tFixedLine\tNZ\tvalid\nerror\t1\tnot a number\nok\t+80012345678\t+800 12345678\t12345678\ttel:+800-12345678\tplus\tTollFree\t-\tvalid\n";
 
-/// What is written for these bytes under a hint.
+/// Whether these are no bytes, or whole first lines of the report.
+fn are_whole_lines(bytes: &[u8]) -> bool {
+    bytes.is_empty() || bytes.ends_with(b"\n")
+}
+
+/// How a run ended. Refused where it ended for want of memory behind whole report lines.
+fn unless_memory(
+    end: Result<(), RunError>,
+    written: &[u8],
+) -> Result<Result<(), RunError>, AllocError> {
+    if end == Err(RunError::Memory) && are_whole_lines(written) {
+        return Err(AllocError);
+    }
+    Ok(end)
+}
+
+/// How a run over these bytes under a hint ends, and what it writes. Refused for want of memory, be it the sink's, which
+/// fails for no other reason.
 fn written(
     alloc: Global,
     db: &Database,
@@ -23,6 +40,10 @@ fn written(
     let mut source = MemorySource::new(bytes);
     let mut sink = MemorySink::new(alloc);
     let end = run(db, hint, &mut source, &mut sink);
+    if end == Err(RunError::Output) {
+        return Err(AllocError.into());
+    }
+    let end = unless_memory(end, sink.bytes())?;
     Ok((end, sink))
 }
 
@@ -86,6 +107,10 @@ fn a_device_that_fails_ends_the_run(rt: HostRuntime) -> Result<(), Fail> {
         let mut source = Script::new(Vec::from_slice(alloc, LINES)?, Some(At::Byte(at)));
         let mut sink = MemorySink::new(alloc);
         let end = run(&db, Some(Id::NZ), &mut source, &mut sink);
+        if end == Err(RunError::Output) {
+            return Err(AllocError.into());
+        }
+        let end = unless_memory(end, sink.bytes())?;
         assert_eq!(rt; end, Err(RunError::Input));
         assert_eq!(rt; sink.bytes().len(), whole, "{at}");
         assert!(rt; report.starts_with(sink.bytes()), "{at}");
@@ -99,6 +124,7 @@ fn a_device_that_fails_ends_the_run(rt: HostRuntime) -> Result<(), Fail> {
         let mut source = MemorySource::new(LINES);
         let mut sink = Limit::new(alloc, limit, then)?;
         let end = run(&db, Some(Id::NZ), &mut source, &mut sink);
+        let end = unless_memory(end, sink.taken())?;
         assert_eq!(rt; end, Err(RunError::Output));
         assert_eq!(rt; sink.taken(), &report[..limit.min(report.len())], "{limit}");
     }
