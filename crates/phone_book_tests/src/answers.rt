@@ -27,15 +27,15 @@ pub const LINES: [(Option<Id>, &str); 8] = [
 ];
 
 /// The answers to the lines: a number written otherwise is there already, a zero in front makes another number.
-const ANSWERS: [Result<Place, ParseError>; 8] = [
+const ANSWERS: [Result<Place, BookError>; 8] = [
     Ok(Place::Added(0)),
     Ok(Place::Present(0)),
-    Err(ParseError::NoNumber),
+    Err(BookError::Refused(ParseError::NoNumber)),
     Ok(Place::Added(1)),
     Ok(Place::Present(1)),
     Ok(Place::Added(2)),
     Ok(Place::Added(3)),
-    Err(ParseError::InvalidCountryCode),
+    Err(BookError::Refused(ParseError::InvalidCountryCode)),
 ];
 
 /// The E.164 texts of the numbers that the lines leave, in order, a space behind each.
@@ -51,80 +51,90 @@ pub fn texts(alloc: Global, book: &Book) -> Result<String, AllocError> {
     Ok(texts)
 }
 
-/// An answer, where memory was not refused.
-fn told(answer: Result<Place, BookError>) -> Result<Result<Place, ParseError>, AllocError> {
-    match answer {
-        Ok(place) => Ok(Ok(place)),
-        Err(BookError::Refused(error)) => Ok(Err(error)),
-        Err(BookError::Memory) => Err(AllocError),
+/// Whether a book that has answered the lines has their numbers.
+fn has_numbers(alloc: Global, book: &Book) -> Result<bool, AllocError> {
+    Ok(book.len() == 4 && book.get(4).is_none() && texts(alloc, book)?.as_str() == TEXTS)
+}
+
+/// Whether a book answers each line as it should, line by line.
+fn answers_each(book: &mut Book) -> Result<bool, AllocError> {
+    for at in 0..LINES.len() {
+        let (hint, line) = LINES[at];
+        let answer = book.add(hint, line);
+        if answer == Err(BookError::Memory) {
+            return Err(AllocError);
+        }
+        if answer != ANSWERS[at] {
+            return Ok(false);
+        }
     }
+    Ok(true)
 }
 
 #[test]
 fn answers_line_by_line(rt: HostRuntime) -> Result<(), Fail> {
     let mut book = three(rt.alloc())?;
-    for i in 0..LINES.len() {
-        let (hint, line) = LINES[i];
-        assert_eq!(rt; told(book.add(hint, line))?, ANSWERS[i]);
-    }
-    assert_eq!(rt; book.len(), 4);
-    assert!(rt; book.get(4).is_none());
-    assert_eq!(rt; texts(rt.alloc(), &book)?.as_str(), TEXTS);
+    assert!(rt; answers_each(&mut book)?);
+    assert!(rt; has_numbers(rt.alloc(), &book)?);
     Ok(())
+}
+
+/// Whether a book answers all lines at once as it should.
+fn answers_all(book: &mut Book) -> Result<bool, AllocError> {
+    let answers = book.add_all(&LINES)?;
+    if answers
+        .iter()
+        .any(|answer| *answer == Err(BookError::Memory))
+    {
+        return Err(AllocError);
+    }
+    Ok(answers.as_slice() == &ANSWERS[..])
 }
 
 #[test]
 fn answers_all_lines_at_once(rt: HostRuntime) -> Result<(), Fail> {
     let mut book = three(rt.alloc())?;
-    let answers = book.add_all(&LINES)?;
-    assert_eq!(rt; answers.len(), ANSWERS.len());
-    let mut i = 0;
-    for answer in answers {
-        assert_eq!(rt; told(answer)?, ANSWERS[i]);
-        i += 1;
-    }
-    assert_eq!(rt; book.len(), 4);
-    assert!(rt; book.get(4).is_none());
-    assert_eq!(rt; texts(rt.alloc(), &book)?.as_str(), TEXTS);
+    assert!(rt; answers_all(&mut book)?);
+    assert!(rt; has_numbers(rt.alloc(), &book)?);
     Ok(())
+}
+
+/// Whether the first number of a book is as the first line has it, with no sign before its code and no extension.
+fn has_the_first(book: &Book) -> bool {
+    match book.get(0) {
+        Some(first) => first.code().source() == Source::Default && first.extension().is_none(),
+        None => false,
+    }
 }
 
 #[test]
 fn keeps_the_number_as_it_was_first_written(rt: HostRuntime) -> Result<(), Fail> {
     let mut book = three(rt.alloc())?;
-    for (hint, line) in LINES {
-        let _answer = told(book.add(hint, line))?;
-    }
-    let Some(first) = book.get(0) else {
-        assert!(rt; false, "the book is empty");
-        return Ok(());
-    };
-    assert_eq!(rt; first.code().source(), Source::Default);
-    assert!(rt; first.extension().is_none());
+    assert!(rt; answers_each(&mut book)?);
+    assert!(rt; has_the_first(&book));
     Ok(())
 }
 
+/// Whether a database reads a line as a number of this code and value.
+fn reads(database: &Database, line: &str, code: u16, value: u64) -> Result<bool, ParseError> {
+    let number = parse_with(database, None, line)?;
+    Ok(number.code().value() == code && number.national().value() == value)
+}
+
+/// Whether a database of the codes 3, 376 and 1234 is refused and given back.
+fn is_given_back(alloc: Global) -> Result<bool, Fail> {
+    match Book::new(Database::parse(alloc, phone_samples::FRONTS)?) {
+        Ok(_) => Ok(false),
+        Err((BookNewError::Ambiguous, database)) => Ok(
+            reads(&database, "+376123456", 3, 76123456)?
+                && reads(&database, "tel:+376-123-456", 376, 123456)?,
+        ),
+    }
+}
+
 #[test]
-fn refuses_a_database_where_a_code_begins_another(rt: HostRuntime) -> Result<(), Fail> {
-    let alloc = rt.alloc();
-    let (error, database) = match Book::new(Database::parse(alloc, phone_samples::FRONTS)?) {
-        Ok(_) => {
-            assert!(rt; false, "it was taken");
-            return Ok(());
-        }
-        Err(refusal) => refusal,
-    };
-    assert_eq!(rt; error, BookNewError::Ambiguous);
-    let number = parse_with(&database, None, "+376123456")?;
-    assert_eq!(rt;
-        (number.code().value(), number.national().value()),
-        (3, 76123456)
-    );
-    let number = parse_with(&database, None, "tel:+376-123-456")?;
-    assert_eq!(rt;
-        (number.code().value(), number.national().value()),
-        (376, 123456)
-    );
+fn gives_back_a_database_where_a_code_begins_another(rt: HostRuntime) -> Result<(), Fail> {
+    assert!(rt; is_given_back(rt.alloc())?);
     Ok(())
 }
 
