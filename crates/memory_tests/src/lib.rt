@@ -1,7 +1,10 @@
-//! Calls whose requests for memory `tools/refuse-memory` refuses, each in turn. Each test makes one call twice: the first
-//! time it answers as it should or by want of memory, the second time, with ample memory, as it should.
+//! Calls whose requests for memory `tools/refuse-memory` refuses, each in turn. A test makes one call twice: the first time,
+//! between two marks, it answers as it should or by want of memory, and then, with ample memory, as it should. Two files
+//! have no marks: `ample` has calls that find their memory, `fronts` databases that end too soon.
 #![tactic(auto)]
 
+#[cfg(test)]
+mod ample;
 #[cfg(test)]
 mod databases;
 #[cfg(test)]
