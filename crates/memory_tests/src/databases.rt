@@ -1,5 +1,6 @@
 //! Databases of three, eight and three territories, from their records and from their texts.
 use crate::marks::{self, Answers};
+use phone_device::MemorySource;
 use phone_samples::{FRONTS, RULES, THREE};
 use phonenumber::metadata::{Database, LoadMetadata, loader};
 use std::alloc::{AllocError, Global};
@@ -52,6 +53,16 @@ fn read(alloc: Global, text: &str) -> Result<Answers, AllocError> {
     Ok([told(alloc, &first)?, told(alloc, &second)?])
 }
 
+/// A database of the bytes of a source.
+fn read_from(alloc: Global, bytes: &[u8]) -> Result<Answers, AllocError> {
+    let (mut source, mut again) = (MemorySource::new(bytes), MemorySource::new(bytes));
+    marks::begin(alloc)?;
+    let first = Database::read_from(alloc, &mut source);
+    marks::end(alloc)?;
+    let second = Database::read_from(alloc, &mut again);
+    Ok([told(alloc, &first)?, told(alloc, &second)?])
+}
+
 #[test]
 fn three_from_records(rt: HostRuntime) -> Result<(), Fail> {
     let records = phone_samples::three(rt.alloc())?;
@@ -86,4 +97,10 @@ fn rules_from_text(rt: HostRuntime) -> Result<(), Fail> {
 #[test]
 fn fronts_from_text(rt: HostRuntime) -> Result<(), Fail> {
     marks::judge(&rt, &read(rt.alloc(), FRONTS)?, FRONTS_LISTED)
+}
+
+#[test]
+fn three_from_a_source(rt: HostRuntime) -> Result<(), Fail> {
+    let answers = read_from(rt.alloc(), THREE.as_bytes())?;
+    marks::judge(&rt, &answers, THREE_LISTED)
 }

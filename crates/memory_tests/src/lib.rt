@@ -20,6 +20,8 @@ mod printers;
 #[cfg(test)]
 mod printing;
 #[cfg(test)]
+mod queries;
+#[cfg(test)]
 mod readings;
 #[cfg(test)]
 mod runs;

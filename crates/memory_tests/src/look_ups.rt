@@ -1,12 +1,12 @@
 //! The territories of a calling code, and their ids.
-use crate::marks::{self, Answers, MEMORY};
+use crate::marks::{self, Answers, MEMORY, words};
 use phone_samples::RULES;
 use phonenumber::Metadata;
 use phonenumber::metadata::Database;
 use std::alloc::{AllocError, Global};
 use std::test::Fail;
 
-/// The ids of these territories, parted by spaces.
+/// The ids of these territories, a space before each.
 fn ids(alloc: Global, found: &[&Metadata]) -> Result<String, AllocError> {
     let mut told = String::new(alloc);
     for territory in found {
@@ -17,34 +17,12 @@ fn ids(alloc: Global, found: &[&Metadata]) -> Result<String, AllocError> {
 }
 
 /// The same of an answer, or that there are none, or that memory was wanted.
-fn told_territories(
+fn told(
     alloc: Global,
     answer: &Result<Option<Vec<&Metadata>>, AllocError>,
 ) -> Result<String, AllocError> {
     match answer {
         Ok(Some(found)) => ids(alloc, found.as_slice()),
-        Ok(None) => String::from_str(alloc, "none"),
-        Err(_) => String::from_str(alloc, MEMORY),
-    }
-}
-
-/// These texts, parted by spaces.
-fn texts(alloc: Global, found: &[&str]) -> Result<String, AllocError> {
-    let mut told = String::new(alloc);
-    for text in found {
-        told.push(' ')?;
-        told.push_str(text)?;
-    }
-    Ok(told)
-}
-
-/// The same of an answer, or that there are none, or that memory was wanted.
-fn told_ids(
-    alloc: Global,
-    answer: &Result<Option<Vec<&str>>, AllocError>,
-) -> Result<String, AllocError> {
-    match answer {
-        Ok(Some(found)) => texts(alloc, found.as_slice()),
         Ok(None) => String::from_str(alloc, "none"),
         Err(_) => String::from_str(alloc, MEMORY),
     }
@@ -57,19 +35,7 @@ fn territories(alloc: Global, code: u16) -> Result<Answers, Fail> {
     let first = db.by_code(&code);
     marks::end(alloc)?;
     let second = db.by_code(&code);
-    let first = told_territories(alloc, &first)?;
-    Ok([first, told_territories(alloc, &second)?])
-}
-
-/// The ids of a code's territories.
-fn region(alloc: Global, code: u16) -> Result<Answers, Fail> {
-    let db = Database::parse(alloc, RULES)?;
-    marks::begin(alloc)?;
-    let first = db.region(&code);
-    marks::end(alloc)?;
-    let second = db.region(&code);
-    let first = told_ids(alloc, &first)?;
-    Ok([first, told_ids(alloc, &second)?])
+    Ok([told(alloc, &first)?, told(alloc, &second)?])
 }
 
 #[test]
@@ -82,12 +48,22 @@ fn territories_of_a_code_of_none(rt: HostRuntime) -> Result<(), Fail> {
     marks::judge(&rt, &territories(rt.alloc(), 999)?, "none")
 }
 
+/// The ids of a code's territories.
+fn region(alloc: Global, code: u16) -> Result<Answers, Fail> {
+    let db = Database::parse(alloc, RULES)?;
+    marks::begin(alloc)?;
+    let first = db.region(&code);
+    marks::end(alloc)?;
+    let second = db.region(&code);
+    Ok([words(alloc, &first)?, words(alloc, &second)?])
+}
+
 #[test]
 fn ids_of_a_code_of_two(rt: HostRuntime) -> Result<(), Fail> {
-    marks::judge(&rt, &region(rt.alloc(), 870)?, " 001 QQ")
+    marks::judge(&rt, &region(rt.alloc(), 870)?, "Some([\"001\", \"QQ\"])")
 }
 
 #[test]
 fn ids_of_a_code_of_none(rt: HostRuntime) -> Result<(), Fail> {
-    marks::judge(&rt, &region(rt.alloc(), 999)?, "none")
+    marks::judge(&rt, &region(rt.alloc(), 999)?, "None")
 }

@@ -1,5 +1,6 @@
 //! The marks around the call whose requests are refused, and how its two answers are judged.
 use std::alloc::{AllocError, Global};
+use std::fmt::Debug;
 use std::process::Abort;
 use std::test::Fail;
 
@@ -28,6 +29,17 @@ pub(crate) fn end(alloc: Global) -> Result<(), AllocError> {
 
 /// How want of memory is told, in place of an answer.
 pub(crate) const MEMORY: &str = "Memory";
+
+/// An answer in words, or that memory was wanted.
+pub(crate) fn words<T: Debug>(
+    alloc: Global,
+    answer: &Result<T, AllocError>,
+) -> Result<String, AllocError> {
+    match answer {
+        Ok(value) => format!(in alloc; "{value:?}"),
+        Err(_) => String::from_str(alloc, MEMORY),
+    }
+}
 
 /// What a call answered, in words: between the marks, and again behind them, with ample memory.
 pub(crate) type Answers = [String; 2];

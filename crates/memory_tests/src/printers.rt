@@ -24,7 +24,7 @@ impl fmt::Write for Page {
 }
 
 /// An empty page, with room for more than a text.
-fn page(alloc: Global) -> Result<Page, AllocError> {
+fn blank(alloc: Global) -> Result<Page, AllocError> {
     Ok(Page {
         text: String::with_capacity(alloc, 100)?,
         pieces: 0,
@@ -50,7 +50,7 @@ fn displayed(alloc: Global, hint: Option<Id>, line: &str, mode: Mode) -> Result<
     let db = Database::parse(alloc, THREE)?;
     let number = parse_with(&db, hint, line)?;
     let printer = format_with(&db, &number).mode(mode);
-    let (mut first, mut second) = (page(alloc)?, page(alloc)?);
+    let (mut first, mut second) = (blank(alloc)?, blank(alloc)?);
     marks::begin(alloc)?;
     let end = display(&mut first, &printer);
     marks::end(alloc)?;
