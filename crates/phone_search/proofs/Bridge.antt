@@ -1,14 +1,16 @@
 -- An automaton of the tree cut to ASCII finds in ASCII texts what the tree finds, and its cells hold the groups' slots.
-use Rattle.std.proofs.Common.{◌≡◌, ◌<◌, ◌≤◌, ◌+◌, ◌-◌, ◌*◌, ℕ, zero, suc, true, cond, List, [], length, Option, None, Some, All, IfSome, option_map, slice_index, refl, sym, subst, ap, ap₂, ◌∙◌, inl, inr, arith, ne_eqb, Bool, false, IsSome, is_some, ◌==◌}
+use Rattle.std.proofs.Common.{◌≡◌, ◌<◌, ◌≤◌, ◌+◌, ◌-◌, ◌*◌, ℕ, zero, suc, true, cond, List, length, take, drop, ◌++◌, Option, None, Some, All, IfSome, option_map, slice_index, refl, sym, subst, ap, ap₂, ◌∙◌, inl, inr, arith, ne_eqb, false, IsSome, is_some}
 use Rattle.std.proofs.lemmas.Bool.{cases_lt, cond-true, cond-false}
 use Rattle.std.proofs.lemmas.Bool.Decides.{nat_tests}
 use Rattle.std.proofs.lemmas.List.FromFn.{get_or-map-range_with_len}
 use Rattle.std.proofs.lemmas.Option.{slice_get_past, slice_get-get_or, none-some, same_Some}
-use Rattle.std.specs.Option.{option_map_or, option_or}
+use Rattle.std.specs.Option.{option_or}
 use Rattle.phone_search.specs.Ascii.{AsciiSame}
 use Rattle.phone_search.specs.Finds.{at_front, captured, found_by, group, group_at, position, FindsInAscii}
 use Rattle.phone_search.specs.declared.machine.Captured.{Captured}
-use Rattle.regex.specs.Writes.{both, group_of}
+use Rattle.phone_search.specs.Templates.{with_match_replaced, AreTexts, IsWritten}
+use Rattle.regex.specs.Replace.{bytes_of}
+use Rattle.regex.specs.Writes.{both}
 use Rattle.regex_compile.specs.Implements.{Implements}
 use Rattle.regex_hir.specs.Find.{Match, first_between, find_str, last_write, slot_of}
 use Rattle.regex_hir.specs.Re.{Re, Rest, Trace, attempt, accept}
@@ -17,6 +19,7 @@ use Rattle.regex_hir.proofs.FindLemmas.{first_between_here, first_between_next, 
 use Rattle.regex_hir.proofs.OptionLemmas.{option_or-None}
 use Rattle.regex_nfa.specs.Run.{run}
 use Rattle.regex_nfa.specs.declared.nfa.Nfa.{Nfa}
+use Rattle.regex_syntax.specs.Grammar.{Names}
 use Rattle.regex_tagged.specs.Search.{IsNear}
 use Rattle.regex_tagged.specs.declared.near.Near.{Near}
 use Rattle.regex_vm.specs.Found.{span, cell, group_cells}
@@ -127,3 +130,31 @@ pub captured_found : (hay : List ℕ) (nfa : Nfa) (near : Near) (s : Option (ℕ
 captured_found hay nfa near s cells width last is told room =
     let all : IsNear nfa hay 0 width cells (Near.Done s) = subst (IsNear nfa hay 0 width cells) is told in
     captured_of_cells _ s cells width last all.0 all.1 (omega arith) (omega arith)
+
+-- what holds of what is there, if it is there
+pub IfSome-weaker : {A : Type 0} (P Q : A → Type 0) → ((x : A) → P x → Q x) → (o : Option A) → IfSome o P → IfSome o Q
+IfSome-weaker P Q f None h = h
+IfSome-weaker P Q f (Some x) h = f x h
+
+-- a text in which what a template writes stands in the place of the match that was found
+pub replaced_found : (template hay : List ℕ) (nfa : Nfa) (near : Near) (s : ℕ × ℕ) (cells : List ℕ) (width : ℕ) (text : List ℕ) →
+    near ≡ Near.Done (Some s) → IsNear nfa hay 0 width cells near → length cells ≡ width →
+    ((bytes : List ℕ) × (text ≡ (take s.0 hay ++ bytes) ++ drop s.1 hay) × IsWritten template hay s cells bytes) →
+    (names : Names) → text ≡ with_match_replaced names template hay (found_by nfa hay)
+replaced_found template hay nfa near s cells width text is told long (bytes, parts, written) names =
+    let all : IsNear nfa hay 0 width cells (Near.Done (Some s)) = subst (IsNear nfa hay 0 width cells) is told in
+    go (found_by nfa hay) all.0 all.1
+  where
+    go : (o : Option Match) → Some s ≡ option_map span o → IfSome o (λ m. cells ≡ group_cells m width) → text ≡ with_match_replaced names template hay o
+    go None e told = absurd (none-some s (sym e))
+    go (Some m) e told =
+        let same : s ≡ span m = same_Some _ _ e in
+        let texts : AreTexts hay s cells (λ n. bytes_of hay (group m n)) =
+        λ n fits. ap (bytes_of hay) (sym (ap₂ (λ (w : ℕ × ℕ) (c : List ℕ). group_at w c n) same told ∙ group_at-group m width n (rw long at fits))) in
+        parts
+        ∙ ap₂ (λ (w : ℕ × ℕ) (b : List ℕ). (take w.0 hay ++ b) ++ drop w.1 hay) same (written names (λ n. bytes_of hay (group m n)) texts)
+
+-- a text in which nothing was found stays as it is
+pub none_kept : (names : Names) (template hay : List ℕ) (o : Option Match) → None ≡ option_map span o → hay ≡ with_match_replaced names template hay o
+none_kept names template hay None e = refl
+none_kept names template hay (Some m) e = absurd (none-some (span m) e)

@@ -4,6 +4,7 @@
 
 mod machine;
 mod narrow;
+mod template;
 
 pub use machine::{Captured, Machine};
 pub use narrow::narrowed;

@@ -1,21 +1,24 @@
 //! A machine: a pattern's automaton for ASCII texts, and the steps that its searches have worked out.
-ghost use Rattle.std.specs.Prelude.{◌≡◌, ◌-◌, ◌+◌, ◌*◌, ◌≤◌, ℕ, length, vec_len, IfSome, option_map};
+ghost use Rattle.std.specs.Prelude.{◌≡◌, ◌-◌, ◌+◌, ◌*◌, ◌≤◌, ℕ, length, vec_len, string_bytes, IfOk, IfSome, option_map};
 ghost use Rattle.phone_search.specs.Ascii.{AsciiSame};
 ghost use Rattle.phone_search.specs.Finds.{at_front, captured, finds, group_at, FindsInAscii};
+ghost use Rattle.phone_search.specs.Templates.{with_match_replaced};
 ghost use Rattle.regex_compile.specs.Implements.{Implements};
 ghost use Rattle.regex_dfa.specs.Search.{IsForwardFor};
 ghost use Rattle.regex_hir.specs.Meaning.{meaning};
 ghost use Rattle.regex_hir.specs.Re.{Re};
+ghost use Rattle.regex_syntax.specs.Grammar.{Names};
 ghost use Rattle.regex_tagged.specs.Valid.{IsFor};
 ghost use Rattle.regex_vm.specs.Found.{span};
 
 use crate::narrow::narrowed;
+use crate::template;
 use regex_dfa::{Dfa, End, Forward};
 use regex_hir::Hir;
 use regex_nfa::Nfa;
 use regex_syntax::Parsed;
 use regex_tagged::{Near, Tagged};
-use std::alloc::Global;
+use std::alloc::{AllocError, Global};
 use std::marker::Model;
 
 /// What the first match of a pattern spans, and its group 1 and its last group, each part by the bytes at which it begins
@@ -87,7 +90,11 @@ fn narrow_compiled(alloc: Global, parsed: &Parsed) -> Option<(Nfa, usize)>
 }
 
 /// What a group spans, by the cells from group 1 on.
-fn group_of_cells(whole: (usize, usize), cells: &[usize], n: usize) -> Option<(usize, usize)>
+pub(crate) fn group_of_cells(
+    whole: (usize, usize),
+    cells: &[usize],
+    n: usize,
+) -> Option<(usize, usize)>
     requires { 2 * n ≤ length cells.now }
     ensures { result ≡ group_at whole cells.now n }
 {
@@ -187,6 +194,32 @@ impl Machine {
             })),
             Ok(Near::Done(None)) => Some(None),
             _ => None,
+        }
+    }
+
+    /// The text with its first match replaced by a template, in which `$1` stands for the first group; a text without a
+    /// match as it is. None where the automaton gives up, or the template names a group in another way than by one digit,
+    /// or a group that the pattern doesn't have. Refused only for memory.
+    pub fn replaced(
+        &mut self,
+        alloc: Global,
+        template: &str,
+        hay: &str,
+    ) -> Result<Option<String>, AllocError>
+        ensures replaced { IfOk result (λ found. IfSome found (λ out. (names : Names) → string_bytes out ≡ with_match_replaced names template.now hay.now (finds self.old hay.now))) }
+        ensures same { self.new ≡ self.old }
+    {
+        let bytes = hay.as_bytes();
+        let cells = self.cells.as_mut_slice();
+        match self
+            .tagged
+            .find_near(&self.dfa, bytes, 0, bytes.len(), cells)
+        {
+            Ok(Near::Done(Some(span))) => {
+                template::replaced(alloc, template, hay, span, &self.cells)
+            }
+            Ok(Near::Done(None)) => Ok(Some(String::from_str(alloc, hay)?)),
+            _ => Ok(None),
         }
     }
 }

@@ -1,6 +1,4 @@
-use Rattle.std.proofs.Common.{subst}
 use Rattle.regex_hir.specs.Meaning.{meaning}
-use Rattle.phone_search.specs.Finds.{found_by, FindsInAscii}
 use Rattle.phone_search.proofs.Bridge.{finds_in_ascii}
 use Rattle.phone_search.proofs.machine.Machine.new.Goals as goal
 
