@@ -1,7 +1,7 @@
 -- Reading a template byte by byte, where each `$` names its group by one digit.
 use Rattle.std.proofs.Common.{◌≡◌, ◌≢◌, ◌<◌, ◌≤◌, ◌+◌, ◌++◌, ℕ, zero, suc, List, [], ◌∷◌, length, drop, slice_index, Some, refl, sym, ap, ap₂, ◌∙◌, arith, ne_eqb}
 use Rattle.std.proofs.lemmas.Bool.{cond-false}
-use Rattle.std.proofs.lemmas.List.{append_assoc, append-nil, at_drop_all, at_drop_more, get_or-drop}
+use Rattle.std.proofs.lemmas.List.{append_assoc, append-nil, at_drop_all, at_drop_more, drop-drop, get_or-drop}
 use Rattle.std.specs.List.{prefix_len}
 use Rattle.regex.specs.Templates.{at_dollar, group_called, is_name_byte, name_at, number_in, written_after}
 use Rattle.regex_syntax.specs.Grammar.{Names}
@@ -44,6 +44,12 @@ writes_group names text_of n rest h one =
     ∙ ap (λ o. at_dollar names text_of o (written_after names text_of ((48 + n) ∷ rest))) (named n rest h one)
     ∙ rw (called names n h) refl
 
+-- a `$` that stands twice writes itself once
+pub writes_dollar : (names : Names) (text_of : ℕ → List ℕ) (rest : List ℕ) →
+    written_after names text_of (36 ∷ 36 ∷ rest) 0 ≡ 36 ∷ written_after names text_of rest 0
+unfolding written_after
+writes_dollar names text_of rest = refl
+
 module _ (names : Names) (text_of : ℕ → List ℕ) (t : List ℕ) where
   abbrev rest_from : ℕ → List ℕ
   rest_from i = written_after names text_of (drop i t) 0
@@ -56,24 +62,38 @@ module _ (names : Names) (text_of : ℕ → List ℕ) (t : List ℕ) where
       ∙ ap (λ w. out ++ w) (sym (at_drop_more (λ xs. written_after names text_of xs 0) t at 0 inside ∙ writes_byte names text_of (slice_index t at) (drop (at + 1) t) h))
       ∙ told
 
+  abbrev two_on : (at b : ℕ) → at + 1 < length t → slice_index t at ≡ 36 → slice_index (drop (at + 1) t) 0 ≡ b → drop at t ≡ 36 ∷ b ∷ drop (at + 2) t
+  two_on at b inside dollar next =
+      let two : at + 1 + 1 ≡ at + 2 = omega arith in
+      let zero_on : at + 1 + 0 ≡ at + 1 = omega arith in
+      at_drop_more (λ xs. xs) t at 0 (omega arith)
+      ∙ ap₂ (λ c xs. c ∷ xs) dollar
+      (at_drop_more (λ xs. xs) t (at + 1) 0 inside ∙ ap₂ (λ c i. c ∷ drop i t) (ap (slice_index t) (sym zero_on) ∙ sym (get_or-drop (at + 1) t 0 0) ∙ next) two)
+
+  -- two bytes further, where they are `$`
+  pub dollar_on : (at : ℕ) (out : List ℕ) (whole : List ℕ) → at + 1 < length t → slice_index t at ≡ 36 → slice_index (drop (at + 1) t) 0 ≡ 36 →
+      out ++ rest_from at ≡ whole → (out ++ 36 ∷ []) ++ rest_from (at + 2) ≡ whole
+  dollar_on at out whole inside dollar again told =
+      append_assoc out (36 ∷ []) (rest_from (at + 2))
+      ∙ ap (λ w. out ++ w) (sym (ap (λ xs. written_after names text_of xs 0) (two_on at 36 inside dollar again) ∙ writes_dollar names text_of (drop (at + 2) t)))
+      ∙ told
+
   -- two bytes further, where they name a group
   pub group_on : (at n : ℕ) (out more : List ℕ) (whole : List ℕ) → at + 1 < length t → slice_index t at ≡ 36 → n < 10 →
       slice_index (drop (at + 1) t) 0 ≡ 48 + n → prefix_len is_name_byte (drop (at + 1) t) ≡ 1 → more ≡ text_of n →
       out ++ rest_from at ≡ whole → (out ++ more) ++ rest_from (at + 2) ≡ whole
   group_on at n out more whole inside dollar small digit alone text told =
-      let next : drop (at + 1) t ≡ (48 + n) ∷ drop (at + 2) t =
-      at_drop_more (λ xs. xs) t (at + 1) 0 inside ∙ ap₂ (λ b i. b ∷ drop i t) (sym (get_or-drop_zero (at + 1)) ∙ digit) (let two : at + 1 + 1 ≡ at + 2 = omega arith in two) in
-      let one : drop at t ≡ 36 ∷ (48 + n) ∷ drop (at + 2) t =
-      at_drop_more (λ xs. xs) t at 0 (omega arith) ∙ ap₂ (λ b xs. b ∷ xs) dollar next in
+      let both = two_on at (48 + n) inside dollar digit in
+      let next : drop (at + 1) t ≡ (48 + n) ∷ drop (at + 2) t = drop_tail at (48 + n) both in
       append_assoc out more (rest_from (at + 2))
       ∙ ap (λ w. out ++ w)
       (ap (λ w. w ++ rest_from (at + 2)) text
-      ∙ sym (ap (λ xs. written_after names text_of xs 0) one
+      ∙ sym (ap (λ xs. written_after names text_of xs 0) both
       ∙ writes_group names text_of n (drop (at + 2) t) small (sym (ap (prefix_len is_name_byte) next) ∙ alone)))
       ∙ told
     where
-      get_or-drop_zero : (i : ℕ) → slice_index (drop i t) 0 ≡ slice_index t i
-      get_or-drop_zero i = get_or-drop i t 0 0 ∙ ap (slice_index t) (let zero_on : i + 0 ≡ i = omega arith in zero_on)
+      drop_tail : (at b : ℕ) → drop at t ≡ 36 ∷ b ∷ drop (at + 2) t → drop (at + 1) t ≡ b ∷ drop (at + 2) t
+      drop_tail at b e = sym (drop-drop 1 at t) ∙ ap (drop 1) e
 
   -- at the end all is written
   pub all_on : (at : ℕ) (out : List ℕ) (whole : List ℕ) → length t ≤ at → out ++ rest_from at ≡ whole → out ≡ whole

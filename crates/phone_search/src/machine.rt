@@ -139,6 +139,13 @@ impl Machine {
         })
     }
 
+    /// The number of the last group; 0 where the pattern has none.
+    pub fn last_group(&self) -> usize
+        ensures { result ≡ self.now.last }
+    {
+        self.last
+    }
+
     /// Whether the first match begins at the first byte. None where the automaton gives up.
     pub fn is_at_front(&mut self, hay: &[u8]) -> Option<bool>
         ensures found { IfSome result (λ b. b ≡ at_front (finds self.old hay.now)) }

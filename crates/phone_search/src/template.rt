@@ -1,5 +1,5 @@
-//! Writing a template in the place of a match. Served are the templates in which each `$` is followed by the one digit
-//! that names a group; any other is left to a library.
+//! Writing a template in the place of a match. Served are the templates in which each `$` is followed by a `$`, which
+//! then stands for itself, or by the one digit that names a group; any other is left to a library.
 ghost use Rattle.std.specs.Prelude.{◌≡◌, ◌+◌, ◌*◌, ◌≤◌, ◌<◌, ◌++◌, length, drop, take, slice_index, string_bytes, IfOk, IfSome, IsTrue, OnOk};
 ghost use Rattle.std.specs.List.{prefix_len};
 ghost use Rattle.phone_search.specs.Finds.{group_at};
@@ -16,6 +16,13 @@ fn after(bytes: &[u8], count: usize) -> &[u8]
     ensures { result.now ≡ drop count bytes.now }
 {
     &bytes[count..]
+}
+
+/// Whether a `$` stands before these bytes twice.
+fn is_doubled(rest: &[u8]) -> bool
+    ensures { IsTrue result → (0 < length rest.now) × (slice_index rest.now 0 ≡ 36) }
+{
+    !rest.is_empty() && rest[0] == b'$'
 }
 
 /// The group that a `$` names before these bytes, where one digit names it that neither a letter, a digit nor `_` follows.
@@ -70,6 +77,11 @@ fn written(
             continue;
         }
         let rest = after(template, at + 1);
+        if is_doubled(rest) {
+            out.push(b'$')?;
+            at += 2;
+            continue;
+        }
         let Some(n) = group_named(rest) else {
             return Ok(None);
         };
