@@ -1,5 +1,5 @@
 -- What a machine finds in ASCII texts is what the text of its pattern finds there.
-use Rattle.std.proofs.Common.{◌≡◌, ◌<◌, ◌-◌, ◌==◌, ℕ, List, length, Bool, false, nat_le, if◌then◌else◌, Option, None, Some, Result, Ok, Err, IfOk, IfSome, String, Global, string_bytes, All, option_map, refl, ap, ap₂, ◌∙◌, arith}
+use Rattle.std.proofs.Common.{◌≡◌, ◌<◌, ◌-◌, ◌==◌, ℕ, List, length, false, nat_le, if◌then◌else◌, Option, None, Some, Result, Ok, Err, IfOk, IfSome, String, Global, string_bytes, All, option_map, refl, ap, ap₂, ◌∙◌, arith}
 use Rattle.std.specs.declared.alloc.AllocError.{AllocError}
 use Rattle.std.specs.Option.{option_map_or}
 use Rattle.std.specs.Str.{chars}
@@ -27,8 +27,8 @@ pub serves : (pattern : List ℕ) (hir : Hir) (names : Names) (s : Searcher) →
 unfolding first_match Reads
 serves pattern hir names s reads finds_it last = (
   λ hay ok.
-  let small : All (λ x. x < 256) hay = λ k d h. let b = ok k d h in omega arith in
-  ap (option_map seen_of) (finds_it hay ok) ∙ found (read verbose (chars pattern)) _ (meaning hir) hay small (λ x h. h.1) reads,
+      let small : All (λ x. x < 256) hay = λ k d h. let b = ok k d h in omega arith in
+      ap (option_map seen_of) (finds_it hay ok) ∙ found (read verbose (chars pattern)) _ (meaning hir) hay small (λ x h. h.1) reads,
   last ∙ ap (λ (n : Names). length n - 1) (names_read pattern hir names reads),
 )
 

@@ -1,5 +1,5 @@
 //! The place in which a pattern keeps its machine from one search to the next.
-ghost use Rattle.std.specs.Prelude.{◌≡◌, IfOk, IfSome, string_bytes};
+ghost use Rattle.std.specs.Prelude.{◌≡◌, ◌<◌, All, IfOk, IfSome, IsTrue, string_bytes};
 ghost use Rattle.phone_meta.specs.First.{at_start, captured, first_span, replaced};
 
 use crate::kept::Kept;
@@ -14,6 +14,13 @@ use std::cell::RefCell;
 pub(crate) struct Warm {
     alloc: Global,
     slot: RefCell<Option<Box<Kept>>>,
+}
+
+/// Whether a machine serves a text: it is ASCII.
+fn is_served(text: &str) -> bool
+    ensures { IsTrue result → All (λ x. x < 128) text.now }
+{
+    text.is_ascii()
 }
 
 impl Warm {
@@ -44,7 +51,7 @@ impl Warm {
     pub(crate) fn is_at_start(&self, pattern: &str, text: &str) -> Option<bool>
         ensures { IfSome result (λ b. b ≡ at_start pattern.now text.now) }
     {
-        if !text.is_ascii() {
+        if !is_served(text) {
             return None;
         }
         let Ok(mut slot) = self.slot.try_borrow_mut() else {
@@ -60,7 +67,7 @@ impl Warm {
     pub(crate) fn first_span(&self, pattern: &str, text: &str) -> Option<Option<(usize, usize)>>
         ensures { IfSome result (λ found. found ≡ first_span pattern.now text.now) }
     {
-        if !text.is_ascii() {
+        if !is_served(text) {
             return None;
         }
         let Ok(mut slot) = self.slot.try_borrow_mut() else {
@@ -76,7 +83,7 @@ impl Warm {
     pub(crate) fn captured(&self, pattern: &str, text: &str) -> Option<Option<Captured>>
         ensures { IfSome result (λ found. found ≡ captured pattern.now text.now) }
     {
-        if !text.is_ascii() {
+        if !is_served(text) {
             return None;
         }
         let Ok(mut slot) = self.slot.try_borrow_mut() else {
@@ -97,7 +104,7 @@ impl Warm {
     ) -> Result<Option<String>, AllocError>
         ensures { IfOk result (λ found. IfSome found (λ out. string_bytes out ≡ replaced pattern.now template.now text.now)) }
     {
-        if !text.is_ascii() {
+        if !is_served(text) {
             return Ok(None);
         }
         let Ok(mut slot) = self.slot.try_borrow_mut() else {

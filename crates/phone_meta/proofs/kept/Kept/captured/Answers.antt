@@ -1,7 +1,6 @@
-use Rattle.std.proofs.Common.{◌≡◌, ◌<◌, ◌≤◌, ℕ, Option, Some, None, option_map, string_bytes, true, false, cond, nat_le, ap, sym, arith, ◌∙◌}
+use Rattle.std.proofs.Common.{◌≡◌, Some, None, option_map, string_bytes, true, false, cond, nat_le, ap, sym, arith, ◌∙◌}
 use Rattle.std.proofs.lemmas.Bool.Decides.{nat_tests}
 use Rattle.phone_meta.specs.First.{captured}
-use Rattle.phone_meta.specs.declared.pattern.Captured.{Captured}
 use Rattle.phone_meta.proofs.Serving.{as_captured, captured_served}
 use Rattle.phone_meta.proofs.kept.Kept.captured.Goals.{in-Some+then-has_group, in-Some+else-has_group, in-None}
 use Rattle.phone_meta.proofs.kept.Kept.captured.Goals as goal

@@ -1,6 +1,5 @@
-use Rattle.std.proofs.Common.{ap, sym, ◌∙◌, ℕ, length, ◌-◌, option_map, string_bytes}
+use Rattle.std.proofs.Common.{ap, sym, ◌∙◌, ℕ, ◌-◌, option_map, string_bytes}
 use Rattle.std.proofs.lemmas.List.{length-map}
-use Rattle.phone_meta.specs.Kept.{Serves}
 use Rattle.phone_meta.proofs.Serving.{serves}
 use Rattle.phone_meta.proofs.kept.Kept.new.Goals as goal
 

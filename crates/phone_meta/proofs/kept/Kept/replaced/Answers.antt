@@ -1,4 +1,4 @@
-use Rattle.std.proofs.Common.{◌≡◌, string_bytes, ap, ◌∙◌}
+use Rattle.std.proofs.Common.{string_bytes, ap, ◌∙◌}
 use Rattle.phone_meta.specs.First.{names_in, replaced}
 use Rattle.phone_meta.proofs.Serving.{for_names, replaced_served}
 use Rattle.phone_meta.proofs.kept.Kept.replaced.Goals as goal
