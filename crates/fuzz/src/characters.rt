@@ -79,7 +79,7 @@ const ZEROS: [u32; 5] = ['0' as u32, 0xFF10, 0x660, 0x966, 0x1D7CE];
 
 /// The zero of a script; mostly that of ASCII.
 pub fn zero(random: &mut Random) -> u32 {
-    if random.is_one_in(16) {
+    if random.is_one_in(24) {
         let place = random.place(ZEROS.len());
         ZEROS.get(place).copied().unwrap_or(0x30)
     } else {

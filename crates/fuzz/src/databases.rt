@@ -7,8 +7,11 @@ use std::alloc::{AllocError, Global};
 /// Ids of territories: of regions, of none, texts that are no id at all.
 const IDS: [&str; 10] = ["NZ", "US", "FR", "CA", "GB", "IT", "NZ", "001", "QQ", "\u{E9}\"\\\t"];
 
-/// Calling codes, of which some begin others, and some are found in no text.
-const CODES: [u64; 14] = [1, 1, 7, 12, 33, 37, 39, 44, 64, 64, 376, 999, 1234, 65535];
+/// Calling codes, of which some begin others.
+const CODES: [u64; 14] = [1, 1, 7, 12, 33, 37, 39, 44, 64, 64, 64, 376, 377, 999];
+
+/// Calling codes that are found in no digits.
+const ODD_CODES: [u64; 5] = [0, 0, 65535, 1000, 1234];
 
 /// Keys with a fault of their own. Of a repeated key the last counts.
 const FAULTS: [&str; 22] = [
@@ -54,12 +57,7 @@ pub struct Made {
 pub fn made(alloc: Global, random: &mut Random) -> Result<Made, AllocError> {
     let mut json = Json::new(alloc);
     let mut territories = Vec::new(alloc);
-    let codes = [
-        random.number(&CODES),
-        random.number(&CODES),
-        random.below(65536),
-        random.below(1000),
-    ];
+    let codes = codes(random);
     json.open('[')?;
     for _ in 0..random.between(1, 6) {
         let id = random.word(&IDS);
@@ -74,6 +72,15 @@ pub fn made(alloc: Global, random: &mut Random) -> Result<Made, AllocError> {
         json.into_text()
     };
     Ok(Made { text, territories })
+}
+
+/// The calling codes of a database's records: mostly one or two, so that several records have one.
+fn codes(random: &mut Random) -> [u64; 8] {
+    let first = random.number(&CODES);
+    let second = random.number(&CODES);
+    let any = random.below(1000);
+    let odd = random.number(&ODD_CODES);
+    [first, first, first, first, second, second, any, odd]
 }
 
 /// What stands at the end of a record: mostly nothing.

@@ -81,20 +81,31 @@ pub fn query(alloc: Global, random: &mut Random, made: &Made) -> Result<Query, A
     let Some(territory) = made.territories.get(place) else {
         return Ok(Query { hint: None, text });
     };
-    let place = random.place(FORMS.len());
-    let form = FORMS.get(place).copied().unwrap_or(Form::Plus);
+    let form = form(random, territory);
     if random.is_one_in(12) {
         text.push_str(random.word(&FRONTS))?;
     }
     push_form(&mut text, random, territory, form)?;
-    if random.is_one_in(5) {
+    if random.is_one_in(6) {
         text.push_str(random.word(&ENDS))?;
     }
-    if random.is_one_in(4) {
+    if random.is_one_in(5) {
         text = edited(alloc, random, text.as_str())?;
     }
     let hint = hint(random, made, territory, form);
     Ok(Query { hint, text })
+}
+
+/// A form for a text of a territory: mostly one with a calling code where it can't be a hint.
+fn form(random: &mut Random, territory: &Territory) -> Form {
+    let place = random.place(FORMS.len());
+    let form = FORMS.get(place).copied().unwrap_or(Form::Plus);
+    let wants_hint = matches!(form, Form::National | Form::Bare | Form::Dialled | Form::Coded);
+    if wants_hint && territory.id.parse::<Id>().is_err() && !random.is_one_in(4) {
+        Form::Plus
+    } else {
+        form
+    }
 }
 
 /// A hint for a text of a form: mostly the territory's own, for texts that tell a code mostly none.
