@@ -138,7 +138,11 @@ impl Counts {
     /// Counts a number that was made of parts.
     pub fn parts(&mut self, told: &Told) {
         self.add("made of parts", "numbers");
-        self.add_if(told.queried.region.is_some(), "made of parts", "with region");
+        self.add_if(
+            told.queried.region.is_some(),
+            "made of parts",
+            "with region",
+        );
         self.add_if(told.queried.is_valid, "made of parts", "valid");
         self.printed(told);
     }

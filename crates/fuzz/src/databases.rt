@@ -5,7 +5,18 @@ use crate::records::{Territory, push_record};
 use std::alloc::{AllocError, Global};
 
 /// Ids of territories: of regions, of none, texts that are no id at all.
-const IDS: [&str; 10] = ["NZ", "US", "FR", "CA", "GB", "IT", "NZ", "001", "QQ", "\u{E9}\"\\\t"];
+const IDS: [&str; 10] = [
+    "NZ",
+    "US",
+    "FR",
+    "CA",
+    "GB",
+    "IT",
+    "NZ",
+    "001",
+    "QQ",
+    "\u{E9}\"\\\t",
+];
 
 /// Calling codes, of which some begin others.
 const CODES: [u64; 14] = [1, 1, 7, 12, 33, 37, 39, 44, 64, 64, 64, 376, 377, 999];
@@ -46,6 +57,20 @@ const REPEATED: [&str; 3] = [
     "\"id\":\"n\\u007a\",\"id\":\"\\u004eZ\",\"voip\":null",
 ];
 
+/// Texts that are no lists of records, or empty ones.
+const WHOLE: [&str; 10] = [
+    "[]",
+    "",
+    "{}",
+    "null",
+    "[1]",
+    "[{}]",
+    "[null]",
+    "\u{FEFF}[]",
+    " [ ] ",
+    "[],",
+];
+
 /// A database text, and what texts of its territories are made from.
 #[derive(Drop)]
 pub struct Made {
@@ -53,7 +78,7 @@ pub struct Made {
     pub territories: Vec<Territory>,
 }
 
-/// A random database text of one to six records; one in twelve has a fault.
+/// A random database text of one to six records; about one in six has a fault.
 pub fn made(alloc: Global, random: &mut Random) -> Result<Made, AllocError> {
     let mut json = Json::new(alloc);
     let mut territories = Vec::new(alloc);
@@ -66,10 +91,11 @@ pub fn made(alloc: Global, random: &mut Random) -> Result<Made, AllocError> {
         territories.push(push_record(alloc, random, &mut json, (id, code), keys)?)?;
     }
     json.close(']')?;
-    let text = if random.is_one_in(32) {
-        spoilt(alloc, random, json.as_str())?
-    } else {
-        json.into_text()
+    let text = match random.below(48) {
+        0 => spoilt(alloc, random, json.as_str())?,
+        1 => nested(alloc, random)?,
+        2 => String::from_str(alloc, random.word(&WHOLE))?,
+        _ => json.into_text(),
     };
     Ok(Made { text, territories })
 }
@@ -98,4 +124,21 @@ fn spoilt(alloc: Global, random: &mut Random, text: &str) -> Result<String, Allo
     let mut spoilt: String = text.chars().take(size).collect(alloc)?;
     spoilt.push_str(random.word(&["", "}", "]", "\u{FEFF}", "\"", ",", "\u{0}"]))?;
     Ok(spoilt)
+}
+
+/// Empty lists in one another, about as deep as JSON is read.
+fn nested(alloc: Global, random: &mut Random) -> Result<String, AllocError> {
+    let depth = random.between(125, 130) as usize;
+    let mut text = String::new(alloc);
+    push_copies(&mut text, '[', depth)?;
+    push_copies(&mut text, ']', depth)?;
+    Ok(text)
+}
+
+/// Writes a character so many times.
+fn push_copies(text: &mut String, c: char, count: usize) -> Result<(), AllocError> {
+    for _ in 0..count {
+        text.push(c)?;
+    }
+    Ok(())
 }

@@ -36,7 +36,10 @@ pub const NATIONAL: [Piece; 28] = [
     ("0(\\d{2})?", "0##"),
     ("[01](?:(2)|(3))?", "13"),
     ("(\\d)(\\d)(\\d)(\\d)(\\d)(\\d)(\\d)(\\d)(\\d)", "#########"),
-    ("0(\\d?)(\\d?)(\\d?)(\\d?)(\\d?)(\\d?)(\\d?)(\\d?)(\\d?)", "0#"),
+    (
+        "0(\\d?)(\\d?)(\\d?)(\\d?)(\\d?)(\\d?)(\\d?)(\\d?)(\\d?)",
+        "0#",
+    ),
     ("(?P<a>0)(?P<b>\\d)", "0#"),
     ("^0", "0"),
     ("0$", "0"),
@@ -63,5 +66,16 @@ pub const PREFERRED: [&str; 3] = ["00", "8~10", "\"\\\n"];
 
 /// What stands before an extension in a printed text.
 pub const EXTENSION_PREFIXES: [&str; 12] = [
-    " ext. ", " ext ", " extn. ", " anexo ", " int ", " x", " e ", "", "#", ";ext=", "0", "\u{1F4DE}",
+    " ext. ",
+    " ext ",
+    " extn. ",
+    " anexo ",
+    " int ",
+    " x",
+    " e ",
+    "",
+    "#",
+    ";ext=",
+    "0",
+    "\u{1F4DE}",
 ];

@@ -81,8 +81,30 @@ const PARAMETERS: [&str; 18] = [
 
 /// What is run again and again.
 const UNITS: [&str; 24] = [
-    " ", "-", "0", "1", "2", "\u{661}", "\u{FF11}", "+", "(", "x", " x", "ext", ";ext=1", ",", "#", "/ x", "\\x", "a",
-    "\u{1F4A9}", "\t", "~", " 1", "1,", "extensi",
+    " ",
+    "-",
+    "0",
+    "1",
+    "2",
+    "\u{661}",
+    "\u{FF11}",
+    "+",
+    "(",
+    "x",
+    " x",
+    "ext",
+    ";ext=1",
+    ",",
+    "#",
+    "/ x",
+    "\\x",
+    "a",
+    "\u{1F4A9}",
+    "\t",
+    "~",
+    " 1",
+    "1,",
+    "extensi",
 ];
 
 /// Texts that are near to the border of what is read.
@@ -140,11 +162,7 @@ pub fn push_form(
 }
 
 /// Writes a number of the territory: digits that a pattern of it was made for, or sometimes any digits.
-fn push_number(
-    text: &mut String,
-    random: &mut Random,
-    t: &Territory,
-) -> Result<(), AllocError> {
+fn push_number(text: &mut String, random: &mut Random, t: &Territory) -> Result<(), AllocError> {
     let place = random.place(t.numbers.len());
     match t.numbers.get(place) {
         Some(digits) if digits.len() > 1 && !random.is_one_in(8) => {
@@ -195,11 +213,7 @@ fn push_plus(
 }
 
 /// Writes what is dialled before a national number, and a number.
-fn push_national(
-    text: &mut String,
-    random: &mut Random,
-    t: &Territory,
-) -> Result<(), AllocError> {
+fn push_national(text: &mut String, random: &mut Random, t: &Territory) -> Result<(), AllocError> {
     text.push_str(random.word(&["", "", "", "("]))?;
     text.push_str(t.national_prefix.as_str())?;
     text.push_str(random.word(&["", " ", "-", ") "]))?;
@@ -207,11 +221,7 @@ fn push_national(
 }
 
 /// Writes what is dialled before a calling code, the code, and a number.
-fn push_dialled(
-    text: &mut String,
-    random: &mut Random,
-    t: &Territory,
-) -> Result<(), AllocError> {
+fn push_dialled(text: &mut String, random: &mut Random, t: &Territory) -> Result<(), AllocError> {
     text.push_str(t.international_prefix.as_str())?;
     push_coded(text, random, t)
 }
@@ -243,11 +253,7 @@ fn push_tel(text: &mut String, random: &mut Random, t: &Territory) -> Result<(),
 }
 
 /// Writes a `tel:` text with its code in a parameter.
-fn push_context(
-    text: &mut String,
-    random: &mut Random,
-    t: &Territory,
-) -> Result<(), AllocError> {
+fn push_context(text: &mut String, random: &mut Random, t: &Territory) -> Result<(), AllocError> {
     let code = t.code;
     text.push_str(random.word(&["tel:", "tel:", ""]))?;
     text.push_str(t.national_prefix.as_str())?;

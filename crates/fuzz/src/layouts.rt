@@ -61,10 +61,7 @@ fn push_layout(
     numbers: &[String],
 ) -> Result<(), AllocError> {
     json.open('{')?;
-    json.text_at(
-        "pattern",
-        groups_for(alloc, random, numbers)?.as_str(),
-    )?;
+    json.text_at("pattern", groups_for(alloc, random, numbers)?.as_str())?;
     json.text_at("format", template(alloc, random)?.as_str())?;
     push_leading_patterns(alloc, random, json, numbers)?;
     if random.is_one_in(2) {

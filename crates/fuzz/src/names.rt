@@ -1,7 +1,7 @@
 //! What answers are called, in counts and in lines.
-use phonenumber::{Mode, ParseError};
 use phonenumber::country::Source;
 use phonenumber::metadata::LoadMetadata;
+use phonenumber::{Mode, ParseError};
 
 /// The name of a refusal to read.
 pub fn refusal(refusal: &ParseError) -> &'static str {

@@ -64,7 +64,19 @@ const PLAIN: [&str; 12] = [
 
 /// Rules that write a national prefix or a carrier into a template.
 const RULES: [&str; 14] = [
-    "$NP$FG", "($NP$FG)", "$NP $FG", "$FG", "0$FG", "$NP", "$CC $FG", "$NP $CC ($FG)", "$FG$CC$NP", "$1", "9", "", "$FG1",
+    "$NP$FG",
+    "($NP$FG)",
+    "$NP $FG",
+    "$FG",
+    "0$FG",
+    "$NP",
+    "$CC $FG",
+    "$NP $CC ($FG)",
+    "$FG$CC$NP",
+    "$1",
+    "9",
+    "",
+    "$FG1",
     "$NPCC$FGNP",
 ];
 

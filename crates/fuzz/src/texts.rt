@@ -100,7 +100,10 @@ pub fn query(alloc: Global, random: &mut Random, made: &Made) -> Result<Query, A
 fn form(random: &mut Random, territory: &Territory) -> Form {
     let place = random.place(FORMS.len());
     let form = FORMS.get(place).copied().unwrap_or(Form::Plus);
-    let wants_hint = matches!(form, Form::National | Form::Bare | Form::Dialled | Form::Coded);
+    let wants_hint = matches!(
+        form,
+        Form::National | Form::Bare | Form::Dialled | Form::Coded
+    );
     if wants_hint && territory.id.parse::<Id>().is_err() && !random.is_one_in(4) {
         Form::Plus
     } else {
