@@ -10,6 +10,9 @@ pub const PARTINGS: [&str; 20] = [
     "\u{3000}", "\u{FF0D}", "\u{30FC}", "*",
 ];
 
+/// What parts the digits of a `tel:` text.
+pub const TEL_PARTINGS: [&str; 6] = ["-", "-", "-", ".", "(", ")"];
+
 /// All characters that viable texts may have between digits, and the wide full stop, which they may not.
 const PUNCTUATION: [char; 34] = [
     '-', 'x', '\u{2010}', '\u{2011}', '\u{2012}', '\u{2013}', '\u{2014}', '\u{2015}', '\u{2212}',

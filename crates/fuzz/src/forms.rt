@@ -1,5 +1,5 @@
 //! The forms in which a number of a territory is written or dialled.
-use crate::characters::{PARTINGS, PLUSES, any, in_script, zero};
+use crate::characters::{PARTINGS, PLUSES, TEL_PARTINGS, any, in_script, zero};
 use crate::random::Random;
 use crate::records::Territory;
 use std::alloc::AllocError;
@@ -149,7 +149,7 @@ pub fn push_form(
     match form {
         Form::Plus => push_plus(text, random, t, ""),
         Form::National => push_national(text, random, t),
-        Form::Bare => push_number(text, random, t),
+        Form::Bare => push_number(text, random, t, &PARTINGS),
         Form::Dialled => push_dialled(text, random, t),
         Form::Coded => push_coded(text, random, t),
         Form::Tel => push_tel(text, random, t),
@@ -162,23 +162,33 @@ pub fn push_form(
 }
 
 /// Writes a number of the territory: digits that a pattern of it was made for, or sometimes any digits.
-fn push_number(text: &mut String, random: &mut Random, t: &Territory) -> Result<(), AllocError> {
+fn push_number(
+    text: &mut String,
+    random: &mut Random,
+    t: &Territory,
+    partings: &[&'static str],
+) -> Result<(), AllocError> {
     let place = random.place(t.numbers.len());
     match t.numbers.get(place) {
         Some(digits) if digits.len() > 1 && !random.is_one_in(8) => {
-            push_parted(text, random, digits.as_str())
+            push_parted(text, random, digits.as_str(), partings)
         }
         _ => push_any_digits(text, random),
     }
 }
 
 /// Writes digits with what parts them here and there; some as letters, all in one script.
-fn push_parted(text: &mut String, random: &mut Random, digits: &str) -> Result<(), AllocError> {
+fn push_parted(
+    text: &mut String,
+    random: &mut Random,
+    digits: &str,
+    partings: &[&'static str],
+) -> Result<(), AllocError> {
     let zero = zero(random);
     let has_letters = random.is_one_in(16);
     for c in digits.chars() {
         if random.is_one_in(5) {
-            text.push_str(random.word(&PARTINGS))?;
+            text.push_str(random.word(partings))?;
         }
         if has_letters && random.is_one_in(2) {
             text.push(random.character(&['A', 'b', 'P', 's', 'X', 'z']))?;
@@ -209,7 +219,7 @@ fn push_plus(
     write!(text, "{code}")?;
     text.push_str(random.word(&["", " ", " ", "-", " (", "\u{A0}"]))?;
     text.push_str(prefix)?;
-    push_number(text, random, t)
+    push_number(text, random, t, &PARTINGS)
 }
 
 /// Writes what is dialled before a national number, and a number.
@@ -217,7 +227,7 @@ fn push_national(text: &mut String, random: &mut Random, t: &Territory) -> Resul
     text.push_str(random.word(&["", "", "", "("]))?;
     text.push_str(t.national_prefix.as_str())?;
     text.push_str(random.word(&["", " ", "-", ") "]))?;
-    push_number(text, random, t)
+    push_number(text, random, t, &PARTINGS)
 }
 
 /// Writes what is dialled before a calling code, the code, and a number.
@@ -231,7 +241,7 @@ fn push_coded(text: &mut String, random: &mut Random, t: &Territory) -> Result<(
     let code = t.code;
     write!(text, "{code}")?;
     text.push_str(random.word(&["", " ", "-"]))?;
-    push_number(text, random, t)
+    push_number(text, random, t, &PARTINGS)
 }
 
 /// Writes parameters of a `tel:` text.
@@ -248,7 +258,8 @@ fn push_tel(text: &mut String, random: &mut Random, t: &Territory) -> Result<(),
     text.push_str(random.word(&["tel:", "tel:", "TEL:", "Tel:", ""]))?;
     write!(text, "+{code}")?;
     text.push_str(random.word(&["-", "-", ".", "("]))?;
-    push_number(text, random, t)?;
+    let partings = tel_partings(random);
+    push_number(text, random, t, partings)?;
     push_parameters(text, random)
 }
 
@@ -257,10 +268,20 @@ fn push_context(text: &mut String, random: &mut Random, t: &Territory) -> Result
     let code = t.code;
     text.push_str(random.word(&["tel:", "tel:", ""]))?;
     text.push_str(t.national_prefix.as_str())?;
-    push_number(text, random, t)?;
+    let partings = tel_partings(random);
+    push_number(text, random, t, partings)?;
     push_parameters(text, random)?;
     write!(text, ";phone-context=+{code}")?;
     push_parameters(text, random)
+}
+
+/// What parts the digits of a `tel:` text; sometimes what may not stand there.
+fn tel_partings(random: &mut Random) -> &'static [&'static str] {
+    if random.is_one_in(8) {
+        &PARTINGS
+    } else {
+        &TEL_PARTINGS
+    }
 }
 
 /// Writes characters of any class.
