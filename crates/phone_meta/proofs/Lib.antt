@@ -6,4 +6,5 @@ pub mod Marks
 pub mod Matches
 pub mod Places
 pub mod Refused
+pub mod Serving
 pub mod TextFaults

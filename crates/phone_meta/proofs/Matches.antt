@@ -22,13 +22,13 @@ use Rattle.phone_meta.specs.First.{IsPattern, first_match, first_span, last_grou
 abbrev Parsed : Type 0
 Parsed = Nested Re × Names
 
-found : (o : Option Parsed) (P : Parsed → Type 0) (re : Re) (hay : List ℕ) → All (λ x. x < 256) hay →
+pub found : (o : Option Parsed) (P : Parsed → Type 0) (re : Re) (hay : List ℕ) → All (λ x. x < 256) hay →
     ((x : Parsed) → P x → SameCaptures re x.0.value) → IsSomeAnd o P →
     option_map seen_of (find_str re hay 0) ≡ option_and_then (λ (x, _). option_map seen_of (find_str x.value hay 0)) o
 found None P re hay bytes f p = absurd p
 found (Some x) P re hay bytes f p = find_str_alike re x.0.value (f x p) hay bytes 0
 
-named : (o : Option Parsed) (P : Parsed → Type 0) (names : Names) →
+pub named : (o : Option Parsed) (P : Parsed → Type 0) (names : Names) →
     IsSomeAnd o P → ((x : Parsed) → P x → names ≡ x.1) → names ≡ option_map_or (λ (_, names). names) o []
 named None P names p f = absurd p
 named (Some x) P names p f = f x p

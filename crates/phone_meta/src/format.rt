@@ -12,8 +12,9 @@ ghost use Rattle.phone_meta.specs.Refusals.{IsPatternRefusal, patterns_in_format
 use crate::loader::{self, Text};
 use crate::pattern::{self, Pattern};
 use crate::rules::FirstGroup;
+use crate::warm::Warm;
 use phone_records::LoadMetadata;
-use regex::{Regex, Template};
+use regex::Regex;
 use std::alloc::{AllocError, Global};
 use std::marker::Model;
 
@@ -22,9 +23,9 @@ use std::marker::Model;
 pub struct Format {
     pattern: Pattern,
     text: Text,
-    /// The template, read from its text with the names of the pattern's groups.
-    template: Template,
     leading_digits: Vec<Regex>,
+    /// What searches for the last of the leading digits.
+    led: Warm,
     national_prefix_rule: Option<Text>,
     is_national_prefix_optional: bool,
     domestic_carrier: Option<Text>,
@@ -33,15 +34,15 @@ pub struct Format {
 impl Model for Format {
     ghost use Rattle.std.specs.Prelude.{Some, map};
     ghost use Rattle.std.specs.List.{AllByRecursion};
-    ghost use Rattle.regex.specs.Strings.{regex_source, IsReadFrom};
-    ghost use Rattle.phone_meta.specs.First.{names_in, IsUnderX};
+    ghost use Rattle.regex.specs.Strings.{regex_source};
+    ghost use Rattle.phone_meta.specs.First.{IsUnderX};
     ghost use Rattle.phone_records.specs.declared.loader.Format as loader;
 
     ghost Value = { loader.Format };
 
     ghost view = { λ f. record { pattern = Some f.pattern; format = Some f.text; leading_digits = map regex_source f.leading_digits.items; national_prefix_formatting_rule = f.national_prefix_rule; national_prefix_optional_when_formatting = f.is_national_prefix_optional; domestic_carrier = f.domestic_carrier } };
 
-    ghost invariant = { λ f. AllByRecursion IsUnderX f.leading_digits.items × IsReadFrom (names_in f.pattern) f.text f.template };
+    ghost invariant = { λ f. AllByRecursion IsUnderX f.leading_digits.items };
 }
 
 impl Format {
@@ -54,12 +55,11 @@ impl Format {
     {
         let pattern = Pattern::new(alloc, given.pattern.unwrap())?;
         let text = given.format.unwrap();
-        let template = pattern.template(text.as_str())?;
         Ok(Format {
             pattern,
             text,
-            template,
             leading_digits: pattern::compile_all(alloc, given.leading_digits.into_vec())?,
+            led: Warm::new(alloc),
             national_prefix_rule: given.national_prefix_formatting_rule,
             is_national_prefix_optional: given.national_prefix_optional_when_formatting,
             domestic_carrier: given.domestic_carrier,
@@ -102,7 +102,10 @@ impl Format {
         ensures unsearched { self.now.leading_digits ≡ [] → result ≡ Ok true }
     {
         match self.leading_digits.split_last() {
-            Some((last, _)) => pattern::is_at_start(self.pattern.allocator(), last, digits),
+            Some((last, _)) => match self.led.is_at_start(last.as_str(), digits) {
+                Some(is_led) => Ok(is_led),
+                None => pattern::is_at_start(self.pattern.allocator(), last, digits),
+            },
             None => Ok(true),
         }
     }
@@ -128,7 +131,7 @@ impl Format {
     pub fn lay_out(&self, digits: &str) -> Result<String, AllocError>
         ensures { IfOk result (λ t. string_bytes t ≡ laid_by self.now (layout_template self.now) digits.now) }
     {
-        self.pattern.replaced_by(&self.template, digits)
+        self.pattern.replaced(self.text.as_str(), digits)
     }
 
     /// The digits laid out for callers inside the country, by the template with its first group written by a rule: the

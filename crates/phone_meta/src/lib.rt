@@ -7,12 +7,14 @@ mod descriptor;
 mod descriptors;
 mod format;
 mod iter;
+mod kept;
 pub mod loader;
 mod metadata;
 mod parse;
 mod pattern;
 mod placed;
 mod rules;
+mod warm;
 
 pub use database::Database;
 pub use descriptor::Descriptor;

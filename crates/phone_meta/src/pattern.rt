@@ -1,11 +1,12 @@
 //! A pattern that is compiled once and held. Contracts see its text.
-ghost use Rattle.std.specs.Prelude.{◌≡◌, ℕ, List, [], ◌∷◌, nat_le, if◌then◌else◌, None, IfOk, IfErr, IfSome, string_bytes};
+ghost use Rattle.std.specs.Prelude.{◌≡◌, ℕ, List, [], ◌∷◌, nat_le, if◌then◌else◌, None, IfOk, IfErr, IfSome, IsTrue, string_bytes};
 ghost use Rattle.std.specs.List.{AllByRecursion};
 ghost use Rattle.regex.specs.Strings.{regex_source, captures_haystack, captures_span, match_haystack, match_span, IsReadFrom};
 ghost use Rattle.phone_meta.specs.First.{at_start, captured, first_span, is_whole_match, names_in, replaced, ArePatternsOf, AreCuts, IsCut, IsPattern, IsPatternOf, IsUnderX};
 ghost use Rattle.phone_meta.specs.Refusals.{IsPatternRefusal};
 
 use crate::loader::Text;
+use crate::warm::Warm;
 use phone_records::LoadMetadata;
 use regex::{Captures, Error, Match, Regex, RegexBuilder, Template};
 use std::alloc::{AllocError, Global};
@@ -16,6 +17,8 @@ use std::marker::Model;
 pub struct Pattern {
     alloc: Global,
     re: Regex,
+    /// What searches texts of ASCII; for others, and where it gives up, `re` is asked.
+    warm: Warm,
 }
 
 impl Model for Pattern {
@@ -56,7 +59,11 @@ impl Pattern {
         ensures refused { IfErr result (IsPatternRefusal (text ∷ [])) }
     {
         let re = compile(alloc, text)?;
-        Ok(Pattern { alloc, re })
+        Ok(Pattern {
+            alloc,
+            re,
+            warm: Warm::new(alloc),
+        })
     }
 
     /// The compiled pattern.
@@ -82,6 +89,9 @@ impl Pattern {
     pub fn is_at_start(&self, text: &str) -> Result<bool, AllocError>
         ensures { IfOk result (λ b. b ≡ at_start self.now text.now) }
     {
+        if let Some(found) = self.warm.is_at_start(self.re.as_str(), text) {
+            return Ok(found);
+        }
         is_at_start(self.alloc, &self.re, text)
     }
 
@@ -90,7 +100,10 @@ impl Pattern {
         ensures span { IfOk result (λ found. found ≡ first_span self.now text.now) }
         ensures borders { IfOk result (λ found. IfSome found (IsCut text.now)) }
     {
-        first_span(self.alloc, &self.re, text)
+        match self.warm.first_span(self.re.as_str(), text) {
+            Some(found) if is_cut_if_any(text, found) => Ok(found),
+            _ => first_span(self.alloc, &self.re, text),
+        }
     }
 
     /// Whether the first match begins at the first byte and ends after the last. Refused only for memory.
@@ -109,6 +122,19 @@ impl Pattern {
         ensures found { IfOk result (λ found. found ≡ captured self.now text.now) }
         ensures borders { IfOk result (λ found. IfSome found (AreCuts text.now)) }
     {
+        match self.warm.captured(self.re.as_str(), text) {
+            Some(found) if are_cuts_if_any(text, found) => Ok(found),
+            _ => self.captured_anew(text),
+        }
+    }
+
+    /// The same, by a search that keeps nothing.
+    #[cold]
+    #[inline(never)]
+    fn captured_anew(&self, text: &str) -> Result<Option<Captured>, AllocError>
+        ensures found { IfOk result (λ found. found ≡ captured self.now text.now) }
+        ensures borders { IfOk result (λ found. IfSome found (AreCuts text.now)) }
+    {
         let last = self.re.captures_len().saturating_sub(1);
         let mut matcher = self.re.matcher(self.alloc)?;
         let Some(captures) = matcher.captures(text) else {
@@ -121,9 +147,30 @@ impl Pattern {
         }))
     }
 
+    /// The text with its first match replaced by a template, in which `$1` stands for the first group; a text without
+    /// a match stays as it is. Refused only for memory.
+    pub fn replaced(&self, template: &str, text: &str) -> Result<String, AllocError>
+        ensures { IfOk result (λ out. string_bytes out ≡ replaced self.now template.now text.now) }
+    {
+        if let Some(out) = self.warm.replaced(self.re.as_str(), template, text)? {
+            return Ok(out);
+        }
+        self.replaced_anew(template, text)
+    }
+
+    /// The same, by a search that keeps nothing.
+    #[cold]
+    #[inline(never)]
+    fn replaced_anew(&self, template: &str, text: &str) -> Result<String, AllocError>
+        ensures { IfOk result (λ out. string_bytes out ≡ replaced self.now template.now text.now) }
+    {
+        let template = self.template(template)?;
+        self.replaced_by(&template, text)
+    }
+
     /// A template that was read from this text, in which `$1` stands for the first group of the pattern. Refused only
     /// for memory.
-    pub(crate) fn template(&self, text: &str) -> Result<Template, AllocError>
+    fn template(&self, text: &str) -> Result<Template, AllocError>
         ensures { IfOk result (λ t. IsReadFrom (names_in self.now) text.now t) }
     {
         Template::new(self.alloc, self.re.capture_names(), text)
@@ -131,20 +178,11 @@ impl Pattern {
 
     /// The text with its first match replaced by a template of this pattern; a text without a match stays as it is.
     /// Refused only for memory.
-    pub(crate) fn replaced_by(&self, template: &Template, text: &str) -> Result<String, AllocError>
+    fn replaced_by(&self, template: &Template, text: &str) -> Result<String, AllocError>
         ensures { (source : List ℕ) → IsReadFrom (names_in self.now) source template.now → IfOk result (λ out. string_bytes out ≡ replaced self.now source text.now) }
     {
         let mut matcher = self.re.matcher(self.alloc)?;
         matcher.replace(self.alloc, text, template)
-    }
-
-    /// The text with its first match replaced by a template, in which `$1` stands for the first group; a text without
-    /// a match stays as it is. Refused only for memory.
-    pub fn replaced(&self, template: &str, text: &str) -> Result<String, AllocError>
-        ensures { IfOk result (λ out. string_bytes out ≡ replaced self.now template.now text.now) }
-    {
-        let template = self.template(template)?;
-        self.replaced_by(&template, text)
     }
 }
 
@@ -157,6 +195,38 @@ pub struct Captured {
     pub first: Option<(usize, usize)>,
     /// The last group, or the match where the pattern has no group; none where the group took no part in the match.
     pub last: Option<(usize, usize)>,
+}
+
+/// Whether a span begins and ends between characters of a text.
+fn is_cut(text: &str, span: (usize, usize)) -> bool
+    ensures { IsTrue result → IsCut text.now span }
+{
+    let (start, end) = span;
+    start <= end && end <= text.len() && text.is_char_boundary(start) && text.is_char_boundary(end)
+}
+
+/// The same of a span that may be absent.
+fn is_cut_if_any(text: &str, span: Option<(usize, usize)>) -> bool
+    ensures { IsTrue result → IfSome span (IsCut text.now) }
+{
+    match span {
+        Some(span) => is_cut(text, span),
+        None => true,
+    }
+}
+
+/// Whether all that is captured begins and ends between characters of a text.
+fn are_cuts_if_any(text: &str, captured: Option<Captured>) -> bool
+    ensures { IsTrue result → IfSome captured (AreCuts text.now) }
+{
+    match captured {
+        Some(captured) => {
+            is_cut(text, captured.span)
+                && is_cut_if_any(text, captured.first)
+                && is_cut_if_any(text, captured.last)
+        }
+        None => true,
+    }
 }
 
 /// What a group of a match spans; group 0 is the match.
@@ -185,7 +255,9 @@ fn span_of(found: Match<'_>) -> (usize, usize)
     (found.start(), found.end())
 }
 
-/// Where the first match of a compiled pattern begins and ends.
+/// Where the first match of a compiled pattern begins and ends, by a search that keeps nothing.
+#[cold]
+#[inline(never)]
 fn first_span(alloc: Global, re: &Regex, text: &str) -> Result<Option<(usize, usize)>, AllocError>
     requires { IsUnderX re.now }
     ensures span { IfOk result (λ found. found ≡ first_span (regex_source re.now) text.now) }

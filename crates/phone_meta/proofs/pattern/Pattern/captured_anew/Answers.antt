@@ -1,5 +1,5 @@
 use Rattle.phone_meta.proofs.Matches.{captures-captured, none-captured}
-use Rattle.phone_meta.proofs.pattern.Pattern.captured.Goals as goal
+use Rattle.phone_meta.proofs.pattern.Pattern.captured_anew.Goals as goal
 
 pub returns-in_default-clause-found : goal.returns-in_default-clause-found
 returns-in_default-clause-found c =

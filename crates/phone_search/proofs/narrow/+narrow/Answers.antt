@@ -1,0 +1,32 @@
+use Rattle.std.proofs.Common.{take, sym}
+use Rattle.std.proofs.lemmas.List.{take_more}
+use Rattle.regex_hir.specs.Meaning.{meaning}
+use Rattle.phone_search.specs.Ascii.{AsciiSame}
+use Rattle.phone_search.proofs.Alike.{chars_kept, repetition_kept, capture_kept, grown}
+use Rattle.phone_search.proofs.narrow.+narrow.Goals as goal
+
+pub narrowed-returns-in_ok-cut-in-Chars : goal.narrowed-returns-in_ok-cut-in-Chars
+narrowed-returns-in_ok-cut-in-Chars t c =
+    rw c.in-Chars.is (chars_kept c.in_ok-cut-in-Chars.field-0 c.in-Chars.class c.in_ok-cut-in-Chars.ensures)
+
+pub narrowed-returns-in_ok-new-in-Repetition : goal.narrowed-returns-in_ok-new-in-Repetition
+narrowed-returns-in_ok-new-in-Repetition t c =
+    let new = c.in_ok-new-in-Repetition.field-0 in
+    let it = c.in-Repetition in
+    let inner : AsciiSame (meaning new.value) (meaning it.sub.value) =
+    rw c.in_ok-new-in-Repetition.ensures.ok (rw c.deref-in-Repetition.ensures at c.in_ok-narrowed-in-Repetition.ensures) in
+    rw it.is (repetition_kept it.min it.max it.greedy new it.sub inner)
+
+pub narrowed-returns-in_ok-new-in-Capture : goal.narrowed-returns-in_ok-new-in-Capture
+narrowed-returns-in_ok-new-in-Capture t c =
+    let new = c.in_ok-new-in-Capture.field-0 in
+    let it = c.in-Capture in
+    let inner : AsciiSame (meaning new.value) (meaning it.sub.value) =
+    rw c.in_ok-new-in-Capture.ensures.ok (rw c.deref-in-Capture.ensures at c.in_ok-narrowed-in-Capture.ensures) in
+    rw it.is (capture_kept it.index new it.sub inner)
+
+pub narrowed_all-loop-i-preserved : goal.narrowed_all-loop-i-preserved
+narrowed_all-loop-i-preserved t c =
+    let next = take_more c.args.subs.now c.loop-i.i c.index-subs-i.result c.loop-i-test.true in
+    rw (c.in_ok-push.ensures.items, next, sym c.index-subs-i.is)
+    (grown c.loop-i.all.items (take c.loop-i.i c.args.subs.now) c.in_ok-narrowed.field-0 c.index-subs-i.result c.loop-i.invariant c.in_ok-narrowed.ensures)
