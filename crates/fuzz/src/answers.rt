@@ -34,16 +34,16 @@ pub enum Answer {
 }
 
 /// Reads a text. An error where memory is refused.
-pub fn answer(alloc: Global, database: &Database, query: &Query) -> Result<Answer> {
+pub fn answer_to(alloc: Global, database: &Database, query: &Query) -> Result<Answer> {
     match parse_with(database, query.hint, query.text.as_str()) {
-        Ok(number) => Ok(Answer::Number(told(alloc, database, number)?)),
+        Ok(number) => Ok(Answer::Number(told_of(alloc, database, number)?)),
         Err(ParseError::Memory) => Err(anyhow!("out of memory")),
         Err(refusal) => Ok(Answer::Refused(refusal)),
     }
 }
 
 /// Prints a number and asks of it. An error where memory is refused.
-pub fn told(alloc: Global, database: &Database, number: PhoneNumber) -> Result<Told> {
+pub fn told_of(alloc: Global, database: &Database, number: PhoneNumber) -> Result<Told> {
     let mut printed = Vec::new(alloc);
     for mode in MODES {
         let text = format_with(database, &number).mode(mode).to_text(alloc);
@@ -94,7 +94,7 @@ pub enum Again {
 }
 
 /// Reads the E.164 text of a number again.
-pub fn again(database: &Database, told: &Told) -> Result<Again> {
+pub fn read_again(database: &Database, told: &Told) -> Result<Again> {
     let Some(Ok(text)) = told.printed.first() else {
         return Ok(Again::None);
     };

@@ -103,7 +103,7 @@ pub fn any(random: &mut Random) -> char {
 
 /// Any character that is in no list.
 fn other(random: &mut Random) -> char {
-    let number = random.below(0x11_0000) as u32;
+    let number = u32::try_from(random.below(0x11_0000)).unwrap_or(0);
     char::from_u32(number).unwrap_or('\u{FFFD}')
 }
 

@@ -79,10 +79,10 @@ pub struct Made {
 }
 
 /// A random database text of one to six records; about one in six has a fault.
-pub fn made(alloc: Global, random: &mut Random) -> Result<Made, AllocError> {
+pub fn make(alloc: Global, random: &mut Random) -> Result<Made, AllocError> {
     let mut json = Json::new(alloc);
     let mut territories = Vec::new(alloc);
-    let codes = codes(random);
+    let codes = draw_codes(random);
     json.open('[')?;
     for _ in 0..random.between(1, 6) {
         let id = random.word(&IDS);
@@ -101,7 +101,7 @@ pub fn made(alloc: Global, random: &mut Random) -> Result<Made, AllocError> {
 }
 
 /// The calling codes of a database's records: mostly one or two, so that several records have one.
-fn codes(random: &mut Random) -> [u64; 8] {
+fn draw_codes(random: &mut Random) -> [u64; 8] {
     let first = random.number(&CODES);
     let second = random.number(&CODES);
     let any = random.below(1000);

@@ -169,8 +169,10 @@ fn push_number(
     partings: &[&'static str],
 ) -> Result<(), AllocError> {
     let place = random.place(t.numbers.len());
+    let is_any = random.is_one_in(8);
+    let least = random.place(5);
     match t.numbers.get(place) {
-        Some(digits) if digits.len() > 1 && !random.is_one_in(8) => {
+        Some(digits) if digits.len() > least && !is_any => {
             push_parted(text, random, digits.as_str(), partings)
         }
         _ => push_any_digits(text, random),
@@ -201,7 +203,7 @@ fn push_parted(
 
 /// Writes a few digits, parted by nothing.
 fn push_any_digits(text: &mut String, random: &mut Random) -> Result<(), AllocError> {
-    for _ in 0..random.between(1, 19) {
+    for _ in 0..random.between(2, 18) {
         text.push(random.digit())?;
     }
     Ok(())

@@ -85,8 +85,9 @@ fn groups_for(
     numbers: &[String],
 ) -> Result<String, AllocError> {
     let place = random.place(numbers.len());
+    let is_whole = random.is_one_in(2);
     match numbers.get(place) {
-        Some(digits) if random.is_one_in(2) => grouped(alloc, random, digits.len() as u64),
+        Some(digits) if is_whole => grouped(alloc, random, digits.len() as u64),
         _ => String::from_str(alloc, random.word(&PATTERNS)),
     }
 }

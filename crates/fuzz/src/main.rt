@@ -37,7 +37,7 @@ use run::run;
 use std::env;
 use std::io::{BufWriter, Write};
 use std::process::ExitCode;
-use words::order;
+use words::order_of;
 
 fn main(rt: HostRuntime) -> Result<ExitCode> {
     let alloc = rt.alloc();
@@ -45,7 +45,7 @@ fn main(rt: HostRuntime) -> Result<ExitCode> {
     for word in env::args(&rt)?.skip(1) {
         words.push(word)?;
     }
-    let Some(order) = order(words.as_slice()) else {
+    let Some(order) = order_of(words.as_slice()) else {
         println!(rt; "usage: fuzz SEED DATABASES TEXTS [FIRST] [--tell] [--times]")?;
         return Ok(ExitCode::from(2));
     };

@@ -8,8 +8,8 @@ use phonenumber::country::{Code, Source};
 use phonenumber::{Carrier, Extension, NationalNumber, PhoneNumber};
 use std::alloc::{AllocError, Global};
 
-/// The bits of a national number's value.
-const VALUE_BITS: u64 = 56;
+/// The least number that is too great for a national number's value.
+const LEAST_BEYOND: u64 = 1 << 56;
 
 /// Extensions and carriers with marks of templates and of texts.
 const TEXTS: [&str; 14] = [
@@ -45,8 +45,9 @@ pub fn number(alloc: Global, random: &mut Random, made: &Made) -> Result<PhoneNu
 /// The code of a territory, or sometimes any one.
 fn code(random: &mut Random, territory: Option<&Territory>) -> u16 {
     let any = random.below(65536);
+    let is_any = random.is_one_in(6);
     let code = match territory {
-        Some(territory) if !random.is_one_in(6) => territory.code,
+        Some(territory) if !is_any => territory.code,
         _ => any,
     };
     u16::try_from(code).unwrap_or(0)
@@ -54,17 +55,22 @@ fn code(random: &mut Random, territory: Option<&Territory>) -> u16 {
 
 /// The value of digits that a pattern of a territory was made for, or sometimes any value.
 fn value(random: &mut Random, territory: Option<&Territory>) -> u64 {
-    let any = random.any() >> random.between(64 - VALUE_BITS, 64 - 1);
+    let any = any_value(random);
     let Some(territory) = territory else {
         return any;
     };
     let place = random.place(territory.numbers.len());
+    let is_any = random.is_one_in(6);
     match territory.numbers.get(place) {
-        Some(digits) if !random.is_one_in(6) => {
-            digits.as_str().parse::<u64>().unwrap_or(any) % (1 << VALUE_BITS)
-        }
+        Some(digits) if !is_any => { digits.as_str().parse::<u64>().unwrap_or(any) % LEAST_BEYOND }
         _ => any,
     }
+}
+
+/// Any value, small ones as often as great ones.
+fn any_value(random: &mut Random) -> u64 {
+    let most = random.number(&[1, 100, 100_000, 1_000_000_000, LEAST_BEYOND]);
+    random.below(most)
 }
 
 /// A text of a number, perhaps.

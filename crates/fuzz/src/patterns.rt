@@ -90,13 +90,6 @@ impl Pattern {
         }
     }
 
-    /// A piece as a pattern.
-    pub fn of(alloc: Global, random: &mut Random, piece: Piece) -> Result<Pattern, AllocError> {
-        let mut pattern = Pattern::empty(alloc);
-        pattern.push(random, piece)?;
-        Ok(pattern)
-    }
-
     /// Puts a piece at the end.
     fn push(&mut self, random: &mut Random, piece: Piece) -> Result<(), AllocError> {
         let (text, digits) = piece;
@@ -115,9 +108,9 @@ impl Pattern {
         pattern.text.push_str(front)?;
         for _ in 0..pieces {
             let piece = if random.is_one_in(4) {
-                piece(random, &RARE)
+                draw_piece(random, &RARE)
             } else {
-                piece(random, &PLAIN)
+                draw_piece(random, &PLAIN)
             };
             pattern.push(random, piece)?;
         }
@@ -138,7 +131,7 @@ fn end_for(random: &mut Random, front: &str) -> &'static str {
 }
 
 /// One of these pieces; an empty one where there are none.
-pub fn piece(random: &mut Random, pieces: &[Piece]) -> Piece {
+pub fn draw_piece(random: &mut Random, pieces: &[Piece]) -> Piece {
     let place = random.place(pieces.len());
     pieces.get(place).copied().unwrap_or(("", ""))
 }

@@ -71,7 +71,6 @@ impl Random {
 
     /// A digit.
     pub fn digit(&mut self) -> char {
-        let place = self.below(10) as u32;
-        char::from_digit(place, 10).unwrap_or('0')
+        self.character(&['0', '1', '2', '3', '4', '5', '6', '7', '8', '9'])
     }
 }

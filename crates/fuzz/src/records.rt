@@ -2,7 +2,7 @@
 use crate::dialling::{EXTENSION_PREFIXES, INTERNATIONAL, NATIONAL, PREFERRED, PREFIXES};
 use crate::json::Json;
 use crate::layouts::push_layouts;
-use crate::patterns::{Pattern, piece, push_digits};
+use crate::patterns::{Pattern, draw_piece, push_digits};
 use crate::random::Random;
 use crate::templates::transform;
 use std::alloc::{AllocError, Global};
@@ -83,7 +83,7 @@ fn push_descriptors(
     random: &mut Random,
     json: &mut Json,
 ) -> Result<Vec<String>, AllocError> {
-    let pieces = random.between(1, 4);
+    let pieces = random.between(2, 5);
     let general = Pattern::random(alloc, random, pieces)?;
     let mut numbers = Vec::new(alloc);
     push_descriptor(random, json, "general", &general)?;
@@ -190,7 +190,7 @@ fn push_international_prefix(
     if random.is_one_in(6) {
         return Ok(dialled);
     }
-    let (pattern, digits) = piece(random, &INTERNATIONAL);
+    let (pattern, digits) = draw_piece(random, &INTERNATIONAL);
     json.text_at("international_prefix", pattern)?;
     push_digits(&mut dialled, random, digits)?;
     if random.is_one_in(3) {
@@ -212,7 +212,7 @@ fn push_national_prefix(
         dialled.push_str(prefix)?;
     }
     if random.is_one_in(2) {
-        let (pattern, digits) = piece(random, &NATIONAL);
+        let (pattern, digits) = draw_piece(random, &NATIONAL);
         json.text_at("national_prefix_for_parsing", pattern)?;
         dialled.clear();
         push_digits(&mut dialled, random, digits)?;

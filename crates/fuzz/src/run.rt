@@ -1,11 +1,11 @@
 //! One database after the other, each with its texts.
-use crate::answers::{Answer, again, answer, told};
+use crate::answers::{Answer, answer_to, read_again, told_of};
 use crate::counts::Counts;
-use crate::databases::{Made, made};
+use crate::databases::{Made, make};
 use crate::lines::{database_line, number_line, text_line};
 use crate::numbers::number;
 use crate::random::Random;
-use crate::texts::query;
+use crate::texts::make_query;
 use crate::words::Order;
 use anyhow::{Result, anyhow};
 use phonenumber::metadata::{Database, LoadMetadata};
@@ -42,7 +42,7 @@ fn run_database<R: AllocGlobal + Clock, W: Write>(
 ) -> Result<()> {
     let alloc = rt.alloc();
     let mut random = Random::at(order.seed, place);
-    let made = made(alloc, &mut random)?;
+    let made = make(alloc, &mut random)?;
     let database = Database::parse(alloc, made.text.as_str());
     if let Err(LoadMetadata::Memory) = database {
         return Err(anyhow!("out of memory"));
@@ -88,13 +88,13 @@ fn run_text<R: AllocGlobal + Clock, W: Write>(
     out: &mut W,
 ) -> Result<()> {
     let alloc = rt.alloc();
-    let query = query(alloc, random, made)?;
+    let query = make_query(alloc, random, made)?;
     let start = Instant::now(rt)?;
-    let answer = answer(alloc, database, &query)?;
+    let answer = answer_to(alloc, database, &query)?;
     let time = nanoseconds(rt, start)?;
     counts.answer(&answer);
     if let Answer::Number(told) = &answer {
-        counts.again(again(database, told)?);
+        counts.again(read_again(database, told)?);
     }
     if order.tells {
         let line = text_line(alloc, &query, &answer, order.times.then_some(time))?;
@@ -116,7 +116,7 @@ fn run_number<R: AllocGlobal + Clock, W: Write>(
     let alloc = rt.alloc();
     let number = number(alloc, random, made)?;
     let start = Instant::now(rt)?;
-    let told = told(alloc, database, number)?;
+    let told = told_of(alloc, database, number)?;
     let time = nanoseconds(rt, start)?;
     counts.parts(&told);
     if order.tells {

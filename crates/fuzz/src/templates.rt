@@ -101,7 +101,7 @@ const TRANSFORMS: [&str; 16] = [
 ];
 
 /// Random marks.
-fn marks(alloc: Global, random: &mut Random) -> Result<String, AllocError> {
+fn draw_marks(alloc: Global, random: &mut Random) -> Result<String, AllocError> {
     let mut text = String::new(alloc);
     for _ in 0..random.below(7) {
         text.push_str(random.word(&MARKS))?;
@@ -116,7 +116,7 @@ fn one_of(
     texts: &[&'static str],
 ) -> Result<String, AllocError> {
     if random.is_one_in(4) {
-        marks(alloc, random)
+        draw_marks(alloc, random)
     } else {
         String::from_str(alloc, random.word(texts))
     }

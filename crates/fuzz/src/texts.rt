@@ -75,7 +75,7 @@ pub struct Query {
 }
 
 /// A random text for a database.
-pub fn query(alloc: Global, random: &mut Random, made: &Made) -> Result<Query, AllocError> {
+pub fn make_query(alloc: Global, random: &mut Random, made: &Made) -> Result<Query, AllocError> {
     let mut text = String::new(alloc);
     let place = random.place(made.territories.len());
     let Some(territory) = made.territories.get(place) else {

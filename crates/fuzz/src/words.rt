@@ -68,7 +68,7 @@ impl Order {
 }
 
 /// What these words order; none where they are wrong.
-pub fn order(words: &[String]) -> Option<Order> {
+pub fn order_of(words: &[String]) -> Option<Order> {
     let mut order = Order::empty();
     let mut numbers = 0u64;
     for word in words {
