@@ -3,7 +3,7 @@ use crate::answers::{Again, Answer, MODES, Told};
 use crate::json::Json;
 use crate::names::{database_refusal, mode, refusal, source};
 use phonenumber::FormatError;
-use phonenumber::metadata::{Database, LoadMetadata};
+use phonenumber::metadata::LoadMetadata;
 use std::alloc::{AllocError, Global};
 
 /// What is counted: a group and a name in it, in the order in which they are told.
@@ -94,12 +94,14 @@ impl Counts {
         }
     }
 
-    /// Counts a database.
-    pub fn database(&mut self, database: &Result<Database, LoadMetadata>) {
-        match database {
-            Ok(_) => self.add("databases", "accepted"),
-            Err(refusal) => self.add("databases", database_refusal(refusal)),
-        }
+    /// Counts a database that was accepted.
+    pub fn accepted(&mut self) {
+        self.add("databases", "accepted");
+    }
+
+    /// Counts a database that was refused.
+    pub fn refused(&mut self, refusal: &LoadMetadata) {
+        self.add("databases", database_refusal(refusal));
     }
 
     /// Counts a text.
@@ -164,19 +166,12 @@ impl Counts {
         self.add("all texts at once", name);
     }
 
-    /// The counts in words, a line for each group.
+    /// The counts in words, a line for each.
     pub fn words(&self, alloc: Global) -> Result<String, AllocError> {
         let mut text = String::new(alloc);
-        let mut group = "";
         for count in &self.counts {
-            let Count { name, count: n, .. } = *count;
-            if count.group == group {
-                write!(text, ", {name} {n}")?;
-            } else {
-                text.push_str(if group.is_empty() { "" } else { "\n" })?;
-                group = count.group;
-                write!(text, "{group}: {name} {n}")?;
-            }
+            let Count { group, name, count } = *count;
+            writeln!(text, "{group}, {name}: {count}")?;
         }
         Ok(text)
     }

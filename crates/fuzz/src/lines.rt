@@ -4,31 +4,43 @@ use crate::json::Json;
 use crate::names::{database_refusal, refusal, source};
 use crate::texts::Query;
 use phonenumber::country::Id;
-use phonenumber::metadata::{Database, LoadMetadata};
+use phonenumber::metadata::LoadMetadata;
 use phonenumber::{FormatError, MetadataError, PhoneNumber};
 use std::alloc::{AllocError, Global};
 
 /// The keys of the printed texts, in the order of the modes.
 const TEXTS: [&str; 4] = ["e164", "international", "national", "rfc3966"];
 
-/// The line of a database: its text; of an accepted one whether no code begins another, else the refusal.
-pub fn database_line(
+/// The line of a database that was accepted: its text, and whether no code begins another.
+pub fn accepted_line(
     alloc: Global,
     text: &str,
-    database: &Result<Database, LoadMetadata>,
+    is_prefix_free: bool,
 ) -> Result<String, AllocError> {
     let mut json = Json::new(alloc);
     json.open('{')?;
     json.text_at("database", text)?;
     json.key("answer")?;
     json.open('{')?;
-    match database {
-        Ok(database) => json.truth_at("prefix_free", database.codes_prefix_free())?,
-        Err(refusal) => push_database_refusal(&mut json, refusal)?,
-    }
+    json.truth_at("prefix_free", is_prefix_free)?;
     json.close('}')?;
+    end(json, None)
+}
+
+/// The line of a database that was refused: its text, and why.
+pub fn refused_line(
+    alloc: Global,
+    text: &str,
+    refusal: &LoadMetadata,
+) -> Result<String, AllocError> {
+    let mut json = Json::new(alloc);
+    json.open('{')?;
+    json.text_at("database", text)?;
+    json.key("answer")?;
+    json.open('{')?;
+    push_database_refusal(&mut json, refusal)?;
     json.close('}')?;
-    Ok(json.into_text())
+    end(json, None)
 }
 
 /// Writes why a database was refused.

@@ -2,14 +2,14 @@
 use crate::answers::{Answer, answer_to, read_again, told_of};
 use crate::counts::Counts;
 use crate::databases::{Made, make};
-use crate::lines::{database_line, number_line, text_line};
+use crate::lines::{accepted_line, number_line, refused_line, text_line};
 use crate::numbers::number;
 use crate::random::Random;
 use crate::texts::make_query;
 use crate::words::Order;
 use anyhow::{Result, anyhow};
 use phonenumber::metadata::{Database, LoadMetadata};
-use std::alloc::AllocGlobal;
+use std::alloc::{AllocGlobal, Global};
 use std::io::Write;
 use std::time::{Clock, Instant};
 
@@ -23,12 +23,13 @@ pub fn run<R: AllocGlobal + Clock, W: Write>(rt: &R, order: &Order, out: &mut W)
     for place in 0..order.databases {
         run_database(rt, order, order.first.wrapping_add(place), &mut counts, out)?;
     }
-    let text = if order.tells {
-        counts.line(alloc)?
+    if order.tells {
+        let line = counts.line(alloc)?;
+        writeln!(out, "{line}")?;
     } else {
-        counts.words(alloc)?
-    };
-    writeln!(out, "{text}")?;
+        let words = counts.words(alloc)?;
+        write!(out, "{words}")?;
+    }
     Ok(())
 }
 
@@ -43,17 +44,36 @@ fn run_database<R: AllocGlobal + Clock, W: Write>(
     let alloc = rt.alloc();
     let mut random = Random::at(order.seed, place);
     let made = make(alloc, &mut random)?;
-    let database = Database::parse(alloc, made.text.as_str());
-    if let Err(LoadMetadata::Memory) = database {
+    match Database::parse(alloc, made.text.as_str()) {
+        Ok(database) => {
+            counts.accepted();
+            if order.tells {
+                let is_free = database.codes_prefix_free();
+                let line = accepted_line(alloc, made.text.as_str(), is_free)?;
+                writeln!(out, "{line}")?;
+            }
+            run_texts(rt, order, &mut random, &made, &database, counts, out)
+        }
+        Err(refusal) => run_refused(alloc, order, &made, &refusal, counts, out),
+    }
+}
+
+/// Tells and counts a database that was refused. An error where memory was.
+fn run_refused<W: Write>(
+    alloc: Global,
+    order: &Order,
+    made: &Made,
+    refusal: &LoadMetadata,
+    counts: &mut Counts,
+    out: &mut W,
+) -> Result<()> {
+    if let LoadMetadata::Memory = refusal {
         return Err(anyhow!("out of memory"));
     }
-    counts.database(&database);
+    counts.refused(refusal);
     if order.tells {
-        let line = database_line(alloc, made.text.as_str(), &database)?;
+        let line = refused_line(alloc, made.text.as_str(), refusal)?;
         writeln!(out, "{line}")?;
-    }
-    if let Ok(database) = database {
-        run_texts(rt, order, &mut random, &made, &database, counts, out)?;
     }
     Ok(())
 }
