@@ -9,8 +9,8 @@
 //! then changed a little; the others are of any characters, or very long.
 //!
 //! It prints counts alone. With `--tell` it prints a line of JSON for each database, text and number, with what is answered,
-//! and the counts as the last one; with `--times` these lines tell the nanoseconds that an answer took. Its status is 2
-//! where the words are wrong.
+//! and the counts as the last one; with `--times` these lines tell the nanoseconds of processor time that an answer took.
+//! Its status is 2 where the words are wrong.
 #![tactic(auto)]
 
 mod answers;

@@ -88,7 +88,8 @@ fn push_descriptors(
     let mut numbers = Vec::new(alloc);
     push_descriptor(random, json, "general", &general)?;
     for kind in KINDS {
-        if random.is_one_in(4) {
+        let is_common = kind == "fixed_line" || kind == "mobile";
+        if random.is_one_in(if is_common { 2 } else { 5 }) {
             let own = own_pattern(alloc, random, &general)?;
             push_descriptor(random, json, kind, &own)?;
             numbers.push(own.digits)?;
@@ -143,7 +144,7 @@ fn push_descriptor(
     json.close('}')
 }
 
-/// Writes a list of lengths: mostly that of the digits, perhaps with others, sometimes a thousand at random.
+/// Writes a list of lengths: mostly that of the digits, perhaps with others, sometimes a thousand at random, or others alone.
 fn push_lengths(
     random: &mut Random,
     json: &mut Json,
@@ -155,6 +156,7 @@ fn push_lengths(
         0 => return json.written("null"),
         1 => return json.written("[]"),
         2 => return push_many(random, json),
+        3..=5 => return push_others(random, json, size),
         _ => {}
     }
     json.open('[')?;
@@ -165,6 +167,16 @@ fn push_lengths(
     json.number(size)?;
     for _ in 0..random.below(3) {
         let more = random.below(5);
+        json.number(size.saturating_add(more))?;
+    }
+    json.close(']')
+}
+
+/// Writes one or two lengths that are none of the digits.
+fn push_others(random: &mut Random, json: &mut Json, size: u64) -> Result<(), AllocError> {
+    json.open('[')?;
+    for _ in 0..random.between(1, 2) {
+        let more = random.between(1, 3);
         json.number(size.saturating_add(more))?;
     }
     json.close(']')

@@ -11,13 +11,13 @@ use anyhow::{Result, anyhow};
 use phonenumber::metadata::{Database, LoadMetadata};
 use std::alloc::{AllocGlobal, Global};
 use std::io::Write;
-use std::time::{Clock, Instant};
+use std::time::{CpuClock, Duration};
 
 /// Of so many texts one is followed by a number that is made of parts.
 const TEXTS_FOR_A_NUMBER: u64 = 4;
 
 /// Runs all databases of an order, and tells the counts last. An error where memory, output or the clock fails.
-pub fn run<R: AllocGlobal + Clock, W: Write>(rt: &R, order: &Order, out: &mut W) -> Result<()> {
+pub fn run<R: AllocGlobal + CpuClock, W: Write>(rt: &R, order: &Order, out: &mut W) -> Result<()> {
     let alloc = rt.alloc();
     let mut counts = Counts::new(alloc)?;
     for place in 0..order.databases {
@@ -34,7 +34,7 @@ pub fn run<R: AllocGlobal + Clock, W: Write>(rt: &R, order: &Order, out: &mut W)
 }
 
 /// Runs the database at a place, with its texts where it is accepted.
-fn run_database<R: AllocGlobal + Clock, W: Write>(
+fn run_database<R: AllocGlobal + CpuClock, W: Write>(
     rt: &R,
     order: &Order,
     place: u64,
@@ -79,7 +79,7 @@ fn run_refused<W: Write>(
 }
 
 /// Runs the texts of a database, and every few texts a number that is made of parts.
-fn run_texts<R: AllocGlobal + Clock, W: Write>(
+fn run_texts<R: AllocGlobal + CpuClock, W: Write>(
     rt: &R,
     order: &Order,
     random: &mut Random,
@@ -98,7 +98,7 @@ fn run_texts<R: AllocGlobal + Clock, W: Write>(
 }
 
 /// Reads a random text; prints and queries the number that it is.
-fn run_text<R: AllocGlobal + Clock, W: Write>(
+fn run_text<R: AllocGlobal + CpuClock, W: Write>(
     rt: &R,
     order: &Order,
     random: &mut Random,
@@ -109,7 +109,7 @@ fn run_text<R: AllocGlobal + Clock, W: Write>(
 ) -> Result<()> {
     let alloc = rt.alloc();
     let query = make_query(alloc, random, made)?;
-    let start = Instant::now(rt)?;
+    let start = rt.thread_cpu_time()?;
     let answer = answer_to(alloc, database, &query)?;
     let time = nanoseconds(rt, start)?;
     counts.answer(&answer);
@@ -124,7 +124,7 @@ fn run_text<R: AllocGlobal + Clock, W: Write>(
 }
 
 /// Prints and queries a random number that is made of parts.
-fn run_number<R: AllocGlobal + Clock, W: Write>(
+fn run_number<R: AllocGlobal + CpuClock, W: Write>(
     rt: &R,
     order: &Order,
     random: &mut Random,
@@ -135,7 +135,7 @@ fn run_number<R: AllocGlobal + Clock, W: Write>(
 ) -> Result<()> {
     let alloc = rt.alloc();
     let number = number(alloc, random, made)?;
-    let start = Instant::now(rt)?;
+    let start = rt.thread_cpu_time()?;
     let told = told_of(alloc, database, number)?;
     let time = nanoseconds(rt, start)?;
     counts.parts(&told);
@@ -146,7 +146,8 @@ fn run_number<R: AllocGlobal + Clock, W: Write>(
     Ok(())
 }
 
-/// The nanoseconds since a start.
-fn nanoseconds(clock: &impl Clock, start: Instant) -> Result<u64> {
-    Ok(u64::try_from(start.elapsed(clock)?.as_nanos()).unwrap_or(u64::MAX))
+/// The nanoseconds of processor time since a start.
+fn nanoseconds(clock: &impl CpuClock, start: Duration) -> Result<u64> {
+    let time = clock.thread_cpu_time()?.saturating_sub(start);
+    Ok(u64::try_from(time.as_nanos()).unwrap_or(u64::MAX))
 }
