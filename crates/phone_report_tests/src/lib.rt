@@ -4,4 +4,6 @@
 #[cfg(test)]
 mod called;
 #[cfg(test)]
+mod devices;
+#[cfg(test)]
 mod reports;

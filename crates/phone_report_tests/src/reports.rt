@@ -1,5 +1,5 @@
-//! The report on lines, and how a run ends where a device fails.
-use phone_device::{At, Limit, MemorySink, MemorySource, Script, Then};
+//! The report on lines.
+use phone_device::{MemorySink, MemorySource};
 use phone_meta::Database;
 use phone_report::{RunError, run};
 use phonenumber::country::Id;
@@ -7,10 +7,10 @@ use std::alloc::{AllocError, Global};
 use std::test::Fail;
 
 /// Three lines: a number of New Zealand, an empty one, and one of the code 800 that no line feed ends.
-const LINES: &[u8] = b"03-331 6005\n\n+800 12345678";
+pub(crate) const LINES: &[u8] = b"03-331 6005\n\n+800 12345678";
 
 /// Their report.
-const REPORT: &str =
+pub(crate) const REPORT: &str =
     "ok\t+6433316005\t+64 3 331 6005\t03 331 6005\ttel:+64-3-331-6005\tdefault\tFixedLine\tNZ\tvalid\nerror\t1\tnot a number\nok\t+80012345678\t+800 12345678\t12345678\ttel:+800-12345678\tplus\tTollFree\t-\tvalid\n";
 
 /// Whether these are no bytes, or whole first lines of the report.
@@ -19,7 +19,7 @@ fn are_whole_lines(bytes: &[u8]) -> bool {
 }
 
 /// How a run ended. Refused where it ended for want of memory behind whole report lines.
-fn unless_memory(
+pub(crate) fn unless_memory(
     end: Result<(), RunError>,
     written: &[u8],
 ) -> Result<Result<(), RunError>, AllocError> {
@@ -95,38 +95,5 @@ fn a_run_without_a_hint_reads_what_tells_its_code(rt: HostRuntime) -> Result<(),
             "error\t2\tinvalid country code\nok\t+6433316005\t+64 3 331 6005\t03 331 6005\ttel:+64-3-331-6005\tplus\tFixedLine\tNZ\tvalid\n"
         )
     );
-    Ok(())
-}
-
-#[test]
-fn a_device_that_fails_ends_the_run(rt: HostRuntime) -> Result<(), Fail> {
-    let alloc = rt.alloc();
-    let db = Database::parse(alloc, phone_samples::THREE)?;
-    let report = REPORT.as_bytes();
-    for (at, whole) in [(0, 0), (11, 0), (12, 88), (13, 109), (25, 109)] {
-        let mut source = Script::new(Vec::from_slice(alloc, LINES)?, Some(At::Byte(at)));
-        let mut sink = MemorySink::new(alloc);
-        let end = run(&db, Some(Id::NZ), &mut source, &mut sink);
-        if end == Err(RunError::Output) {
-            return Err(AllocError.into());
-        }
-        let end = unless_memory(end, sink.bytes())?;
-        assert_eq!(rt; end, Err(RunError::Input));
-        assert_eq!(rt; sink.bytes().len(), whole, "{at}");
-        assert!(rt; report.starts_with(sink.bytes()), "{at}");
-    }
-    for (limit, then) in [
-        (0, Then::Zero),
-        (1, Then::Fail),
-        (100, Then::Zero),
-        (500, Then::FlushFail),
-    ] {
-        let mut source = MemorySource::new(LINES);
-        let mut sink = Limit::new(alloc, limit, then)?;
-        let end = run(&db, Some(Id::NZ), &mut source, &mut sink);
-        let end = unless_memory(end, sink.taken())?;
-        assert_eq!(rt; end, Err(RunError::Output));
-        assert_eq!(rt; sink.taken(), &report[..limit.min(report.len())], "{limit}");
-    }
     Ok(())
 }
