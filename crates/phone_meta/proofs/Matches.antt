@@ -1,8 +1,9 @@
 -- A regex that was built from a text finds the first match of that text.
-use Rattle.std.proofs.Common.{◌≡◌, ◌==◌, false, ℕ, zero, suc, ◌-◌, ◌<◌, ◌++◌, List, [], take, drop, slice_range, Option, None, Some, All, IsSomeAnd, option_map, get_or, length, cond, nat_le, refl, sym, ap, ap₂, ◌∙◌, arith, add-one, ne_eqb}
+use Rattle.std.proofs.Common.{◌≡◌, ◌==◌, false, ℕ, zero, suc, ◌-◌, ◌<◌, ◌++◌, List, [], ◌∷◌, map, take, drop, slice_range, Option, None, Some, All, IsSomeAnd, option_map, get_or, length, cond, nat_le, refl, sym, ap, ap₂, ◌∙◌, arith, add-one, ne_eqb}
 use Rattle.std.proofs.Math.Nat.{sub-zero}
 use Rattle.std.proofs.lemmas.Bool.{cond-false}
 use Rattle.std.proofs.lemmas.List.{get_or_default}
+use Rattle.std.specs.List.{AllByRecursion}
 use Rattle.std.specs.Option.{IsSome, option_and_then, option_map_or, unwrap_or}
 use Rattle.std.specs.Str.{chars}
 use Rattle.regex.specs.Patterns.{Re, Match, Reads, SameCaptures, find_str, find_all_str, span}
@@ -16,7 +17,7 @@ use Rattle.regex_hir.specs.Find.{matches_from}
 use Rattle.regex_syntax.specs.Grammar.{read, Names}
 use Rattle.regex_syntax.specs.Brackets.{Nested}
 use Rattle.regex_syntax.proofs.CapturesLemmas.{find_str_alike}
-use Rattle.phone_meta.specs.First.{IsPattern, first_match, first_span, last_group, captured, captured_by, names_in, replaced, with_first_replaced, group_in, verbose, Seen, seen_of}
+use Rattle.phone_meta.specs.First.{IsPattern, IsUnderX, first_match, first_span, last_group, captured, captured_by, names_in, replaced, with_first_replaced, group_in, verbose, Seen, seen_of}
 
 -- what a pattern text is read as
 abbrev Parsed : Type 0
@@ -117,6 +118,11 @@ module _ (r : Regex) (config : regex_config r ≡ verbose) (is_read : IsReadFrom
             one_for (writes template) hay o ≡ with_first_replaced (regex_names r) template hay (option_map seen_of o)
         written None = refl
         written (Some m) = rw sub-zero
+
+-- compiled patterns are of texts that are patterns
+pub are_patterns : (res : List Regex) → AllByRecursion IsUnderX res → AllByRecursion IsPattern (map regex_source res)
+are_patterns [] h = tt
+are_patterns (r ∷ rs) h = (is_pattern r h.0.0 h.0.1, are_patterns rs h.1)
 
 -- where a match begins, told by its span
 pub begins-first_span : (o : Option Seen) → option_map_or (λ (p : ℕ × ℕ). p.0 == 0) (option_map (λ (s : Seen). (s.0, s.1)) o) false ≡ option_map_or (λ (s : Seen). s.0 == 0) o false

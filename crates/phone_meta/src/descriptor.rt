@@ -9,15 +9,17 @@ ghost use Rattle.phone_meta.specs.Records.{allows_length, matches, pattern_of};
 
 use crate::loader::{self, Text};
 use crate::pattern::Pattern;
+use crate::pool::Pool;
 use phone_records::LoadMetadata;
 use regex::Regex;
-use std::alloc::{AllocError, Global};
+use std::alloc::AllocError;
 use std::marker::Model;
+use std::rc::Rc;
 
 /// The numbers of one kind in a territory: their lengths and their pattern.
 #[derive(Drop)]
 pub struct Descriptor {
-    national_number: Pattern,
+    national_number: Rc<Pattern>,
     possible_length: Vec<u16>,
     possible_local_length: Vec<u16>,
     example: Option<Text>,
@@ -29,13 +31,13 @@ impl Model for Descriptor {
 
     ghost Value = { loader.Descriptor };
 
-    ghost view = { λ d. record { national_number = Some d.national_number; possible_length = d.possible_length.items; possible_local_length = d.possible_local_length.items; example = d.example } };
+    ghost view = { λ d. record { national_number = Some d.national_number.value; possible_length = d.possible_length.items; possible_local_length = d.possible_local_length.items; example = d.example } };
 }
 
 impl Descriptor {
     /// Compiles a record, whose pattern must be there.
     pub(crate) fn compile(
-        alloc: Global,
+        pool: &Pool,
         given: loader::Descriptor,
     ) -> Result<Descriptor, LoadMetadata>
         requires { missing_in_descriptor (Some given) ≡ None }
@@ -44,7 +46,7 @@ impl Descriptor {
         ensures refused { IfErr result (IsPatternRefusal (patterns_in_descriptor (Some given))) }
     {
         Ok(Descriptor {
-            national_number: Pattern::new(alloc, given.national_number.unwrap())?,
+            national_number: pool.pattern(given.national_number.unwrap())?,
             possible_length: given.possible_length.into_vec(),
             possible_local_length: given.possible_local_length.into_vec(),
             example: given.example,
@@ -62,7 +64,7 @@ impl Descriptor {
     pub fn pattern(&self) -> &Pattern
         ensures { result.now ≡ pattern_of self.now }
     {
-        &self.national_number
+        self.national_number.as_ref()
     }
 
     /// The text of that pattern.

@@ -9,57 +9,51 @@ ghost use Rattle.phone_records.specs.Missing.{first_given, missing_in_format};
 ghost use Rattle.phone_meta.specs.Records.{is_led};
 ghost use Rattle.phone_meta.specs.Refusals.{IsPatternRefusal, patterns_in_format};
 
+use crate::leading::Leading;
 use crate::loader::{self, Text};
-use crate::pattern::{self, Pattern};
+use crate::pattern::Pattern;
+use crate::pool::Pool;
 use crate::rules::FirstGroup;
-use crate::warm::Warm;
 use phone_records::LoadMetadata;
 use regex::Regex;
-use std::alloc::{AllocError, Global};
+use std::alloc::AllocError;
 use std::marker::Model;
+use std::rc::Rc;
 
 /// How the digits of a national number are grouped when it is printed.
 #[derive(Drop)]
 pub struct Format {
-    pattern: Pattern,
+    pattern: Rc<Pattern>,
     text: Text,
-    leading_digits: Vec<Regex>,
-    /// What searches for the last of the leading digits.
-    led: Warm,
+    leading_digits: Rc<Leading>,
     national_prefix_rule: Option<Text>,
     is_national_prefix_optional: bool,
     domestic_carrier: Option<Text>,
 }
 
 impl Model for Format {
-    ghost use Rattle.std.specs.Prelude.{Some, map};
-    ghost use Rattle.std.specs.List.{AllByRecursion};
-    ghost use Rattle.regex.specs.Strings.{regex_source};
-    ghost use Rattle.phone_meta.specs.First.{IsUnderX};
+    ghost use Rattle.std.specs.Prelude.{Some};
     ghost use Rattle.phone_records.specs.declared.loader.Format as loader;
 
     ghost Value = { loader.Format };
 
-    ghost view = { λ f. record { pattern = Some f.pattern; format = Some f.text; leading_digits = map regex_source f.leading_digits.items; national_prefix_formatting_rule = f.national_prefix_rule; national_prefix_optional_when_formatting = f.is_national_prefix_optional; domestic_carrier = f.domestic_carrier } };
-
-    ghost invariant = { λ f. AllByRecursion IsUnderX f.leading_digits.items };
+    ghost view = { λ f. record { pattern = Some f.pattern.value; format = Some f.text; leading_digits = f.leading_digits.value; national_prefix_formatting_rule = f.national_prefix_rule; national_prefix_optional_when_formatting = f.is_national_prefix_optional; domestic_carrier = f.domestic_carrier } };
 }
 
 impl Format {
     /// Compiles a record, whose pattern and template must be there.
-    pub(crate) fn compile(alloc: Global, given: loader::Format) -> Result<Format, LoadMetadata>
+    pub(crate) fn compile(pool: &Pool, given: loader::Format) -> Result<Format, LoadMetadata>
         requires { missing_in_format given ≡ None }
         ensures compiled { IfOk result (λ f. f ≡ given) }
         ensures read { IfOk result (λ f. AllByRecursion IsPattern (patterns_in_format given)) }
         ensures refused { IfErr result (IsPatternRefusal (patterns_in_format given)) }
     {
-        let pattern = Pattern::new(alloc, given.pattern.unwrap())?;
+        let pattern = pool.pattern(given.pattern.unwrap())?;
         let text = given.format.unwrap();
         Ok(Format {
             pattern,
             text,
-            leading_digits: pattern::compile_all(alloc, given.leading_digits.into_vec())?,
-            led: Warm::new(alloc),
+            leading_digits: pool.leading(given.leading_digits.into_vec())?,
             national_prefix_rule: given.national_prefix_formatting_rule,
             is_national_prefix_optional: given.national_prefix_optional_when_formatting,
             domestic_carrier: given.domestic_carrier,
@@ -77,7 +71,7 @@ impl Format {
     pub fn whole_pattern(&self) -> &Pattern
         ensures { self.now.pattern ≡ Some result.now }
     {
-        &self.pattern
+        self.pattern.as_ref()
     }
 
     /// The template that lays the groups out, with `$1` for the first.
@@ -101,13 +95,7 @@ impl Format {
         ensures led { IfOk result (λ b. b ≡ is_led digits.now self.now) }
         ensures unsearched { self.now.leading_digits ≡ [] → result ≡ Ok true }
     {
-        match self.leading_digits.split_last() {
-            Some((last, _)) => match self.led.is_at_start(last.as_str(), digits) {
-                Some(is_led) => Ok(is_led),
-                None => pattern::is_at_start(self.pattern.allocator(), last, digits),
-            },
-            None => Ok(true),
-        }
+        self.leading_digits.lead(digits)
     }
 
     /// Whether the layout suits digits: it names no leading digits, or the first match of the last of these patterns
@@ -196,15 +184,15 @@ impl Format {
 }
 
 /// Compiles each of these records, which lack nothing.
-pub fn compile_all(alloc: Global, given: Vec<loader::Format>) -> Result<Vec<Format>, LoadMetadata>
+pub fn compile_all(pool: &Pool, given: Vec<loader::Format>) -> Result<Vec<Format>, LoadMetadata>
     requires { first_given (map missing_in_format given.items) ≡ None }
     ensures compiled { IfOk result (λ formats. formats.items ≡ given.items) }
     ensures read { IfOk result (λ formats. AllByRecursion IsPattern (flat_map patterns_in_format given.items)) }
     ensures refused { IfErr result (IsPatternRefusal (flat_map patterns_in_format given.items)) }
 {
-    let mut formats = Vec::new(alloc);
+    let mut formats = Vec::new(pool.allocator());
     for format in given {
-        formats.push(Format::compile(alloc, format)?)?;
+        formats.push(Format::compile(pool, format)?)?;
     }
     Ok(formats)
 }

@@ -8,11 +8,13 @@ mod descriptors;
 mod format;
 mod iter;
 mod kept;
+mod leading;
 pub mod loader;
 mod metadata;
 mod parse;
 mod pattern;
 mod placed;
+mod pool;
 mod rules;
 mod warm;
 

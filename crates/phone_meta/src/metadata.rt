@@ -1,5 +1,5 @@
 //! A territory, with its patterns compiled.
-ghost use Rattle.std.specs.Prelude.{◌≡◌, None, Some, IfOk, IfErr};
+ghost use Rattle.std.specs.Prelude.{◌≡◌, None, Some, IfOk, IfErr, option_map};
 ghost use Rattle.std.specs.List.{AllByRecursion, flat_map};
 ghost use Rattle.std.specs.Option.{option_copied, option_to_list};
 ghost use Rattle.phone_meta.specs.Refusals.{IsPatternRefusal, patterns_in, patterns_in_descriptor};
@@ -12,10 +12,12 @@ use crate::descriptors::Descriptors;
 use crate::format::{self, Format};
 use crate::loader::{self, Text};
 use crate::pattern::Pattern;
+use crate::pool::Pool;
 use phone_records::LoadMetadata;
 use regex::Regex;
 use std::alloc::Global;
 use std::marker::Model;
+use std::rc::Rc;
 
 /// All that is known of a territory.
 #[derive(Drop)]
@@ -24,42 +26,42 @@ pub struct Metadata {
     descriptors: Descriptors,
     id: Text,
     country_code: u16,
-    international_prefix: Option<Pattern>,
+    international_prefix: Option<Rc<Pattern>>,
     preferred_international_prefix: Option<Text>,
     national_prefix: Option<Text>,
     preferred_extension_prefix: Option<Text>,
-    national_prefix_for_parsing: Option<Pattern>,
+    national_prefix_for_parsing: Option<Rc<Pattern>>,
     national_prefix_transform_rule: Option<Text>,
     formats: Vec<Format>,
     international_formats: Vec<Format>,
     main_country_for_code: bool,
-    leading_digits: Option<Pattern>,
+    leading_digits: Option<Rc<Pattern>>,
     mobile_number_portable: bool,
     defaults: loader::Defaults,
 }
 
 impl Model for Metadata {
-    ghost use Rattle.std.specs.Prelude.{Some};
+    ghost use Rattle.std.specs.Prelude.{Some, option_map};
     ghost use Rattle.phone_records.specs.declared.loader.Metadata as loader;
 
     ghost Value = { loader.Metadata };
 
-    ghost view = { λ m. record { general = m.descriptors.general; fixed_line = m.descriptors.fixed_line; mobile = m.descriptors.mobile; toll_free = m.descriptors.toll_free; premium_rate = m.descriptors.premium_rate; shared_cost = m.descriptors.shared_cost; personal_number = m.descriptors.personal_number; voip = m.descriptors.voip; pager = m.descriptors.pager; uan = m.descriptors.uan; emergency = m.descriptors.emergency; voicemail = m.descriptors.voicemail; short_code = m.descriptors.short_code; standard_rate = m.descriptors.standard_rate; carrier = m.descriptors.carrier; no_international = m.descriptors.no_international; id = Some m.id; country_code = Some m.country_code; international_prefix = m.international_prefix; preferred_international_prefix = m.preferred_international_prefix; national_prefix = m.national_prefix; preferred_extension_prefix = m.preferred_extension_prefix; national_prefix_for_parsing = m.national_prefix_for_parsing; national_prefix_transform_rule = m.national_prefix_transform_rule; formats = m.formats.items; international_formats = m.international_formats.items; main_country_for_code = m.main_country_for_code; leading_digits = m.leading_digits; mobile_number_portable = m.mobile_number_portable; defaults = m.defaults } };
+    ghost view = { λ m. record { general = m.descriptors.general; fixed_line = m.descriptors.fixed_line; mobile = m.descriptors.mobile; toll_free = m.descriptors.toll_free; premium_rate = m.descriptors.premium_rate; shared_cost = m.descriptors.shared_cost; personal_number = m.descriptors.personal_number; voip = m.descriptors.voip; pager = m.descriptors.pager; uan = m.descriptors.uan; emergency = m.descriptors.emergency; voicemail = m.descriptors.voicemail; short_code = m.descriptors.short_code; standard_rate = m.descriptors.standard_rate; carrier = m.descriptors.carrier; no_international = m.descriptors.no_international; id = Some m.id; country_code = Some m.country_code; international_prefix = option_map (λ p. p.value) m.international_prefix; preferred_international_prefix = m.preferred_international_prefix; national_prefix = m.national_prefix; preferred_extension_prefix = m.preferred_extension_prefix; national_prefix_for_parsing = option_map (λ p. p.value) m.national_prefix_for_parsing; national_prefix_transform_rule = m.national_prefix_transform_rule; formats = m.formats.items; international_formats = m.international_formats.items; main_country_for_code = m.main_country_for_code; leading_digits = option_map (λ p. p.value) m.leading_digits; mobile_number_portable = m.mobile_number_portable; defaults = m.defaults } };
 }
 
-fn compile_text(alloc: Global, text: Option<Text>) -> Result<Option<Pattern>, LoadMetadata>
-    ensures compiled { IfOk result (λ pattern. pattern ≡ text) }
+fn compile_text(pool: &Pool, text: Option<Text>) -> Result<Option<Rc<Pattern>>, LoadMetadata>
+    ensures compiled { IfOk result (λ pattern. option_map (λ p. p.value) pattern ≡ text) }
     ensures read { IfOk result (λ pattern. AllByRecursion IsPattern (option_to_list text)) }
     ensures refused { IfErr result (IsPatternRefusal (option_to_list text)) }
 {
     match text {
-        Some(text) => Ok(Some(Pattern::new(alloc, text)?)),
+        Some(text) => Ok(Some(pool.pattern(text)?)),
         None => Ok(None),
     }
 }
 
 fn compile_descriptor(
-    alloc: Global,
+    pool: &Pool,
     given: Option<loader::Descriptor>,
 ) -> Result<Option<Descriptor>, LoadMetadata>
     requires { missing_in_descriptor given ≡ None }
@@ -68,51 +70,51 @@ fn compile_descriptor(
     ensures refused { IfErr result (IsPatternRefusal (patterns_in_descriptor given)) }
 {
     match given {
-        Some(given) => Ok(Some(Descriptor::compile(alloc, given)?)),
+        Some(given) => Ok(Some(Descriptor::compile(pool, given)?)),
         None => Ok(None),
     }
 }
 
 impl Metadata {
     /// Compiles a record that lacks nothing.
-    pub(crate) fn compile(alloc: Global, given: loader::Metadata) -> Result<Metadata, LoadMetadata>
+    pub(crate) fn compile(pool: &Pool, given: loader::Metadata) -> Result<Metadata, LoadMetadata>
         requires { missing_in given ≡ None }
         ensures compiled { IfOk result (λ m. m ≡ given) }
         ensures read { IfOk result (λ m. AllByRecursion IsPattern (patterns_in given)) }
         ensures refused { IfErr result (IsPatternRefusal (patterns_in given)) }
     {
         Ok(Metadata {
-            alloc,
+            alloc: pool.allocator(),
             descriptors: Descriptors {
-                general: Descriptor::compile(alloc, given.general.unwrap())?,
-                fixed_line: compile_descriptor(alloc, given.fixed_line)?,
-                mobile: compile_descriptor(alloc, given.mobile)?,
-                toll_free: compile_descriptor(alloc, given.toll_free)?,
-                premium_rate: compile_descriptor(alloc, given.premium_rate)?,
-                shared_cost: compile_descriptor(alloc, given.shared_cost)?,
-                personal_number: compile_descriptor(alloc, given.personal_number)?,
-                voip: compile_descriptor(alloc, given.voip)?,
-                pager: compile_descriptor(alloc, given.pager)?,
-                uan: compile_descriptor(alloc, given.uan)?,
-                emergency: compile_descriptor(alloc, given.emergency)?,
-                voicemail: compile_descriptor(alloc, given.voicemail)?,
-                short_code: compile_descriptor(alloc, given.short_code)?,
-                standard_rate: compile_descriptor(alloc, given.standard_rate)?,
-                carrier: compile_descriptor(alloc, given.carrier)?,
-                no_international: compile_descriptor(alloc, given.no_international)?,
+                general: Descriptor::compile(pool, given.general.unwrap())?,
+                fixed_line: compile_descriptor(pool, given.fixed_line)?,
+                mobile: compile_descriptor(pool, given.mobile)?,
+                toll_free: compile_descriptor(pool, given.toll_free)?,
+                premium_rate: compile_descriptor(pool, given.premium_rate)?,
+                shared_cost: compile_descriptor(pool, given.shared_cost)?,
+                personal_number: compile_descriptor(pool, given.personal_number)?,
+                voip: compile_descriptor(pool, given.voip)?,
+                pager: compile_descriptor(pool, given.pager)?,
+                uan: compile_descriptor(pool, given.uan)?,
+                emergency: compile_descriptor(pool, given.emergency)?,
+                voicemail: compile_descriptor(pool, given.voicemail)?,
+                short_code: compile_descriptor(pool, given.short_code)?,
+                standard_rate: compile_descriptor(pool, given.standard_rate)?,
+                carrier: compile_descriptor(pool, given.carrier)?,
+                no_international: compile_descriptor(pool, given.no_international)?,
             },
             id: given.id.unwrap(),
             country_code: given.country_code.unwrap(),
-            international_prefix: compile_text(alloc, given.international_prefix)?,
+            international_prefix: compile_text(pool, given.international_prefix)?,
             preferred_international_prefix: given.preferred_international_prefix,
             national_prefix: given.national_prefix,
             preferred_extension_prefix: given.preferred_extension_prefix,
-            national_prefix_for_parsing: compile_text(alloc, given.national_prefix_for_parsing)?,
+            national_prefix_for_parsing: compile_text(pool, given.national_prefix_for_parsing)?,
             national_prefix_transform_rule: given.national_prefix_transform_rule,
-            leading_digits: compile_text(alloc, given.leading_digits)?,
-            formats: format::compile_all(alloc, given.formats.into_vec())?,
+            leading_digits: compile_text(pool, given.leading_digits)?,
+            formats: format::compile_all(pool, given.formats.into_vec())?,
             international_formats: format::compile_all(
-                alloc,
+                pool,
                 given.international_formats.into_vec(),
             )?,
             main_country_for_code: given.main_country_for_code,
@@ -162,7 +164,7 @@ impl Metadata {
         ensures { option_copied result ≡ self.now.international_prefix }
     {
         match &self.international_prefix {
-            Some(pattern) => Some(pattern),
+            Some(pattern) => Some(pattern.as_ref()),
             None => None,
         }
     }
@@ -212,7 +214,7 @@ impl Metadata {
         ensures { option_copied result ≡ self.now.national_prefix_for_parsing }
     {
         match &self.national_prefix_for_parsing {
-            Some(pattern) => Some(pattern),
+            Some(pattern) => Some(pattern.as_ref()),
             None => None,
         }
     }
@@ -263,7 +265,7 @@ impl Metadata {
         ensures { option_copied result ≡ self.now.leading_digits }
     {
         match &self.leading_digits {
-            Some(pattern) => Some(pattern),
+            Some(pattern) => Some(pattern.as_ref()),
             None => None,
         }
     }
@@ -286,9 +288,20 @@ pub fn compile_all(
     ensures read { IfOk result (λ territories. AllByRecursion IsPattern (flat_map patterns_in given.items)) }
     ensures refused { IfErr result (IsPatternRefusal (flat_map patterns_in given.items)) }
 {
-    let mut territories = Vec::new(alloc);
+    let pool = Pool::new(alloc);
+    compile_each(&pool, given)
+}
+
+/// The same, with one pattern for each text in a pool.
+fn compile_each(pool: &Pool, given: Vec<loader::Metadata>) -> Result<Vec<Metadata>, LoadMetadata>
+    requires { first_missing given.items ≡ None }
+    ensures compiled { IfOk result (λ territories. territories.items ≡ given.items) }
+    ensures read { IfOk result (λ territories. AllByRecursion IsPattern (flat_map patterns_in given.items)) }
+    ensures refused { IfErr result (IsPatternRefusal (flat_map patterns_in given.items)) }
+{
+    let mut territories = Vec::new(pool.allocator());
     for territory in given {
-        territories.push(Metadata::compile(alloc, territory)?)?;
+        territories.push(Metadata::compile(pool, territory)?)?;
     }
     Ok(territories)
 }

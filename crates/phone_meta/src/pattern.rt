@@ -80,6 +80,14 @@ impl Pattern {
         self.re.as_str()
     }
 
+    /// Whether this is the text of the pattern. It is a pattern then.
+    pub(crate) fn is_of(&self, text: &str) -> bool
+        ensures same { IsTrue result → self.now ≡ text.now }
+        ensures read { IsTrue result → IsPattern text.now }
+    {
+        self.re.as_str() == text
+    }
+
     /// The allocator that the pattern keeps, for its searches.
     pub(crate) fn allocator(&self) -> Global {
         self.alloc

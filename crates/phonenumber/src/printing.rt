@@ -5,7 +5,7 @@ ghost use Rattle.std.specs.List.{find};
 ghost use Rattle.std.specs.Option.{option_copied};
 ghost use Rattle.phone_core.specs.declared.mode.Mode.TheVariants as mode;
 ghost use Rattle.phone_meta.specs.Layouts.{suits};
-ghost use Rattle.phonenumber.specs.Layouts.{layout_for, layouts_for};
+ghost use Rattle.phonenumber.specs.Layouts.{laid, layout_for, layouts_for};
 ghost use Rattle.phonenumber.specs.Texts.{extension_parameter, extension_part, hyphenated, laid_out, text_by};
 
 use crate::PhoneNumber;
@@ -50,7 +50,7 @@ pub struct Texts {
     pub rfc3966: String,
 }
 
-/// The texts in all modes, by a territory. The international text and that of RFC 3966 have one layout.
+/// The texts in all modes, by a territory. The digits are written once, and each layout is looked for once.
 pub(crate) fn texts_by(
     alloc: Global,
     finder: &FirstGroup,
@@ -63,11 +63,31 @@ pub(crate) fn texts_by(
     ensures national { IfOk result (λ t. string_bytes t.national ≡ text_by m.now mode.National (option_copied own.entry) number.now) }
     ensures rfc3966 { IfOk result (λ t. string_bytes t.rfc3966 ≡ text_by m.now mode.Rfc3966 (option_copied own.entry) number.now) }
 {
-    let laid = laid_out(alloc, finder, m, Mode::International, own, number)?;
+    let national = number.national();
+    let digits = format!(in alloc; "{national}")?;
+    let layouts = layouts_of(m, own, digits.as_str())?;
+    let laid = laid_by(
+        alloc,
+        finder,
+        m,
+        Mode::International,
+        layouts.abroad,
+        number,
+        digits.as_str(),
+    )?;
+    let laid_at_home = laid_by(
+        alloc,
+        finder,
+        m,
+        Mode::National,
+        layouts.at_home,
+        number,
+        digits.as_str(),
+    )?;
     Ok(Texts {
-        e164: text_by(alloc, finder, m, Mode::E164, own, number)?,
+        e164: format!(in alloc; "{number}")?,
         international: international(alloc, laid.as_str(), m, number)?,
-        national: text_by(alloc, finder, m, Mode::National, own, number)?,
+        national: with_extension(laid_at_home, m, number)?,
         rfc3966: rfc3966(alloc, laid.as_str(), number)?,
     })
 }
@@ -127,15 +147,31 @@ fn laid_out(
 {
     let national = number.national();
     let digits = format!(in alloc; "{national}")?;
-    let Some(layout) = layout_for(m, mode, own, digits.as_str())? else {
-        return Ok(digits);
+    let layout = layout_for(m, mode, own, digits.as_str())?;
+    laid_by(alloc, finder, m, mode, layout, number, digits.as_str())
+}
+
+/// Digits of a number, laid out by a layout; the digits themselves where there is none.
+fn laid_by(
+    alloc: Global,
+    finder: &FirstGroup,
+    m: &Metadata,
+    mode: Mode,
+    layout: Option<&Format>,
+    number: &PhoneNumber,
+    digits: &str,
+) -> Result<String, AllocError>
+    ensures { IfOk result (λ t. string_bytes t ≡ laid (option_copied layout.entry) m.now mode number.now.carrier digits.now) }
+{
+    let Some(layout) = layout else {
+        return String::from_str(alloc, digits);
     };
     match mode {
         Mode::National => {
             let prefix = m.national_prefix();
-            layout.lay_out_nationally(finder, prefix, carrier_of(number), digits.as_str())
+            layout.lay_out_nationally(finder, prefix, carrier_of(number), digits)
         }
-        _ => layout.lay_out(digits.as_str()),
+        _ => layout.lay_out(digits),
     }
 }
 
@@ -147,6 +183,33 @@ fn carrier_of(number: &PhoneNumber) -> Option<&str>
         Some(carrier) => Some(carrier.as_str()),
         None => None,
     }
+}
+
+/// The layouts of a number: at home, for national text, and abroad, for all other.
+#[derive(Clone, Copy)]
+struct Layouts<'a> {
+    abroad: Option<&'a Format>,
+    at_home: Option<&'a Format>,
+}
+
+/// The layouts that count for digits. They are looked for once where national text and other text have the same ones.
+fn layouts_of<'a>(
+    m: &'a Metadata,
+    own: Option<&'a Format>,
+    digits: &str,
+) -> Result<Layouts<'a>, AllocError>
+    ensures abroad { IfOk result (λ l. option_copied l.abroad ≡ layout_for m.entry.now mode.International (option_copied own.entry) digits.now) }
+    ensures at_home { IfOk result (λ l. option_copied l.at_home ≡ layout_for m.entry.now mode.National (option_copied own.entry) digits.now) }
+{
+    let abroad = layout_for(m, Mode::International, own, digits)?;
+    if m.international_formats().is_empty() {
+        return Ok(Layouts {
+            abroad,
+            at_home: abroad,
+        });
+    }
+    let at_home = layout_for(m, Mode::National, own, digits)?;
+    Ok(Layouts { abroad, at_home })
 }
 
 /// The layout that was handed in, else the first of the territory's that suits the digits.

@@ -11,11 +11,11 @@ returns-in_err-pattern-clause-refused c =
     let h = refused-left (option_to_list c.args.given.pattern) c.args.given.leading_digits e alone in
     search (rules, h)
 
-pub returns-in_err-compile_all-clause-refused : goal.returns-in_err-compile_all-clause-refused
-returns-in_err-compile_all-clause-refused c =
-    let e = c.in_err-compile_all.field-0.0 in
+pub returns-in_err-leading-clause-refused : goal.returns-in_err-leading-clause-refused
+returns-in_err-leading-clause-refused c =
+    let e = c.in_err-leading.field-0.0 in
     let before = subst (λ o. ArePatterns (option_to_list o)) (sym c.unwrap.ensures) (c.in_ok-pattern.ensures.read, tt) in
-    let given = subst (λ texts. IsPatternRefusal texts e) c.into_vec.ensures c.in_err-compile_all.ensures.refused in
+    let given = subst (λ texts. IsPatternRefusal texts e) c.into_vec.ensures c.in_err-leading.ensures.refused in
     let h = refused-right (option_to_list c.args.given.pattern) c.args.given.leading_digits e before given in
     search (rules, h)
 
@@ -23,4 +23,4 @@ pub returns-clause-read : goal.returns-clause-read
 returns-clause-read c =
     both-patterns (option_to_list c.args.given.pattern) c.args.given.leading_digits
     (subst (λ o. ArePatterns (option_to_list o)) (sym c.unwrap.ensures) (c.in_ok-pattern.ensures.read, tt))
-    (subst ArePatterns c.into_vec.ensures c.in_ok-compile_all.ensures.read)
+    (subst ArePatterns c.into_vec.ensures c.in_ok-leading.ensures.read)

@@ -3,7 +3,7 @@ use Rattle.std.proofs.lemmas.Grind.{common_steps}
 use Rattle.std.specs.List.{flat_map}
 use Rattle.phone_meta.specs.Refusals.{patterns_in}
 use Rattle.phone_meta.proofs.Refused.{ArePatterns, flat-patterns, refused_between}
-use Rattle.phone_meta.proofs.metadata.compile_all.Goals as goal
+use Rattle.phone_meta.proofs.metadata.compile_each.Goals as goal
 
 pub returns-in_err-compile-clause-refused : goal.returns-in_err-compile-clause-refused
 returns-in_err-compile-clause-refused c =
