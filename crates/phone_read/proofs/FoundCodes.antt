@@ -1,14 +1,19 @@
 -- The code of a number, by the way it was dialled.
-use Rattle.std.proofs.Common.{◌≡◌, ℕ, List, Option, Some, None, option_map, Result, Ok, Err, IfOk, IfErr, refl, ap, sym, ◌∙◌}
+use Rattle.std.proofs.Common.{◌≡◌, ℕ, Bool, true, false, nat_le, if◌then◌else◌, List, length, drop, Option, Some, None, option_map, Result, Ok, Err, IfOk, IfErr, refl, ap, sym, ◌∙◌}
 use Rattle.std.specs.Fmt.{decimal}
+use Rattle.std.specs.Option.{option_map_or}
 use Rattle.phone_core.specs.Norm.{norm}
+use Rattle.phone_core.specs.Numbers.{number_in}
 use Rattle.phone_core.specs.declared.country.Id.{Id}
 use Rattle.phone_core.specs.declared.country.Source.{Source}
 use Rattle.phone_core.specs.declared.country.Source.TheVariants.{Plus, Idd, Number, Default}
+use Rattle.phone_core.specs.declared.error.ParseError.{ParseError}
+use Rattle.phone_core.specs.declared.error.ParseError.TheVariants.{InvalidCountryCode, MalformedInteger, Memory, TooShortNsn}
+use Rattle.phone_meta.specs.Codes.{is_listed, shortest}
 use Rattle.phone_records.specs.declared.loader.Metadata.{Metadata}
 use Rattle.phone_parts.specs.declared.number.Number.{Number as Parts}
-use Rattle.phone_read.specs.Codes.{HasCode, code_by, code_by_front, code_of, dialled, found_in, international_prefix_of, prefix_of, with_three}
-use Rattle.phone_read.specs.Hints.{Coded, hinted}
+use Rattle.phone_read.specs.Codes.{IsCoded, code_by, code_by_front, code_by_prefix, code_of, dialled, dialled_under, found_in, international_prefix_of, prefix_of, with_three}
+use Rattle.phone_read.specs.Hints.{Coded, code_by_hint, hinted}
 
 -- the code is told by the source and the digits that the way of dialling gives
 pub code_of-dialled : (db : List Metadata) (hint : Option Id) (m : Option Metadata) (pattern : Option (List ℕ)) (n : List ℕ) (p q : Option (List ℕ)) (source : Source) (digits : List ℕ) →
@@ -54,11 +59,94 @@ pub err_again : {T E : Type 0} (r : Result T E) (P Q : E → Type 0) → ((e : E
 err_again (Ok x) P Q f h = tt
 err_again (Err e) P Q f h = f e h
 
-pub has_code_again : (c : Coded) (a b : List ℕ) (x y : Option (List ℕ)) (n m r : Parts) → a ≡ b → x ≡ y → n.carrier ≡ m.carrier → HasCode c a x n r → HasCode c b y m r
-has_code_again c a b x y n m r ea ex en h = record {
+pub is_coded_again : (c : Coded) (a b : List ℕ) (x y : Option (List ℕ)) (n m r : Parts) → a ≡ b → x ≡ y → n.carrier ≡ m.carrier → IsCoded c a x n r → IsCoded c b y m r
+is_coded_again c a b x y n m r ea ex en h = record {
   country = h.country;
   national = h.national;
-  prefix = h.prefix ∙ ap Some ea;
+  prefix = h.prefix ∙ ea;
   extension = h.extension ∙ ex;
   carrier = h.carrier ∙ en;
 }
+
+-- no refusal that the digits, the prefix and the hint tell is want of memory
+with_three-told : (digits : List ℕ) (r : Result Coded ParseError) → ¬ (r ≡ Err Memory) → ¬ (with_three digits r ≡ Err Memory)
+with_three-told digits r other e = at (nat_le (length digits) 2) e
+  where
+    at : (b : Bool) → ¬ ((if b then Err TooShortNsn else r) ≡ Err Memory)
+    at true f = cc
+    at false f = other f
+
+prefix-told : (db : List Metadata) (p digits : List ℕ) → ¬ (code_by_prefix db p digits ≡ Err Memory)
+prefix-told db p digits e = at (number_in 16 p) e
+  where
+    by : (code : ℕ) (b : Bool) → ¬ ((if b then Ok (record { source = Plus; value = code; rest = digits }) else Err InvalidCountryCode) ≡ Err Memory)
+    by code true f = cc
+    by code false f = cc
+
+    at : (o : Option ℕ) →
+        ¬ (option_map_or (λ code. if is_listed code db then Ok (record { source = Plus; value = code; rest = digits }) else Err InvalidCountryCode) o (Err MalformedInteger) ≡ Err Memory)
+    at None f = cc
+    at (Some code) f = by code (is_listed code db) f
+
+front-told : (db : List Metadata) (source : Source) (digits : List ℕ) → ¬ (code_by_front db source digits ≡ Err Memory)
+front-told db source digits e = at (shortest db digits) e
+  where
+    at : (o : Option ℕ) →
+        ¬ (option_map_or (λ code. Ok (record { source = source; value = code; rest = drop (length (decimal code)) digits })) o (Err InvalidCountryCode) ≡ Err Memory)
+    at None f = cc
+    at (Some code) f = cc
+
+hint-told : (m : Option Metadata) (digits : List ℕ) → ¬ (option_map_or (λ m. Ok (code_by_hint m digits)) m (Err InvalidCountryCode) ≡ Err Memory)
+hint-told None digits e = cc
+hint-told (Some m) digits e = cc
+
+code_by-told : (db : List Metadata) (m : Option Metadata) (q : Option (List ℕ)) (source : Source) (digits : List ℕ) → ¬ (code_by db m q source digits ≡ Err Memory)
+code_by-told db m (Some p) source digits e = with_three-told digits (code_by_prefix db p digits) (prefix-told db p digits) e
+code_by-told db m None Plus digits e = with_three-told digits (code_by_front db Plus digits) (front-told db Plus digits) e
+code_by-told db m None Idd digits e = with_three-told digits (code_by_front db Idd digits) (front-told db Idd digits) e
+code_by-told db m None Number digits e = with_three-told digits (code_by_front db Number digits) (front-told db Number digits) e
+code_by-told db m None Default digits e = hint-told m digits e
+
+pub code_of-told : (db : List Metadata) (hint : Option Id) (n : List ℕ) (p : Option (List ℕ)) → ¬ (code_of db hint n p ≡ Err Memory)
+code_of-told db hint n p e = code_by-told db (hinted db hint) (option_map norm p) (dialled_under db hint n p).source (dialled_under db hint n p).digits e
+
+-- without a territory of the hint something else tells the code
+with_three-ok : (digits : List ℕ) (r : Result Coded ParseError) (c : Coded) → with_three digits r ≡ Ok c → r ≡ Ok c
+with_three-ok digits r c e = at (nat_le (length digits) 2) e
+  where
+    at : (b : Bool) → (if b then Err TooShortNsn else r) ≡ Ok c → r ≡ Ok c
+    at true f = cc
+    at false f = f
+
+prefix-source : (db : List Metadata) (p digits : List ℕ) (c : Coded) → code_by_prefix db p digits ≡ Ok c → ¬ (c.source ≡ Default)
+prefix-source db p digits c e = at (number_in 16 p) e
+  where
+    by : (code : ℕ) (b : Bool) → (if b then Ok (record { source = Plus; value = code; rest = digits }) else Err InvalidCountryCode) ≡ Ok c → ¬ (c.source ≡ Default)
+    by code true f d = cc
+    by code false f d = cc
+
+    at : (o : Option ℕ) →
+        option_map_or (λ code. if is_listed code db then Ok (record { source = Plus; value = code; rest = digits }) else Err InvalidCountryCode) o (Err MalformedInteger) ≡ Ok c →
+        ¬ (c.source ≡ Default)
+    at None f d = cc
+    at (Some code) f d = by code (is_listed code db) f d
+
+front-source : (db : List Metadata) (source : Source) (digits : List ℕ) (c : Coded) → ¬ (source ≡ Default) → code_by_front db source digits ≡ Ok c → ¬ (c.source ≡ Default)
+front-source db source digits c other e = at (shortest db digits) e
+  where
+    at : (o : Option ℕ) →
+        option_map_or (λ code. Ok (record { source = source; value = code; rest = drop (length (decimal code)) digits })) o (Err InvalidCountryCode) ≡ Ok c → ¬ (c.source ≡ Default)
+    at None f d = cc
+    at (Some code) f d = other cc
+
+code_by-source : (db : List Metadata) (q : Option (List ℕ)) (source : Source) (digits : List ℕ) (c : Coded) → code_by db None q source digits ≡ Ok c → ¬ (c.source ≡ Default)
+code_by-source db (Some p) source digits c e = prefix-source db p digits c (with_three-ok digits (code_by_prefix db p digits) c e)
+code_by-source db None Plus digits c e = front-source db Plus digits c (λ d. cc) (with_three-ok digits (code_by_front db Plus digits) c e)
+code_by-source db None Idd digits c e = front-source db Idd digits c (λ d. cc) (with_three-ok digits (code_by_front db Idd digits) c e)
+code_by-source db None Number digits c e = front-source db Number digits c (λ d. cc) (with_three-ok digits (code_by_front db Number digits) c e)
+code_by-source db None Default digits c e = cc
+
+pub code_of-source : (db : List Metadata) (hint : Option Id) (n : List ℕ) (p : Option (List ℕ)) (c : Coded) → hinted db hint ≡ None → code_of db hint n p ≡ Ok c → ¬ (c.source ≡ Default)
+code_of-source db hint n p c none e =
+    let d = dialled_under db hint n p in
+    code_by-source db (option_map norm p) d.source d.digits c (ap (λ m. code_by db m (option_map norm p) d.source d.digits) (sym none) ∙ e)

@@ -14,7 +14,7 @@ ghost use Rattle.phone_read.specs.Hints.{Coded, code_by_hint, hinted, looks_nati
 
 use crate::dialled::{OfTerritory, dialled};
 use crate::hints::{hinted, looks_national};
-use crate::trims::{begins_with_number, decimal_len, lent_front, trim};
+use crate::trims::{begins_with_number, behind_number, lent_front, trim};
 use phone_core::ParseError;
 use phone_core::consts::MIN_LENGTH_FOR_NSN;
 use phone_core::country::{Id, Source};
@@ -206,7 +206,7 @@ fn cut_off<'a>(code: u16, country: Source, number: Number<'a>) -> CodedNumber<'a
     ensures lent_prefix { IfSome result.number.prefix (λ p. IsBorrowedStr p) }
     ensures has_prefix { IsBorrowedStr number.entry.national → IsSome result.number.prefix }
 {
-    let at = decimal_len(code);
+    let at = behind_number(number.national.as_str(), code);
     let prefix = lent_front(&number.national, at);
     let national = trim(number.national, at);
     CodedNumber {
@@ -239,7 +239,8 @@ fn by_hint<'a>(
         return Err(ParseError::InvalidCountryCode);
     };
     let code = territory.country_code();
-    if is_code_apart(territory, code, number.national.as_str())? {
+    let is_apart = is_code_apart(territory, code, number.national.as_str())?;
+    if is_apart {
         return Ok(cut_off(code, Source::Number, number));
     }
     Ok(CodedNumber {

@@ -1,5 +1,5 @@
 //! Fronts that are cut off a text, and parts that are taken out of it.
-ghost use Rattle.std.specs.Prelude.{◌≡◌, ◌==◌, take, drop, length, string_bytes, IsCharBoundary, IfOk, IsOk, IfSome, IsSome, Some};
+ghost use Rattle.std.specs.Prelude.{◌≡◌, ◌==◌, take, drop, length, string_bytes, IsCharBoundary, IfOk, IsOk, IfSome, IsSome, Some, true};
 ghost use Rattle.std.specs.Cow.{cow_str_bytes, IsBorrowedStr};
 ghost use Rattle.std.specs.Fmt.{decimal};
 ghost use Rattle.std.specs.Option.{option_copied};
@@ -92,7 +92,7 @@ fn is_number(text: &str, number: u16) -> bool
 }
 
 /// How many digits the number has in decimal.
-pub(crate) fn decimal_len(number: u16) -> usize
+fn decimal_len(number: u16) -> usize
     ensures { result ≡ length (decimal number) }
 {
     if number < 10 {
@@ -106,6 +106,15 @@ pub(crate) fn decimal_len(number: u16) -> usize
     } else {
         5
     }
+}
+
+/// Where a text goes on behind the number in decimal that it begins with.
+pub(crate) fn behind_number(text: &str, number: u16) -> usize
+    requires { is_front (decimal number) text.now ≡ true }
+    ensures place { result ≡ length (decimal number) }
+    ensures border { IsCharBoundary text.now result }
+{
+    decimal_len(number)
 }
 
 /// The front of a borrowed text, up to a place between two of its characters; none of an owned text.
