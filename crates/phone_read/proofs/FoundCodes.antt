@@ -1,5 +1,6 @@
 -- The code of a number, by the way it was dialled.
-use Rattle.std.proofs.Common.{◌≡◌, ℕ, Bool, true, false, nat_le, if◌then◌else◌, List, length, drop, Option, Some, None, option_map, Result, Ok, Err, IfOk, IfErr, refl, ap, sym, ◌∙◌}
+use Rattle.std.proofs.Common.{◌≡◌, ℕ, nat_le, if◌then◌else◌, List, length, drop, Option, Some, None, option_map, Result, Ok, Err, IfOk, IfErr, MatchResult, refl, ap, sym, subst, ◌∙◌}
+use Rattle.std.proofs.lemmas.Bool.{cond_both}
 use Rattle.std.specs.Fmt.{decimal}
 use Rattle.std.specs.Option.{option_map_or}
 use Rattle.phone_core.specs.Norm.{norm}
@@ -68,85 +69,40 @@ is_coded_again c a b x y n m r ea ex en h = record {
   carrier = h.carrier ∙ en;
 }
 
--- no refusal that the digits, the prefix and the hint tell is want of memory
-with_three-told : (digits : List ℕ) (r : Result Coded ParseError) → ¬ (r ≡ Err Memory) → ¬ (with_three digits r ≡ Err Memory)
-with_three-told digits r other e = at (nat_le (length digits) 2) e
-  where
-    at : (b : Bool) → ¬ ((if b then Err TooShortNsn else r) ≡ Err Memory)
-    at true f = cc
-    at false f = other f
+-- without a territory of the hint the code is told by something else, and no refusal is want of memory
+abbrev pub IsTold : Result Coded ParseError → Type 0
+IsTold r = MatchResult r (λ c. ¬ (c.source ≡ Default)) (λ e. ¬ (e ≡ Memory))
 
-prefix-told : (db : List Metadata) (p digits : List ℕ) → ¬ (code_by_prefix db p digits ≡ Err Memory)
-prefix-told db p digits e = at (number_in 16 p) e
-  where
-    by : (code : ℕ) (b : Bool) → ¬ ((if b then Ok (record { source = Plus; value = code; rest = digits }) else Err InvalidCountryCode) ≡ Err Memory)
-    by code true f = cc
-    by code false f = cc
+with_three-told : (digits : List ℕ) (r : Result Coded ParseError) → IsTold r → IsTold (with_three digits r)
+with_three-told digits r told = cond_both (nat_le (length digits) 2) (Err TooShortNsn) r IsTold (λ t m. cc) (λ f. told)
 
-    at : (o : Option ℕ) →
-        ¬ (option_map_or (λ code. if is_listed code db then Ok (record { source = Plus; value = code; rest = digits }) else Err InvalidCountryCode) o (Err MalformedInteger) ≡ Err Memory)
-    at None f = cc
-    at (Some code) f = by code (is_listed code db) f
-
-front-told : (db : List Metadata) (source : Source) (digits : List ℕ) → ¬ (code_by_front db source digits ≡ Err Memory)
-front-told db source digits e = at (shortest db digits) e
+prefix-told : (db : List Metadata) (p digits : List ℕ) → IsTold (code_by_prefix db p digits)
+prefix-told db p digits = at (number_in 16 p)
   where
     at : (o : Option ℕ) →
-        ¬ (option_map_or (λ code. Ok (record { source = source; value = code; rest = drop (length (decimal code)) digits })) o (Err InvalidCountryCode) ≡ Err Memory)
-    at None f = cc
-    at (Some code) f = cc
+        IsTold (option_map_or (λ code. if is_listed code db then Ok (record { source = Plus; value = code; rest = digits }) else Err InvalidCountryCode) o (Err MalformedInteger))
+    at None = λ m. cc
+    at (Some code) = cond_both (is_listed code db) (Ok (record { source = Plus; value = code; rest = digits })) (Err InvalidCountryCode) IsTold (λ t d. cc) (λ f m. cc)
 
-hint-told : (m : Option Metadata) (digits : List ℕ) → ¬ (option_map_or (λ m. Ok (code_by_hint m digits)) m (Err InvalidCountryCode) ≡ Err Memory)
-hint-told None digits e = cc
-hint-told (Some m) digits e = cc
-
-code_by-told : (db : List Metadata) (m : Option Metadata) (q : Option (List ℕ)) (source : Source) (digits : List ℕ) → ¬ (code_by db m q source digits ≡ Err Memory)
-code_by-told db m (Some p) source digits e = with_three-told digits (code_by_prefix db p digits) (prefix-told db p digits) e
-code_by-told db m None Plus digits e = with_three-told digits (code_by_front db Plus digits) (front-told db Plus digits) e
-code_by-told db m None Idd digits e = with_three-told digits (code_by_front db Idd digits) (front-told db Idd digits) e
-code_by-told db m None Number digits e = with_three-told digits (code_by_front db Number digits) (front-told db Number digits) e
-code_by-told db m None Default digits e = hint-told m digits e
-
-pub code_of-told : (db : List Metadata) (hint : Option Id) (n : List ℕ) (p : Option (List ℕ)) → ¬ (code_of db hint n p ≡ Err Memory)
-code_of-told db hint n p e = code_by-told db (hinted db hint) (option_map norm p) (dialled_under db hint n p).source (dialled_under db hint n p).digits e
-
--- without a territory of the hint something else tells the code
-with_three-ok : (digits : List ℕ) (r : Result Coded ParseError) (c : Coded) → with_three digits r ≡ Ok c → r ≡ Ok c
-with_three-ok digits r c e = at (nat_le (length digits) 2) e
+front-told : (db : List Metadata) (source : Source) (digits : List ℕ) → ¬ (source ≡ Default) → IsTold (code_by_front db source digits)
+front-told db source digits other = at (shortest db digits)
   where
-    at : (b : Bool) → (if b then Err TooShortNsn else r) ≡ Ok c → r ≡ Ok c
-    at true f = cc
-    at false f = f
+    at : (o : Option ℕ) → IsTold (option_map_or (λ code. Ok (record { source = source; value = code; rest = drop (length (decimal code)) digits })) o (Err InvalidCountryCode))
+    at None = λ m. cc
+    at (Some code) = other
 
-prefix-source : (db : List Metadata) (p digits : List ℕ) (c : Coded) → code_by_prefix db p digits ≡ Ok c → ¬ (c.source ≡ Default)
-prefix-source db p digits c e = at (number_in 16 p) e
-  where
-    by : (code : ℕ) (b : Bool) → (if b then Ok (record { source = Plus; value = code; rest = digits }) else Err InvalidCountryCode) ≡ Ok c → ¬ (c.source ≡ Default)
-    by code true f d = cc
-    by code false f d = cc
+code_by-told : (db : List Metadata) (q : Option (List ℕ)) (source : Source) (digits : List ℕ) → IsTold (code_by db None q source digits)
+code_by-told db (Some p) source digits = with_three-told digits (code_by_prefix db p digits) (prefix-told db p digits)
+code_by-told db None Plus digits = with_three-told digits (code_by_front db Plus digits) (front-told db Plus digits (λ d. cc))
+code_by-told db None Idd digits = with_three-told digits (code_by_front db Idd digits) (front-told db Idd digits (λ d. cc))
+code_by-told db None Number digits = with_three-told digits (code_by_front db Number digits) (front-told db Number digits (λ d. cc))
+code_by-told db None Default digits = λ m. cc
 
-    at : (o : Option ℕ) →
-        option_map_or (λ code. if is_listed code db then Ok (record { source = Plus; value = code; rest = digits }) else Err InvalidCountryCode) o (Err MalformedInteger) ≡ Ok c →
-        ¬ (c.source ≡ Default)
-    at None f d = cc
-    at (Some code) f d = by code (is_listed code db) f d
-
-front-source : (db : List Metadata) (source : Source) (digits : List ℕ) (c : Coded) → ¬ (source ≡ Default) → code_by_front db source digits ≡ Ok c → ¬ (c.source ≡ Default)
-front-source db source digits c other e = at (shortest db digits) e
-  where
-    at : (o : Option ℕ) →
-        option_map_or (λ code. Ok (record { source = source; value = code; rest = drop (length (decimal code)) digits })) o (Err InvalidCountryCode) ≡ Ok c → ¬ (c.source ≡ Default)
-    at None f d = cc
-    at (Some code) f d = other cc
-
-code_by-source : (db : List Metadata) (q : Option (List ℕ)) (source : Source) (digits : List ℕ) (c : Coded) → code_by db None q source digits ≡ Ok c → ¬ (c.source ≡ Default)
-code_by-source db (Some p) source digits c e = prefix-source db p digits c (with_three-ok digits (code_by_prefix db p digits) c e)
-code_by-source db None Plus digits c e = front-source db Plus digits c (λ d. cc) (with_three-ok digits (code_by_front db Plus digits) c e)
-code_by-source db None Idd digits c e = front-source db Idd digits c (λ d. cc) (with_three-ok digits (code_by_front db Idd digits) c e)
-code_by-source db None Number digits c e = front-source db Number digits c (λ d. cc) (with_three-ok digits (code_by_front db Number digits) c e)
-code_by-source db None Default digits c e = cc
-
-pub code_of-source : (db : List Metadata) (hint : Option Id) (n : List ℕ) (p : Option (List ℕ)) (c : Coded) → hinted db hint ≡ None → code_of db hint n p ≡ Ok c → ¬ (c.source ≡ Default)
-code_of-source db hint n p c none e =
+pub code_of-told : (db : List Metadata) (hint : Option Id) (n : List ℕ) (p : Option (List ℕ)) → hinted db hint ≡ None → IsTold (code_of db hint n p)
+code_of-told db hint n p none =
     let d = dialled_under db hint n p in
-    code_by-source db (option_map norm p) d.source d.digits c (ap (λ m. code_by db m (option_map norm p) d.source d.digits) (sym none) ∙ e)
+    subst (λ m. IsTold (code_by db m (option_map norm p) d.source d.digits)) (sym none) (code_by-told db (option_map norm p) d.source d.digits)
+
+-- two answers that are refused alike
+pub refused_as : {S T E : Type 0} (a : Result S E) (b : Result T E) (e : E) → a ≡ Err e → b ≡ Err e → IfErr b (λ e. a ≡ Err e)
+refused_as a b e ae be = subst (λ r. IfErr r (λ e. a ≡ Err e)) (sym be) ae
