@@ -14,7 +14,7 @@ use Rattle.phone_meta.specs.Codes.{is_listed, shortest}
 use Rattle.phone_records.specs.declared.loader.Metadata.{Metadata}
 use Rattle.phone_parts.specs.declared.number.Number.{Number as Parts}
 use Rattle.phone_read.specs.Codes.{IsCoded, code_by, code_by_front, code_by_prefix, code_of, dialled, dialled_under, found_in, international_prefix_of, prefix_of, with_three}
-use Rattle.phone_read.specs.Hints.{Coded, code_by_hint, hinted}
+use Rattle.phone_read.specs.Hints.{Coded, hinted}
 
 -- the code is told by the source and the digits that the way of dialling gives
 pub code_of-dialled : (db : List Metadata) (hint : Option Id) (m : Option Metadata) (pattern : Option (List ℕ)) (n : List ℕ) (p q : Option (List ℕ)) (source : Source) (digits : List ℕ) →

@@ -1,4 +1,4 @@
-use Rattle.std.proofs.Common.{◌+◌, ◌<◌, ◌^◌, arith, ap, length, sym}
+use Rattle.std.proofs.Common.{arith, ap, length, sym}
 use Rattle.std.proofs.lemmas.Fmt.{decimal_digit}
 use Rattle.phone_read.proofs.DecimalFronts.{length-decimal}
 use Rattle.phone_read.proofs.trims.decimal_len.Goals as goal
