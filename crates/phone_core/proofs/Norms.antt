@@ -1,9 +1,13 @@
 -- The digits of a text: they are digits alone, and a text of digits alone is its own.
-use Rattle.std.proofs.Common.{◌≡◌, ℕ, ◌+◌, ◌-◌, true, nat_le, nat_lt, List, [], ◌∷◌, Some, IfSome, refl, ap, arith, ltb-true}
+use Rattle.std.proofs.Common.{◌≡◌, ℕ, ◌+◌, ◌-◌, true, nat_le, nat_lt, List, [], ◌∷◌, Some, IfSome, encode_utf8_all, refl, ap, sym, subst, ◌∙◌, arith, ltb-true}
 use Rattle.std.proofs.lemmas.Bool.{and_from, and_parts, cond_both, leb-true, le-leb}
+use Rattle.std.proofs.lemmas.Fmt.{IsAscii-from_digits}
+use Rattle.std.proofs.lemmas.Str.{chars-IsAscii, encodes-IsAscii}
 use Rattle.std.specs.List.{list_all, find}
+use Rattle.std.specs.Str.{chars}
 use Rattle.phone_core.specs.Characters.{is_digit, is_one_of, is_in_run, script_zeros, key_letters, as_dec_digit, keypad, digit_of}
 use Rattle.phone_core.specs.Norm.{norm}
+use Rattle.phone_core.proofs.ReadBack.{all_digits}
 use Rattle.phone_core.proofs.Finds.{IfSome-find, IfSome-option_map, IfSome-option_or, list_all-filter_map}
 
 pub norm_digits : (cs : List ℕ) → list_all is_digit cs ≡ true → norm cs ≡ cs
@@ -32,3 +36,11 @@ keypad_digit c = cond_both (is_digit c) (Some c) _ (λ o. IfSome o (λ d. is_dig
 pub list_all-norm : (t : List ℕ) → list_all is_digit (norm t) ≡ true
 list_all-norm t = list_all-filter_map digit_of is_digit
     (λ c. IfSome-option_or _ (as_dec_digit c) (keypad c) (as_dec_digit_digit c) (keypad_digit c)) t
+
+-- a text that is its own digits is digits alone
+pub own_norm : (t : List ℕ) → encode_utf8_all (norm (chars t)) ≡ t → list_all is_digit (chars t) ≡ true
+own_norm t e =
+    let ds = norm (chars t) in
+    let written : encode_utf8_all ds ≡ ds = encodes-IsAscii ds (IsAscii-from_digits ds (all_digits ds (list_all-norm (chars t)))) in
+    let alone : list_all is_digit t ≡ true = subst (λ x. list_all is_digit x ≡ true) (sym written ∙ e) (list_all-norm (chars t)) in
+    ap (list_all is_digit) (chars-IsAscii t (IsAscii-from_digits t (all_digits t alone))) ∙ alone

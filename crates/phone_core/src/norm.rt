@@ -34,20 +34,23 @@ pub(crate) fn has_digits_alone(text: &str) -> bool
     text.chars().all(|c| is_digit(c))
 }
 
-/// Whether a text is digits from `0` to `9` alone, and so is its own digits.
+/// Whether a text is digits from `0` to `9` alone, and so is its own digits; no other text is.
 fn is_normal(text: &str) -> bool
     ensures digits { result ≡ list_all is_digit (chars text.now) }
     ensures own { IsTrue result → encode_utf8_all (norm (chars text.now)) ≡ text.now }
+    ensures only { encode_utf8_all (norm (chars text.now)) ≡ text.now → IsTrue result }
 {
     has_digits_alone(text)
 }
 
 /// The digits of a text: for each character the digit that `as_dec_digit` gives it, else the one of its key on a
 /// telephone (`keypad`), else nothing. A text of digits from `0` to `9` alone, also the empty one, is given back as
-/// it is, and takes no memory; so a borrowed one stays borrowed. Refused only for memory.
+/// it is, and takes no memory; so a borrowed one stays borrowed. No other text is its own digits. Refused only for
+/// memory.
 pub fn normalize(alloc: Global, text: CowStr<'_>) -> Result<CowStr<'_>, AllocError>
     ensures text { IfOk result (λ out. cow_str_bytes out ≡ encode_utf8_all (norm (chars (cow_str_bytes text.entry)))) }
     ensures no_memory { IsTrue (list_all is_digit (chars (cow_str_bytes text.entry))) → result ≡ Ok text.entry }
+    ensures own { encode_utf8_all (norm (chars (cow_str_bytes text.entry))) ≡ cow_str_bytes text.entry → result ≡ Ok text.entry }
     ensures borrowed { IfOk result (λ out. IsBorrowedStr text.entry →
         IsTrue (list_all is_digit (chars (cow_str_bytes text.entry))) → IsBorrowedStr out) }
 {

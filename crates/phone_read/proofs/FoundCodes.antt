@@ -1,13 +1,19 @@
 -- The code of a number, by the way it was dialled.
-use Rattle.std.proofs.Common.{◌≡◌, ℕ, List, Option, Some, None, option_map, Result, Ok, Err, IfOk, IfErr, refl, ap, sym, ◌∙◌}
+use Rattle.std.proofs.Common.{◌≡◌, ℕ, nat_le, if◌then◌else◌, List, length, drop, Option, Some, None, option_map, Result, Ok, Err, IfOk, IfErr, MatchResult, refl, ap, sym, subst, ◌∙◌}
+use Rattle.std.proofs.lemmas.Bool.{cond_both}
 use Rattle.std.specs.Fmt.{decimal}
+use Rattle.std.specs.Option.{option_map_or}
 use Rattle.phone_core.specs.Norm.{norm}
+use Rattle.phone_core.specs.Numbers.{number_in}
 use Rattle.phone_core.specs.declared.country.Id.{Id}
 use Rattle.phone_core.specs.declared.country.Source.{Source}
 use Rattle.phone_core.specs.declared.country.Source.TheVariants.{Plus, Idd, Number, Default}
+use Rattle.phone_core.specs.declared.error.ParseError.{ParseError}
+use Rattle.phone_core.specs.declared.error.ParseError.TheVariants.{InvalidCountryCode, MalformedInteger, Memory, TooShortNsn}
+use Rattle.phone_meta.specs.Codes.{is_listed, shortest}
 use Rattle.phone_records.specs.declared.loader.Metadata.{Metadata}
 use Rattle.phone_parts.specs.declared.number.Number.{Number as Parts}
-use Rattle.phone_read.specs.Codes.{HasCode, code_by, code_by_front, code_of, dialled, found_in, international_prefix_of, prefix_of, with_three}
+use Rattle.phone_read.specs.Codes.{IsCoded, code_by, code_by_front, code_by_prefix, code_of, dialled, dialled_under, found_in, international_prefix_of, prefix_of, with_three}
 use Rattle.phone_read.specs.Hints.{Coded, hinted}
 
 -- the code is told by the source and the digits that the way of dialling gives
@@ -54,11 +60,49 @@ pub err_again : {T E : Type 0} (r : Result T E) (P Q : E → Type 0) → ((e : E
 err_again (Ok x) P Q f h = tt
 err_again (Err e) P Q f h = f e h
 
-pub has_code_again : (c : Coded) (a b : List ℕ) (x y : Option (List ℕ)) (n m r : Parts) → a ≡ b → x ≡ y → n.carrier ≡ m.carrier → HasCode c a x n r → HasCode c b y m r
-has_code_again c a b x y n m r ea ex en h = record {
+pub is_coded_again : (c : Coded) (a b : List ℕ) (x y : Option (List ℕ)) (n m r : Parts) → a ≡ b → x ≡ y → n.carrier ≡ m.carrier → IsCoded c a x n r → IsCoded c b y m r
+is_coded_again c a b x y n m r ea ex en h = record {
   country = h.country;
   national = h.national;
-  prefix = h.prefix ∙ ap Some ea;
+  prefix = h.prefix ∙ ea;
   extension = h.extension ∙ ex;
   carrier = h.carrier ∙ en;
 }
+
+-- without a territory of the hint the code is told by something else, and no refusal is want of memory
+abbrev pub IsTold : Result Coded ParseError → Type 0
+IsTold r = MatchResult r (λ c. ¬ (c.source ≡ Default)) (λ e. ¬ (e ≡ Memory))
+
+with_three-told : (digits : List ℕ) (r : Result Coded ParseError) → IsTold r → IsTold (with_three digits r)
+with_three-told digits r told = cond_both (nat_le (length digits) 2) (Err TooShortNsn) r IsTold (λ t m. cc) (λ f. told)
+
+prefix-told : (db : List Metadata) (p digits : List ℕ) → IsTold (code_by_prefix db p digits)
+prefix-told db p digits = at (number_in 16 p)
+  where
+    at : (o : Option ℕ) →
+        IsTold (option_map_or (λ code. if is_listed code db then Ok (record { source = Plus; value = code; rest = digits }) else Err InvalidCountryCode) o (Err MalformedInteger))
+    at None = λ m. cc
+    at (Some code) = cond_both (is_listed code db) (Ok (record { source = Plus; value = code; rest = digits })) (Err InvalidCountryCode) IsTold (λ t d. cc) (λ f m. cc)
+
+front-told : (db : List Metadata) (source : Source) (digits : List ℕ) → ¬ (source ≡ Default) → IsTold (code_by_front db source digits)
+front-told db source digits other = at (shortest db digits)
+  where
+    at : (o : Option ℕ) → IsTold (option_map_or (λ code. Ok (record { source = source; value = code; rest = drop (length (decimal code)) digits })) o (Err InvalidCountryCode))
+    at None = λ m. cc
+    at (Some code) = other
+
+code_by-told : (db : List Metadata) (q : Option (List ℕ)) (source : Source) (digits : List ℕ) → IsTold (code_by db None q source digits)
+code_by-told db (Some p) source digits = with_three-told digits (code_by_prefix db p digits) (prefix-told db p digits)
+code_by-told db None Plus digits = with_three-told digits (code_by_front db Plus digits) (front-told db Plus digits (λ d. cc))
+code_by-told db None Idd digits = with_three-told digits (code_by_front db Idd digits) (front-told db Idd digits (λ d. cc))
+code_by-told db None Number digits = with_three-told digits (code_by_front db Number digits) (front-told db Number digits (λ d. cc))
+code_by-told db None Default digits = λ m. cc
+
+pub code_of-told : (db : List Metadata) (hint : Option Id) (n : List ℕ) (p : Option (List ℕ)) → hinted db hint ≡ None → IsTold (code_of db hint n p)
+code_of-told db hint n p none =
+    let d = dialled_under db hint n p in
+    subst (λ m. IsTold (code_by db m (option_map norm p) d.source d.digits)) (sym none) (code_by-told db (option_map norm p) d.source d.digits)
+
+-- two answers that are refused alike
+pub refused_as : {S T E : Type 0} (a : Result S E) (b : Result T E) (e : E) → a ≡ Err e → b ≡ Err e → IfErr b (λ e. a ≡ Err e)
+refused_as a b e ae be = subst (λ r. IfErr r (λ e. a ≡ Err e)) (sym be) ae

@@ -1,4 +1,5 @@
 pub mod BareParts
+pub mod DecimalFronts
 pub mod DigitTexts
 pub mod FoundCodes
 pub mod HintCodes

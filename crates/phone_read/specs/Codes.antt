@@ -1,7 +1,7 @@
 -- Which calling code a number has, and which digits follow it: what stands in the original's module `parser/helper`.
-use Rattle.std.specs.Prelude.{◌≡◌, ℕ, ◌==◌, ◌&&◌, nat_le, not, Bool, true, false, if◌then◌else◌, List, length, drop, Option, None, Some, option_map, Result, Ok, Err, unwrap_or}
+use Rattle.std.specs.Prelude.{◌≡◌, ℕ, ◌==◌, ◌&&◌, nat_le, not, Bool, true, false, if◌then◌else◌, List, length, drop, Option, None, Some, option_map, Result, Ok, Err, unwrap_or, chars}
 use Rattle.std.specs.Borrow.{Bor}
-use Rattle.std.specs.Cow.{cow_str_bytes}
+use Rattle.std.specs.Cow.{cow_str_bytes, IsBorrowedStr}
 use Rattle.std.specs.List.{list_all}
 use Rattle.std.specs.Option.{option_and_then, option_map_or}
 use Rattle.std.specs.Fmt.{decimal}
@@ -58,6 +58,15 @@ abbrev pub is_bare : List ℕ → Option (List ℕ) → Option (List ℕ) → Bo
 is_bare n (Some p) e = list_all is_digit n && (list_all is_digit p && option_map_or (list_all is_digit) e true)
 is_bare n None e = list_all is_digit (after_front is_plus n) && option_map_or (list_all is_digit) e true
 
+-- the same, with plus signs before any national part
+abbrev pub is_plain : List ℕ → Option (List ℕ) → Option (List ℕ) → Bool
+is_plain n p e = list_all is_digit (after_front is_plus n) && (option_map_or (list_all is_digit) p true && option_map_or (list_all is_digit) e true)
+
+-- the national part is lent, and ASCII digits after its leading plus signs
+pub record IsLentDigits (n : Parts) : Type 0 where
+  pub borrowed : IsBorrowedStr n.national
+  pub digits : list_all is_digit (after_front is_plus (chars (cow_str_bytes n.national))) ≡ true
+
 -- the first match of a compiled pattern; without a pattern there is none
 abbrev pub found_by : Option (Bor Regex) → List ℕ → Option (ℕ × ℕ)
 found_by None digits = None
@@ -110,5 +119,13 @@ pub record HasCode (c : Coded) (before : List ℕ) (after : Option (List ℕ)) (
   pub country : r.country ≡ c.source
   pub national : cow_str_bytes r.national ≡ c.rest
   pub prefix : option_map cow_str_bytes r.prefix ≡ Some before
+  pub extension : option_map cow_str_bytes r.extension ≡ after
+  pub carrier : r.carrier ≡ n.carrier
+
+-- the same of a number r whose prefix may be left out where it is the code in decimal
+pub record IsCoded (c : Coded) (before : List ℕ) (after : Option (List ℕ)) (n r : Parts) : Type 0 where
+  pub country : r.country ≡ c.source
+  pub national : cow_str_bytes r.national ≡ c.rest
+  pub prefix : unwrap_or (option_map cow_str_bytes r.prefix) (decimal c.value) ≡ before
   pub extension : option_map cow_str_bytes r.extension ≡ after
   pub carrier : r.carrier ≡ n.carrier

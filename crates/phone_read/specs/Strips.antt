@@ -1,5 +1,6 @@
 -- What is cut off the digits after the calling code: national prefix and carrier code. After the original's `parser/helper` and `parser`.
-use Rattle.std.specs.Prelude.{ℕ, ◌==◌, ◌&&◌, not, if◌then◌else◌, List, length, drop, Option, None, Some, option_map}
+use Rattle.std.specs.Prelude.{ℕ, ◌==◌, ◌&&◌, not, Bool, false, if◌then◌else◌, List, length, drop, Option, None, Some, option_map}
+use Rattle.std.specs.Option.{option_map_or}
 use Rattle.regex.specs.Replace.{bytes_of}
 use Rattle.phone_meta.specs.First.{captured, replaced}
 use Rattle.phone_records.specs.declared.loader.Metadata.{Metadata}
@@ -39,6 +40,21 @@ by_match m pattern digits was (Some found) =
 abbrev pub by_pattern : Metadata → Option (List ℕ) → List ℕ → Option (List ℕ) → Stripped
 by_pattern m None digits was = record { national = without_front m.national_prefix digits; carrier = was }
 by_pattern m (Some pattern) digits was = by_match m pattern digits was (captured pattern digits)
+
+-- the transform rule writes the digits anew: there is one, the last group took part, and the digits stay of the general kind if they were
+abbrev pub is_anew_by_rule : Metadata → List ℕ → Option (List ℕ) → List ℕ → Option (ℕ × ℕ) → Bool
+is_anew_by_rule m pattern (Some rule) digits (Some last) = not (is_of m.general digits && not (is_of m.general (replaced pattern rule digits)))
+is_anew_by_rule m pattern rule digits last = false
+
+-- only after a first match at the front
+abbrev pub is_anew_by_match : Metadata → List ℕ → List ℕ → Option Captured → Bool
+is_anew_by_match m pattern digits None = false
+is_anew_by_match m pattern digits (Some found) =
+    if found.span.0 == 0 then is_anew_by_rule m pattern m.national_prefix_transform_rule digits found.last else false
+
+-- only by a parsing pattern
+abbrev pub is_anew : Metadata → List ℕ → Bool
+is_anew m digits = option_map_or (λ (pattern : List ℕ). is_anew_by_match m pattern digits (captured pattern digits)) m.national_prefix_for_parsing false
 
 -- the step: by the territory's parsing pattern
 abbrev pub step : Metadata → List ℕ → Option (List ℕ) → Stripped

@@ -1,26 +1,26 @@
 //! The calling code of a number, and the digits that follow it.
-ghost use Rattle.std.specs.Prelude.{◌≡◌, ◌⊎◌, ◌&&◌, ℕ, Bool, List, not, true, Ok, Err, drop, length, string_bytes, IfOk, IfErr, None, Some, option_map};
-ghost use Rattle.std.specs.Cow.{cow_str_bytes};
+ghost use Rattle.std.specs.Prelude.{◌≡◌, ◌⊎◌, ◌&&◌, ℕ, Bool, List, not, true, Ok, Err, drop, length, IfOk, IfErr, IfSome, IsSome, None, Some, option_map, unwrap_or};
+ghost use Rattle.std.specs.Cow.{cow_str_bytes, IsBorrowedStr};
 ghost use Rattle.std.specs.Fmt.{decimal};
-ghost use Rattle.std.specs.Option.{option_and_then, option_copied};
+ghost use Rattle.std.specs.Option.{option_and_then, option_copied, option_map_or};
 ghost use Rattle.std.specs.Result.{result_map_both};
 ghost use Rattle.phone_core.specs.Norm.{norm};
 ghost use Rattle.phone_core.specs.declared.country.Source.{Source};
 ghost use Rattle.phone_core.specs.declared.country.Source.TheVariants.{Plus, Default};
 ghost use Rattle.phone_parts.specs.Parts.{parts_of};
 ghost use Rattle.phone_parts.specs.Texts.{is_front};
-ghost use Rattle.phone_read.specs.Codes.{HasCode, code_by, code_by_front, code_by_prefix, code_of, international_prefix_of, is_bare, prefix_of, with_three};
-ghost use Rattle.phone_read.specs.Hints.{Coded, hinted, looks_national};
+ghost use Rattle.phone_read.specs.Codes.{HasCode, IsCoded, IsLentDigits, code_by_front, code_by_prefix, code_of, international_prefix_of, is_bare, is_plain, prefix_of, with_three};
+ghost use Rattle.phone_read.specs.Hints.{Coded, code_by_hint, hinted, looks_national};
 
 use crate::dialled::{OfTerritory, dialled};
 use crate::hints::{hinted, looks_national};
-use crate::trims::{has_front, past_front};
+use crate::trims::{begins_with_number, behind_number, lent_front, trim};
 use phone_core::ParseError;
 use phone_core::consts::MIN_LENGTH_FOR_NSN;
 use phone_core::country::{Id, Source};
 use phone_meta::{Database, Metadata, Pattern};
 use phone_parts::Number;
-use std::alloc::AllocError;
+use std::alloc::{AllocError, Global};
 use std::borrow::CowStr;
 
 /// A number whose calling code is found, and the code.
@@ -29,7 +29,8 @@ pub(crate) struct CodedNumber<'a> {
     /// The calling code.
     pub(crate) code: u16,
 
-    /// Its source, the digits that follow it, and as prefix the reader's one or the code in decimal.
+    /// Its source, the digits that follow it, and as prefix the reader's one, or the code where it was cut off borrowed
+    /// digits.
     pub(crate) number: Number<'a>,
 }
 
@@ -45,6 +46,9 @@ pub(crate) struct CodedNumber<'a> {
 /// none is at the front, or there is no hint or no record of it; `Memory` where memory was refused. Where the hint has no
 /// international prefix, and the parts are ASCII digits after the leading plus signs, each of the other refusals is told
 /// without asking for memory.
+///
+/// A borrowed national part of ASCII digits, leading plus signs aside, stays borrowed, and a code that is cut off it is
+/// borrowed from it too. So without a territory of the hint a number of such parts takes no memory.
 pub fn country_code<'a>(
     db: &Database,
     hint: Option<Id>,
@@ -55,22 +59,51 @@ pub fn country_code<'a>(
     ensures refused { IfErr result (λ e. (e ≡ ParseError.Memory) ⊎ (code_of db.now hint (parts_of number.entry).national (parts_of number.entry).prefix ≡ Err e)) }
     ensures no_memory { international_prefix_of (hinted db.now hint) ≡ None → is_bare (parts_of number.entry).national (parts_of number.entry).prefix (parts_of number.entry).extension ≡ true →
         IfErr (code_of db.now hint (parts_of number.entry).national (parts_of number.entry).prefix) (λ e. result ≡ Err e) }
+    ensures borrowed { IfOk result (λ n. IsLentDigits number.entry → IsBorrowedStr n.national) }
+    ensures lent_prefix { IfOk result (λ n. IsLentDigits number.entry → number.entry.prefix ≡ None → ¬ (n.country ≡ Default) → IfSome n.prefix (λ p. IsBorrowedStr p)) }
+    ensures never_memory { hinted db.now hint ≡ None → IsBorrowedStr number.entry.national → is_plain (parts_of number.entry).national (parts_of number.entry).prefix (parts_of number.entry).extension ≡ true →
+        ¬ (result ≡ Err ParseError.Memory) }
 {
     let coded = coded(db, hint, number)?;
-    Ok(coded.number)
+    Ok(prefixed(db.allocator(), coded)?)
 }
 
-/// A number with its calling code, as [`country_code`] has it, and the code itself.
+/// A number whose code was found; its prefix, where it has none, is the code in decimal.
+fn prefixed<'a>(alloc: Global, coded: CodedNumber<'a>) -> Result<Number<'a>, AllocError>
+    ensures kept { IsSome coded.entry.number.prefix → result ≡ Ok coded.entry.number }
+    ensures prefix { IfOk result (λ n. option_map cow_str_bytes n.prefix ≡ Some (unwrap_or (option_map cow_str_bytes coded.entry.number.prefix) (decimal coded.entry.code))) }
+    ensures country { IfOk result (λ n. n.country ≡ coded.entry.number.country) }
+    ensures national { IfOk result (λ n. n.national ≡ coded.entry.number.national) }
+    ensures extension { IfOk result (λ n. n.extension ≡ coded.entry.number.extension) }
+    ensures carrier { IfOk result (λ n. n.carrier ≡ coded.entry.number.carrier) }
+{
+    let CodedNumber { code, number } = coded;
+    if number.prefix.is_some() {
+        return Ok(number);
+    }
+    let prefix = format!(in alloc; "{code}")?;
+    Ok(Number {
+        prefix: Some(CowStr::Owned(prefix)),
+        ..number
+    })
+}
+
+/// A number with its calling code, as [`country_code`] has it but for a prefix that would be a copy, and the code itself.
 pub(crate) fn coded<'a>(
     db: &Database,
     hint: Option<Id>,
     number: Number<'a>,
 ) -> Result<CodedNumber<'a>, ParseError>
     ensures coded { IfOk result (λ r. (c : Coded) × (code_of db.now hint (parts_of number.entry).national (parts_of number.entry).prefix ≡ Ok c) × (r.code ≡ c.value) ×
-        HasCode c (prefix_of (parts_of number.entry).prefix c.value) (option_map norm (parts_of number.entry).extension) number.entry r.number) }
+        IsCoded c (prefix_of (parts_of number.entry).prefix c.value) (option_map norm (parts_of number.entry).extension) number.entry r.number) }
     ensures refused { IfErr result (λ e. (e ≡ ParseError.Memory) ⊎ (code_of db.now hint (parts_of number.entry).national (parts_of number.entry).prefix ≡ Err e)) }
     ensures no_memory { international_prefix_of (hinted db.now hint) ≡ None → is_bare (parts_of number.entry).national (parts_of number.entry).prefix (parts_of number.entry).extension ≡ true →
         IfErr (code_of db.now hint (parts_of number.entry).national (parts_of number.entry).prefix) (λ e. result ≡ Err e) }
+    ensures told { hinted db.now hint ≡ None → is_plain (parts_of number.entry).national (parts_of number.entry).prefix (parts_of number.entry).extension ≡ true →
+        IfErr result (λ e. code_of db.now hint (parts_of number.entry).national (parts_of number.entry).prefix ≡ Err e) }
+    ensures borrowed { IfOk result (λ r. IsLentDigits number.entry → IsBorrowedStr r.number.national) }
+    ensures lent_prefix { IfOk result (λ r. number.entry.prefix ≡ None → IfSome r.number.prefix (λ p. IsBorrowedStr p)) }
+    ensures has_prefix { IfOk result (λ r. IsLentDigits number.entry → ¬ (r.number.country ≡ Default) → IsSome r.number.prefix) }
 {
     let territory = hinted(db, hint);
     let finder = OfTerritory {
@@ -82,7 +115,7 @@ pub(crate) fn coded<'a>(
         return Ok(CodedNumber { code, number });
     }
     match number.country {
-        Source::Default => by_hint(db, territory, number),
+        Source::Default => by_hint(territory, number),
         _ => by_front(db, number),
     }
 }
@@ -148,35 +181,40 @@ fn counted(digits: &str, found: Result<u16, ParseError>) -> Result<u16, ParseErr
     found
 }
 
-/// An international number with the code at the front of its digits, which is cut off.
+/// An international number with the code at the front of its digits, which is cut off. No memory is taken.
 fn by_front<'a>(db: &Database, number: Number<'a>) -> Result<CodedNumber<'a>, ParseError>
     ensures coded { IfOk result (λ r. (c : Coded) × (with_three (cow_str_bytes number.entry.national) (code_by_front db.now number.entry.country (cow_str_bytes number.entry.national)) ≡ Ok c) ×
-        (r.code ≡ c.value) × HasCode c (decimal c.value) (option_map cow_str_bytes number.entry.extension) number.entry r.number) }
-    ensures refused { IfErr result (λ e. (e ≡ ParseError.Memory) ⊎
-        (with_three (cow_str_bytes number.entry.national) (code_by_front db.now number.entry.country (cow_str_bytes number.entry.national)) ≡ Err e)) }
+        (r.code ≡ c.value) × IsCoded c (decimal c.value) (option_map cow_str_bytes number.entry.extension) number.entry r.number) }
+    ensures refused { IfErr result (λ e. with_three (cow_str_bytes number.entry.national) (code_by_front db.now number.entry.country (cow_str_bytes number.entry.national)) ≡ Err e) }
     ensures at_once { IfErr (with_three (cow_str_bytes number.entry.national) (code_by_front db.now number.entry.country (cow_str_bytes number.entry.national))) (λ e. result ≡ Err e) }
+    ensures borrowed { IfOk result (λ r. IsBorrowedStr number.entry.national → IsBorrowedStr r.number.national) }
+    ensures lent_prefix { IfOk result (λ r. IfSome r.number.prefix (λ p. IsBorrowedStr p)) }
+    ensures has_prefix { IfOk result (λ r. IsBorrowedStr number.entry.national → IsSome r.number.prefix) }
 {
     let code = code_by_front(db, number.national.as_str())?;
-    let prefix = format!(in db.allocator(); "{code}")?;
     let country = number.country;
-    Ok(cut_off(code, prefix, country, number))
+    Ok(cut_off(code, country, number))
 }
 
-/// A number whose digits begin with its code in decimal, which is cut off and becomes the prefix.
-fn cut_off<'a>(code: u16, prefix: String, country: Source, number: Number<'a>) -> CodedNumber<'a>
-    requires front { is_front (string_bytes prefix) (cow_str_bytes number.national) ≡ true }
-    requires decimal { string_bytes prefix ≡ decimal code }
+/// A number whose digits begin with its code in decimal, which is cut off. Of borrowed digits it becomes the prefix.
+fn cut_off<'a>(code: u16, country: Source, number: Number<'a>) -> CodedNumber<'a>
+    requires { is_front (decimal code) (cow_str_bytes number.national) ≡ true }
     ensures code { result.code ≡ code }
-    ensures coded { HasCode (record { source = country; value = code; rest = drop (length (decimal code)) (cow_str_bytes number.entry.national) })
+    ensures coded { IsCoded (record { source = country; value = code; rest = drop (length (decimal code)) (cow_str_bytes number.entry.national) })
         (decimal code) (option_map cow_str_bytes number.entry.extension) number.entry result.number }
+    ensures borrowed { IsBorrowedStr number.entry.national → IsBorrowedStr result.number.national }
+    ensures lent_prefix { IfSome result.number.prefix (λ p. IsBorrowedStr p) }
+    ensures has_prefix { IsBorrowedStr number.entry.national → IsSome result.number.prefix }
 {
-    let national = past_front(prefix.as_str(), number.national);
+    let at = behind_number(number.national.as_str(), code);
+    let prefix = lent_front(&number.national, at);
+    let national = trim(number.national, at);
     CodedNumber {
         code,
         number: Number {
             country,
             national,
-            prefix: Some(CowStr::Owned(prefix)),
+            prefix,
             extension: number.extension,
             carrier: number.carrier,
         },
@@ -185,47 +223,41 @@ fn cut_off<'a>(code: u16, prefix: String, country: Source, number: Number<'a>) -
 
 /// A number with the code of the hint's territory.
 fn by_hint<'a>(
-    db: &Database,
     territory: Option<&Metadata>,
     number: Number<'a>,
 ) -> Result<CodedNumber<'a>, ParseError>
-    ensures coded { IfOk result (λ r. (c : Coded) × (code_by db.now (option_copied territory.entry) None Default (cow_str_bytes number.entry.national) ≡ Ok c) ×
-        (r.code ≡ c.value) × HasCode c (decimal c.value) (option_map cow_str_bytes number.entry.extension) number.entry r.number) }
-    ensures refused { IfErr result (λ e. (e ≡ ParseError.Memory) ⊎ (code_by db.now (option_copied territory.entry) None Default (cow_str_bytes number.entry.national) ≡ Err e)) }
-    ensures at_once { IfErr (code_by db.now (option_copied territory.entry) None Default (cow_str_bytes number.entry.national)) (λ e. result ≡ Err e) }
+    ensures coded { IfOk result (λ r. (c : Coded) × (option_map_or (λ m. Ok (code_by_hint m (cow_str_bytes number.entry.national))) (option_copied territory.entry) (Err ParseError.InvalidCountryCode) ≡ Ok c) ×
+        (r.code ≡ c.value) × IsCoded c (decimal c.value) (option_map cow_str_bytes number.entry.extension) number.entry r.number) }
+    ensures refused { IfErr result (λ e. (e ≡ ParseError.Memory) ⊎
+        (option_map_or (λ m. Ok (code_by_hint m (cow_str_bytes number.entry.national))) (option_copied territory.entry) (Err ParseError.InvalidCountryCode) ≡ Err e)) }
+    ensures at_once { IfErr (option_map_or (λ m. Ok (code_by_hint m (cow_str_bytes number.entry.national))) (option_copied territory.entry) (Err ParseError.InvalidCountryCode)) (λ e. result ≡ Err e) }
+    ensures borrowed { IfOk result (λ r. IsBorrowedStr number.entry.national → IsBorrowedStr r.number.national) }
+    ensures lent_prefix { IfOk result (λ r. IfSome r.number.prefix (λ p. IsBorrowedStr p)) }
+    ensures has_prefix { IfOk result (λ r. IsBorrowedStr number.entry.national → ¬ (r.number.country ≡ Default) → IsSome r.number.prefix) }
 {
     let Some(territory) = territory else {
         return Err(ParseError::InvalidCountryCode);
     };
     let code = territory.country_code();
-    let prefix = format!(in db.allocator(); "{code}")?;
-    let is_apart = is_code_apart(territory, prefix.as_str(), number.national.as_str())?;
+    let is_apart = is_code_apart(territory, code, number.national.as_str())?;
     if is_apart {
-        return Ok(cut_off(code, prefix, Source::Number, number));
+        return Ok(cut_off(code, Source::Number, number));
     }
-    let Number {
-        national,
-        extension,
-        carrier,
-        ..
-    } = number;
     Ok(CodedNumber {
         code,
         number: Number {
             country: Source::Default,
-            national,
-            prefix: Some(CowStr::Owned(prefix)),
-            extension,
-            carrier,
+            prefix: None,
+            ..number
         },
     })
 }
 
 /// Whether digits begin with the territory's code in decimal, and the code is no part of a national number.
-fn is_code_apart(territory: &Metadata, code: &str, digits: &str) -> Result<bool, AllocError>
-    ensures { IfOk result (λ b. b ≡ (is_front code.now digits.now && not (looks_national territory.now digits.now))) }
+fn is_code_apart(territory: &Metadata, code: u16, digits: &str) -> Result<bool, AllocError>
+    ensures { IfOk result (λ b. b ≡ (is_front (decimal code) digits.now && not (looks_national territory.now digits.now))) }
 {
-    if !has_front(digits, code) {
+    if !begins_with_number(digits, code) {
         return Ok(false);
     }
     Ok(!looks_national(territory, digits)?)

@@ -1,6 +1,6 @@
 //! How a number was dialled: by a plus sign, an international prefix, or neither.
 ghost use Rattle.std.specs.Prelude.{◌≡◌, ◌==◌, ℕ, Bool, true, List, Option, drop, IsCharBoundary, IfOk, IsOk, IfSome, None, option_map, chars};
-ghost use Rattle.std.specs.Cow.{cow_str_bytes};
+ghost use Rattle.std.specs.Cow.{cow_str_bytes, IsBorrowedStr};
 ghost use Rattle.std.specs.List.{list_all};
 ghost use Rattle.std.specs.Option.{option_map_or};
 ghost use Rattle.phone_core.specs.Characters.{is_digit, is_plus};
@@ -9,7 +9,7 @@ ghost use Rattle.phone_core.specs.Norm.{norm};
 ghost use Rattle.phone_meta.specs.First.{IsCut};
 ghost use Rattle.phone_parts.specs.Parts.{parts_of};
 ghost use Rattle.phone_parts.specs.Texts.{begins};
-ghost use Rattle.phone_read.specs.Codes.{after_match, dialled, found_by, is_bare};
+ghost use Rattle.phone_read.specs.Codes.{IsLentDigits, after_match, dialled, found_by, is_bare, is_plain, unsigned};
 
 use crate::trims::trim;
 use phone_core::chars::{is_plus, normalize};
@@ -103,7 +103,8 @@ impl CharSet for PlusSigns {
 /// the reader the source is `Plus`. Without one, leading plus signs are dropped and give `Plus`, none give `Default`;
 /// and where the pattern's first match is at the front of the digits and no `0` follows it, the match is dropped, and
 /// the source becomes `Idd` unless it is `Plus`. The carrier stays as it is. Refused only for memory, which is asked for
-/// only where there is a pattern, or a part has other characters than ASCII digits, leading plus signs aside.
+/// only where there is a pattern, or a part has other characters than ASCII digits, leading plus signs aside. A borrowed
+/// national part of ASCII digits, leading plus signs aside, stays borrowed.
 pub fn international_prefix<'a>(
     alloc: Global,
     pattern: Option<&Regex>,
@@ -115,6 +116,7 @@ pub fn international_prefix<'a>(
     ensures extension { IfOk result (λ n. option_map cow_str_bytes n.extension ≡ option_map norm (parts_of number.entry).extension) }
     ensures carrier { IfOk result (λ n. n.carrier ≡ number.entry.carrier) }
     ensures no_memory { pattern.entry ≡ None → is_bare (parts_of number.entry).national (parts_of number.entry).prefix (parts_of number.entry).extension ≡ true → IsOk result }
+    ensures borrowed { IfOk result (λ n. IsLentDigits number.entry → IsBorrowedStr n.national) }
 {
     dialled(alloc, &Handed { alloc, pattern }, number)
 }
@@ -130,7 +132,8 @@ pub(crate) fn dialled<'a, F: Finder>(
     ensures prefix { IfOk result (λ n. option_map cow_str_bytes n.prefix ≡ option_map norm (parts_of number.entry).prefix) }
     ensures extension { IfOk result (λ n. option_map cow_str_bytes n.extension ≡ option_map norm (parts_of number.entry).extension) }
     ensures carrier { IfOk result (λ n. n.carrier ≡ number.entry.carrier) }
-    ensures no_memory { F.is_idle finder.now ≡ true → is_bare (parts_of number.entry).national (parts_of number.entry).prefix (parts_of number.entry).extension ≡ true → IsOk result }
+    ensures no_memory { F.is_idle finder.now ≡ true → is_plain (parts_of number.entry).national (parts_of number.entry).prefix (parts_of number.entry).extension ≡ true → IsOk result }
+    ensures borrowed { IfOk result (λ n. IsLentDigits number.entry → IsBorrowedStr n.national) }
 {
     let Number {
         national,
@@ -140,7 +143,7 @@ pub(crate) fn dialled<'a, F: Finder>(
         ..
     } = number;
     let (country, national) = match &prefix {
-        Some(_) => (Source::Plus, digits(alloc, national)?),
+        Some(_) => (Source::Plus, unsigned(alloc, national)?),
         None => dialled_alone(alloc, finder, national)?,
     };
     Ok(Number {
@@ -162,9 +165,10 @@ fn dialled_alone<'a, F: Finder>(
     ensures source { IfOk result (λ r. r.0 ≡ (dialled (F.found finder.now) (chars (cow_str_bytes national.entry)) None).source) }
     ensures digits { IfOk result (λ r. cow_str_bytes r.1 ≡ (dialled (F.found finder.now) (chars (cow_str_bytes national.entry)) None).digits) }
     ensures no_memory { F.is_idle finder.now ≡ true → list_all is_digit (after_front is_plus (chars (cow_str_bytes national.entry))) ≡ true → IsOk result }
+    ensures borrowed { IfOk result (λ r. IsBorrowedStr national.entry → list_all is_digit (after_front is_plus (chars (cow_str_bytes national.entry))) ≡ true → IsBorrowedStr r.1) }
 {
     let has_plus = begins_with_plus(national.as_str());
-    let digits = digits(alloc, without_plus_signs(national))?;
+    let digits = unsigned(alloc, national)?;
     match place_after(finder, digits.as_str())? {
         Some(at) => Ok((
             if has_plus { Source::Plus } else { Source::Idd },
@@ -181,10 +185,22 @@ fn dialled_alone<'a, F: Finder>(
     }
 }
 
+/// The digits of a national part, whose leading plus signs are dropped first. Where digits alone follow them, that takes
+/// no memory.
+fn unsigned(alloc: Global, national: CowStr<'_>) -> Result<CowStr<'_>, AllocError>
+    ensures digits { IfOk result (λ d. cow_str_bytes d ≡ unsigned (chars (cow_str_bytes national.entry))) }
+    ensures same { IfOk result (λ d. cow_str_bytes d ≡ norm (chars (cow_str_bytes national.entry))) }
+    ensures no_memory { list_all is_digit (after_front is_plus (chars (cow_str_bytes national.entry))) ≡ true → IsOk result }
+    ensures borrowed { IfOk result (λ d. IsBorrowedStr national.entry → list_all is_digit (after_front is_plus (chars (cow_str_bytes national.entry))) ≡ true → IsBorrowedStr d) }
+{
+    digits(alloc, without_plus_signs(national))
+}
+
 /// The digits of a part. A part that is digits alone takes no memory.
 fn digits(alloc: Global, part: CowStr<'_>) -> Result<CowStr<'_>, AllocError>
     ensures digits { IfOk result (λ d. cow_str_bytes d ≡ norm (chars (cow_str_bytes part.entry))) }
     ensures no_memory { list_all is_digit (chars (cow_str_bytes part.entry)) ≡ true → IsOk result }
+    ensures borrowed { IfOk result (λ d. IsBorrowedStr part.entry → list_all is_digit (chars (cow_str_bytes part.entry)) ≡ true → IsBorrowedStr d) }
 {
     let digits = normalize(alloc, part)?;
     Ok(digits)
@@ -213,7 +229,8 @@ fn begins_with_plus(text: &str) -> bool
 
 /// The text without its leading plus signs.
 fn without_plus_signs(text: CowStr<'_>) -> CowStr<'_>
-    ensures { chars (cow_str_bytes result) ≡ after_front is_plus (chars (cow_str_bytes text.entry)) }
+    ensures text { chars (cow_str_bytes result) ≡ after_front is_plus (chars (cow_str_bytes text.entry)) }
+    ensures borrowed { IsBorrowedStr text.entry → IsBorrowedStr result }
 {
     let at = text.as_str().len() - after_run(text.as_str(), &PlusSigns).len();
     trim(text, at)

@@ -1,11 +1,11 @@
 //! What is cut off the digits after the calling code: national prefix and carrier code.
-ghost use Rattle.std.specs.Prelude.{◌≡◌, ◌==◌, ℕ, List, IfOk, IfSome, IsOk, None, Some, drop, option_map, true};
-ghost use Rattle.std.specs.Cow.{cow_str_bytes};
+ghost use Rattle.std.specs.Prelude.{◌≡◌, ◌⊎◌, ◌==◌, ℕ, List, IfOk, IfSome, IsOk, None, Some, drop, option_map, true, false};
+ghost use Rattle.std.specs.Cow.{cow_str_bytes, IsBorrowedStr};
 ghost use Rattle.std.specs.Option.{option_copied};
 ghost use Rattle.phone_meta.specs.First.{AreCuts, IsCut, captured};
 ghost use Rattle.phone_records.specs.declared.loader.Metadata as loader;
 ghost use Rattle.phone_read.specs.Readings.{stripped};
-ghost use Rattle.phone_read.specs.Strips.{Stripped, by_match, by_rule, held, once_more, step, strip, transformed};
+ghost use Rattle.phone_read.specs.Strips.{Stripped, by_match, by_rule, held, is_anew, is_anew_by_match, is_anew_by_rule, once_more, step, strip, transformed};
 
 use crate::trims::{part, trim, without_front};
 use crate::validator::length_of;
@@ -22,7 +22,8 @@ use std::borrow::CowStr;
 /// rule and that group took part, the rule writes the digits anew, and group 1 names the carrier. Where the digits were
 /// of the territory's general kind and would no longer be, nothing changes.
 ///
-/// Refused only for memory, and never under a territory without a parsing pattern.
+/// A borrowed national part stays borrowed unless the rule wrote it anew, and a carrier that a match names is then
+/// borrowed too. Refused only for memory, and never under a territory without a parsing pattern.
 pub fn national_number<'a>(m: &Metadata, number: Number<'a>) -> Result<Number<'a>, AllocError>
     ensures national { IfOk result (λ n. cow_str_bytes n.national ≡ (step m.now (cow_str_bytes number.entry.national) (option_map cow_str_bytes number.entry.carrier)).national) }
     ensures carrier { IfOk result (λ n. option_map cow_str_bytes n.carrier ≡ (step m.now (cow_str_bytes number.entry.national) (option_map cow_str_bytes number.entry.carrier)).carrier) }
@@ -30,6 +31,8 @@ pub fn national_number<'a>(m: &Metadata, number: Number<'a>) -> Result<Number<'a
     ensures prefix { IfOk result (λ n. n.prefix ≡ number.entry.prefix) }
     ensures extension { IfOk result (λ n. n.extension ≡ number.entry.extension) }
     ensures no_pattern { m.now.national_prefix_for_parsing ≡ None → IsOk result }
+    ensures borrowed { IfOk result (λ n. IsBorrowedStr number.entry.national → is_anew m.now (cow_str_bytes number.entry.national) ≡ false → IsBorrowedStr n.national) }
+    ensures lent_carrier { IfOk result (λ n. IsBorrowedStr number.entry.national → (n.carrier ≡ number.entry.carrier) ⊎ IfSome n.carrier (λ c. IsBorrowedStr c)) }
 {
     let Some(pattern) = m.national_prefix_for_parsing_pattern() else {
         let national = without_front(m.national_prefix(), number.national);
@@ -54,6 +57,8 @@ fn at_match<'a>(
     ensures country { IfOk result (λ n. n.country ≡ number.entry.country) }
     ensures prefix { IfOk result (λ n. n.prefix ≡ number.entry.prefix) }
     ensures extension { IfOk result (λ n. n.extension ≡ number.entry.extension) }
+    ensures borrowed { IfOk result (λ n. IsBorrowedStr number.entry.national → is_anew_by_match m.now pattern.now (cow_str_bytes number.entry.national) (Some found) ≡ false → IsBorrowedStr n.national) }
+    ensures lent_carrier { IfOk result (λ n. IsBorrowedStr number.entry.national → (n.carrier ≡ number.entry.carrier) ⊎ IfSome n.carrier (λ c. IsBorrowedStr c)) }
 {
     if found.span.0 != 0 {
         return Ok(number);
@@ -78,6 +83,8 @@ fn cut<'a>(
     ensures country { IfOk result (λ n. n.country ≡ number.entry.country) }
     ensures prefix { IfOk result (λ n. n.prefix ≡ number.entry.prefix) }
     ensures extension { IfOk result (λ n. n.extension ≡ number.entry.extension) }
+    ensures borrowed { IfOk result (λ n. IsBorrowedStr number.entry.national → IsBorrowedStr n.national) }
+    ensures lent_carrier { IfOk result (λ n. IsBorrowedStr number.entry.national → IfSome n.carrier (λ c. IsBorrowedStr c)) }
 {
     let carrier = part_if_any(m.allocator(), &number.national, last)?;
     Ok(Number {
@@ -96,7 +103,8 @@ fn part_if_any<'a>(
     group: Option<(usize, usize)>,
 ) -> Result<Option<CowStr<'a>>, AllocError>
     requires { IfSome group (IsCut (cow_str_bytes text.now)) }
-    ensures { IfOk result (λ p. option_map cow_str_bytes p ≡ held (cow_str_bytes text.now) group) }
+    ensures text { IfOk result (λ p. option_map cow_str_bytes p ≡ held (cow_str_bytes text.now) group) }
+    ensures borrowed { IfOk result (λ p. IsBorrowedStr text.now → IfSome p (λ c. IsBorrowedStr c)) }
 {
     match group {
         Some(span) => Ok(Some(part(alloc, text, span)?)),
@@ -118,6 +126,8 @@ fn transformed<'a>(
     ensures country { IfOk result (λ n. n.country ≡ number.entry.country) }
     ensures prefix { IfOk result (λ n. n.prefix ≡ number.entry.prefix) }
     ensures extension { IfOk result (λ n. n.extension ≡ number.entry.extension) }
+    ensures borrowed { IfOk result (λ n. IsBorrowedStr number.entry.national → is_anew_by_rule m.now pattern.now (Some rule.now) (cow_str_bytes number.entry.national) (Some (0, 0)) ≡ false → IsBorrowedStr n.national) }
+    ensures lent_carrier { IfOk result (λ n. IsBorrowedStr number.entry.national → (n.carrier ≡ number.entry.carrier) ⊎ IfSome n.carrier (λ c. IsBorrowedStr c)) }
 {
     let anew = pattern.replaced(rule, number.national.as_str())?;
     let general = m.descriptors().general();
@@ -141,6 +151,7 @@ fn transformed<'a>(
 pub(crate) fn strip<'b>(m: &Metadata, digits: &'b str) -> Result<Number<'b>, AllocError>
     ensures national { IfOk result (λ n. cow_str_bytes n.national ≡ (strip m.now digits.entry.now).national) }
     ensures carrier { IfOk result (λ n. option_map cow_str_bytes n.carrier ≡ (strip m.now digits.entry.now).carrier) }
+    ensures borrowed { IfOk result (λ n. is_anew m.now digits.entry.now ≡ false → IsBorrowedStr n.national) }
 {
     let stepped = national_number(m, Number::of(digits))?;
     let national = without_front(m.national_prefix(), stepped.national);

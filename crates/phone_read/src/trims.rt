@@ -1,7 +1,9 @@
 //! Fronts that are cut off a text, and parts that are taken out of it.
-ghost use Rattle.std.specs.Prelude.{◌≡◌, ◌==◌, drop, string_bytes, IsCharBoundary, IfOk, Some};
+ghost use Rattle.std.specs.Prelude.{◌≡◌, ◌==◌, take, drop, length, string_bytes, IsCharBoundary, IfOk, IsOk, IfSome, IsSome, Some, true};
 ghost use Rattle.std.specs.Cow.{cow_str_bytes, IsBorrowedStr};
+ghost use Rattle.std.specs.Fmt.{decimal};
 ghost use Rattle.std.specs.Option.{option_copied};
+ghost use Rattle.std.specs.Str.{bytes_eq};
 ghost use Rattle.regex.specs.Replace.{bytes_of};
 ghost use Rattle.phone_core.specs.Cuts.{after_front};
 ghost use Rattle.phone_meta.specs.First.{IsCut};
@@ -66,6 +68,68 @@ pub(crate) fn past_front<'a>(front: &str, text: CowStr<'a>) -> CowStr<'a>
     }
 }
 
+/// Whether the text begins with this number in decimal; no memory is taken.
+pub(crate) fn begins_with_number(text: &str, number: u16) -> bool
+    ensures { result ≡ is_front (decimal number) text.now }
+{
+    let len = decimal_len(number);
+    if text.is_char_boundary(len) {
+        is_number(&text[..len], number)
+    } else {
+        false
+    }
+}
+
+/// Whether a text of as many bytes as this number has in decimal is the number in decimal.
+fn is_number(text: &str, number: u16) -> bool
+    requires { length text.now ≡ length (decimal number) }
+    ensures { result ≡ bytes_eq text.now (decimal number) }
+{
+    match text.parse::<u16>() {
+        Ok(read) => read == number,
+        Err(_) => false,
+    }
+}
+
+/// How many digits the number has in decimal.
+fn decimal_len(number: u16) -> usize
+    ensures { result ≡ length (decimal number) }
+{
+    if number < 10 {
+        1
+    } else if number < 100 {
+        2
+    } else if number < 1000 {
+        3
+    } else if number < 10000 {
+        4
+    } else {
+        5
+    }
+}
+
+/// Where a text goes on behind the number in decimal that it begins with.
+pub(crate) fn behind_number(text: &str, number: u16) -> usize
+    requires { is_front (decimal number) text.now ≡ true }
+    ensures place { result ≡ length (decimal number) }
+    ensures border { IsCharBoundary text.now result }
+{
+    decimal_len(number)
+}
+
+/// The front of a borrowed text, up to a place between two of its characters; none of an owned text.
+pub(crate) fn lent_front<'a>(text: &CowStr<'a>, at: usize) -> Option<CowStr<'a>>
+    requires { IsCharBoundary (cow_str_bytes text.now) at }
+    ensures text { IfSome result (λ front. cow_str_bytes front ≡ take at (cow_str_bytes text.now)) }
+    ensures borrowed { IfSome result (λ front. IsBorrowedStr front) }
+    ensures some { IsBorrowedStr text.now → IsSome result }
+{
+    match text {
+        CowStr::Borrowed(s) => Some(CowStr::Borrowed(&s[..at])),
+        CowStr::Owned(_) => None,
+    }
+}
+
 /// The text without the zeros at its front.
 pub(crate) fn without_zeros(text: &str) -> &str
     ensures { result.now ≡ after_front (λ d. d == 48) text.now }
@@ -84,7 +148,9 @@ pub(crate) fn part<'a>(
     span: (usize, usize),
 ) -> Result<CowStr<'a>, AllocError>
     requires { IsCut (cow_str_bytes text.now) span }
-    ensures { IfOk result (λ part. cow_str_bytes part ≡ bytes_of (cow_str_bytes text.now) (Some span)) }
+    ensures text { IfOk result (λ part. cow_str_bytes part ≡ bytes_of (cow_str_bytes text.now) (Some span)) }
+    ensures borrowed { IfOk result (λ part. IsBorrowedStr text.now → IsBorrowedStr part) }
+    ensures no_memory { IsBorrowedStr text.now → IsOk result }
 {
     match text {
         CowStr::Borrowed(s) => Ok(CowStr::Borrowed(&s[span.0..span.1])),

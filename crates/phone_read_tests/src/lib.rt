@@ -12,6 +12,8 @@ mod home;
 #[cfg(test)]
 mod hostile;
 #[cfg(test)]
+mod lent;
+#[cfg(test)]
 mod natural;
 #[cfg(test)]
 mod number;

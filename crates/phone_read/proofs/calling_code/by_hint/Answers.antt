@@ -1,4 +1,4 @@
-use Rattle.std.proofs.Common.{◌≡◌, ◌&&◌, not, true, false, Ok, Err, Some, drop, length, refl, ap, sym, ◌∙◌}
+use Rattle.std.proofs.Common.{◌≡◌, ◌&&◌, not, true, false, Ok, Err, drop, length, refl, ap, sym, ◌∙◌}
 use Rattle.std.specs.Cow.{cow_str_bytes}
 use Rattle.std.specs.Fmt.{decimal}
 use Rattle.std.specs.Option.{option_copied, option_map_or}
@@ -15,8 +15,7 @@ returns-then-is_apart-clause-coded c =
     let digits = cow_str_bytes c.args.number.national in
     let code = c.country_code-code.result in
     let apart : true ≡ (is_front (decimal code) digits && not (looks_national m digits)) =
-    sym c.if-is_apart.true ∙ c.in_ok-is_apart.ensures ∙ ap (λ d. is_front c.as_str.result.now d && not (looks_national m d)) c.as_str-2.ensures.value
-    ∙ ap (λ t. is_front t digits && not (looks_national m digits)) (c.as_str.ensures.value ∙ c.in_ok-prefix.ensures.ok) in (
+    sym c.if-is_apart.true ∙ c.in_ok-is_apart.ensures ∙ ap (λ d. is_front (decimal code) d && not (looks_national m d)) c.as_str.ensures.value in (
       record { source = Number; value = code; rest = drop (length (decimal code)) digits },
       ap (λ o. option_map_or (λ m. Ok (code_by_hint m digits)) (option_copied o) (Err InvalidCountryCode)) c.in-Some.is
           ∙ ap Ok (code_by_hint-apart m digits (decimal code) code c.country_code-code.ensures refl apart),
@@ -30,11 +29,10 @@ returns-clause-coded c =
     let digits = cow_str_bytes c.args.number.national in
     let code = c.country_code-code.result in
     let kept : false ≡ (is_front (decimal code) digits && not (looks_national m digits)) =
-    sym c.if-is_apart.false ∙ c.in_ok-is_apart.ensures ∙ ap (λ d. is_front c.as_str.result.now d && not (looks_national m d)) c.as_str-2.ensures.value
-    ∙ ap (λ t. is_front t digits && not (looks_national m digits)) (c.as_str.ensures.value ∙ c.in_ok-prefix.ensures.ok) in (
+    sym c.if-is_apart.false ∙ c.in_ok-is_apart.ensures ∙ ap (λ d. is_front (decimal code) d && not (looks_national m d)) c.as_str.ensures.value in (
       record { source = Default; value = code; rest = digits },
       ap (λ o. option_map_or (λ m. Ok (code_by_hint m digits)) (option_copied o) (Err InvalidCountryCode)) c.in-Some.is
           ∙ ap Ok (code_by_hint-kept m digits (decimal code) code c.country_code-code.ensures refl kept),
       refl,
-      record { country = refl; national = refl; prefix = ap Some c.in_ok-prefix.ensures.ok; extension = refl; carrier = refl },
+      record { country = refl; national = refl; prefix = refl; extension = refl; carrier = refl },
     )

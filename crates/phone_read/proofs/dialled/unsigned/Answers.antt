@@ -1,0 +1,11 @@
+use Rattle.std.proofs.Common.{ap, ◌∙◌}
+use Rattle.std.specs.Cow.{cow_str_bytes}
+use Rattle.std.specs.Str.{chars}
+use Rattle.phone_core.specs.Norm.{norm}
+use Rattle.phone_read.proofs.BareParts.{norm-after_plus}
+use Rattle.phone_read.proofs.FoundCodes.{ok_again}
+use Rattle.phone_read.proofs.dialled.unsigned.Goals as goal
+
+pub returns-clause-same : goal.returns-clause-same
+returns-clause-same c =
+    ok_again c.digits.result _ _ (λ d h. h ∙ ap norm c.without_plus_signs.ensures.text ∙ norm-after_plus (chars (cow_str_bytes c.args.national))) c.digits.ensures.digits
