@@ -95,6 +95,22 @@ fn digits_numbers_and_letters_of_any_script_are_told_by_their_category(rt: HostR
     }
 }
 
+/// Random texts met these beside a program with the tables of Unicode 14, which knows none of them.
+#[test]
+fn characters_that_unicode_has_since_version_18_have_their_class(rt: HostRuntime) {
+    for (c, number, letter, why) in [
+        ('\u{1264E}', true, false, "an archaic cuneiform numeral"),
+        ('\u{1267A}', true, false, "an archaic cuneiform numeral"),
+        ('\u{18E34}', false, true, "a Jurchen character"),
+        ('\u{3DB1F}', false, true, "a seal character"),
+        ('\u{3F5BF}', false, true, "a seal character"),
+    ] {
+        assert_eq!(rt; chars::is_nd(c), false, "{c:?}: {why}");
+        assert_eq!(rt; chars::is_number(c), number, "{c:?}: {why}");
+        assert_eq!(rt; chars::is_letter(c), letter, "{c:?}: {why}");
+    }
+}
+
 #[test]
 fn case_is_folded_as_unicode_folds_it(rt: HostRuntime) {
     for (a, b, same, why) in [
