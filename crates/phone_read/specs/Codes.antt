@@ -58,7 +58,7 @@ abbrev pub is_bare : List ℕ → Option (List ℕ) → Option (List ℕ) → Bo
 is_bare n (Some p) e = list_all is_digit n && (list_all is_digit p && option_map_or (list_all is_digit) e true)
 is_bare n None e = list_all is_digit (after_front is_plus n) && option_map_or (list_all is_digit) e true
 
--- the same, with plus signs before any national part
+-- the same, but for plus signs before the national part, whether there is a reader's prefix or not
 abbrev pub is_plain : List ℕ → Option (List ℕ) → Option (List ℕ) → Bool
 is_plain n p e = list_all is_digit (after_front is_plus n) && (option_map_or (list_all is_digit) p true && option_map_or (list_all is_digit) e true)
 
@@ -122,7 +122,7 @@ pub record HasCode (c : Coded) (before : List ℕ) (after : Option (List ℕ)) (
   pub extension : option_map cow_str_bytes r.extension ≡ after
   pub carrier : r.carrier ≡ n.carrier
 
--- the same of a number r whose prefix may be left out where it is the code in decimal
+-- the same, but r may be without a prefix that would be the code in decimal
 pub record IsCoded (c : Coded) (before : List ℕ) (after : Option (List ℕ)) (n r : Parts) : Type 0 where
   pub country : r.country ≡ c.source
   pub national : cow_str_bytes r.national ≡ c.rest

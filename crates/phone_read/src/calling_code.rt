@@ -48,7 +48,8 @@ pub(crate) struct CodedNumber<'a> {
 /// without asking for memory.
 ///
 /// A borrowed national part of ASCII digits, leading plus signs aside, stays borrowed, and a code that is cut off it is
-/// borrowed from it too. So without a territory of the hint a number of such parts takes no memory.
+/// borrowed from it too. So where the prefix and the extension are ASCII digits as well, and there is no hint or no record
+/// of it, the answer is never `Memory`.
 pub fn country_code<'a>(
     db: &Database,
     hint: Option<Id>,

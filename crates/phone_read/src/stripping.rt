@@ -126,7 +126,7 @@ fn transformed<'a>(
     ensures country { IfOk result (λ n. n.country ≡ number.entry.country) }
     ensures prefix { IfOk result (λ n. n.prefix ≡ number.entry.prefix) }
     ensures extension { IfOk result (λ n. n.extension ≡ number.entry.extension) }
-    ensures borrowed { IfOk result (λ n. IsBorrowedStr number.entry.national → is_anew_by_rule m.now pattern.now (Some rule.now) (cow_str_bytes number.entry.national) (Some (0, 0)) ≡ false → IsBorrowedStr n.national) }
+    ensures borrowed { (last : ℕ × ℕ) → IfOk result (λ n. IsBorrowedStr number.entry.national → is_anew_by_rule m.now pattern.now (Some rule.now) (cow_str_bytes number.entry.national) (Some last) ≡ false → IsBorrowedStr n.national) }
     ensures lent_carrier { IfOk result (λ n. IsBorrowedStr number.entry.national → (n.carrier ≡ number.entry.carrier) ⊎ IfSome n.carrier (λ c. IsBorrowedStr c)) }
 {
     let anew = pattern.replaced(rule, number.national.as_str())?;
