@@ -35,7 +35,7 @@ pub struct Captured {
 }
 
 /// How many bytes of states without groups a machine keeps.
-const KEPT: usize = 0x4000;
+const KEPT: usize = 0x1_0000;
 
 /// The greatest size of an automaton in bytes, as that of the patterns themselves.
 const LARGEST: usize = 10 << 20;
