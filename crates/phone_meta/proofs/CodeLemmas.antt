@@ -1,4 +1,4 @@
--- The first territory of a code, and numbers whose decimal text begins another's.
+-- The first territory of a code, and its territories put together.
 use Rattle.std.proofs.Common.{map, option_map, ◌≡◌, ◌≢◌, ◌⊎◌, inl, inr, ℕ, ◌+◌, ◌<◌, ◌≤◌, ◌/◌, ◌%◌, ◌^◌, ◌==◌, ◌&&◌, not, nat_lt, Bool, true, false, cond, List, [], ◌∷◌, ◌++◌, length, take, filter, reverse, Option, None, Some, refl, ap, ap₂, sym, subst, ◌∙◌, arith, ltb-true, ne_eqb, length-append}
 use Rattle.std.proofs.Math.Seq.{take-append_seam}
 use Rattle.std.proofs.lemmas.Bool.{and_from, and_parts, false_from_ne_true, ltb-false}
@@ -85,78 +85,6 @@ pub first_of-territories : (code : ℕ) (db : List Metadata) → option_or (find
 first_of-territories code db =
     ap₂ option_or (sym (first_of-reverse (is_main_of code) db)) (sym (first_of-filter (is_other_of code) db))
     ∙ sym (first_of-append (reverse (filter (is_main_of code) db)) (filter (is_other_of code) db))
-
--- the text of a begins that of n, another number
-abbrev IsBeginning : ℕ → ℕ → Type 0
-IsBeginning a n = (a ≢ n) × (take (length (decimal a)) (decimal n) ≡ decimal a)
-
-begins-Decides : (a n : ℕ) → Decides (begins a n) (IsBeginning a n)
-unfolding begins
-begins-Decides a n = (
-  (λ t. let both = and_parts (not (a == n)) _ t in ((λ e. not_self n (subst (λ b. not (b == n) ≡ true) e both.0)), (bytes_eq-Decides _ _).0 both.1)),
-  (λ h. and_from (not (a == n)) _ (ap not (ne_eqb a n h.0)) ((bytes_eq-Decides _ _).1 h.1)),
-)
-  where
-    not_self : (n : ℕ) → not (n == n) ≡ true → ⊥
-    not_self n t = grind (arith, nat_tests, t)
-
-le_or_lt : (m n : ℕ) → (m ≤ n) ⊎ (n < m)
-le_or_lt m n = step (nat_lt n m) refl
-  where
-    step : (b : Bool) → nat_lt n m ≡ b → (m ≤ n) ⊎ (n < m)
-    step true e = inr (ltb-true n m e)
-    step false e = inl (ltb-false n m e)
-
-module _ (a n : ℕ) (a_small : a < 2 ^ 64) (n_small : n < 2 ^ 64) where
-  -- a digit has no beginning
-  pub begins-digit : n < 10 → begins a n ≡ false
-  begins-digit digit = false_from_ne_true _ (λ t.
-      let h = (begins-Decides a n).0 t in
-      let some : 0 < length (decimal a) = decimal_nonempty a a_small in
-      let one : decimal n ≡ (48 + n) ∷ [] = decimal_digit n digit in
-      let short : length (decimal n) ≤ length (decimal a) = rw one (omega (arith, some)) in
-      h.0 (decimal_injective a n a_small n_small (sym h.1 ∙ take_all _ (decimal n) short)))
-
-  module _ (large : 10 ≤ n) where
-    abbrev front : List ℕ
-    front = decimal (n / 10)
-
-    abbrev last : List ℕ
-    last = (48 + n % 10) ∷ []
-
-    parted : decimal n ≡ front ++ last
-    parted = decimal_step n large n_small
-
-    counted : length (decimal n) ≡ length front + 1
-    counted = ap length parted ∙ length-append front last
-
-    -- a number without its last digit begins it
-    pub begins-front : n / 10 ≡ a → begins a n ≡ true
-    begins-front e = (begins-Decides a n).1 ((λ same. absurd (smaller (e ∙ same))), starts)
-      where
-        smaller : n / 10 ≡ n → ⊥
-        smaller e = omega (arith, large, e)
-
-        starts : take (length (decimal a)) (decimal n) ≡ decimal a
-        starts = subst (λ m. take (length (decimal m)) (decimal n) ≡ decimal m) e (ap (take (length front)) parted ∙ take-append_seam front last)
-
-    -- what begins it otherwise begins what is left
-    pub begins-rest : n / 10 ≢ a → begins a n ≡ begins a (n / 10)
-    begins-rest other = same_from_decides _ _ (begins-Decides a n)
-        ((λ t. let h = (begins-Decides a (n / 10)).0 t in wider h), (λ h. (begins-Decides a (n / 10)).1 ((λ e. other (sym e)), narrower (le_or_lt (length (decimal a)) (length front)) h)))
-      where
-        wider : IsBeginning a (n / 10) → IsBeginning a n
-        wider h =
-            let fits : length (decimal a) ≤ length front = omega (arith, ap length (sym h.1) ∙ length-take (length (decimal a)) front) in (
-              (λ e. let same : length (decimal a) ≡ length front + 1 = ap (λ m. length (decimal m)) e ∙ counted in absurd (omega (arith, same, fits))),
-              ap (take (length (decimal a))) parted ∙ take-append-le (length (decimal a)) front last fits ∙ h.1,
-            )
-
-        narrower : (length (decimal a) ≤ length front) ⊎ (length front < length (decimal a)) → IsBeginning a n → take (length (decimal a)) front ≡ decimal a
-        narrower (inl fits) h = sym (take-append-le (length (decimal a)) front last fits) ∙ ap (take (length (decimal a))) (sym parted) ∙ h.1
-        narrower (inr longer) h =
-            let all : length (decimal n) ≤ length (decimal a) = rw counted (omega (arith, longer)) in
-            absurd (h.0 (decimal_injective a n a_small n_small (sym h.1 ∙ take_all _ (decimal n) all)))
 
 pub map-reverse : {X Y : Type 0} (f : X → Y) (xs : List X) → map f (reverse xs) ≡ reverse (map f xs)
 map-reverse f [] = refl

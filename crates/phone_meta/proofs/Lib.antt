@@ -1,10 +1,9 @@
 pub mod Chains
 pub mod CodeLemmas
 pub mod Complete
+pub mod Indexes
 pub mod Lasts
 pub mod Marks
-pub mod Matches
 pub mod Places
 pub mod Refused
-pub mod Serving
 pub mod TextFaults

@@ -76,29 +76,6 @@ places_where-take p xs k x b small at same =
     let counted : length (take k xs) ≡ k = length-take-le k xs (omega arith) in
     rw (same, take_more xs k x small, ← at, places_where-push p (take k xs) x, counted)
 
-unwrap_or-map : {X : Type 0} (items : X → List ℕ) (o : Option X) → option_map_or items o [] ≡ unwrap_or (option_map items o) []
-unwrap_or-map items None = refl
-unwrap_or-map items (Some x) = refl
-
--- a list, where it is kept just if it has something in it
-pub unwrap_or-if_any : (ks : List ℕ) → unwrap_or (if_any ks) [] ≡ ks
-unwrap_or-if_any [] = refl
-unwrap_or-if_any (k ∷ ks) = refl
-
-had : {X : Type 0} (items : X → List ℕ) (o : Option X) (ks : List ℕ) → option_map items o ≡ if_any ks → option_map_or items o [] ≡ ks
-had items o ks e = unwrap_or-map items o ∙ ap (λ m. unwrap_or m []) e ∙ unwrap_or-if_any ks
-
-if_any-push : (ks : List ℕ) (k : ℕ) → Some (ks ++ k ∷ []) ≡ if_any (ks ++ k ∷ [])
-if_any-push [] k = refl
-if_any-push (j ∷ ks) k = refl
-
--- a turn of a loop that keeps such places for each key: the places of one key
-pub kept-take : {X : Type 0} (items : X → List ℕ) (old new : Option X) (ks : List ℕ) (k : ℕ) (b : Bool) → option_map items old ≡ if_any ks →
-    (b ≡ true → option_map items new ≡ Some (option_map_or items old [] ++ k ∷ [])) → (b ≡ false → new ≡ old) →
-    option_map items new ≡ if_any (ks ++ one_if b k)
-kept-take items old new ks k false before here other = ap (option_map items) (other refl) ∙ before ∙ ap if_any (sym (append-nil ks))
-kept-take items old new ks k true before here other = here refl ∙ ap (λ js. Some (js ++ k ∷ [])) (had items old ks before) ∙ if_any-push ks k
-
 later-places : {X : Type 0} (x : X) (xs : List X) (ks : List ℕ) → filter_map (slice_get (x ∷ xs)) (map suc ks) ≡ filter_map (slice_get xs) ks
 later-places x xs [] = refl
 later-places x xs (k ∷ ks) = ap (cons_option (slice_get xs k)) (later-places x xs ks)

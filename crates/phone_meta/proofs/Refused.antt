@@ -1,63 +1,14 @@
 -- A pattern of a part of a record is refused as one of the record's, where what is compiled before it are patterns.
-use Rattle.std.proofs.Common.{MatchOption, inl, ◌≡◌, ℕ, zero, suc, List, [], ◌∷◌, ◌++◌, append_assoc, take, None, Some, ap, subst, sym, ◌∙◌}
+use Rattle.std.proofs.Common.{MatchOption, inl, ◌≡◌, ℕ, zero, suc, List, [], ◌∷◌, ◌++◌, take, None, Some, subst, sym}
 use Rattle.std.proofs.lemmas.Option.{none-some}
-use Rattle.std.specs.List.{AllByRecursion, flat_map, slice_get}
+use Rattle.std.specs.List.{flat_map, slice_get}
 use Rattle.std.specs.Option.{option_to_list, unwrap_or}
-use Rattle.phone_meta.specs.First.{IsPattern}
 use Rattle.phone_records.specs.Missing.{descriptors_of, first_missing}
 use Rattle.phone_meta.specs.Records.{first_group_pattern}
-use Rattle.phone_meta.specs.Refusals.{IsPatternRefusal, IsRefusedIn, IsRefusalOf, TellsMissing, patterns, patterns_in, patterns_in_descriptor, patterns_in_format}
+use Rattle.phone_meta.specs.Refusals.{IsPatternRefusal, IsRefusalOf, TellsMissing, patterns, patterns_in, patterns_in_descriptor, patterns_in_format}
+use Rattle.phone_pattern.proofs.Refused.{ArePatterns, HavePatterns, Texts, both-patterns, refused-left, refused-right}
 use Rattle.phone_records.specs.declared.error.LoadMetadata.{LoadMetadata}
-use Rattle.phone_records.specs.declared.error.LoadMetadata.TheVariants as error
 use Rattle.phone_records.specs.declared.loader.Metadata.{Metadata}
-
-abbrev Texts : Type 0
-Texts = List (List ℕ)
-
-abbrev pub ArePatterns : Texts → Type 0
-ArePatterns texts = AllByRecursion IsPattern texts
-
--- of each of these the patterns are patterns
-abbrev pub HavePatterns : {X : Type 0} → (X → Texts) → List X → Type 0
-HavePatterns f xs = AllByRecursion (λ x. ArePatterns (f x)) xs
-
-pub both-patterns : (xs ys : Texts) → ArePatterns xs → ArePatterns ys → ArePatterns (xs ++ ys)
-both-patterns [] ys h k = k
-both-patterns (x ∷ xs) ys h k = (h.0, both-patterns xs ys h.1 k)
-
-pub flat-patterns : {X : Type 0} (f : X → Texts) (xs : List X) → HavePatterns f xs → ArePatterns (flat_map f xs)
-flat-patterns f [] h = tt
-flat-patterns f (x ∷ xs) h = both-patterns (f x) (flat_map f xs) h.0 (flat-patterns f xs h.1)
-
--- one more at the end
-pub have-push : {X : Type 0} (f : X → Texts) (xs : List X) (x : X) → HavePatterns f xs → ArePatterns (f x) → HavePatterns f (xs ++ x ∷ [])
-have-push f [] x h k = (k, tt)
-have-push f (y ∷ ys) x h k = (h.0, have-push f ys x h.1 k)
-
-by : (ps qs : Texts) (e : LoadMetadata) → ((p : List ℕ) → IsRefusedIn ps p → IsRefusedIn qs p) → IsPatternRefusal ps e → IsPatternRefusal qs e
-by ps qs (error.Regex text) f h = f _ h
-by ps qs error.Memory f h = tt
-by ps qs (error.Metadata x) f h = absurd h
-by ps qs error.Json f h = absurd h
-by ps qs (error.Kind x y) f h = absurd h
-by ps qs error.Io f h = absurd h
-
--- more texts after these
-pub refused-left : (ps after : Texts) (e : LoadMetadata) → IsPatternRefusal ps e → IsPatternRefusal (ps ++ after) e
-refused-left ps after e = by ps (ps ++ after) e (λ p h. (h.0, h.1 ++ after, ap (λ xs. xs ++ after) h.2 ∙ append_assoc h.0 (p ∷ h.1) after, h.3))
-
--- more patterns before these
-pub refused-right : (before ps : Texts) (e : LoadMetadata) → ArePatterns before → IsPatternRefusal ps e → IsPatternRefusal (before ++ ps) e
-refused-right before ps e are = by ps (before ++ ps) e (λ p h. (
-  before ++ h.0,
-  h.1,
-  ap (λ xs. before ++ xs) h.2 ∙ sym (append_assoc before h.0 (p ∷ h.1)),
-  both-patterns before h.0 are h.3,
-))
-
--- one text is refused of a list, where the texts before it are patterns
-pub refused_here : (before after all : Texts) (t : List ℕ) (e : LoadMetadata) → before ++ t ∷ after ≡ all → ArePatterns before → IsPatternRefusal (t ∷ []) e → IsPatternRefusal all e
-refused_here before after all t e is are h = subst (λ xs. IsPatternRefusal xs e) is (refused-right before (t ∷ after) e are (refused-left (t ∷ []) after e h))
 
 -- what is refused of the item at a place is refused of the list, where the items before it have patterns
 pub refused-at : {X : Type 0} (f : X → Texts) (xs : List X) (k : ℕ) (x : X) (e : LoadMetadata) → slice_get xs k ≡ Some x → HavePatterns f (take k xs) →

@@ -1,10 +1,11 @@
 -- Territories by calling code, after the original's `metadata/database`, and codes in front of digits, after its `parser/helper`.
-use Rattle.std.specs.Prelude.{ℕ, ◌==◌, ◌&&◌, not, nat_le, Bool, if◌then◌else◌, List, [], ◌∷◌, ◌++◌, length, take, map, filter, reverse, Option, None, Some, codes}
-use Rattle.std.specs.Fmt.{decimal}
+use Rattle.std.specs.Prelude.{ℕ, ◌&&◌, not, Bool, if◌then◌else◌, List, [], ◌∷◌, ◌++◌, take, map, filter, reverse, Option, None, Some, codes}
 use Rattle.std.specs.List.{list_all, list_any}
-use Rattle.std.specs.Str.{all_ascii_digits, bytes_eq}
-use Rattle.std.specs.Str.Parse.{digits_value}
+use Rattle.std.specs.Str.{bytes_eq}
 use Rattle.phone_records.specs.Missing.{first_given}
+-- the number that a text's first bytes write, and numbers whose decimal texts begin one another's
+unfoldable pub use Rattle.phone_trie.specs.Codes.{begins}
+pub use Rattle.phone_trie.specs.Codes.{front_number}
 use Rattle.phone_meta.specs.Records.{code_of, has_code, id_of}
 use Rattle.phone_records.specs.declared.loader.Metadata.{Metadata}
 
@@ -38,10 +39,6 @@ abbrev pub if_any : {X : Type 0} → List X → Option (List X)
 if_any [] = None
 if_any (x ∷ xs) = Some (x ∷ xs)
 
--- the number that the first k bytes write, where each is an ASCII digit
-abbrev pub front_number : ℕ → List ℕ → Option ℕ
-front_number k text = if nat_le k (length text) && all_ascii_digits (take k text) then Some (digits_value 10 (take k text)) else None
-
 -- a number as a calling code, where it is listed
 abbrev pub listed_if_some : Option ℕ → List Metadata → Option ℕ
 listed_if_some None db = None
@@ -54,10 +51,6 @@ listed_front db text k = listed_if_some (front_number k text) db
 -- the shortest front of one to three digits that is listed; none where the text begins with `0`
 abbrev pub shortest : List Metadata → List ℕ → Option ℕ
 shortest db text = if bytes_eq (take 1 text) (codes "0") then None else first_given (map (listed_front db text) (1 ∷ 2 ∷ 3 ∷ []))
-
--- the decimal text of one number begins that of another, which is not the same number
-unfoldable pub begins : ℕ → ℕ → Bool
-begins a b = not (a == b) && bytes_eq (take (length (decimal a)) (decimal b)) (decimal a)
 
 -- no listed code's decimal text begins another listed code's
 abbrev pub is_prefix_free : List Metadata → Bool

@@ -1,6 +1,6 @@
 pub mod Codes
 pub mod First
-pub mod Kept
+pub mod Index
 pub mod Kinds
 pub mod Layouts
 pub mod Records

@@ -3,7 +3,7 @@ use Rattle.std.specs.Prelude.{ℕ, suc, ◌==◌, ◌&&◌, ◌||◌, Bool, true
 use Rattle.std.specs.List.{list_any}
 use Rattle.std.specs.Option.{option_or}
 use Rattle.std.specs.Str.{bytes_eq}
-use Rattle.phone_meta.specs.First.{at_start}
+use Rattle.phone_meta.specs.First.{at_start, led_by}
 use Rattle.phone_records.specs.declared.loader.Descriptor.{Descriptor}
 use Rattle.phone_records.specs.declared.loader.Format.{Format}
 use Rattle.phone_records.specs.declared.loader.Metadata.{Metadata}
@@ -19,12 +19,6 @@ allows_length d n = (length d.possible_length == 0) || list_any (λ k. k == n) d
 -- a text is such a number: its length in bytes is allowed, and the pattern's first match begins at its first byte
 abbrev pub matches : Descriptor → List ℕ → Bool
 matches d text = allows_length d (length text) && at_start (pattern_of d) text
-
--- digits are led by patterns, the last of which comes first here: where there is none, or the last one's first match
--- begins at the first byte
-abbrev pub led_by : List ℕ → List (List ℕ) → Bool
-led_by digits [] = true
-led_by digits (last ∷ others) = at_start last digits
 
 -- a layout is meant for these digits
 abbrev pub is_led : List ℕ → Format → Bool

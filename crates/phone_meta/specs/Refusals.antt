@@ -1,8 +1,9 @@
 -- Why a list of records is no database.
-use Rattle.std.specs.Prelude.{◌≡◌, ◌⊎◌, ℕ, List, [], ◌∷◌, ◌++◌, Option, MatchOption, string_bytes}
-use Rattle.std.specs.List.{AllByRecursion, flat_map}
+use Rattle.std.specs.Prelude.{◌≡◌, ◌⊎◌, ℕ, List, [], ◌∷◌, ◌++◌, Option, MatchOption}
+use Rattle.std.specs.List.{flat_map}
 use Rattle.std.specs.Option.{option_and_then, option_to_list}
-use Rattle.phone_meta.specs.First.{IsPattern}
+-- one of a list of patterns is refused, and all before it are patterns
+pub use Rattle.phone_pattern.specs.Refusals.{IsRefusedIn, IsPatternRefusal}
 use Rattle.phone_records.specs.Errors.{told}
 use Rattle.phone_records.specs.Missing.{descriptors_of, first_missing, phase_of, name_of}
 use Rattle.phone_meta.specs.Records.{first_group_pattern}
@@ -33,16 +34,6 @@ patterns_in m =
 -- the patterns of a database: those of its territories, and that of the first group of a template
 abbrev pub patterns : List Metadata → List (List ℕ)
 patterns db = flat_map patterns_in db ++ first_group_pattern ∷ []
-
--- one of these texts is refused, and all before it are patterns
-abbrev pub IsRefusedIn : List (List ℕ) → List ℕ → Type 0
-IsRefusedIn ps p = (before : List (List ℕ)) × (after : List (List ℕ)) × (ps ≡ before ++ p ∷ after) × AllByRecursion IsPattern before
-
--- one of these patterns, which are compiled in this order, is refused by its text, or memory was refused
-abbrev pub IsPatternRefusal : List (List ℕ) → LoadMetadata → Type 0
-IsPatternRefusal ps (error.Regex text) = IsRefusedIn ps (string_bytes text)
-IsPatternRefusal ps error.Memory = Unit {0}
-IsPatternRefusal ps _ = ⊥
 
 -- a refusal tells this missing value, by its kind of record and its name
 abbrev pub TellsMissing : Missing → LoadMetadata → Type 0

@@ -1,14 +1,15 @@
 //! Look-ups by calling code.
-ghost use Rattle.std.specs.Prelude.{◌≡◌, ◌≤◌, ℕ, List, not, map, filter, reverse, IfOk, option_map};
+ghost use Rattle.std.specs.Prelude.{◌≡◌, ◌≤◌, ◌+◌, ℕ, List, map, filter, reverse, IfOk, option_map};
 ghost use Rattle.std.specs.Borrow.{Bor};
-ghost use Rattle.std.specs.List.{find, list_all, list_any};
+ghost use Rattle.std.specs.List.{find};
 ghost use Rattle.std.specs.Option.{option_copied};
-ghost use Rattle.phone_meta.specs.Codes.{begins, first_of, front_number, if_any, is_listed, is_main_of, is_other_of, is_prefix_free, listed_front, regions, shortest, territories};
+ghost use Rattle.phone_meta.specs.Codes.{first_of, if_any, is_listed, is_main_of, is_other_of, is_prefix_free, regions, shortest, territories};
 ghost use Rattle.phone_meta.specs.Records.{code_of, id_of};
 ghost use Rattle.phone_records.specs.declared.loader.Metadata as loader;
 
 use crate::database::Database;
 use crate::metadata::Metadata;
+use phone_trie::Steps;
 use std::alloc::{AllocError, Global};
 
 impl Database {
@@ -100,84 +101,22 @@ impl Database {
     pub fn shortest(&self, text: &str) -> Option<u16>
         ensures { result ≡ shortest self.now text.now }
     {
-        if text.starts_with('0') {
-            return None;
-        }
-        match self.listed_front(text, 1) {
-            Some(code) => Some(code),
-            None => match self.listed_front(text, 2) {
-                Some(code) => Some(code),
-                None => self.listed_front(text, 3),
-            },
-        }
+        self.shortest_in(text, &mut Steps::new())
     }
 
-    fn listed_front(&self, text: &str, k: usize) -> Option<u16>
-        requires { k ≤ 3 }
-        ensures { result ≡ listed_front self.now text.now k }
+    /// The same, with its steps counted: each move to a digit's child in the trie of codes is one, of which it takes at
+    /// most three.
+    pub fn shortest_in(&self, text: &str, steps: &mut Steps) -> Option<u16>
+        ensures code { result ≡ shortest self.now text.now }
+        ensures bound { steps.new ≤ steps.old + 3 }
     {
-        let code = front_number(text, k)?;
-        if self.is_listed(&code) {
-            Some(code)
-        } else {
-            None
-        }
+        self.codes().shortest_in(text, steps)
     }
 
     /// Whether no listed calling code's decimal text begins that of another listed one. Takes no memory.
     pub fn codes_prefix_free(&self) -> bool
         ensures { result ≡ is_prefix_free self.now }
     {
-        are_apart(self.territories())
+        self.codes().is_prefix_free()
     }
-}
-
-fn are_apart(territories: &[Metadata]) -> bool
-    ensures { result ≡ is_prefix_free territories.now }
-{
-    for territory in territories {
-        if !begins_none(territory.country_code(), territories) {
-            return false;
-        }
-    }
-    true
-}
-
-/// The number that the first k bytes write, where each is an ASCII digit.
-fn front_number(text: &str, k: usize) -> Option<u16>
-    requires { k ≤ 3 }
-    ensures { result ≡ front_number k text.now }
-{
-    let bytes = text.as_bytes();
-    if bytes.len() < k {
-        return None;
-    }
-    let mut number = 0;
-    for &byte in &bytes[..k] {
-        if !byte.is_ascii_digit() {
-            return None;
-        }
-        number = number * 10 + u16::from(byte - b'0');
-    }
-    Some(number)
-}
-
-fn begins_none(code: u16, territories: &[Metadata]) -> bool
-    ensures { result ≡ list_all (λ n. not (begins code (code_of n))) territories.now }
-{
-    territories.iter().all(|t| !begins(code, t.country_code()))
-}
-
-/// Whether the decimal text of `front` begins that of `code`, another number.
-fn begins(front: u16, code: u16) -> bool
-    ensures { result ≡ begins front code }
-{
-    let mut rest = code;
-    while rest > 9 {
-        rest /= 10;
-        if rest == front {
-            return true;
-        }
-    }
-    false
 }

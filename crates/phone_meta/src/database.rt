@@ -1,25 +1,26 @@
 //! A database: territories by id and by calling code.
-ghost use Rattle.std.specs.Prelude.{◌≡◌, ℕ, List, None, IfOk, IfErr, option_map};
-ghost use Rattle.std.specs.Bool.{nat_eq};
+ghost use Rattle.std.specs.Prelude.{◌≡◌, ◌<◌, ◌≤◌, ◌+◌, ◌^◌, ℕ, None, IfOk, IfErr, map};
 ghost use Rattle.std.specs.List.{AllByRecursion};
 ghost use Rattle.std.specs.Result.{IsOk};
-ghost use Rattle.std.specs.HashMap.{get, get_by_text};
 ghost use Rattle.std.specs.Option.{option_copied};
-ghost use Rattle.phone_meta.specs.Codes.{if_any};
-ghost use Rattle.phone_meta.specs.Records.{last_with, last_place, places_where, has_code, has_id, first_group_pattern};
+ghost use Rattle.phone_meta.specs.Codes.{is_listed};
+ghost use Rattle.phone_meta.specs.Index.{count_of_ids};
+ghost use Rattle.phone_meta.specs.Records.{last_with, places_where, has_code, first_group_pattern};
 ghost use Rattle.phone_meta.specs.First.{IsPattern, IsPatternOf};
 ghost use Rattle.phone_records.specs.Missing.{first_missing};
 ghost use Rattle.phone_meta.specs.Refusals.{patterns, IsRefusalOf, TellsMissing};
+ghost use Rattle.phone_trie.specs.Codes.{is_in};
 
-use crate::loader;
 use crate::metadata::{self, Metadata};
 use crate::rules::FirstGroup;
+use crate::{index, loader};
 use phone_core::MetadataError;
 use phone_records::LoadMetadata;
 use phone_records::missing::{self, Missing};
+use phone_sorted::{Coded, Grouped, Sorted};
+use phone_trie::{Steps, Trie};
 use regex::Regex;
 use std::alloc::{AllocError, Global};
-use std::collections::HashMap;
 use std::marker::Model;
 
 /// Territories in the order in which their records were handed in. Contracts see these records.
@@ -27,26 +28,29 @@ use std::marker::Model;
 pub struct Database {
     alloc: Global,
     territories: Vec<Metadata>,
-    /// For each id the position of the last territory with it.
-    places_by_id: HashMap<String, usize>,
-    /// For each calling code that has a territory the positions of its territories, in order of arrival.
-    places_by_code: HashMap<u16, Vec<usize>>,
+    /// For each id the place of its last territory.
+    by_id: Sorted,
+    /// The places of all territories, by calling code.
+    by_code: Grouped,
+    /// The calling codes that have a territory, by digits.
+    codes: Trie,
     first_group: FirstGroup,
 }
 
 impl Model for Database {
-    ghost use Rattle.std.specs.Prelude.{◌≡◌, List, ℕ, option_map};
-    ghost use Rattle.std.specs.Bool.{nat_eq};
-    ghost use Rattle.std.specs.HashMap.{get, get_by_text};
-    ghost use Rattle.phone_meta.specs.Codes.{if_any};
+    ghost use Rattle.std.specs.Prelude.{◌≡◌, List, ℕ, filter, length, map};
+    ghost use Rattle.phone_meta.specs.Codes.{is_listed};
+    ghost use Rattle.phone_meta.specs.Index.{count_of_ids};
     ghost use Rattle.phone_meta.specs.Records.{last_place, places_where, has_code, has_id};
     ghost use Rattle.phone_records.specs.declared.loader.Metadata as loader;
+    ghost use Rattle.phone_sorted.specs.Orders as placed;
+    ghost use Rattle.phone_trie.specs.Codes.{is_in};
 
     ghost Value = { List loader.Metadata };
 
     ghost view = { λ d. d.territories.items };
 
-    ghost invariant = { λ d. ((id : List ℕ) → get_by_text d.places_by_id id ≡ last_place (has_id id) d.territories.items) × ((code : ℕ) → option_map (λ v. v.items) (get nat_eq d.places_by_code code) ≡ if_any (places_where (has_code code) d.territories.items)) };
+    ghost invariant = { λ d. ((id : List ℕ) → placed.place_of id d.by_id ≡ last_place (has_id id) d.territories.items) × (length d.by_id ≡ count_of_ids d.territories.items) × ((code : ℕ) → map (λ e. e.place) (filter (placed.has_code code) d.by_code) ≡ places_where (has_code code) d.territories.items) × ((code : ℕ) → is_in code d.codes ≡ is_listed code d.territories.items) };
 }
 
 impl Database {
@@ -64,14 +68,16 @@ impl Database {
             return Err(missing_value(alloc, missing)?);
         }
         let territories = metadata::compile_all(alloc, records)?;
-        let places_by_id = places_by_id(alloc, territories.as_slice())?;
-        let places_by_code = places_by_code(alloc, territories.as_slice())?;
+        let by_id = index::by_id(alloc, territories.as_slice())?;
+        let by_code = index::by_code(alloc, territories.as_slice())?;
+        let codes = index::codes(alloc, territories.as_slice())?;
         let first_group = FirstGroup::compile(alloc)?;
         Ok(Database {
             alloc,
             territories,
-            places_by_id,
-            places_by_code,
+            by_id,
+            by_code,
+            codes,
             first_group,
         })
     }
@@ -104,48 +110,32 @@ impl Database {
     pub fn by_id(&self, id: &str) -> Option<&Metadata>
         ensures { option_copied result ≡ last_with id.now self.now }
     {
-        let place = *self.places_by_id.get(id)?;
+        self.by_id_in(id, &mut Steps::new())
+    }
+
+    /// The same, with its steps counted: each comparison of ids is one, of which it takes at most as many as the number
+    /// of different ids has binary digits.
+    pub fn by_id_in(&self, id: &str, steps: &mut Steps) -> Option<&Metadata>
+        ensures territory { option_copied result ≡ last_with id.now self.now }
+        ensures bound { (k : ℕ) → count_of_ids self.now < 2 ^ k → steps.new ≤ steps.old + k }
+    {
+        let place = self.by_id.find_in(id, steps)?;
         self.territories.get(place)
     }
 
-    /// The positions of the territories of a calling code, in order of arrival.
-    pub(crate) fn places_of(&self, code: u16) -> &[usize]
-        ensures { result.now ≡ places_where (has_code code) self.now }
+    /// The places of the territories of a calling code, in order of arrival.
+    pub(crate) fn places_of(&self, code: u16) -> &[Coded]
+        ensures { map (λ e. e.place) result.now ≡ places_where (has_code code) self.now }
     {
-        match self.places_by_code.get(&code) {
-            Some(places) => places.as_slice(),
-            None => &[],
-        }
+        self.by_code.of_code(code)
     }
-}
 
-fn places_by_id(
-    alloc: Global,
-    territories: &[Metadata],
-) -> Result<HashMap<String, usize>, AllocError>
-    ensures { IfOk result (λ m. (id : List ℕ) → get_by_text m id ≡ last_place (has_id id) territories.now) }
-{
-    let mut places = HashMap::new(alloc);
-    for (place, territory) in territories.iter().enumerate() {
-        places.insert(String::from_str(alloc, territory.id())?, place)?;
+    /// The listed calling codes, by their digits.
+    pub(crate) fn codes(&self) -> &Trie
+        ensures { (code : ℕ) → is_in code result.now ≡ is_listed code self.now }
+    {
+        &self.codes
     }
-    Ok(places)
-}
-
-fn places_by_code(
-    alloc: Global,
-    territories: &[Metadata],
-) -> Result<HashMap<u16, Vec<usize>>, AllocError>
-    ensures { IfOk result (λ m. (code : ℕ) → option_map (λ v. v.items) (get nat_eq m code) ≡ if_any (places_where (has_code code) territories.now)) }
-{
-    let mut places: HashMap<u16, Vec<usize>> = HashMap::new(alloc);
-    for (place, territory) in territories.iter().enumerate() {
-        places
-            .entry(territory.country_code())?
-            .or_default()
-            .push(place)?;
-    }
-    Ok(places)
 }
 
 fn missing_value(alloc: Global, missing: Missing) -> Result<LoadMetadata, AllocError>

@@ -8,8 +8,7 @@ ghost use Rattle.phone_meta.specs.Refusals.{IsPatternRefusal, patterns_in_descri
 ghost use Rattle.phone_meta.specs.Records.{allows_length, matches, pattern_of};
 
 use crate::loader::{self, Text};
-use crate::pattern::Pattern;
-use crate::pool::Pool;
+use phone_pattern::{Pattern, Pool};
 use phone_records::LoadMetadata;
 use regex::Regex;
 use std::alloc::AllocError;

@@ -9,11 +9,9 @@ ghost use Rattle.phone_records.specs.Missing.{first_given, missing_in_format};
 ghost use Rattle.phone_meta.specs.Records.{is_led};
 ghost use Rattle.phone_meta.specs.Refusals.{IsPatternRefusal, patterns_in_format};
 
-use crate::leading::Leading;
 use crate::loader::{self, Text};
-use crate::pattern::Pattern;
-use crate::pool::Pool;
 use crate::rules::FirstGroup;
+use phone_pattern::{Leading, Pattern, Pool};
 use phone_records::LoadMetadata;
 use regex::Regex;
 use std::alloc::AllocError;

@@ -1,27 +1,28 @@
-//! The territories at some positions of a database.
+//! The territories of a calling code.
 ghost use Rattle.std.specs.Prelude.{◌≡◌, ℕ, List, filter};
 ghost use Rattle.std.specs.Iterator.{YieldsFirstRef, item_count};
 ghost use Rattle.phone_meta.specs.Records.{has_code};
 
 use crate::database::Database;
 use crate::metadata::Metadata;
+use phone_sorted::Coded;
 use std::marker::Model;
 
-/// Territories by their positions, in the order of these. Contracts see those that are still to come.
+/// Territories by their places, in the order of these. Contracts see those that are still to come.
 #[derive(Drop)]
 pub struct Placed<'a> {
-    places: &'a [usize],
+    places: &'a [Coded],
     territories: &'a [Metadata],
 }
 
 impl<'a> Model for Placed<'a> {
-    ghost use Rattle.std.specs.Prelude.{List};
+    ghost use Rattle.std.specs.Prelude.{List, map};
     ghost use Rattle.std.specs.List.{filter_map, slice_get};
     ghost use Rattle.phone_records.specs.declared.loader.Metadata as loader;
 
     ghost Value = { List loader.Metadata };
 
-    ghost view = { λ p. filter_map (slice_get p.territories.now) p.places.now };
+    ghost view = { λ p. filter_map (slice_get p.territories.now) (map (λ e. e.place) p.places.now) };
 }
 
 impl<'a> Iterator for Placed<'a> {
@@ -32,9 +33,9 @@ impl<'a> Iterator for Placed<'a> {
     ghost remaining = { item_count (λ p. p) };
 
     fn next(&mut self) -> Option<&'a Metadata> {
-        while let Some((place, others)) = self.places.split_first() {
+        while let Some((first, others)) = self.places.split_first() {
             self.places = others;
-            if let Some(territory) = self.territories.get(*place) {
+            if let Some(territory) = self.territories.get(first.place) {
                 return Some(territory);
             }
         }
@@ -44,7 +45,7 @@ impl<'a> Iterator for Placed<'a> {
 
 impl Database {
     /// The territories of a calling code, in order of arrival. Takes no memory.
-    pub(crate) fn of_code(&self, code: u16) -> Placed<'_>
+    pub fn of_code(&self, code: u16) -> Placed<'_>
         ensures { result ≡ filter (has_code code) self.now }
     {
         Placed {

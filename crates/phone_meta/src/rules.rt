@@ -7,8 +7,8 @@ ghost use Rattle.phone_meta.specs.Records.{first_group_pattern};
 ghost use Rattle.phone_meta.specs.Refusals.{IsPatternRefusal};
 
 use crate::loader::Text;
-use crate::pattern::Pattern;
 use phone_core::consts;
+use phone_pattern::Pattern;
 use phone_records::LoadMetadata;
 use regex::Regex;
 use std::alloc::{AllocError, Global};

@@ -10,6 +10,8 @@ mod look_ups;
 #[cfg(test)]
 mod matching;
 #[cfg(test)]
+mod patterns;
+#[cfg(test)]
 mod refusals;
 #[cfg(test)]
 mod searches;

@@ -1,7 +1,7 @@
 //! Look-ups by id and calling code.
 use crate::told;
 use phone_meta::loader::Metadata;
-use phone_meta::{Database, LoadMetadata};
+use phone_meta::{Database, LoadMetadata, Steps};
 use phone_samples::parts::territory;
 use phone_samples::{FRONTS, RULES, THREE};
 use std::alloc::{AllocError, Global};
@@ -12,6 +12,8 @@ use std::test::Fail;
 #[derive(Clone, Copy)]
 enum Asked {
     Id(&'static str),
+    CountedId(&'static str),
+    InOrder(u16),
     Code(u16),
     Region(u16),
     First(u16),
@@ -21,10 +23,22 @@ enum Asked {
 fn ask(alloc: Global, db: &Database, asked: Asked) -> Result<String, AllocError> {
     match asked {
         Asked::Id(id) => told::one(alloc, db.by_id(id)),
+        Asked::CountedId(id) => told::one(alloc, db.by_id_in(id, &mut Steps::new())),
+        Asked::InOrder(code) => in_order(alloc, db, code),
         Asked::Code(code) => told::many(alloc, db.by_code(&code)?),
         Asked::Region(code) => told::texts(alloc, db.region(&code)?),
         Asked::First(code) => told::one(alloc, db.first_by_code(&code)),
     }
+}
+
+/// The ids of the territories of a code in order of arrival, each after a space.
+fn in_order(alloc: Global, db: &Database, code: u16) -> Result<String, AllocError> {
+    let mut told = String::new(alloc);
+    for territory in db.of_code(code) {
+        told.push(' ')?;
+        told.push_str(territory.id())?;
+    }
+    Ok(told)
 }
 
 /// Each look-up with what it gives, and a few words.
@@ -140,6 +154,8 @@ fn gives_main_territories_latest_first(rt: HostRuntime) -> Result<(), Fail> {
             "all of the code",
         ),
         (Asked::Region(7), "Z Y X", "their ids"),
+        (Asked::InOrder(7), " X Y Z", "in order of arrival"),
+        (Asked::InOrder(8), "", "not listed"),
         (Asked::First(7), "Z/7/\\d{3}", "the latest main one"),
     ];
     each_gives_under(&rt, rt.alloc(), MAINS_OF_SEVEN, &rows)
@@ -150,6 +166,8 @@ fn keeps_the_last_record_of_an_id(rt: HostRuntime) -> Result<(), Fail> {
     let rows = [
         (Asked::Id("NZ"), "NZ/65/\\d{6}", "two codes"),
         (Asked::Id("AC"), "AC/247/\\d{5}", "one code"),
+        (Asked::CountedId("NZ"), "NZ/65/\\d{6}", "counted, two codes"),
+        (Asked::CountedId("ZZ"), "none", "counted, no such id"),
         (
             Asked::Code(247),
             "AC/247/6\\d{3} AC/247/\\d{5}",
@@ -230,6 +248,11 @@ fn each_begins_with(
     let db = Database::parse(alloc, database)?;
     for (text, code, why) in rows {
         assert_eq!(rt; db.shortest(text), *code, "{why}");
+        assert_eq!(rt;
+            db.shortest_in(text, &mut Steps::new()),
+            *code,
+            "{why}, counted"
+        );
     }
     Ok(())
 }

@@ -10,4 +10,5 @@ pub mod ReadNumbers
 pub mod ReadingOnes
 pub mod ReadingRows
 pub mod ReadingSome
+pub mod Regional
 pub mod TriedKinds

@@ -31,10 +31,9 @@ use Rattle.phone_core.proofs.Finds.{IfSome-option_or}
 use Rattle.phone_core.proofs.Norms.{list_all-norm}
 use Rattle.phone_core.proofs.ReadBack.{after_zeros_of}
 use Rattle.phone_meta.specs.Codes.{first_of, is_listed, is_main_of, is_other_of, shortest, territories}
-use Rattle.phone_meta.specs.First.{Seen, captured, first_match, group_in, names_in, replaced, with_first_replaced}
+use Rattle.phone_meta.specs.First.{Captured, Seen, captured, first_match, group_in, names_in, replaced, with_first_replaced}
 use Rattle.phone_meta.specs.Records.{code_of as code_of_territory, has_id, last_where, last_with}
 use Rattle.phone_records.specs.declared.loader.Metadata.{Metadata}
-use Rattle.phone_meta.specs.declared.pattern.Captured.{Captured}
 use Rattle.phone_parts.specs.Parts.{Parts}
 use Rattle.phone_parts.specs.Texts.{is_front, without_front}
 use Rattle.phone_read.specs.Codes.{after_match, code_by, code_by_front, code_by_prefix, code_of, dialled, dialled_under, found_in, international_prefix_of, unsigned, with_three}

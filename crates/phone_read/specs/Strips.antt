@@ -2,9 +2,8 @@
 use Rattle.std.specs.Prelude.{ℕ, ◌==◌, ◌&&◌, not, Bool, false, if◌then◌else◌, List, length, drop, Option, None, Some, option_map}
 use Rattle.std.specs.Option.{option_map_or}
 use Rattle.regex.specs.Replace.{bytes_of}
-use Rattle.phone_meta.specs.First.{captured, replaced}
+use Rattle.phone_meta.specs.First.{captured, replaced, Captured}
 use Rattle.phone_records.specs.declared.loader.Metadata.{Metadata}
-use Rattle.phone_meta.specs.declared.pattern.Captured.{Captured}
 use Rattle.phone_parts.specs.Texts.{without_front}
 use Rattle.phone_read.specs.Hints.{is_of}
 use Rattle.phone_read.specs.Verdicts.{verdict, is_too_short}

@@ -1,14 +1,15 @@
 //! What the length of a number says of it, what kind it is of, and which region it belongs to.
-ghost use Rattle.std.specs.Prelude.{◌≡◌, ◌==◌, ℕ, List, Some, IfOk, if◌then◌else◌, codes, length, map};
-ghost use Rattle.std.specs.Borrow.{Bor};
+ghost use Rattle.std.specs.Prelude.{◌≡◌, ◌==◌, ◌&&◌, not, Some, IfOk, if◌then◌else◌, codes, filter, length, map, reverse};
 ghost use Rattle.std.specs.Cow.{cow_str_bytes};
 ghost use Rattle.std.specs.List.{find, list_any};
-ghost use Rattle.std.specs.Option.{option_copied};
+ghost use Rattle.std.specs.Option.{option_and_then, option_copied};
 ghost use Rattle.std.specs.Str.{bytes_eq};
 ghost use Rattle.either.specs.declared.Either.TheVariants as either;
+ghost use Rattle.phone_meta.specs.Codes.{is_main_of, is_other_of, regions};
 ghost use Rattle.phone_meta.specs.Kinds.{descriptor_for};
+ghost use Rattle.phone_meta.specs.Records.{id_of};
 ghost use Rattle.phone_read.specs.Hints.{is_of};
-ghost use Rattle.phone_read.specs.Regions.{belongs_to, home, is_known, is_of_region, is_one_pattern, line_or_mobile, region_among, region_named, region_of, type_of};
+ghost use Rattle.phone_read.specs.Regions.{belongs_to, home, is_known, is_of_region, is_one_pattern, line_or_mobile, region_named, region_of, type_of};
 ghost use Rattle.phone_read.specs.Verdicts.{verdict_for, verdict_by, last_of};
 
 use either::{Either, Left, Right};
@@ -177,25 +178,25 @@ pub fn source_for(
 ) -> Result<Option<Either<Id, u16>>, AllocError>
     ensures { IfOk result (λ r. r ≡ region_of db.now code text.now) }
 {
-    match db.region(&code)? {
-        Some(ids) => region_among(db, code, text, ids.as_slice()),
-        None => Ok(None),
+    let mut territories = db.of_code(code);
+    let Some(first) = territories.next() else {
+        return Ok(None);
+    };
+    match territories.next() {
+        Some(_) => region_of_several(db, code, text),
+        None => Ok(sole(code, first.id())),
     }
 }
 
-/// The region by the ids of its code.
-fn region_among(
+/// The region by several territories of a code.
+fn region_of_several(
     db: &Database,
     code: u16,
     text: &str,
-    ids: &[&str],
 ) -> Result<Option<Either<Id, u16>>, AllocError>
-    ensures { IfOk result (λ r. r ≡ region_among db.now code text.now (map (λ (id : Bor (List ℕ)). id.now) ids.now)) }
+    ensures { IfOk result (λ r. r ≡ option_and_then region_named (find (is_of_region db.now text.now) (regions code db.now))) }
 {
-    if let [id] = ids {
-        return Ok(sole(code, id));
-    }
-    match first_region(db, text, ids)? {
+    match first_region(db, code, text)? {
         Some(id) => Ok(region_named(id)),
         None => Ok(None),
     }
@@ -222,20 +223,70 @@ fn region_named(id: &str) -> Option<Either<Id, u16>>
     }
 }
 
-/// The first of these ids whose territory the number belongs to.
-fn first_region<'a>(
-    db: &Database,
-    text: &str,
-    ids: &[&'a str],
-) -> Result<Option<&'a str>, AllocError>
-    ensures { IfOk result (λ r. option_copied r ≡ find (is_of_region db.now text.now) (map (λ (id : Bor (List ℕ)). id.now) ids.now)) }
+/// Of the ids of a code the first whose territory the number belongs to: the latest main one, or else the earliest of the
+/// others.
+fn first_region<'a>(db: &'a Database, code: u16, text: &str) -> Result<Option<&'a str>, AllocError>
+    ensures { IfOk result (λ r. option_copied r ≡ find (is_of_region db.entry.now text.now) (regions code db.entry.now)) }
 {
-    for id in ids {
-        if is_of_region(db, text, id)? {
-            return Ok(Some(id));
+    match last_main_region(db, code, text)? {
+        Some(id) => Ok(Some(id)),
+        None => first_other_region(db, code, text),
+    }
+}
+
+/// Of the main territories of a code the last whose id's territory the number belongs to.
+fn last_main_region<'a>(
+    db: &'a Database,
+    code: u16,
+    text: &str,
+) -> Result<Option<&'a str>, AllocError>
+    ensures { IfOk result (λ r. option_copied r ≡ find (is_of_region db.entry.now text.now) (map id_of (reverse (filter (is_main_of code) db.entry.now)))) }
+{
+    let mut found = None;
+    for territory in db.of_code(code) {
+        if is_main_region(db, text, territory)? {
+            found = Some(territory.id());
+        }
+    }
+    Ok(found)
+}
+
+/// Of the other territories of a code the first whose id's territory the number belongs to.
+fn first_other_region<'a>(
+    db: &'a Database,
+    code: u16,
+    text: &str,
+) -> Result<Option<&'a str>, AllocError>
+    ensures { IfOk result (λ r. option_copied r ≡ find (is_of_region db.entry.now text.now) (map id_of (filter (is_other_of code) db.entry.now))) }
+{
+    for territory in db.of_code(code) {
+        if is_other_region(db, text, territory)? {
+            return Ok(Some(territory.id()));
         }
     }
     Ok(None)
+}
+
+/// Whether a territory is a main one, and the number belongs to its id's.
+fn is_main_region(db: &Database, text: &str, territory: &Metadata) -> Result<bool, AllocError>
+    ensures { IfOk result (λ b. b ≡ (territory.now.main_country_for_code && is_of_region db.now text.now (id_of territory.now))) }
+{
+    if territory.is_main_country_for_code() {
+        is_of_region(db, text, territory.id())
+    } else {
+        Ok(false)
+    }
+}
+
+/// Whether a territory isn't a main one, and the number belongs to its id's.
+fn is_other_region(db: &Database, text: &str, territory: &Metadata) -> Result<bool, AllocError>
+    ensures { IfOk result (λ b. b ≡ (not territory.now.main_country_for_code && is_of_region db.now text.now (id_of territory.now))) }
+{
+    if territory.is_main_country_for_code() {
+        Ok(false)
+    } else {
+        is_of_region(db, text, territory.id())
+    }
 }
 
 /// Whether the number belongs to the territory of this id.

@@ -1,6 +1,11 @@
-//! The checks of an example.
-use crate::counts::Count;
-use crate::examples::Example;
+//! Checks a database by the example numbers that it gives for its territories, kind by kind.
+//!
+//! An example is the number of its territory's calling code and of the example's digits. Its international text is read
+//! without a hint, its national text under the territory's id as the hint; the nine territories whose id is `001` can't be
+//! a hint, so of theirs no national text is read. Then the example should be valid, and of the kind that it is an example
+//! of, or of `FixedLineOrMobile` where that is a fixed line or a mobile.
+use crate::counts::{Count, tell};
+use crate::examples::{Example, KINDS, territories};
 use crate::reasons::{kind_reason, other_reading};
 use anyhow::{Result, anyhow};
 use phonenumber::country::Id;
@@ -9,9 +14,29 @@ use phonenumber::{
     FormatError, Mode, ParseError, PhoneNumber, Queried, Type, format_with, parse_with,
 };
 use std::alloc::{AllocGlobal, Global};
+use std::fs::Files;
+
+/// Checks the examples of the database in a file. Prints each exception with its reason, behind those of a kind the counts
+/// of the kind, and at the end those of all.
+pub fn all_examples<R: Files + AllocGlobal + Print>(rt: &R, path: &str) -> Result<()> {
+    let database = Database::load(rt, path)?;
+    let territories = territories(&database)?;
+    let mut all = Count::none();
+    for kind in KINDS {
+        let count = checked(rt, &database, territories.as_slice(), kind)?;
+        if count.examples > 0 {
+            let name = format!(in rt.alloc(); "{kind:?}")?;
+            tell(rt, name.as_str(), count)?;
+        }
+        all = all.plus(count);
+    }
+    let territories = territories.len();
+    println!(rt; "{territories} territories")?;
+    tell(rt, "all kinds", all)
+}
 
 /// Checks the examples that territories give of a kind, and prints the exceptions.
-pub fn checked<R: AllocGlobal + Print>(
+fn checked<R: AllocGlobal + Print>(
     rt: &R,
     database: &Database,
     territories: &[&Metadata],

@@ -2,7 +2,8 @@ use Rattle.std.proofs.Common.{◌≡◌, ◌∷◌, ◌++◌, arith, ap, sym, su
 use Rattle.std.proofs.lemmas.Grind.{common_steps}
 use Rattle.std.specs.List.{flat_map}
 use Rattle.phone_meta.specs.Refusals.{patterns_in_format}
-use Rattle.phone_meta.proofs.Refused.{ArePatterns, flat-patterns, refused_between}
+use Rattle.phone_meta.proofs.Refused.{refused_between}
+use Rattle.phone_pattern.proofs.Refused.{ArePatterns, flat-patterns}
 use Rattle.phone_meta.proofs.format.compile_all.Goals as goal
 
 pub returns-in_err-compile-clause-refused : goal.returns-in_err-compile-clause-refused

@@ -1,7 +1,7 @@
 use Rattle.std.proofs.Common.{◌≡◌, ◌++◌, None, map}
 use Rattle.phone_records.specs.Missing.{first_given, missing_in_format}
 use Rattle.phone_meta.specs.Refusals.{patterns_in_format}
-use Rattle.phone_meta.proofs.Refused.{HavePatterns}
+use Rattle.phone_pattern.proofs.Refused.{HavePatterns}
 use Rattle.phone_meta.proofs.format.compile_all.Given as goal
 
 abbrev pub invariant-loop-format : goal.invariant-loop-format

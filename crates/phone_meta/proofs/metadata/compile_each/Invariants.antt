@@ -1,7 +1,7 @@
 use Rattle.std.proofs.Common.{◌≡◌, ◌++◌, None}
 use Rattle.phone_records.specs.Missing.{first_missing}
 use Rattle.phone_meta.specs.Refusals.{patterns_in}
-use Rattle.phone_meta.proofs.Refused.{HavePatterns}
+use Rattle.phone_pattern.proofs.Refused.{HavePatterns}
 use Rattle.phone_meta.proofs.metadata.compile_each.Given as goal
 
 abbrev pub invariant-loop-territory : goal.invariant-loop-territory

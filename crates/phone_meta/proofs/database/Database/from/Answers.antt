@@ -3,7 +3,8 @@ use Rattle.std.specs.List.{flat_map}
 use Rattle.phone_records.specs.Missing.{first_missing}
 use Rattle.phone_meta.specs.Records.{first_group_pattern}
 use Rattle.phone_meta.specs.Refusals.{patterns_in}
-use Rattle.phone_meta.proofs.Refused.{both-patterns, refused-first_group, refused-territories}
+use Rattle.phone_meta.proofs.Refused.{refused-first_group, refused-territories}
+use Rattle.phone_pattern.proofs.Refused.{both-patterns}
 use Rattle.phone_meta.proofs.database.Database.from.Goals as goal
 
 pub returns-in_err-territories-clause-refused : goal.returns-in_err-territories-clause-refused

@@ -1,7 +1,7 @@
 use Rattle.std.proofs.Common.{rules, subst, sym}
 use Rattle.std.specs.Option.{option_to_list}
 use Rattle.phone_meta.specs.Refusals.{IsPatternRefusal}
-use Rattle.phone_meta.proofs.Refused.{ArePatterns, both-patterns, refused-left, refused-right}
+use Rattle.phone_pattern.proofs.Refused.{ArePatterns, both-patterns, refused-left, refused-right}
 use Rattle.phone_meta.proofs.format.Format.compile.Goals as goal
 
 pub returns-in_err-pattern-clause-refused : goal.returns-in_err-pattern-clause-refused

@@ -3,7 +3,8 @@ use Rattle.phone_records.specs.Missing.{descriptors_of, missing_in_descriptor}
 use Rattle.phone_meta.proofs.Complete.{has_all}
 use Rattle.std.specs.List.{flat_map}
 use Rattle.phone_meta.specs.Refusals.{IsPatternRefusal, patterns_in_descriptor, patterns_in_format}
-use Rattle.phone_meta.proofs.Refused.{ArePatterns, all-patterns, flat-patterns, refused-at, refused-kinds, refused-dialled, refused-parsing, refused-leading, refused-formats, refused-international}
+use Rattle.phone_meta.proofs.Refused.{all-patterns, refused-at, refused-kinds, refused-dialled, refused-parsing, refused-leading, refused-formats, refused-international}
+use Rattle.phone_pattern.proofs.Refused.{ArePatterns, flat-patterns}
 use Rattle.phone_meta.proofs.metadata.Metadata.compile.Goals as goal
 
 pub unwrap-requires : goal.unwrap-requires

@@ -1,0 +1,3 @@
+pub mod Matches
+pub mod Refused
+pub mod Serving

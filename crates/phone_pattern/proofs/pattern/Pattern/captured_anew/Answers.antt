@@ -1,0 +1,16 @@
+use Rattle.phone_pattern.proofs.Matches.{captures-captured, none-captured}
+use Rattle.phone_pattern.proofs.pattern.Pattern.captured_anew.Goals as goal
+
+pub returns-in_default-clause-found : goal.returns-in_default-clause-found
+returns-in_default-clause-found c =
+    rw (← c.self.view_is)
+    (none-captured c.self.inside.re c.self.invariant.0 c.self.invariant.1 c.args.text.now (λ k. (c.type_inv.text k).fits)
+    (rw c.in_ok-matcher.ensures.pattern at c.in_default.ensures.found))
+
+pub returns-clause-found : goal.returns-clause-found
+returns-clause-found c =
+    let m = rw c.in_ok-matcher.ensures.pattern at c.in-Some.ensures.found in
+    let counted = rw c.captures_len.ensures.names at c.saturating_sub-last.ensures in
+    rw (← c.self.view_is)
+    (captures-captured c.self.inside.re c.self.invariant.0 c.self.invariant.1 c.args.text.now (λ k. (c.type_inv.text k).fits) m.0 c.in-Some.captures
+    _ _ _ m.1 m.2 (rw c.span_of.ensures.span c.get_match.ensures.found) (rw (← counted) c.first_group.ensures.span) (rw (← counted) c.group.ensures.span))

@@ -1,0 +1,3 @@
+pub mod First
+pub mod Kept
+pub mod Refusals

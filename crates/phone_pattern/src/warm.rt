@@ -1,0 +1,120 @@
+//! The place in which a pattern keeps its machine from one search to the next.
+ghost use Rattle.std.specs.Prelude.{◌≡◌, ◌<◌, All, IfOk, IfSome, IsTrue, string_bytes};
+ghost use Rattle.phone_pattern.specs.First.{at_start, captured, first_span, replaced};
+
+use crate::kept::Kept;
+use crate::pattern::Captured;
+use std::alloc::{AllocError, Global};
+use std::cell::RefCell;
+
+/// Keeps the machine of one pattern, which the first search makes. Of what a cell holds nothing is known, so each search
+/// names the pattern, and a machine of another one is dropped. It serves texts of ASCII; for others, and where it gives
+/// up, it answers none.
+#[derive(Drop)]
+pub(crate) struct Warm {
+    alloc: Global,
+    slot: RefCell<Option<Box<Kept>>>,
+}
+
+/// Whether a machine serves a text: it is ASCII.
+fn is_served(text: &str) -> bool
+    ensures { IsTrue result → All (λ x. x < 128) text.now }
+{
+    text.is_ascii()
+}
+
+impl Warm {
+    /// No machine yet.
+    pub(crate) fn new(alloc: Global) -> Warm {
+        Warm {
+            alloc,
+            slot: RefCell::new(None),
+        }
+    }
+
+    /// The machine of a pattern: that which was kept, if it is of this pattern, else a new one.
+    fn of(&self, pattern: &str, kept: Option<Box<Kept>>) -> Option<Box<Kept>>
+        ensures { IfSome result (λ k. k.value ≡ pattern.now) }
+    {
+        if let Some(kept) = kept {
+            if kept.as_str() == pattern {
+                return Some(kept);
+            }
+        }
+        match Box::new(self.alloc, Kept::new(self.alloc, pattern)?) {
+            Ok(kept) => Some(kept),
+            Err(_) => None,
+        }
+    }
+
+    /// Whether the first match begins at the first byte.
+    pub(crate) fn is_at_start(&self, pattern: &str, text: &str) -> Option<bool>
+        ensures { IfSome result (λ b. b ≡ at_start pattern.now text.now) }
+    {
+        if !is_served(text) {
+            return None;
+        }
+        let Ok(mut slot) = self.slot.try_borrow_mut() else {
+            return None;
+        };
+        let mut kept = self.of(pattern, slot.take())?;
+        let found = kept.is_at_start(text);
+        *slot = Some(kept);
+        found
+    }
+
+    /// Where the first match begins and ends.
+    pub(crate) fn first_span(&self, pattern: &str, text: &str) -> Option<Option<(usize, usize)>>
+        ensures { IfSome result (λ found. found ≡ first_span pattern.now text.now) }
+    {
+        if !is_served(text) {
+            return None;
+        }
+        let Ok(mut slot) = self.slot.try_borrow_mut() else {
+            return None;
+        };
+        let mut kept = self.of(pattern, slot.take())?;
+        let found = kept.first_span(text);
+        *slot = Some(kept);
+        found
+    }
+
+    /// What the first match captures.
+    pub(crate) fn captured(&self, pattern: &str, text: &str) -> Option<Option<Captured>>
+        ensures { IfSome result (λ found. found ≡ captured pattern.now text.now) }
+    {
+        if !is_served(text) {
+            return None;
+        }
+        let Ok(mut slot) = self.slot.try_borrow_mut() else {
+            return None;
+        };
+        let mut kept = self.of(pattern, slot.take())?;
+        let found = kept.captured(text);
+        *slot = Some(kept);
+        found
+    }
+
+    /// The text with its first match replaced by a template. Refused only for memory.
+    pub(crate) fn replaced(
+        &self,
+        pattern: &str,
+        template: &str,
+        text: &str,
+    ) -> Result<Option<String>, AllocError>
+        ensures { IfOk result (λ found. IfSome found (λ out. string_bytes out ≡ replaced pattern.now template.now text.now)) }
+    {
+        if !is_served(text) {
+            return Ok(None);
+        }
+        let Ok(mut slot) = self.slot.try_borrow_mut() else {
+            return Ok(None);
+        };
+        let Some(mut kept) = self.of(pattern, slot.take()) else {
+            return Ok(None);
+        };
+        let found = kept.replaced(self.alloc, template, text);
+        *slot = Some(kept);
+        found
+    }
+}

@@ -1,0 +1,5 @@
+pub mod Between
+pub mod Finds
+pub mod Halves
+pub mod Stays
+pub mod Texts
