@@ -49,7 +49,8 @@ impl From<AllocError> for ParseError {
     }
 }
 
-/// What is wrong with a territory's record. So far only `MissingValue` is given.
+/// What is wrong with a territory's record. `MissingValue` and `UnhandledElement` are given; no call gives the others, which keep
+/// the names that the original has for them.
 #[derive(PartialEq, Eq, Debug, Drop, Error)]
 pub enum MetadataError {
     /// The database text ended too early.

@@ -41,6 +41,16 @@ impl Warm {
                 return Some(kept);
             }
         }
+        self.made(pattern)
+    }
+
+    /// A new machine of a pattern. Each pattern needs it once, and its frame is large: a function of its own keeps that
+    /// off the searches that find a machine.
+    #[cold]
+    #[inline(never)]
+    fn made(&self, pattern: &str) -> Option<Box<Kept>>
+        ensures { IfSome result (λ k. k.value ≡ pattern.now) }
+    {
         match Box::new(self.alloc, Kept::new(self.alloc, pattern)?) {
             Ok(kept) => Some(kept),
             Err(_) => None,

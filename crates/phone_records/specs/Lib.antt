@@ -1,3 +1,4 @@
 pub mod Empty
 pub mod Errors
+pub mod Kinds
 pub mod Missing

@@ -53,6 +53,18 @@ pub fn format_with<'d, 'n>(
     }
 }
 
+impl PhoneNumber {
+    /// The printer of this number under a database, as the function `format_with` gives it.
+    pub fn format_with<'n, 'd>(&'n self, database: &'d Database) -> Formatter<'n, 'd, 'static>
+        ensures database { database_of result ≡ database.now }
+        ensures number { number_of result ≡ self.now }
+        ensures mode { mode_of result ≡ mode.E164 }
+        ensures layout { layout_of result ≡ None }
+    {
+        format_with(database, self)
+    }
+}
+
 impl<'n, 'd, 'f> Formatter<'n, 'd, 'f> {
     /// The same printer under another database.
     pub fn database<'a>(self, database: &'a Database) -> Formatter<'n, 'a, 'f>
