@@ -1,61 +1,79 @@
-//! The table of calls.
-use crate::table::Row;
-use crate::tally::Tally;
-use crate::{code_calls, core_calls, meta_calls, number_calls, read_calls, validator_calls};
-use anyhow::Result;
-use std::alloc::AllocGlobal;
-use std::fs::{self, Files};
+//! The answer to a line, by the module that knows its call.
+use anyhow::{Result, anyhow};
+use database_rows::look_ups;
+use database_rows::named::{Named, load, of_name};
+use number_rows::{dialling, printing, reading, validating};
+use phone_meta::Database;
+use rows::table::Row;
+use rows::{characters, readers};
+use std::alloc::{AllocGlobal, Global};
+use std::fs::Files;
 
-/// What the port answers to the row's call; none for a call that no module knows.
-fn answer<R: Files + AllocGlobal>(rt: &R, row: &Row) -> Result<Option<String>> {
-    let alloc = rt.alloc();
-    if let Some(found) = core_calls::answer(alloc, row)? {
+/// The answer to a call on no database; none for any other call.
+fn without_database(alloc: Global, row: &Row) -> Result<Option<String>> {
+    if let Some(found) = characters::answer(alloc, row)? {
         return Ok(Some(found));
     }
-    if let Some(found) = read_calls::answer(alloc, row)? {
+    if let Some(found) = readers::answer(alloc, row)? {
         return Ok(Some(found));
     }
-    if let Some(found) = validator_calls::answer(rt, row)? {
+    if let Some(found) = dialling::without_database(alloc, row)? {
         return Ok(Some(found));
     }
-    if let Some(found) = code_calls::answer(rt, row)? {
-        return Ok(Some(found));
-    }
-    if let Some(found) = number_calls::answer(rt, row)? {
-        return Ok(Some(found));
-    }
-    meta_calls::answer(rt, row)
+    printing::without_database(alloc, row)
 }
 
-/// Prints each line whose answer is another one here, then the counts. Gives whether all lines of known calls agree.
-pub fn replay<R: Files + AllocGlobal + Print>(rt: &R) -> Result<bool> {
-    let alloc = rt.alloc();
-    let text = fs::read_to_string(rt, "calls.tsv")?;
-    let mut tally = Tally::new(alloc);
-    for line in text.as_str().lines() {
-        let row = Row::read(alloc, line)?;
-        let Some(found) = answer(rt, &row)? else {
-            tally.pass_over();
-            continue;
-        };
-        let agrees = found.as_str().as_bytes() == row.answer();
-        tally.count(alloc, row.call(), agrees)?;
-        if !agrees {
-            println!(rt; "{line}")?;
-            println!(rt; "  but here: {found}")?;
-        }
+/// The answer to a call on a database; none for any other call. `layouts` is the database whose layout the line hands in.
+fn on_database(
+    alloc: Global,
+    row: &Row,
+    db: &Database,
+    layouts: &Database,
+) -> Result<Option<String>> {
+    if let Some(found) = look_ups::answer(alloc, row, db)? {
+        return Ok(Some(found));
     }
-    print_counts(rt, &tally)?;
-    Ok(tally.all_agree())
+    if let Some(found) = dialling::answer(alloc, row, db)? {
+        return Ok(Some(found));
+    }
+    if let Some(found) = validating::answer(alloc, row, db)? {
+        return Ok(Some(found));
+    }
+    if let Some(found) = reading::answer(alloc, row, db)? {
+        return Ok(Some(found));
+    }
+    printing::answer(alloc, row, db, layouts)
 }
 
-/// Prints for each call how many of its lines agree, and how many lines are of unknown calls.
-fn print_counts<R: Print>(rt: &R, tally: &Tally) -> Result<()> {
-    for count in tally.counts() {
-        let (call, agree, all) = (count.call.as_str(), count.agree, count.all);
-        println!(rt; "{call}: {agree} of {all} lines agree")?;
+/// The answer to a line, and the database that it named, which is at hand for the next line.
+pub fn answer<R: Files + AllocGlobal>(
+    rt: &R,
+    row: &Row,
+    at_hand: Option<Named>,
+) -> Result<(String, Option<Named>)> {
+    let alloc = rt.alloc();
+    if let Some(found) = without_database(alloc, row)? {
+        return Ok((found, at_hand));
     }
-    let unknown = tally.unknown();
-    println!(rt; "{unknown} lines of calls that are not replayed yet")?;
-    Ok(())
+    let named = of_name(rt, at_hand, row.argument(0))?;
+    let found = match printing::layouts_of(row) {
+        Some(name) => on_database(alloc, row, &named.database, &load(rt, name)?)?,
+        None => on_database(alloc, row, &named.database, &named.database)?,
+    };
+    match found {
+        Some(found) => Ok((found, Some(named))),
+        None => Err(anyhow!("no call has this name")),
+    }
+}
+
+/// The same, or behind an exclamation mark why there is no answer.
+pub fn answer_or_error<R: Files + AllocGlobal>(
+    rt: &R,
+    row: &Row,
+    at_hand: Option<Named>,
+) -> Result<(String, Option<Named>)> {
+    match answer(rt, row, at_hand) {
+        Ok(found) => Ok(found),
+        Err(error) => Ok((format!(in rt.alloc(); "!{error}")?, None)),
+    }
 }

@@ -1,26 +1,36 @@
-//! Replays two tables with their answers: calls, and texts that are read. It prints each line whose answer is another
-//! one here, then how many lines agree, for each call and for the texts, and how many lines aren't replayed.
-//! Its status is 0 where all replayed lines agree, else 1.
+//! Replays tables of answers. A line is a call, its arguments, the answer that is wanted, and a few words why, parted by tabs.
+//!
+//! - Without a word it goes over all tables, prints each line whose answer is another one here, then how many lines agree, for
+//!   each call. Its status is 0 where all do, else 1.
+//! - `answers FILE` prints the answer to each line of a file, which may leave out answer and words.
+//! - `line FILE N` answers line N of a file, counted from 1, twice, and says whether both answers are the wanted one, or the
+//!   first is want of memory: `tools/refuse-memory` refuses the requests of that call.
+//!
+//! A line's first argument names a database, where its call has one: the file `databases/NAME.json`.
 #![tactic(auto)]
 
+mod alone;
 mod calls;
-mod code_calls;
-mod core_calls;
-mod meta_calls;
-mod named;
-mod number_calls;
-mod numbers;
-mod read_calls;
-mod readings;
-mod table;
-mod tally;
-mod validator_calls;
+mod told;
+mod whole;
 
 use anyhow::Result;
+use std::env;
 use std::process::ExitCode;
 
 fn main(rt: HostRuntime) -> Result<ExitCode> {
-    let calls_agree = calls::replay(&rt)?;
-    let readings_agree = readings::replay(&rt)?;
-    Ok(ExitCode::from(if calls_agree && readings_agree { 0 } else { 1 }))
+    let mut words = env::args(&rt)?.skip(1);
+    let (first, file, line) = (words.next(), words.next(), words.next());
+    let agrees = match (&first, &file, &line) {
+        (None, None, None) => whole::replay(&rt)?,
+        (Some(word), Some(file), None) if word.as_str() == "answers" => {
+            told::answers(&rt, file.as_str())?;
+            true
+        }
+        (Some(word), Some(file), Some(line)) if word.as_str() == "line" => {
+            alone::judge(&rt, file.as_str(), line.as_str().parse::<usize>()?)?
+        }
+        _ => false,
+    };
+    Ok(ExitCode::from(if agrees { 0 } else { 1 }))
 }

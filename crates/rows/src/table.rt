@@ -1,11 +1,10 @@
-//! The lines of a table: columns parted by one tab, the last of them a few words on the line. In the table of calls the
-//! first column is the call, the last but one the answer, and what stands between are the arguments.
+//! The lines of a table: columns parted by one tab. The first is the call, the last a few words on the line, the last but one
+//! the answer that is wanted; what stands between are the arguments, the first of them a database's name where the call has
+//! a database.
 //!
 //! In each column `\t` is a tab, `\n` a line feed, `\\` a backslash, `\uXXXX` and `\UXXXXXXXX` the character of that
 //! number, and `\xNN` a byte that is part of no text. The columns are parted first, the escapes undone second.
 use anyhow::{Result, anyhow};
-use phone_core::ParseError;
-use phone_core::country::Source;
 use phone_core::cuts::split_first;
 use std::alloc::{AllocError, Global};
 
@@ -81,6 +80,11 @@ fn undo(alloc: Global, column: &str) -> Result<Vec<u8>> {
     Ok(out)
 }
 
+/// The text of these bytes; empty where they are none.
+fn text(bytes: &[u8]) -> &str {
+    std::str::from_utf8(bytes).unwrap_or("")
+}
+
 /// A line of the table, its escapes undone.
 #[derive(Drop)]
 pub struct Row {
@@ -105,31 +109,9 @@ impl Row {
         }
     }
 
-    /// Whether a column, counted from 0, is text.
-    pub fn is_text(&self, at: usize) -> bool {
-        std::str::from_utf8(self.bytes(at)).is_ok()
-    }
-
-    /// A column, counted from 0; empty where it is no text.
-    pub fn column(&self, at: usize) -> &str {
-        std::str::from_utf8(self.bytes(at)).unwrap_or("")
-    }
-
-    /// The bytes of the columns from this one, counted from 0, to the last but one, parted by tabs.
-    pub fn from_column(&self, alloc: Global, at: usize) -> Result<Vec<u8>, AllocError> {
-        let mut out = Vec::new(alloc);
-        for place in at..self.columns.len().saturating_sub(1) {
-            if place > at {
-                out.push(b'\t')?;
-            }
-            out.extend_from_slice(self.bytes(place))?;
-        }
-        Ok(out)
-    }
-
     /// The call's name.
     pub fn call(&self) -> &str {
-        self.column(0)
+        text(self.bytes(0))
     }
 
     /// The bytes of an argument, counted from 0.
@@ -139,7 +121,7 @@ impl Row {
 
     /// An argument, counted from 0; empty where it is no text.
     pub fn argument(&self, at: usize) -> &str {
-        std::str::from_utf8(self.argument_bytes(at)).unwrap_or("")
+        text(self.argument_bytes(at))
     }
 
     /// The bytes of the answer.
@@ -148,25 +130,16 @@ impl Row {
     }
 }
 
-/// How the table writes a source.
-pub fn source(source: Source) -> &'static str {
-    match source {
-        Source::Plus => "plus",
-        Source::Idd => "idd",
-        Source::Number => "number",
-        Source::Default => "default",
+/// A text as a table writes it: tabs, line feeds and backslashes escaped.
+pub fn escaped(alloc: Global, text: &str) -> Result<String, AllocError> {
+    let mut out = String::new(alloc);
+    for c in text.chars() {
+        match c {
+            '\t' => out.push_str("\\t")?,
+            '\n' => out.push_str("\\n")?,
+            '\\' => out.push_str("\\\\")?,
+            _ => out.push(c)?,
+        }
     }
-}
-
-/// How the table writes a refusal: `error`, its number and its text.
-pub fn refusal(error: &ParseError) -> &'static str {
-    match error {
-        ParseError::NoNumber => "error\t1\tnot a number",
-        ParseError::InvalidCountryCode => "error\t2\tinvalid country code",
-        ParseError::TooShortAfterIdd => "error\t3\tthe number is too short after IDD",
-        ParseError::TooShortNsn => "error\t4\tthe number is too short after the country code",
-        ParseError::TooLong => "error\t5\tthe number is too long",
-        ParseError::MalformedInteger => "error\t6\tmalformed integer",
-        ParseError::Memory => "error\t7\tout of memory",
-    }
+    Ok(out)
 }

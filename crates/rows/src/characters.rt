@@ -1,5 +1,8 @@
 //! The calls of `phone_core`.
-use crate::table::{Row, refusal};
+use crate::marks::{around, begin};
+use crate::table::Row;
+use crate::words::{refusal, truth};
+use anyhow::Result;
 use phone_core::chars::{self, normalize};
 use phone_core::country::Id;
 use phone_core::{NationalNumber, ParseError, Validation, is_viable};
@@ -7,18 +10,14 @@ use std::alloc::{AllocError, Global};
 use std::borrow::CowStr;
 
 /// What the port answers to a call of this crate, as the table writes it; none for any other call.
-pub fn answer(alloc: Global, row: &Row) -> Result<Option<String>, AllocError> {
+pub fn answer(alloc: Global, row: &Row) -> Result<Option<String>> {
     let text = row.argument(0);
     let answer = match row.call() {
         "keep" => keep(alloc, text, row.argument(1))?,
         "as_dec_digit" => digits(alloc, text, false)?,
         "keypad" => digits(alloc, text, true)?,
         "same-fold" => truth(alloc, same_fold(text, row.argument(1)))?,
-        "normalize" => {
-            let digits = normalize(alloc, CowStr::Borrowed(text))?;
-            let digits = digits.as_str();
-            format!(in alloc; "={digits}")?
-        }
+        "normalize" => normalized(alloc, text)?,
         "viable" => truth(alloc, is_viable(text))?,
         "nsn" => number(alloc, text.parse::<NationalNumber>())?,
         "nsn-new" => number(alloc, new_number(text, row.argument(1)))?,
@@ -30,9 +29,15 @@ pub fn answer(alloc: Global, row: &Row) -> Result<Option<String>, AllocError> {
     Ok(Some(answer))
 }
 
-/// `true` or `false`.
-fn truth(alloc: Global, holds: bool) -> Result<String, AllocError> {
-    String::from_str(alloc, if holds { "true" } else { "false" })
+/// The digits of a borrowed text.
+fn normalized(alloc: Global, text: &str) -> Result<String, AllocError> {
+    let digits = around(
+        alloc,
+        begin(alloc),
+        normalize(alloc, CowStr::Borrowed(text)),
+    )??;
+    let digits = digits.as_str();
+    format!(in alloc; "={digits}")
 }
 
 /// Whether a character passes the test of this name.
@@ -94,13 +99,13 @@ fn new_number(value: &str, zeros: &str) -> Result<NationalNumber, ParseError> {
 }
 
 /// A national number as value, zeros and text, or the refusal.
-fn number(alloc: Global, number: Result<NationalNumber, ParseError>) -> Result<String, AllocError> {
+fn number(alloc: Global, number: Result<NationalNumber, ParseError>) -> Result<String> {
     match number {
         Ok(number) => {
             let (value, zeros) = (number.value(), number.zeros());
-            format!(in alloc; "{value}\t{zeros}\t{number}")
+            Ok(format!(in alloc; "{value}\t{zeros}\t{number}")?)
         }
-        Err(error) => String::from_str(alloc, refusal(&error)),
+        Err(error) => refusal(alloc, &error),
     }
 }
 

@@ -1,7 +1,8 @@
-//! The calls of the two readers and `extract`, as `phone_read` passes them on.
-use crate::table::{Row, source};
-use phone_read::natural::NoReading;
-use phone_read::{Number, helper, natural, rfc3966};
+//! The calls of `phone_parts`: the two readers, and `extract`. They take no memory, so no marks stand around them.
+use crate::table::Row;
+use crate::words::source;
+use phone_parts::natural::NoReading;
+use phone_parts::{Number, helper, natural, rfc3966};
 use std::alloc::{AllocError, Global};
 use std::borrow::CowStr;
 
@@ -40,10 +41,7 @@ pub fn number(alloc: Global, number: &Number<'_>) -> Result<String, AllocError> 
 /// A part that may be absent.
 fn part(alloc: Global, part: &Option<CowStr<'_>>) -> Result<String, AllocError> {
     match part {
-        Some(part) => {
-            let text = part.as_str();
-            format!(in alloc; "={text}")
-        }
-        None => String::from_str(alloc, "-"),
+        Some(part) => crate::words::part(alloc, Some(part.as_str())),
+        None => crate::words::part(alloc, None),
     }
 }

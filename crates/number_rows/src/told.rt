@@ -1,18 +1,9 @@
 //! How the tables tell a number: its texts in the four modes, and what a database tells of it.
 use anyhow::{Result, anyhow};
-use phone_core::Mode;
 use phone_core::country::Id;
 use phone_meta::Database;
 use phonenumber::{FormatError, Formatter, PhoneNumber, Queried, Texts};
 use std::alloc::{AllocError, Global};
-
-/// The modes by their names, in the order of the tables.
-pub const MODES: [(&str, Mode); 4] = [
-    ("E164", Mode::E164),
-    ("International", Mode::International),
-    ("National", Mode::National),
-    ("Rfc3966", Mode::Rfc3966),
-];
 
 /// The text in each mode behind this sign, or `UnknownCode` for each, parted by tabs.
 pub fn texts(alloc: Global, printer: Formatter<'_, '_, '_>, sign: &str) -> Result<String> {

@@ -1,38 +1,33 @@
-//! The calls of `phone_meta`, each on the database that its line names.
-use crate::named::{KINDS, code_of, kind, open, territory};
-use crate::table::Row;
+//! The look-ups of `phone_meta`, each on the database that its line names.
+use crate::named::{code_of, territory};
 use anyhow::{Result, anyhow};
 use phone_meta::{Database, Metadata};
-use std::alloc::{AllocError, AllocGlobal, Global};
-use std::fs::Files;
+use rows::marks::{around, begin};
+use rows::table::Row;
+use rows::words::{KINDS, kind, truth};
+use std::alloc::{AllocError, Global};
 
-/// What the port answers to a call of this crate, as the table writes it; none for any other call. An error where a
-/// line names a database, a code, a territory or a kind that isn't there, and where memory is refused.
-pub fn answer<R: Files + AllocGlobal>(rt: &R, row: &Row) -> Result<Option<String>> {
-    let alloc = rt.alloc();
+/// What the database answers to a look-up, as the table writes it; none for any other call. An error where a line names a
+/// code, a territory or a kind that isn't there, and where memory is refused.
+pub fn answer(alloc: Global, row: &Row, db: &Database) -> Result<Option<String>> {
     let answer = match row.call() {
-        "shortest" => code(alloc, open(rt, row)?.shortest(row.argument(1)))?,
-        "codes-prefix-free" => truth(alloc, open(rt, row)?.codes_prefix_free())?,
-        "region" => regions(alloc, open(rt, row)?.region(&code_of(row)?)?)?,
-        "by-code" => records(alloc, open(rt, row)?.by_code(&code_of(row)?)?)?,
-        "first-by-code" => record(alloc, open(rt, row)?.first_by_code(&code_of(row)?))?,
-        "by-id" => record(alloc, open(rt, row)?.by_id(row.argument(1)))?,
-        "iter" => in_order_of_ids(alloc, &open(rt, row)?)?,
-        "descriptors" => descriptors(alloc, territory(&open(rt, row)?, row)?)?,
-        "is-match" => is_match(alloc, &open(rt, row)?, row, row.argument(3))?,
+        "shortest" => code(alloc, db.shortest(row.argument(1)))?,
+        "codes-prefix-free" => truth(alloc, db.codes_prefix_free())?,
+        "region" => regions(alloc, db, code_of(row)?)?,
+        "by-code" => territories(alloc, db, code_of(row)?)?,
+        "first-by-code" => record(alloc, db.first_by_code(&code_of(row)?))?,
+        "by-id" => record(alloc, db.by_id(row.argument(1)))?,
+        "iter" => in_order_of_ids(alloc, db)?,
+        "descriptors" => descriptors(alloc, territory(db, row)?)?,
+        "is-match" => is_match(alloc, db, row, row.argument(3))?,
         "is-match-repeated" => {
             let times = row.argument(4).parse::<usize>()?;
             let text = row.argument(3).repeat(alloc, times)?;
-            is_match(alloc, &open(rt, row)?, row, text.as_str())?
+            is_match(alloc, db, row, text.as_str())?
         }
         _ => return Ok(None),
     };
     Ok(Some(answer))
-}
-
-/// `true` or `false`.
-fn truth(alloc: Global, holds: bool) -> Result<String, AllocError> {
-    String::from_str(alloc, if holds { "true" } else { "false" })
 }
 
 /// A calling code, or a hyphen.
@@ -77,9 +72,15 @@ fn records(alloc: Global, found: Option<Vec<&Metadata>>) -> Result<String, Alloc
     Ok(out)
 }
 
-/// Ids parted by spaces, or a hyphen.
-fn regions(alloc: Global, found: Option<Vec<&str>>) -> Result<String, AllocError> {
-    let Some(found) = found else {
+/// The territories of a code.
+fn territories(alloc: Global, db: &Database, code: u16) -> Result<String, AllocError> {
+    let found = around(alloc, begin(alloc), db.by_code(&code))??;
+    records(alloc, found)
+}
+
+/// The ids of a code's territories, parted by spaces, or a hyphen.
+fn regions(alloc: Global, db: &Database, code: u16) -> Result<String, AllocError> {
+    let Some(found) = around(alloc, begin(alloc), db.region(&code))?? else {
         return String::from_str(alloc, "-");
     };
     let ids = found.as_slice().join(alloc, " ")?;
@@ -115,7 +116,10 @@ fn descriptors(alloc: Global, territory: &Metadata) -> Result<String, AllocError
 fn is_match(alloc: Global, database: &Database, row: &Row, text: &str) -> Result<String> {
     let kind = kind(row.argument(2))?;
     match territory(database, row)?.descriptors().get(kind) {
-        Some(descriptor) => Ok(truth(alloc, descriptor.is_match(text)?)?),
+        Some(descriptor) => {
+            let is_match = around(alloc, begin(alloc), descriptor.is_match(text))??;
+            Ok(truth(alloc, is_match)?)
+        }
         None => Err(anyhow!("the territory has no descriptor of this kind")),
     }
 }

@@ -9,11 +9,10 @@ pub struct Count {
     pub all: u64,
 }
 
-/// The counts of all calls, in the order in which the calls were met, and the lines of unknown calls.
+/// The counts of all calls, in the order in which the calls were met.
 #[derive(Drop)]
 pub struct Tally {
     counts: Vec<Count>,
-    unknown: u64,
 }
 
 impl Tally {
@@ -21,13 +20,7 @@ impl Tally {
     pub fn new(alloc: Global) -> Tally {
         Tally {
             counts: Vec::new(alloc),
-            unknown: 0,
         }
-    }
-
-    /// Counts a line of a call that isn't known.
-    pub fn pass_over(&mut self) {
-        self.unknown = self.unknown.saturating_add(1);
     }
 
     /// Counts a line of this call.
@@ -52,12 +45,7 @@ impl Tally {
         self.counts.as_slice()
     }
 
-    /// How many lines were of unknown calls.
-    pub fn unknown(&self) -> u64 {
-        self.unknown
-    }
-
-    /// Whether all lines of known calls agree.
+    /// Whether all lines agree.
     pub fn all_agree(&self) -> bool {
         self.counts.iter().all(|count| count.agree == count.all)
     }

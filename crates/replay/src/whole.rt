@@ -1,0 +1,45 @@
+//! All tables.
+use crate::calls::answer_or_error;
+use anyhow::Result;
+use rows::table::Row;
+use rows::tally::Tally;
+use std::alloc::AllocGlobal;
+use std::fs::{self, Files};
+
+/// The tables, by their files.
+const TABLES: [&str; 2] = ["calls.tsv", "report.tsv"];
+
+/// Prints each line whose answer is another one here, then the counts. Gives whether all lines agree.
+pub fn replay<R: Files + AllocGlobal + Print>(rt: &R) -> Result<bool> {
+    let mut tally = Tally::new(rt.alloc());
+    for file in TABLES {
+        replay_table(rt, file, &mut tally)?;
+    }
+    for count in tally.counts() {
+        let (call, agree, all) = (count.call.as_str(), count.agree, count.all);
+        println!(rt; "{call}: {agree} of {all} lines agree")?;
+    }
+    Ok(tally.all_agree())
+}
+
+/// The lines of one table.
+fn replay_table<R: Files + AllocGlobal + Print>(
+    rt: &R,
+    file: &str,
+    tally: &mut Tally,
+) -> Result<()> {
+    let alloc = rt.alloc();
+    let text = fs::read_to_string(rt, file)?;
+    let mut at_hand = None;
+    for line in text.as_str().lines() {
+        let row = Row::read(alloc, line)?;
+        let (found, named) = answer_or_error(rt, &row, at_hand)?;
+        at_hand = named;
+        let agrees = found.as_str().as_bytes() == row.answer();
+        tally.count(alloc, row.call(), agrees)?;
+        if !agrees {
+            println!(rt; "{line}\n  but here: {found}")?;
+        }
+    }
+    Ok(())
+}
