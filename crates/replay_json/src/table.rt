@@ -1,0 +1,120 @@
+//! The lines of a table: columns parted by one tab: a text, its answer in three columns, and a few words on the line.
+//!
+//! In each column `\t` is a tab, `\n` a line feed, `\\` a backslash, `\uXXXX` and `\UXXXXXXXX` the character of that
+//! number, and `\xNN` a byte that is part of no text. The columns are parted first, the escapes undone second.
+use anyhow::{Result, anyhow};
+use phone_core::cuts::split_first;
+use std::alloc::{AllocError, Global};
+
+/// Why a line could not be read.
+const MALFORMED: &str = "an escape of the table is malformed";
+
+/// The number that the first digits of a text write in hexadecimal, and what follows them.
+fn number(text: &str, digits: usize) -> Option<(u32, &str)> {
+    if !text.is_char_boundary(digits) {
+        return None;
+    }
+    let (number, after) = text.split_at(digits);
+    match u32::from_str_radix(number, 16) {
+        Ok(number) => Some((number, after)),
+        Err(_) => None,
+    }
+}
+
+/// Writes the character of a number that is written in so many digits, and what follows it.
+fn push_numbered(out: &mut Vec<u8>, text: &str, digits: usize) -> Result<()> {
+    let Some((number, after)) = number(text, digits) else {
+        return Err(anyhow!(MALFORMED));
+    };
+    let Some(c) = char::from_u32(number) else {
+        return Err(anyhow!(MALFORMED));
+    };
+    let mut bytes = [0; 4];
+    out.extend_from_slice(c.encode_utf8(&mut bytes).as_bytes())?;
+    out.extend_from_slice(after.as_bytes())?;
+    Ok(())
+}
+
+/// Writes what an escape stands for, and what follows it. The text is what stands behind its backslash.
+fn push_escape(out: &mut Vec<u8>, text: &str) -> Result<()> {
+    let Some((kind, rest)) = split_first(text) else {
+        return Err(anyhow!(MALFORMED));
+    };
+    match kind {
+        't' => out.push(b'\t')?,
+        'n' => out.push(b'\n')?,
+        'u' => return push_numbered(out, rest, 4),
+        'U' => return push_numbered(out, rest, 8),
+        'x' => {
+            let Some((byte, after)) = number(rest, 2) else {
+                return Err(anyhow!(MALFORMED));
+            };
+            out.push(byte.to_le_bytes()[0])?;
+            out.extend_from_slice(after.as_bytes())?;
+            return Ok(());
+        }
+        _ => return Err(anyhow!(MALFORMED)),
+    }
+    out.extend_from_slice(rest.as_bytes())?;
+    Ok(())
+}
+
+/// A column with its escapes undone. Cut at its backslashes, an empty part is a second backslash, behind which no
+/// escape begins.
+fn undo(alloc: Global, column: &str) -> Result<Vec<u8>> {
+    let mut out = Vec::new(alloc);
+    let mut plain = true;
+    for part in column.split('\\') {
+        if plain {
+            out.extend_from_slice(part.as_bytes())?;
+            plain = false;
+        } else if part.is_empty() {
+            out.push(b'\\')?;
+            plain = true;
+        } else {
+            push_escape(&mut out, part)?;
+        }
+    }
+    Ok(out)
+}
+
+/// A line of the table, its escapes undone.
+#[derive(Drop)]
+pub struct Row {
+    columns: Vec<Vec<u8>>,
+}
+
+impl Row {
+    /// Reads a line.
+    pub fn read(alloc: Global, line: &str) -> Result<Row> {
+        let mut columns = Vec::new(alloc);
+        for column in line.split('\t') {
+            columns.push(undo(alloc, column)?)?;
+        }
+        Ok(Row { columns })
+    }
+
+    /// The bytes of a column; nothing where there is none.
+    fn bytes(&self, at: usize) -> &[u8] {
+        match self.columns.get(at) {
+            Some(column) => column.as_slice(),
+            None => &[],
+        }
+    }
+
+    /// Whether a column, counted from 0, is text.
+    pub fn is_text(&self, at: usize) -> bool {
+        std::str::from_utf8(self.bytes(at)).is_ok()
+    }
+
+    /// A column, counted from 0; empty where it is no text.
+    pub fn column(&self, at: usize) -> &str {
+        std::str::from_utf8(self.bytes(at)).unwrap_or("")
+    }
+
+    /// The answer: its three columns, parted by tabs.
+    pub fn answer(&self, alloc: Global) -> Result<String, AllocError> {
+        let (name, first, second) = (self.column(1), self.column(2), self.column(3));
+        format!(in alloc; "{name}\t{first}\t{second}")
+    }
+}
