@@ -1,0 +1,4 @@
+mod ByText
+mod Digits
+mod Laid
+mod Searches

@@ -1,0 +1,17 @@
+use Rattle.std.proofs.Common.{refl, arith, inr}
+use Rattle.std.specs.Fmt.{digits}
+use Rattle.std.specs.Str.{chars}
+use Rattle.phone_core.specs.Ids.{id_of}
+use Rattle.premises.proofs.ByText.{international, is_plain, rfc3966}
+use Rattle.premises.proofs.Laid.{us_laid}
+use Rattle.premises.specs.Samples.{us}
+use Rattle.premises.proofs.plain.with_empty_extension.Goals as goal
+
+pub returns : goal.returns
+unfolding digits chars id_of
+returns c = record {
+  e164 = (us, is_plain refl refl);
+  rfc3966 = rfc3966 us us_laid (is_plain refl refl) refl refl;
+  international = international us us_laid (is_plain refl refl) refl (omega arith) refl refl;
+  idle = inr (us, refl, refl);
+}

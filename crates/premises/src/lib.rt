@@ -1,0 +1,12 @@
+//! What the premises of reading back take, and why each is there, on the databases B, C and D of
+//! the replayed tables. These functions do nothing; their contracts say it.
+#![tactic(auto)]
+
+mod needed;
+mod plain;
+
+pub use needed::{
+    announced_by_layout, codes_apart, digits_dropped, extensions, plus_in_rule, prefix_stripped,
+    two_digits, value_zero, wrong_length,
+};
+pub use plain::{with_empty_extension, with_extension, without_extension};

@@ -1,0 +1,29 @@
+//! Numbers that the premises take.
+ghost use Rattle.std.specs.Prelude.{[], codes, None, Some};
+ghost use Rattle.phonenumber.specs.Plain.{IsIdle, IsPlainE164};
+ghost use Rattle.phonenumber.specs.Plain.{IsPlainInternational, IsPlainRfc3966};
+ghost use Rattle.premises.specs.Samples.{db_b, db_c, number};
+
+/// A number of New Zealand without an extension.
+pub fn without_extension()
+    ensures e164 { IsPlainE164 db_b (number 64 0 33316005 None) }
+    ensures rfc3966 { IsPlainRfc3966 db_b (number 64 0 33316005 None) }
+    ensures international { IsPlainInternational db_b (number 64 0 33316005 None) }
+    ensures idle { IsIdle db_b 64 (codes "33316005") }
+{}
+
+/// A number of the United States with an empty extension.
+pub fn with_empty_extension()
+    ensures e164 { IsPlainE164 db_b (number 1 0 6502530000 (Some [])) }
+    ensures rfc3966 { IsPlainRfc3966 db_b (number 1 0 6502530000 (Some [])) }
+    ensures international { IsPlainInternational db_b (number 1 0 6502530000 (Some [])) }
+    ensures idle { IsIdle db_b 1 (codes "6502530000") }
+{}
+
+/// A number of Andorra with an extension.
+pub fn with_extension()
+    ensures e164 { IsPlainE164 db_c (number 376 0 123456 (Some (codes "5"))) }
+    ensures rfc3966 { IsPlainRfc3966 db_c (number 376 0 123456 (Some (codes "5"))) }
+    ensures international { IsPlainInternational db_c (number 376 0 123456 (Some (codes "5"))) }
+    ensures idle { IsIdle db_c 376 (codes "123456") }
+{}
