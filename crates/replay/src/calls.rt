@@ -5,7 +5,7 @@ use database_rows::named::{Named, load, of_name};
 use number_rows::{dialling, printing, reading, validating};
 use phone_meta::Database;
 use rows::table::Row;
-use rows::{characters, readers};
+use rows::{characters, devices, lines, readers};
 use std::alloc::{AllocGlobal, Global};
 use std::fs::Files;
 
@@ -15,6 +15,12 @@ fn without_database(alloc: Global, row: &Row) -> Result<Option<String>> {
         return Ok(Some(found));
     }
     if let Some(found) = readers::answer(alloc, row)? {
+        return Ok(Some(found));
+    }
+    if let Some(found) = devices::answer(alloc, row)? {
+        return Ok(Some(found));
+    }
+    if let Some(found) = lines::answer(alloc, row)? {
         return Ok(Some(found));
     }
     if let Some(found) = dialling::without_database(alloc, row)? {

@@ -7,7 +7,13 @@ use std::alloc::AllocGlobal;
 use std::fs::{self, Files};
 
 /// The tables, by their files.
-const TABLES: [&str; 2] = ["calls.tsv", "report.tsv"];
+const TABLES: [&str; 5] = [
+    "calls.tsv",
+    "report.tsv",
+    "characters.tsv",
+    "devices.tsv",
+    "lines.tsv",
+];
 
 /// Prints each line whose answer is another one here, then the counts. Gives whether all lines agree.
 pub fn replay<R: Files + AllocGlobal + Print>(rt: &R) -> Result<bool> {

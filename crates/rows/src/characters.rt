@@ -18,12 +18,14 @@ pub fn answer(alloc: Global, row: &Row) -> Result<Option<String>> {
         "keypad" => digits(alloc, text, true)?,
         "same-fold" => truth(alloc, same_fold(text, row.argument(1)))?,
         "normalize" => normalized(alloc, text)?,
+        "normalize-form" => normalized_form(alloc, text, row.argument(1))?,
         "viable" => truth(alloc, is_viable(text))?,
         "nsn" => number(alloc, text.parse::<NationalNumber>())?,
         "nsn-new" => number(alloc, new_number(text, row.argument(1)))?,
         "id" => truth(alloc, text.parse::<Id>().is_ok())?,
         "id-pairs" => id_pairs(alloc, text)?,
         "validation" => verdict(alloc, text)?,
+        "refusal-text" => refusal_text(alloc, text)?,
         _ => return Ok(None),
     };
     Ok(Some(answer))
@@ -38,6 +40,21 @@ fn normalized(alloc: Global, text: &str) -> Result<String, AllocError> {
     )??;
     let digits = digits.as_str();
     format!(in alloc; "={digits}")
+}
+
+/// The digits of a text that is handed in `borrowed` or `owned`, behind which of the two they are.
+fn normalized_form(alloc: Global, form: &str, text: &str) -> Result<String, AllocError> {
+    let text = match form {
+        "owned" => CowStr::Owned(String::from_str(alloc, text)?),
+        _ => CowStr::Borrowed(text),
+    };
+    let digits = around(alloc, begin(alloc), normalize(alloc, text))??;
+    let form = match &digits {
+        CowStr::Borrowed(_) => "borrowed",
+        CowStr::Owned(_) => "owned",
+    };
+    let digits = digits.as_str();
+    format!(in alloc; "{form}\t={digits}")
 }
 
 /// Whether a character passes the test of this name.
@@ -152,4 +169,24 @@ fn verdict(alloc: Global, name: &str) -> Result<String, AllocError> {
         }
     }
     Ok(out)
+}
+
+/// The text of the refusal of this number.
+fn refusal_text(alloc: Global, number: &str) -> Result<String> {
+    let error = match number {
+        "1" => ParseError::NoNumber,
+        "2" => ParseError::InvalidCountryCode,
+        "3" => ParseError::TooShortAfterIdd,
+        "4" => ParseError::TooShortNsn,
+        "5" => ParseError::TooLong,
+        "6" => ParseError::MalformedInteger,
+        _ => ParseError::Memory,
+    };
+    let text = around(alloc, begin(alloc), written(alloc, &error))??;
+    Ok(text)
+}
+
+/// A refusal as it is printed.
+fn written(alloc: Global, error: &ParseError) -> Result<String, AllocError> {
+    format!(in alloc; "{error}")
 }
