@@ -7,7 +7,14 @@ use std::alloc::AllocGlobal;
 use std::fs::{self, Files};
 
 /// The tables, by their files.
-const TABLES: [&str; 2] = ["calls.tsv", "report.tsv"];
+const TABLES: [&str; 6] = [
+    "calls.tsv",
+    "report.tsv",
+    "json.tsv",
+    "databases.tsv",
+    "layouts.tsv",
+    "patterns.tsv",
+];
 
 /// Prints each line whose answer is another one here, then the counts. Gives whether all lines agree.
 pub fn replay<R: Files + AllocGlobal + Print>(rt: &R) -> Result<bool> {
