@@ -1,7 +1,7 @@
 //! The answer to a line, by the module that knows its call.
 use anyhow::{Result, anyhow};
-use database_rows::look_ups;
 use database_rows::named::{Named, load, of_name};
+use database_rows::{look_ups, patterns, records, texts};
 use number_rows::{dialling, printing, reading, validating};
 use phone_meta::Database;
 use rows::table::Row;
@@ -21,6 +21,12 @@ fn without_database(alloc: Global, row: &Row) -> Result<Option<String>> {
         return Ok(Some(found));
     }
     if let Some(found) = lines::answer(alloc, row)? {
+        return Ok(Some(found));
+    }
+    if let Some(found) = patterns::answer(alloc, row)? {
+        return Ok(Some(found));
+    }
+    if let Some(found) = records::answer(alloc, row)? {
         return Ok(Some(found));
     }
     if let Some(found) = dialling::without_database(alloc, row)? {
@@ -59,6 +65,9 @@ pub fn answer<R: Files + AllocGlobal>(
 ) -> Result<(String, Option<Named>)> {
     let alloc = rt.alloc();
     if let Some(found) = without_database(alloc, row)? {
+        return Ok((found, at_hand));
+    }
+    if let Some(found) = texts::answer(rt, row)? {
         return Ok((found, at_hand));
     }
     let named = of_name(rt, at_hand, row.argument(0))?;

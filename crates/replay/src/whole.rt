@@ -7,12 +7,16 @@ use std::alloc::AllocGlobal;
 use std::fs::{self, Files};
 
 /// The tables, by their files.
-const TABLES: [&str; 5] = [
+const TABLES: [&str; 9] = [
     "calls.tsv",
     "report.tsv",
+    "json.tsv",
     "characters.tsv",
     "devices.tsv",
     "lines.tsv",
+    "databases.tsv",
+    "layouts.tsv",
+    "patterns.tsv",
 ];
 
 /// Prints each line whose answer is another one here, then the counts. Gives whether all lines agree.
