@@ -2,8 +2,9 @@
 //! answer is, told as the tables tell it.
 use anyhow::{Result, anyhow};
 use phone_core::MetadataError;
-use phone_device::{At, MemorySource, Script};
+use phone_device::{MemorySource, Script};
 use phone_meta::{Database, LoadMetadata};
+use rows::devices::fault;
 use rows::marks::{around, begin};
 use rows::table::Row;
 use std::alloc::{AllocError, AllocGlobal, Global};
@@ -62,32 +63,13 @@ fn of_script(alloc: Global, source: Script) -> Result<String> {
     )
 }
 
-/// The place of a fault: `call` or `byte` and its number from 0 on, or none for a hyphen.
-fn fault(column: &str) -> Result<Option<At>> {
-    if column == NO_WORD {
-        return Ok(None);
-    }
-    match column.split_once(' ') {
-        Some((kind, number)) => Ok(Some(place(kind, number.parse::<usize>()?)?)),
-        None => Err(anyhow!("the place of a fault is told otherwise")),
-    }
-}
-
-/// The call or the byte of this number.
-fn place(kind: &str, number: usize) -> Result<At> {
-    match kind {
-        "call" => Ok(At::Call(number)),
-        "byte" => Ok(At::Byte(number)),
-        _ => Err(anyhow!("a source fails at a call or at a byte")),
-    }
-}
-
 /// A source of these bytes fails at each place in turn, from the first on: how many times the
 /// answer is that a read failed, and what is answered to the next one.
 fn each_fault(alloc: Global, kind: &str, bytes: &[u8]) -> Result<String> {
     for number in 0..=bytes.len().saturating_add(1) {
-        let at = place(kind, number)?;
-        let told = of_script(alloc, Script::new(Vec::from_slice(alloc, bytes)?, Some(at)))?;
+        let at = format!(in alloc; "{kind} {number}")?;
+        let at = fault(at.as_str())?;
+        let told = of_script(alloc, Script::new(Vec::from_slice(alloc, bytes)?, at))?;
         if !told.as_str().starts_with("Io") {
             return Ok(format!(in alloc; "{number}\t{told}")?);
         }

@@ -11,3 +11,21 @@ pub mod readers;
 pub mod table;
 pub mod tally;
 pub mod words;
+
+use anyhow::Result;
+use std::alloc::Global;
+use table::Row;
+
+/// The answer to a call of these crates; none for any other call.
+pub fn answer(alloc: Global, row: &Row) -> Result<Option<String>> {
+    if let Some(found) = characters::answer(alloc, row)? {
+        return Ok(Some(found));
+    }
+    if let Some(found) = readers::answer(alloc, row)? {
+        return Ok(Some(found));
+    }
+    if let Some(found) = devices::answer(alloc, row)? {
+        return Ok(Some(found));
+    }
+    lines::answer(alloc, row)
+}
