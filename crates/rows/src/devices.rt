@@ -1,7 +1,7 @@
-//! The calls of `phone_device`: what a source gives and where it fails, what a sink takes and how it ends.
+//! The calls of `phone_device`: what a source gives and where it fails, what a sink takes and how
+//! it ends.
 use crate::marks::{around, begin};
 use crate::table::Row;
-use crate::words::truth;
 use anyhow::{Result, anyhow};
 use phone_device::{
     At, Block, ByteSink, ByteSource, Fault, Limit, ReadError, Script, Then, read_all, write_all,
@@ -58,6 +58,11 @@ pub fn sink(alloc: Global, column: &str) -> Result<Limit> {
     };
     let limit = limit.parse::<usize>()?;
     Ok(Limit::new(alloc, limit, then(word))?)
+}
+
+/// How a call ended.
+fn word(end: Result<(), Fault>) -> &'static str {
+    if end.is_ok() { "ok" } else { "fault" }
 }
 
 /// Writes one more word behind others, parted by a space.
@@ -172,7 +177,7 @@ fn writes(alloc: Global, row: &Row) -> Result<String> {
     for text in row.argument(1).split(' ') {
         write(alloc, &mut sink, text, &mut words)?;
     }
-    let flushed = if sink.flush().is_ok() { "ok" } else { "fault" };
+    let flushed = word(sink.flush());
     let taken = std::str::from_utf8(sink.taken()).unwrap_or("no text");
     Ok(format!(in alloc; "{words}\t{flushed}\t={taken}")?)
 }
@@ -190,23 +195,21 @@ fn write(
     }
 }
 
-/// How a text is written whole to sinks of each limit up to two bytes more than it has: `ok` or `fault`, and how many bytes
-/// the sink has taken; and whether these are always the first of the text.
+/// How a text is written whole to sinks of each limit up to two bytes more than it has: `ok` or
+/// `fault`, and how many bytes the sink has taken; and whether these are always the first of the
+/// text.
 fn all_written(alloc: Global, row: &Row) -> Result<String> {
     let (text, then) = (row.argument_bytes(0), then(row.argument(1)));
     let mut words = String::new(alloc);
     let mut are_first = true;
     for limit in 0..text.len().saturating_add(3) {
         let mut sink = Limit::new(alloc, limit, then)?;
-        let end = if write_all(&mut sink, text).is_ok() {
-            "ok"
-        } else {
-            "fault"
-        };
-        are_first &= text.starts_with(sink.taken());
+        let end = word(write_all(&mut sink, text));
         push_counted(alloc, &mut words, end, sink.taken().len())?;
+        if !text.starts_with(sink.taken()) {
+            are_first = false;
+        }
     }
-    let are_first = truth(alloc, are_first)?;
     Ok(format!(in alloc; "{words}\t{are_first}")?)
 }
 

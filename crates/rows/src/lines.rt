@@ -3,7 +3,7 @@ use crate::devices::{fault, push_counted, repeated, sink, then};
 use crate::marks::{around, begin};
 use crate::table::Row;
 use anyhow::{Result, anyhow};
-use phone_device::{At, Limit, MemorySink, MemorySource, Script, Then};
+use phone_device::{At, Limit, MemorySink, MemorySource, Script};
 use phone_lines::{Answers, RunError, answer_lines};
 use std::alloc::{AllocError, Global};
 
@@ -73,7 +73,8 @@ fn run(
     }
 }
 
-/// The source of a line: a piece of bytes, how often it comes, what stands behind it, and where the source fails.
+/// The source of a line: a piece of bytes, how often it comes, what stands behind it, and where the
+/// source fails.
 fn source(alloc: Global, row: &Row) -> Result<Script> {
     let at = fault(row.argument(4))?;
     let mut bytes = repeated(alloc, row.argument_bytes(1), row.argument(2))?;
@@ -81,38 +82,40 @@ fn source(alloc: Global, row: &Row) -> Result<Script> {
     Ok(Script::new(bytes, at))
 }
 
-/// How the run of a line ends, and its sink.
-fn whole_run(alloc: Global, row: &Row) -> Result<(&'static str, Limit)> {
+/// The devices of a line: its source, and a sink that takes so many bytes.
+fn devices(alloc: Global, row: &Row) -> Result<(Script, Limit)> {
+    let source = source(alloc, row)?;
+    Ok((source, sink(alloc, row.argument(5))?))
+}
+
+/// How a run ends, and what the sink has taken.
+fn report(alloc: Global, row: &Row) -> Result<String> {
     let with_line = row.argument(0) == "lines";
-    let mut source = source(alloc, row)?;
-    let mut sink = sink(alloc, row.argument(5))?;
+    let (mut source, mut sink) = devices(alloc, row)?;
     let end = around(
         alloc,
         begin(alloc),
         run(alloc, with_line, &mut source, &mut sink),
     )??;
-    Ok((end, sink))
-}
-
-/// How a run ends, and what the sink has taken.
-fn report(alloc: Global, row: &Row) -> Result<String> {
-    let (end, sink) = whole_run(alloc, row)?;
     let taken = std::str::from_utf8(sink.taken()).unwrap_or("no text");
     Ok(format!(in alloc; "{end}\t={taken}")?)
 }
 
-/// How a run ends, how many bytes the sink has taken, and whether these are the first ones of a piece, repeated as often as
-/// the piece of the source.
+/// How a run over many lines ends, how many bytes the sink has taken, and whether these are the
+/// first ones of a piece that is repeated as often as the source's. No marks stand around it, since
+/// it asks for memory for each of its thousands of lines.
 fn long_report(alloc: Global, row: &Row) -> Result<String> {
-    let (end, sink) = whole_run(alloc, row)?;
+    let (mut source, mut sink) = devices(alloc, row)?;
+    let end = run(alloc, row.argument(0) == "lines", &mut source, &mut sink)?;
     let whole = repeated(alloc, row.argument_bytes(6), row.argument(2))?;
     let are_first = whole.as_slice().starts_with(sink.taken());
     let count = sink.taken().len();
     Ok(format!(in alloc; "{end}\t{count}\t{are_first}")?)
 }
 
-/// How runs over one input end where the source fails at each byte, or where the sink takes each number of bytes and no more,
-/// with how many bytes the sink has taken; and whether these are always the first of the report.
+/// How runs over one input end where the source fails at each byte, or where the sink takes each
+/// number of bytes and no more, with how many bytes the sink has taken; and whether these are
+/// always the first of the report.
 fn each(alloc: Global, row: &Row) -> Result<String> {
     let (input, report) = (row.argument_bytes(1), row.argument_bytes(2));
     let at_bytes = row.argument(0) == "byte";
@@ -120,14 +123,15 @@ fn each(alloc: Global, row: &Row) -> Result<String> {
     let mut words = String::new(alloc);
     let mut are_first = true;
     for n in 0..last.saturating_add(2) {
-        are_first &= if at_bytes {
-            let at = Some(At::Byte(n));
-            let sink = Limit::new(alloc, report.len(), Then::Fail)?;
-            one(alloc, row, at, sink, &mut words)?
+        let (at, limit) = if at_bytes {
+            (Some(At::Byte(n)), report.len())
         } else {
-            let sink = Limit::new(alloc, n, then(row.argument(0)))?;
-            one(alloc, row, None, sink, &mut words)?
+            (None, n)
         };
+        let sink = Limit::new(alloc, limit, then(row.argument(0)))?;
+        if !one(alloc, row, at, sink, &mut words)? {
+            are_first = false;
+        }
     }
     Ok(format!(in alloc; "{words}\t{are_first}")?)
 }
@@ -141,8 +145,8 @@ fn one(alloc: Global, row: &Row, at: Option<At>, sink: Limit, words: &mut String
     Ok(row.argument_bytes(2).starts_with(sink.taken()))
 }
 
-/// How a run ends that gets no answer to lines of one length, and what the sink has taken. No marks stand around it, since
-/// want of memory is its answer.
+/// How a run ends that gets no answer to lines of one length, and what the sink has taken. No marks
+/// stand around it, since want of memory is its answer.
 fn refused(alloc: Global, row: &Row) -> Result<String> {
     let answers = Lengths {
         with_line: false,
