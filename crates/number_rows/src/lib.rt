@@ -2,6 +2,7 @@
 #![tactic(auto)]
 
 pub mod dialling;
+mod fronts;
 pub mod printing;
 pub mod reading;
 mod told;

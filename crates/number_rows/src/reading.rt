@@ -1,9 +1,13 @@
-//! Texts that are read: `parse` tells the number, `report` all that the database tells of it besides.
+//! Texts that are read: `parse` tells the number, `report` all that the database tells of it besides,
+//! `parse-made` the number of a text that the line makes, and `fronts` how many fronts of a text are
+//! answered.
+use crate::fronts::fronts;
 use crate::told::{queried, texts};
 use anyhow::Result;
 use phone_meta::Database;
 use phonenumber::{ParseError, PhoneNumber, format_with, parse_with};
 use rows::marks::{around, begin};
+use rows::readers::made;
 use rows::table::Row;
 use rows::words::{hint, part, refusal, source};
 use std::alloc::{AllocError, Global};
@@ -11,23 +15,38 @@ use std::alloc::{AllocError, Global};
 /// What is read of a text under a hint, as the table writes it; none for any other call.
 pub fn answer(alloc: Global, row: &Row, db: &Database) -> Result<Option<String>> {
     let answer = match row.call() {
-        "parse" => match read(alloc, row, db)? {
-            Ok(number) => parts(alloc, &number)?,
-            Err(error) => refusal(alloc, &error)?,
-        },
-        "report" => match read(alloc, row, db)? {
+        "parse" => parts_or_refusal(alloc, &read(alloc, row, db, row.argument(2))?)?,
+        "parse-made" => {
+            let text = made(alloc, row, 2)?;
+            parts_or_refusal(alloc, &read(alloc, row, db, text.as_str())?)?
+        }
+        "report" => match read(alloc, row, db, row.argument(2))? {
             Ok(number) => report(alloc, db, &number)?,
             Err(error) => refusal(alloc, &error)?,
         },
+        "fronts" => fronts(alloc, row, db)?,
         _ => return Ok(None),
     };
     Ok(Some(answer))
 }
 
-/// The number that is read of a line's text under its hint, or the refusal.
-fn read(alloc: Global, row: &Row, db: &Database) -> Result<Result<PhoneNumber, ParseError>> {
-    let (hint, text) = (hint(row.argument(1))?, row.argument(2));
+/// The number that is read of a text under a line's hint, or the refusal.
+fn read(
+    alloc: Global,
+    row: &Row,
+    db: &Database,
+    text: &str,
+) -> Result<Result<PhoneNumber, ParseError>> {
+    let hint = hint(row.argument(1))?;
     Ok(around(alloc, begin(alloc), parse_with(db, hint, text))?)
+}
+
+/// The parts of the number that was read, or the refusal.
+fn parts_or_refusal(alloc: Global, read: &Result<PhoneNumber, ParseError>) -> Result<String> {
+    match read {
+        Ok(number) => Ok(parts(alloc, number)?),
+        Err(error) => refusal(alloc, error),
+    }
 }
 
 /// Code, source and national text of a number, its extension and its carrier, parted by tabs.

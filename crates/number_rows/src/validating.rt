@@ -3,7 +3,7 @@ use anyhow::Result;
 use database_rows::named::{code_of, territory};
 use either::{Either, Left, Right};
 use phone_core::country::Id;
-use phone_meta::Database;
+use phone_meta::{Database, Metadata};
 use phone_read::{Number, validator};
 use rows::marks::{around, begin};
 use rows::table::Row;
@@ -25,6 +25,11 @@ pub fn answer(alloc: Global, row: &Row, db: &Database) -> Result<Option<String>>
             let (code, text) = (code_of(row)?, row.argument(2));
             let found = around(alloc, begin(alloc), validator::source_for(db, code, text))??;
             region(alloc, found)?
+        }
+        "home" => {
+            let (code, text) = (code_of(row)?, row.argument(2));
+            let found = around(alloc, begin(alloc), validator::home(db, code, text))??;
+            home(alloc, found)?
         }
         _ => return Ok(None),
     };
@@ -55,4 +60,14 @@ fn region(alloc: Global, found: Option<Either<Id, u16>>) -> Result<String, Alloc
         Some(Right(code)) => format!(in alloc; "Right({code})"),
         None => String::from_str(alloc, "-"),
     }
+}
+
+/// A territory as `id/code/pattern`, with the general pattern's text, or a hyphen.
+fn home(alloc: Global, found: Option<&Metadata>) -> Result<String, AllocError> {
+    let Some(territory) = found else {
+        return String::from_str(alloc, "-");
+    };
+    let (id, code) = (territory.id(), territory.country_code());
+    let pattern = territory.descriptors().general().pattern_text();
+    format!(in alloc; "={id}/{code}/{pattern}")
 }
