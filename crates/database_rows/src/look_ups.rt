@@ -47,7 +47,7 @@ fn told(alloc: Global, record: &Metadata) -> Result<String, AllocError> {
 }
 
 /// A territory, or a hyphen.
-fn record(alloc: Global, found: Option<&Metadata>) -> Result<String, AllocError> {
+pub fn record(alloc: Global, found: Option<&Metadata>) -> Result<String, AllocError> {
     match found {
         Some(record) => {
             let record = told(alloc, record)?;

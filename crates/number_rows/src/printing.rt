@@ -1,24 +1,34 @@
-//! The calls on a number that a line gives by its parts: they print it, query it, or read its text back.
+//! The calls that print a number which a line gives by its parts.
+use crate::given::{number, whole};
+use crate::page::Page;
 use crate::told::{queried, texts};
 use anyhow::{Result, anyhow};
-use phone_core::country::{Code, Source};
-use phone_core::{Carrier, Extension, Mode, NationalNumber, ParseError};
+use phone_core::{Carrier, Extension};
 use phone_meta::{Database, Format};
-use phonenumber::{Formatter, PhoneNumber, again, format_with};
+use phonenumber::{FormatError, Formatter, PhoneNumber, format_with};
 use rows::marks::{around, begin};
 use rows::table::Row;
-use rows::words::{mode, truth};
-use std::alloc::{AllocError, Global};
+use rows::words::mode;
+use std::alloc::Global;
 
-/// What is printed of a number under no database; none for any other call.
+/// What is printed of a number, or of a part of one, under no database; none for any other call.
 pub fn without_database(alloc: Global, row: &Row) -> Result<Option<String>> {
-    match row.call() {
+    let answer = match row.call() {
         "display" => {
             let number = number(row, 0, None, None)?;
-            Ok(Some(format!(in alloc; "={number}")?))
+            format!(in alloc; "={number}")?
         }
-        _ => Ok(None),
-    }
+        "display-extension" => {
+            let extension = Extension::from(String::from_str(alloc, row.argument(0))?);
+            format!(in alloc; "={extension}")?
+        }
+        "display-carrier" => {
+            let carrier = Carrier::from(String::from_str(alloc, row.argument(0))?);
+            format!(in alloc; "={carrier}")?
+        }
+        _ => return Ok(None),
+    };
+    Ok(Some(answer))
 }
 
 /// What the port answers to one of these calls, as the table writes it; none for any other call. `layouts` is the database
@@ -32,13 +42,8 @@ pub fn answer(
 ) -> Result<Option<String>> {
     let answer = match row.call() {
         "format" => format(alloc, row, db, layouts)?,
-        "back" => {
-            let number = number(row, 1, extension(alloc, row)?, None)?;
-            truth(
-                alloc,
-                is_read_back(alloc, db, &number, mode(row.argument(5))?)?,
-            )?
-        }
+        "format-with" => format_one(alloc, row, db)?,
+        "display-formatter" => display(alloc, row, db)?,
         _ => return Ok(None),
     };
     Ok(Some(answer))
@@ -52,40 +57,9 @@ pub fn layouts_of(row: &Row) -> Option<&str> {
     row.argument(6).split('/').next()
 }
 
-/// The number of these parts, whose code, value and zeros a line gives from an argument on.
-fn number(
-    row: &Row,
-    at: usize,
-    extension: Option<Extension>,
-    carrier: Option<Carrier>,
-) -> Result<PhoneNumber> {
-    let code = row.argument(at).parse::<u16>()?;
-    let value = row.argument(at.saturating_add(1)).parse::<u64>()?;
-    let zeros = row.argument(at.saturating_add(2)).parse::<u8>()?;
-    let national = NationalNumber::new(value, zeros)?;
-    let code = Code::new(code, Source::Default);
-    Ok(PhoneNumber::from_parts(code, national, extension, carrier))
-}
-
-/// The extension that a line gives behind database, code, value and zeros; none for a hyphen.
-fn extension(alloc: Global, row: &Row) -> Result<Option<Extension>, AllocError> {
-    match row.argument(4).strip_prefix('=') {
-        Some(text) => Ok(Some(Extension::from(String::from_str(alloc, text)?))),
-        None => Ok(None),
-    }
-}
-
-/// The carrier that a line gives behind the extension; none for a hyphen.
-fn carrier(alloc: Global, row: &Row) -> Result<Option<Carrier>, AllocError> {
-    match row.argument(5).strip_prefix('=') {
-        Some(text) => Ok(Some(Carrier::from(String::from_str(alloc, text)?))),
-        None => Ok(None),
-    }
-}
-
 /// The texts of a line's number, perhaps by a layout that the line hands in, and what the database tells of the number.
 fn format(alloc: Global, row: &Row, db: &Database, layouts: &Database) -> Result<String> {
-    let number = number(row, 1, extension(alloc, row)?, carrier(alloc, row)?)?;
+    let number = whole(alloc, row)?;
     let printer = format_with(db, &number);
     let texts = match row.argument(6) {
         "-" => texts(alloc, printer, "=")?,
@@ -110,25 +84,42 @@ fn layout<'a>(layouts: &'a Database, name: &str) -> Result<&'a Format> {
     }
 }
 
-/// Whether the text of a number in a mode, read without a hint, gives the number's code, national number and, but for
-/// the E.164 text, extension. An error where memory was refused, and for national text, which no line names.
-fn is_read_back(alloc: Global, db: &Database, number: &PhoneNumber, mode: Mode) -> Result<bool> {
-    let answer = match mode {
-        Mode::E164 => around(alloc, begin(alloc), again::e164(db, number))?,
-        Mode::Rfc3966 => around(alloc, begin(alloc), again::rfc3966(db, number))?,
-        Mode::International => around(alloc, begin(alloc), again::international(db, number))?,
-        Mode::National => return Err(anyhow!("national text is not read back")),
-    };
-    match answer {
-        Ok(found) => Ok(is_same(&found, number, mode)),
-        Err(ParseError::Memory) => Err(anyhow!("out of memory")),
-        Err(_) => Ok(false),
+/// The text of a line's number in one mode, by the number's own call; `UnknownCode` where it isn't printed.
+fn format_one(alloc: Global, row: &Row, db: &Database) -> Result<String> {
+    let number = whole(alloc, row)?;
+    let printer = number.format_with(db).mode(mode(row.argument(6))?);
+    match around(alloc, begin(alloc), printer.to_text(alloc))? {
+        Ok(text) => Ok(format!(in alloc; "={text}")?),
+        Err(FormatError::UnknownCode) => Ok(String::from_str(alloc, "UnknownCode")?),
+        Err(FormatError::Memory) => Err(anyhow!("out of memory")),
     }
 }
 
-/// Whether a number that was read of a text in this mode is the number that was printed.
-fn is_same(found: &PhoneNumber, number: &PhoneNumber, mode: Mode) -> bool {
-    found.code().value() == number.code().value()
-        && found.national() == number.national()
-        && (mode == Mode::E164 || found.extension() == number.extension())
+/// What a printer of a line's number in one mode writes as it is displayed.
+fn display(alloc: Global, row: &Row, db: &Database) -> Result<String> {
+    let number = whole(alloc, row)?;
+    let printer = format_with(db, &number).mode(mode(row.argument(6))?);
+    displayed(alloc, db, &number, &printer)
+}
+
+/// What this printer of a number writes as it is displayed: its text, which comes in one piece, or nothing where the number's
+/// code isn't listed, `UnknownCode`. An error where nothing was written of another number: memory was refused.
+fn displayed(
+    alloc: Global,
+    db: &Database,
+    number: &PhoneNumber,
+    printer: &Formatter<'_, '_, '_>,
+) -> Result<String> {
+    let mut page = Page::blank(alloc)?;
+    let is_written = around(alloc, begin(alloc), page.write(printer))?;
+    let is_listed = db.first_by_code(&number.code().value()).is_some();
+    match (is_written, page.pieces(), is_listed) {
+        (true, 1, _) => {
+            let text = page.text();
+            Ok(format!(in alloc; "={text}")?)
+        }
+        (false, 0, false) => Ok(String::from_str(alloc, "UnknownCode")?),
+        (false, 0, true) => Err(anyhow!("out of memory")),
+        _ => Ok(String::from_str(alloc, "a text in pieces")?),
+    }
 }

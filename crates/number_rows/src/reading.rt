@@ -2,15 +2,15 @@
 //! `parse-made` the number of a text that the line makes, and `fronts` how many fronts of a text are
 //! answered.
 use crate::fronts::fronts;
-use crate::told::{queried, texts};
+use crate::told::{parts, queried, texts};
 use anyhow::Result;
 use phone_meta::Database;
 use phonenumber::{ParseError, PhoneNumber, format_with, parse_with};
 use rows::marks::{around, begin};
 use rows::readers::made;
 use rows::table::Row;
-use rows::words::{hint, part, refusal, source};
-use std::alloc::{AllocError, Global};
+use rows::words::{hint, refusal, source};
+use std::alloc::Global;
 
 /// What is read of a text under a hint, as the table writes it; none for any other call.
 pub fn answer(alloc: Global, row: &Row, db: &Database) -> Result<Option<String>> {
@@ -47,15 +47,6 @@ fn parts_or_refusal(alloc: Global, read: &Result<PhoneNumber, ParseError>) -> Re
         Ok(number) => Ok(parts(alloc, number)?),
         Err(error) => refusal(alloc, error),
     }
-}
-
-/// Code, source and national text of a number, its extension and its carrier, parted by tabs.
-fn parts(alloc: Global, number: &PhoneNumber) -> Result<String, AllocError> {
-    let (code, national) = (number.code().value(), number.national());
-    let source = source(number.code().source());
-    let extension = part(alloc, number.extension().map(|e| e.as_str()))?;
-    let carrier = part(alloc, number.carrier().map(|c| c.as_str()))?;
-    format!(in alloc; "{code}\t{source}\t{national}\t{extension}\t{carrier}")
 }
 
 /// `ok` and the number's texts in the four modes, its source, kind, region and validity, and its extension, carrier and

@@ -1,13 +1,24 @@
-//! How the tables tell a number: its texts in the four modes, and what a database tells of it.
+//! How the tables tell a number: its parts, its texts in the four modes, and what a database tells of it.
 use anyhow::{Result, anyhow};
 use phone_core::country::Id;
 use phone_meta::Database;
 use phonenumber::{FormatError, Formatter, PhoneNumber, Queried, Texts};
+use rows::marks::{around, begin};
+use rows::words::{part, source};
 use std::alloc::{AllocError, Global};
+
+/// Code, source and national text of a number, its extension and its carrier, parted by tabs.
+pub fn parts(alloc: Global, number: &PhoneNumber) -> Result<String, AllocError> {
+    let (code, national) = (number.code().value(), number.national());
+    let source = source(number.code().source());
+    let extension = part(alloc, number.extension().map(|e| e.as_str()))?;
+    let carrier = part(alloc, number.carrier().map(|c| c.as_str()))?;
+    format!(in alloc; "{code}\t{source}\t{national}\t{extension}\t{carrier}")
+}
 
 /// The text in each mode behind this sign, or `UnknownCode` for each, parted by tabs.
 pub fn texts(alloc: Global, printer: Formatter<'_, '_, '_>, sign: &str) -> Result<String> {
-    match printer.to_texts(alloc) {
+    match around(alloc, begin(alloc), printer.to_texts(alloc))? {
         Ok(texts) => Ok(parted(alloc, &texts, sign)?),
         Err(FormatError::UnknownCode) => Ok(String::from_str(
             alloc,
@@ -24,21 +35,26 @@ fn parted(alloc: Global, texts: &Texts, sign: &str) -> Result<String, AllocError
     format!(in alloc; "{sign}{e164}\t{sign}{international}\t{sign}{national}\t{sign}{rfc3966}")
 }
 
-/// What a database tells of a number, parted by tabs: its kind, its region or a hyphen, `valid` or `invalid`.
+/// What a database tells of a number, parted by tabs.
 pub fn queried(alloc: Global, database: &Database, number: &PhoneNumber) -> Result<String> {
+    Ok(asked(alloc, number.queried(database)?)?)
+}
+
+/// Kind of a number, its region or a hyphen, `valid` or `invalid`, parted by tabs.
+pub fn asked(alloc: Global, found: Queried) -> Result<String, AllocError> {
     let Queried {
         region,
         kind,
         is_valid,
-    } = number.queried(database)?;
+    } = found;
     let kind = format!(in alloc; "{kind:?}")?;
     let region = region_name(region);
     let validity = validity(is_valid);
-    Ok(format!(in alloc; "{kind}\t{region}\t{validity}")?)
+    format!(in alloc; "{kind}\t{region}\t{validity}")
 }
 
 /// A region's id, or a hyphen.
-fn region_name(region: Option<Id>) -> &'static str {
+pub fn region_name(region: Option<Id>) -> &'static str {
     match region {
         Some(id) => id.as_str(),
         None => "-",

@@ -1,38 +1,26 @@
-//! The answer to a line, by the module that knows its call.
+//! The answer to a line, by the library that knows its call.
 use anyhow::{Result, anyhow};
+use database_rows::look_ups;
 use database_rows::named::{Named, load, of_name};
-use database_rows::{look_ups, patterns, records, texts};
-use number_rows::{dialling, printing, reading, validating};
+use number_rows::printing::layouts_of;
 use phone_meta::Database;
+use report_rows::{books, reports};
 use rows::table::Row;
-use rows::{characters, devices, lines, readers};
 use std::alloc::{AllocGlobal, Global};
 use std::fs::Files;
 
-/// The answer to a call on no database; none for any other call.
-fn without_database(alloc: Global, row: &Row) -> Result<Option<String>> {
-    if let Some(found) = characters::answer(alloc, row)? {
+/// The answer to a call on no database, or on one that the call takes for itself; none for any other call.
+fn without_database<R: Files + AllocGlobal>(rt: &R, row: &Row) -> Result<Option<String>> {
+    if let Some(found) = rows::answer(rt.alloc(), row)? {
         return Ok(Some(found));
     }
-    if let Some(found) = readers::answer(alloc, row)? {
+    if let Some(found) = database_rows::without_database(rt, row)? {
         return Ok(Some(found));
     }
-    if let Some(found) = devices::answer(alloc, row)? {
+    if let Some(found) = number_rows::without_database(rt.alloc(), row)? {
         return Ok(Some(found));
     }
-    if let Some(found) = lines::answer(alloc, row)? {
-        return Ok(Some(found));
-    }
-    if let Some(found) = patterns::answer(alloc, row)? {
-        return Ok(Some(found));
-    }
-    if let Some(found) = records::answer(alloc, row)? {
-        return Ok(Some(found));
-    }
-    if let Some(found) = dialling::without_database(alloc, row)? {
-        return Ok(Some(found));
-    }
-    printing::without_database(alloc, row)
+    books::answer(rt, row)
 }
 
 /// The answer to a call on a database; none for any other call. `layouts` is the database whose layout the line hands in.
@@ -45,16 +33,13 @@ fn on_database(
     if let Some(found) = look_ups::answer(alloc, row, db)? {
         return Ok(Some(found));
     }
-    if let Some(found) = dialling::answer(alloc, row, db)? {
+    if let Some(found) = number_rows::of_text(alloc, row, db)? {
         return Ok(Some(found));
     }
-    if let Some(found) = validating::answer(alloc, row, db)? {
+    if let Some(found) = number_rows::of_number(alloc, row, db, layouts)? {
         return Ok(Some(found));
     }
-    if let Some(found) = reading::answer(alloc, row, db)? {
-        return Ok(Some(found));
-    }
-    printing::answer(alloc, row, db, layouts)
+    reports::answer(alloc, row, db)
 }
 
 /// The answer to a line, and the database that it named, which is at hand for the next line.
@@ -63,21 +48,21 @@ pub fn answer<R: Files + AllocGlobal>(
     row: &Row,
     at_hand: Option<Named>,
 ) -> Result<(String, Option<Named>)> {
-    let alloc = rt.alloc();
-    if let Some(found) = without_database(alloc, row)? {
-        return Ok((found, at_hand));
-    }
-    if let Some(found) = texts::answer(rt, row)? {
+    if let Some(found) = without_database(rt, row)? {
         return Ok((found, at_hand));
     }
     let named = of_name(rt, at_hand, row.argument(0))?;
-    let found = match printing::layouts_of(row) {
-        Some(name) => on_database(alloc, row, &named.database, &load(rt, name)?)?,
-        None => on_database(alloc, row, &named.database, &named.database)?,
-    };
-    match found {
+    match under(rt, row, &named.database)? {
         Some(found) => Ok((found, Some(named))),
         None => Err(anyhow!("no call has this name")),
+    }
+}
+
+/// The answer to a call on this database; none for any other call.
+fn under<R: Files + AllocGlobal>(rt: &R, row: &Row, db: &Database) -> Result<Option<String>> {
+    match layouts_of(row) {
+        Some(name) => on_database(rt.alloc(), row, db, &load(rt, name)?),
+        None => on_database(rt.alloc(), row, db, db),
     }
 }
 

@@ -7,7 +7,7 @@ use std::alloc::AllocGlobal;
 use std::fs::{self, Files};
 
 /// The tables, by their files.
-const TABLES: [&str; 9] = [
+const TABLES: [&str; 15] = [
     "calls.tsv",
     "report.tsv",
     "json.tsv",
@@ -17,6 +17,12 @@ const TABLES: [&str; 9] = [
     "databases.tsv",
     "layouts.tsv",
     "patterns.tsv",
+    "readers.tsv",
+    "readings.tsv",
+    "hostile.tsv",
+    "numbers.tsv",
+    "reports.tsv",
+    "books.tsv",
 ];
 
 /// Prints each line whose answer is another one here, then the counts. Gives whether all lines agree.

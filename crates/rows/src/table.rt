@@ -114,6 +114,11 @@ impl Row {
         text(self.bytes(0))
     }
 
+    /// How many arguments stand between the call and the answer.
+    pub fn arguments(&self) -> usize {
+        self.columns.len().saturating_sub(3)
+    }
+
     /// The bytes of an argument, counted from 0.
     pub fn argument_bytes(&self, at: usize) -> &[u8] {
         self.bytes(at.saturating_add(1))

@@ -5,4 +5,6 @@
 #[cfg(test)]
 mod device;
 #[cfg(test)]
+mod number;
+#[cfg(test)]
 mod values;

@@ -1,0 +1,78 @@
+//! The calls that print a number which a line gives by its parts, and read the text back without a hint.
+use crate::given::extended;
+use crate::told::parts;
+use anyhow::{Result, anyhow};
+use phone_core::{Mode, ParseError};
+use phone_meta::Database;
+use phonenumber::{FormatError, PhoneNumber, again, format_with};
+use rows::marks::{around, begin};
+use rows::table::Row;
+use rows::words::{mode, refusal, truth};
+use std::alloc::Global;
+
+/// What the port answers to one of these calls, as the table writes it; none for any other call. An error where a line names a
+/// mode that isn't there or is national, where it gives a number that is none, and where memory is refused.
+pub fn answer(alloc: Global, row: &Row, db: &Database) -> Result<Option<String>> {
+    let answer = match row.call() {
+        "back" => back(alloc, row, db)?,
+        "again" => printed_and_read(alloc, row, db)?,
+        _ => return Ok(None),
+    };
+    Ok(Some(answer))
+}
+
+/// What the text of a number in a mode is read as. An error where memory was refused between the marks, and for national
+/// text, which is not read back.
+fn read(
+    alloc: Global,
+    db: &Database,
+    number: &PhoneNumber,
+    mode: Mode,
+) -> Result<Result<PhoneNumber, ParseError>> {
+    let answer = match mode {
+        Mode::E164 => around(alloc, begin(alloc), again::e164(db, number))?,
+        Mode::Rfc3966 => around(alloc, begin(alloc), again::rfc3966(db, number))?,
+        Mode::International => around(alloc, begin(alloc), again::international(db, number))?,
+        Mode::National => return Err(anyhow!("national text is not read back")),
+    };
+    Ok(answer)
+}
+
+/// Whether the text of a line's number is read as its code, national number and, but for the E.164 text, extension.
+fn back(alloc: Global, row: &Row, db: &Database) -> Result<String> {
+    let number = extended(alloc, row)?;
+    let mode = mode(row.argument(5))?;
+    match read(alloc, db, &number, mode)? {
+        Ok(found) => Ok(truth(alloc, is_same(&found, &number, mode))?),
+        Err(ParseError::Memory) => Err(anyhow!("out of memory")),
+        Err(_) => Ok(truth(alloc, false)?),
+    }
+}
+
+/// Whether a number that was read of a text in this mode is the number that was printed.
+fn is_same(found: &PhoneNumber, number: &PhoneNumber, mode: Mode) -> bool {
+    found.code().value() == number.code().value()
+        && found.national() == number.national()
+        && (mode == Mode::E164 || found.extension() == number.extension())
+}
+
+/// The text of a line's number, or `UnknownCode`, and what it is read as.
+fn printed_and_read(alloc: Global, row: &Row, db: &Database) -> Result<String> {
+    let number = extended(alloc, row)?;
+    let mode = mode(row.argument(5))?;
+    let text = text(alloc, db, &number, mode)?;
+    let found = match read(alloc, db, &number, mode)? {
+        Ok(found) => parts(alloc, &found)?,
+        Err(error) => refusal(alloc, &error)?,
+    };
+    Ok(format!(in alloc; "{text}\t{found}")?)
+}
+
+/// The text of a number in a mode behind an equals sign, or `UnknownCode`.
+fn text(alloc: Global, db: &Database, number: &PhoneNumber, mode: Mode) -> Result<String> {
+    match format_with(db, number).mode(mode).to_text(alloc) {
+        Ok(text) => Ok(format!(in alloc; "={text}")?),
+        Err(FormatError::UnknownCode) => Ok(String::from_str(alloc, "UnknownCode")?),
+        Err(FormatError::Memory) => Err(anyhow!("out of memory")),
+    }
+}

@@ -1,0 +1,135 @@
+//! The calls of `phone_report` over devices in memory: what a run writes, and how it ends where a device fails.
+use anyhow::{Result, anyhow};
+use phone_device::{At, Limit, MemorySource, Script, Then};
+use phone_meta::Database;
+use phone_report::{RunError, run};
+use rows::marks::{around, begin};
+use rows::table::Row;
+use rows::words::hint;
+use std::alloc::{AllocError, Global};
+
+/// How many bytes the sink of a run takes that isn't to fail.
+const ROOM: usize = 4096;
+
+/// What a run writes, as the table writes it; none for any other call. An error where a line names no place or no end of a
+/// device, and where memory is refused.
+pub fn answer(alloc: Global, row: &Row, db: &Database) -> Result<Option<String>> {
+    let answer = match row.call() {
+        "run" => whole(alloc, row, db)?,
+        "run-source" => from_source(alloc, row, db)?,
+        "run-sink" => to_sink(alloc, row, db)?,
+        "run-each-sink" => to_each_sink(alloc, row, db)?,
+        _ => return Ok(None),
+    };
+    Ok(Some(answer))
+}
+
+/// The report on a line's input. An error where memory is refused behind whole first lines of the report that is wanted.
+fn whole(alloc: Global, row: &Row, db: &Database) -> Result<String> {
+    let hint = hint(row.argument(1))?;
+    let mut source = MemorySource::new(row.argument_bytes(2));
+    let mut sink = Limit::new(alloc, ROOM, Then::Fail)?;
+    let end = around(alloc, begin(alloc), run(db, hint, &mut source, &mut sink))?;
+    match end {
+        Ok(()) => Ok(text(alloc, sink.taken())?),
+        Err(RunError::Memory) if are_first_lines(sink.taken(), row.answer()) => {
+            Err(anyhow!("out of memory"))
+        }
+        Err(_) => Ok(String::from_str(alloc, "another end")?),
+    }
+}
+
+/// Whether these are whole first lines of a report, or nothing.
+fn are_first_lines(written: &[u8], report: &[u8]) -> bool {
+    report.starts_with(written) && (written.is_empty() || written.ends_with(b"\n"))
+}
+
+/// What was written. The texts of reports are UTF-8, and of a report that breaks off in a character nothing is told.
+fn text(alloc: Global, written: &[u8]) -> Result<String, AllocError> {
+    String::from_str(alloc, std::str::from_utf8(written).unwrap_or("no UTF-8"))
+}
+
+/// How a run ended, and what it wrote, parted by a tab. An error where memory was refused.
+fn told(alloc: Global, end: Result<(), RunError>, written: &[u8]) -> Result<String> {
+    let end = match end {
+        Ok(()) => "Ok",
+        Err(RunError::Input) => "Input",
+        Err(RunError::Output) => "Output",
+        Err(RunError::Memory) => return Err(anyhow!("out of memory")),
+    };
+    let written = text(alloc, written)?;
+    Ok(format!(in alloc; "{end}\t{written}")?)
+}
+
+/// A run over a line's input by a source that fails where the line says.
+fn from_source(alloc: Global, row: &Row, db: &Database) -> Result<String> {
+    let (hint, at) = (hint(row.argument(1))?, place(row.argument(3))?);
+    let bytes = Vec::from_slice(alloc, row.argument_bytes(2))?;
+    let mut source = Script::new(bytes, Some(at));
+    let mut sink = Limit::new(alloc, ROOM, Then::Fail)?;
+    let end = around(alloc, begin(alloc), run(db, hint, &mut source, &mut sink))?;
+    told(alloc, end, sink.taken())
+}
+
+/// Where a source fails: `call` or `byte`, a space, and a number counted from 0.
+fn place(words: &str) -> Result<At> {
+    match words.split_once(' ') {
+        Some(("call", number)) => Ok(At::Call(number.parse::<usize>()?)),
+        Some(("byte", number)) => Ok(At::Byte(number.parse::<usize>()?)),
+        _ => Err(anyhow!("a source fails at a call or a byte")),
+    }
+}
+
+/// A run over a line's input to a sink that takes so many bytes, and then does what the line says.
+fn to_sink(alloc: Global, row: &Row, db: &Database) -> Result<String> {
+    let (hint, then) = (hint(row.argument(1))?, then(row.argument(4))?);
+    let mut source = MemorySource::new(row.argument_bytes(2));
+    let mut sink = Limit::new(alloc, row.argument(3).parse::<usize>()?, then)?;
+    let end = around(alloc, begin(alloc), run(db, hint, &mut source, &mut sink))?;
+    told(alloc, end, sink.taken())
+}
+
+/// What a sink does once it has taken all that it takes.
+fn then(word: &str) -> Result<Then> {
+    match word {
+        "Fail" => Ok(Then::Fail),
+        "FlushFail" => Ok(Then::FlushFail),
+        "Zero" => Ok(Then::Zero),
+        _ => Err(anyhow!("a sink ends otherwise")),
+    }
+}
+
+/// Of the sinks that take less than the report on a line's input, how many end the run by `Output` and hold what they take.
+fn to_each_sink(alloc: Global, row: &Row, db: &Database) -> Result<String> {
+    let then = then(row.argument(3))?;
+    let report = whole(alloc, row, db)?;
+    let all = report.len();
+    let mut held = 0u64;
+    for room in 0..all {
+        if is_held(alloc, row, db, report.as_str().as_bytes(), room, then)? {
+            held = held.saturating_add(1);
+        }
+    }
+    Ok(format!(in alloc; "{held} of {all}")?)
+}
+
+/// Whether a sink that takes so many bytes of a report ends the run by `Output` and holds these bytes. An error where memory is
+/// refused.
+fn is_held(
+    alloc: Global,
+    row: &Row,
+    db: &Database,
+    report: &[u8],
+    room: usize,
+    then: Then,
+) -> Result<bool> {
+    let hint = hint(row.argument(1))?;
+    let mut source = MemorySource::new(row.argument_bytes(2));
+    let mut sink = Limit::new(alloc, room, then)?;
+    let end = run(db, hint, &mut source, &mut sink);
+    if end == Err(RunError::Memory) {
+        return Err(anyhow!("out of memory"));
+    }
+    let is_front = report.starts_with(sink.taken()) && sink.taken().len() == room;
+    Ok(is_front && end == Err(RunError::Output))
+}
