@@ -1,8 +1,9 @@
 //! The calls of `phone_report` over devices in memory: what a run writes, and how it ends where a device fails.
 use anyhow::{Result, anyhow};
-use phone_device::{At, Limit, MemorySource, Script, Then};
+use phone_device::{Limit, MemorySource, Script, Then};
 use phone_meta::Database;
 use phone_report::{RunError, run};
+use rows::devices::{fault, then};
 use rows::marks::{around, begin};
 use rows::table::Row;
 use rows::words::hint;
@@ -63,45 +64,26 @@ fn told(alloc: Global, end: Result<(), RunError>, written: &[u8]) -> Result<Stri
 
 /// A run over a line's input by a source that fails where the line says.
 fn from_source(alloc: Global, row: &Row, db: &Database) -> Result<String> {
-    let (hint, at) = (hint(row.argument(1))?, place(row.argument(3))?);
+    let (hint, at) = (hint(row.argument(1))?, fault(row.argument(3))?);
     let bytes = Vec::from_slice(alloc, row.argument_bytes(2))?;
-    let mut source = Script::new(bytes, Some(at));
+    let mut source = Script::new(bytes, at);
     let mut sink = Limit::new(alloc, ROOM, Then::Fail)?;
     let end = around(alloc, begin(alloc), run(db, hint, &mut source, &mut sink))?;
     told(alloc, end, sink.taken())
 }
 
-/// Where a source fails: `call` or `byte`, a space, and a number counted from 0.
-fn place(words: &str) -> Result<At> {
-    match words.split_once(' ') {
-        Some(("call", number)) => Ok(At::Call(number.parse::<usize>()?)),
-        Some(("byte", number)) => Ok(At::Byte(number.parse::<usize>()?)),
-        _ => Err(anyhow!("a source fails at a call or a byte")),
-    }
-}
-
 /// A run over a line's input to a sink that takes so many bytes, and then does what the line says.
 fn to_sink(alloc: Global, row: &Row, db: &Database) -> Result<String> {
-    let (hint, then) = (hint(row.argument(1))?, then(row.argument(4))?);
+    let (hint, then) = (hint(row.argument(1))?, then(row.argument(4)));
     let mut source = MemorySource::new(row.argument_bytes(2));
     let mut sink = Limit::new(alloc, row.argument(3).parse::<usize>()?, then)?;
     let end = around(alloc, begin(alloc), run(db, hint, &mut source, &mut sink))?;
     told(alloc, end, sink.taken())
 }
 
-/// What a sink does once it has taken all that it takes.
-fn then(word: &str) -> Result<Then> {
-    match word {
-        "Fail" => Ok(Then::Fail),
-        "FlushFail" => Ok(Then::FlushFail),
-        "Zero" => Ok(Then::Zero),
-        _ => Err(anyhow!("a sink ends otherwise")),
-    }
-}
-
 /// Of the sinks that take less than the report on a line's input, how many end the run by `Output` and hold what they take.
 fn to_each_sink(alloc: Global, row: &Row, db: &Database) -> Result<String> {
-    let then = then(row.argument(3))?;
+    let then = then(row.argument(3));
     let report = whole(alloc, row, db)?;
     let all = report.len();
     let mut held = 0u64;
