@@ -1,8 +1,8 @@
 //! Reads many lines under a database, prints the numbers in three modes, reads these texts again, and counts which numbers
 //! come back. The first differences are printed, numbers within the premises of read-back that don't.
 use crate::lines::{Hinted, lines_of};
-use crate::premises::Premises;
 use anyhow::{Result, anyhow};
+use number_rows::premises::Premises;
 use phonenumber::metadata::Database;
 use phonenumber::{Mode, ParseError, PhoneNumber, again, format_with, parse_with};
 use std::alloc::{AllocGlobal, Global};

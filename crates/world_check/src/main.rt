@@ -13,9 +13,7 @@ mod back;
 mod check;
 mod counts;
 mod examples;
-mod idle;
 mod lines;
-mod premises;
 mod reasons;
 
 use anyhow::Result;
