@@ -2,7 +2,7 @@
 //! of derives and of errors.
 use phone_book::{BookError, BookNewError};
 use phonenumber::country::{Code, Id, Source};
-use phonenumber::metadata::{Database, LoadMetadata};
+use phonenumber::metadata::Database;
 use phonenumber::{
     Carrier, Extension, FormatError, NationalNumber, ParseError, PhoneNumber, Texts, format_with,
     laws, parse_with,
@@ -76,7 +76,7 @@ fn a_number_is_copied_hashed_and_told(rt: HostRuntime) -> Result<(), Fail> {
 }
 
 /// New Zealand's record, as serde writes it.
-fn record(alloc: Global) -> Result<String, LoadMetadata> {
+fn record(alloc: Global) -> Result<String, Fail> {
     let records = phone_json::records(alloc, NEW_ZEALAND)?;
     Ok(serde_json::to_string(alloc, &records)?)
 }
