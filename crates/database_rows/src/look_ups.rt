@@ -7,8 +7,9 @@ use rows::table::Row;
 use rows::words::{KINDS, kind, truth};
 use std::alloc::{AllocError, Global};
 
-/// What the database answers to a look-up, as the table writes it; none for any other call. An error where a line names a
-/// code, a territory or a kind that isn't there, and where memory is refused.
+/// What the database answers to a look-up, as the table writes it; none for any other call. An
+/// error where a line names a code, a territory or a kind that isn't there, and where memory is
+/// refused.
 pub fn answer(alloc: Global, row: &Row, db: &Database) -> Result<Option<String>> {
     let answer = match row.call() {
         "shortest" => code(alloc, db.shortest(row.argument(1)))?,
