@@ -1,5 +1,5 @@
-//! The fronts of a text, cut between its characters: each is read, or refused. No marks stand around
-//! these readings: there are many in a line, and `parse` has marks around one.
+//! The fronts of a text, cut between its characters: each is read, or refused. No marks stand
+//! around these readings: there are many in a line, and `parse` has marks around one.
 use anyhow::Result;
 use phone_core::country::Id;
 use phone_meta::Database;

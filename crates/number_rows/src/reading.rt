@@ -1,6 +1,6 @@
-//! Texts that are read: `parse` tells the number, `report` all that the database tells of it besides,
-//! `parse-made` the number of a text that the line makes, and `fronts` how many fronts of a text are
-//! answered.
+//! Texts that are read: `parse` tells the number, `report` all that the database tells of it
+//! besides, `parse-made` the number of a text that the line makes, and `fronts` how many fronts of
+//! a text are answered.
 use crate::fronts::fronts;
 use crate::told::{parts, queried, texts};
 use anyhow::Result;
