@@ -1,4 +1,5 @@
-//! Rows of answers about databases: look-ups, patterns, database texts, and the records of which a database is made.
+//! Rows of answers about databases: look-ups, patterns, database texts, and the records of which a
+//! database is made.
 #![tactic(auto)]
 
 pub mod look_ups;

@@ -1,4 +1,5 @@
-//! The calls that print a number which a line gives by its parts, and read the text back without a hint.
+//! The calls that print a number which a line gives by its parts, and read the text back without a
+//! hint.
 use crate::given::extended;
 use crate::told::parts;
 use anyhow::{Result, anyhow};
@@ -10,8 +11,9 @@ use rows::table::Row;
 use rows::words::{mode, refusal, truth};
 use std::alloc::Global;
 
-/// What the port answers to one of these calls, as the table writes it; none for any other call. An error where a line names a
-/// mode that isn't there or is national, where it gives a number that is none, and where memory is refused.
+/// What the port answers to one of these calls, as the table writes it; none for any other call. An
+/// error where a line names a mode that isn't there or is national, where it gives a number that is
+/// none, and where memory is refused.
 pub fn answer(alloc: Global, row: &Row, db: &Database) -> Result<Option<String>> {
     let answer = match row.call() {
         "back" => back(alloc, row, db)?,
@@ -21,8 +23,8 @@ pub fn answer(alloc: Global, row: &Row, db: &Database) -> Result<Option<String>>
     Ok(Some(answer))
 }
 
-/// What the text of a number in a mode is read as. An error where memory was refused between the marks, and for national
-/// text, which is not read back.
+/// What the text of a number in a mode is read as. An error where memory was refused between the
+/// marks, and for national text, which is not read back.
 fn read(
     alloc: Global,
     db: &Database,
@@ -38,7 +40,8 @@ fn read(
     Ok(answer)
 }
 
-/// Whether the text of a line's number is read as its code, national number and, but for the E.164 text, extension.
+/// Whether the text of a line's number is read as its code, national number and, but for the E.164
+/// text, extension.
 fn back(alloc: Global, row: &Row, db: &Database) -> Result<String> {
     let number = extended(alloc, row)?;
     let mode = mode(row.argument(5))?;

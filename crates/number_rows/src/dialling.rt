@@ -1,5 +1,5 @@
-//! The calls of the module `helper` of `phone_read` that cut a number's digits: international prefix, calling code and
-//! national prefix.
+//! The calls of the module `helper` of `phone_read` that cut a number's digits: international
+//! prefix, calling code and national prefix.
 use anyhow::Result;
 use database_rows::named::territory;
 use phone_core::country::Source;
@@ -39,8 +39,9 @@ fn international_prefix(
     number(alloc, &found)
 }
 
-/// What the port answers to a call of this module on a database, as the table writes it; none for any other call. An error
-/// where a line names a territory that isn't there, and where memory is refused.
+/// What the port answers to a call of this module on a database, as the table writes it; none for
+/// any other call. An error where a line names a territory that isn't there, and where memory is
+/// refused.
 pub fn answer(alloc: Global, row: &Row, db: &Database) -> Result<Option<String>> {
     let answer = match row.call() {
         "country-code" => country_code(alloc, row, db)?,
@@ -70,7 +71,8 @@ fn national_number(alloc: Global, row: &Row, db: &Database) -> Result<String> {
     Ok(number(alloc, &found)?)
 }
 
-/// A pattern as the records' patterns are read, without regard to its white space and comments; or none.
+/// A pattern as the records' patterns are read, without regard to its white space and comments; or
+/// none.
 fn pattern(alloc: Global, column: &str) -> Result<Option<Regex>> {
     let Some(text) = column.strip_prefix('=') else {
         return Ok(None);

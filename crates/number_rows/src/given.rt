@@ -1,4 +1,5 @@
-//! The number that a line gives by its parts: calling code, value and zeros, perhaps an extension and a carrier.
+//! The number that a line gives by its parts: calling code, value and zeros, perhaps an extension
+//! and a carrier.
 use anyhow::Result;
 use phone_core::country::{Code, Source};
 use phone_core::{Carrier, Extension, NationalNumber};

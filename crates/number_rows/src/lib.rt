@@ -37,8 +37,8 @@ pub fn of_text(alloc: Global, row: &Row, db: &Database) -> Result<Option<String>
     reading::answer(alloc, row, db)
 }
 
-/// The answer to a call on a number that a line gives by its parts; none for any other call. `layouts` is the database whose
-/// layout the line hands in.
+/// The answer to a call on a number that a line gives by its parts; none for any other call.
+/// `layouts` is the database whose layout the line hands in.
 pub fn of_number(
     alloc: Global,
     row: &Row,

@@ -1,5 +1,5 @@
-//! Whether a number lies within the premises under which its text in a mode is read back, decided by code of its own and not by
-//! reading a text.
+//! Whether a number lies within the premises under which its text in a mode is read back, decided
+//! by code of its own and not by reading a text.
 use crate::given::extended;
 use anyhow::{Result, anyhow};
 use phone_core::chars::{is_digit, is_punctuation, is_separator};
@@ -23,8 +23,9 @@ const MOST_OF_AN_EXTENSION: usize = 7;
 /// The greatest calling code that is found at the front of digits.
 const GREATEST_CODE: u16 = 999;
 
-/// Whether a line's number is plain for a mode, whether stripping leaves its digits alone, or whether it keeps all premises
-/// of the mode; none for any other call. An error where a line names a mode that isn't there or gives a number that is none.
+/// Whether a line's number is plain for a mode, whether stripping leaves its digits alone, or
+/// whether it keeps all premises of the mode; none for any other call. An error where a line names
+/// a mode that isn't there or gives a number that is none.
 pub fn answer(alloc: Global, row: &Row, db: &Database) -> Result<Option<String>> {
     let holds = match row.call() {
         "plain" => Premises::under(db).is_plain(mode(row.argument(5))?, &extended(alloc, row)?)?,
@@ -43,7 +44,8 @@ pub struct Premises<'a> {
 }
 
 impl<'a> Premises<'a> {
-    /// The premises under this database, which is asked once whether one of its codes begins another.
+    /// The premises under this database, which is asked once whether one of its codes begins
+    /// another.
     pub fn under(database: &'a Database) -> Premises<'a> {
         let is_prefix_free = database.codes_prefix_free();
         Premises {
@@ -57,8 +59,8 @@ impl<'a> Premises<'a> {
         self.database
     }
 
-    /// Whether the number lies within the premises of this mode; no number does for national text. An error where memory
-    /// is refused.
+    /// Whether the number lies within the premises of this mode; no number does for national text.
+    /// An error where memory is refused.
     pub fn hold(&self, mode: Mode, number: &PhoneNumber) -> Result<bool> {
         let is_told = match mode {
             Mode::E164 => self.is_found(number),
@@ -69,8 +71,9 @@ impl<'a> Premises<'a> {
         Ok(is_told && self.is_plain(mode, number)? && self.are_idle(number)?)
     }
 
-    /// Whether the number is plain for this mode: its code is listed, its digits are enough and not too many, and what the
-    /// mode writes beside them is digits and separators. An error where memory is refused.
+    /// Whether the number is plain for this mode: its code is listed, its digits are enough and not
+    /// too many, and what the mode writes beside them is digits and separators. An error where
+    /// memory is refused.
     pub fn is_plain(&self, mode: Mode, number: &PhoneNumber) -> Result<bool> {
         if self
             .database
@@ -111,8 +114,8 @@ impl<'a> Premises<'a> {
         Ok(!laid.chars().any(is_indicator) && kept.eq(digits.chars()))
     }
 
-    /// The national number as international text lays it out: what stands after plus sign, code and space in the text of
-    /// the number without its extension.
+    /// The national number as international text lays it out: what stands after plus sign, code and
+    /// space in the text of the number without its extension.
     fn laid_out(&self, number: &PhoneNumber) -> Result<String> {
         let alloc = self.database.allocator();
         let bare = PhoneNumber::from_parts(*number.code(), *number.national(), None, None);
@@ -153,7 +156,8 @@ impl<'a> Premises<'a> {
     }
 }
 
-/// Whether the value isn't 0 and there are at least so many digits, and no more than a national number has.
+/// Whether the value isn't 0 and there are at least so many digits, and no more than a national
+/// number has.
 fn is_long_enough(number: &PhoneNumber, digits: &str, least: usize) -> bool {
     let count = digits.len();
     number.national().value() != 0 && least <= count && count <= MAX_LENGTH_FOR_NSN
@@ -180,9 +184,9 @@ fn is_indicator(c: char) -> bool {
     matches!(c, 'x' | '~' | '\u{FF5E}')
 }
 
-/// Whether stripping leaves the digits of a number of this code alone, where it is read without a hint: without their
-/// leading zeros they belong to no territory, or the rules of the territory that they belong to leave them all. Refused
-/// only for memory.
+/// Whether stripping leaves the digits of a number of this code alone, where it is read without a
+/// hint: without their leading zeros they belong to no territory, or the rules of the territory
+/// that they belong to leave them all. Refused only for memory.
 pub fn is_idle(database: &Database, code: u16, digits: &str) -> Result<bool, AllocError> {
     match home(database, code, digits.trim_start_matches('0'))? {
         Some(territory) => leaves_all(territory, digits),
@@ -190,8 +194,8 @@ pub fn is_idle(database: &Database, code: u16, digits: &str) -> Result<bool, All
     }
 }
 
-/// Whether a territory's rules leave all digits: national prefix and carrier are cut off in one step, then the national
-/// prefix once more, and all digits stay where too few would be left.
+/// Whether a territory's rules leave all digits: national prefix and carrier are cut off in one
+/// step, then the national prefix once more, and all digits stay where too few would be left.
 fn leaves_all(territory: &Metadata, digits: &str) -> Result<bool, AllocError> {
     let stepped = national_number(territory, Number::of(digits))?;
     let left = without_prefix(territory, stepped.national.as_str());

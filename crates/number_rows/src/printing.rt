@@ -31,9 +31,9 @@ pub fn without_database(alloc: Global, row: &Row) -> Result<Option<String>> {
     Ok(Some(answer))
 }
 
-/// What the port answers to one of these calls, as the table writes it; none for any other call. `layouts` is the database
-/// whose layout the line hands in. An error where a line names a layout or a mode that isn't there or gives a number that is
-/// none, and where memory is refused.
+/// What the port answers to one of these calls, as the table writes it; none for any other call.
+/// `layouts` is the database whose layout the line hands in. An error where a line names a layout
+/// or a mode that isn't there or gives a number that is none, and where memory is refused.
 pub fn answer(
     alloc: Global,
     row: &Row,
@@ -57,7 +57,8 @@ pub fn layouts_of(row: &Row) -> Option<&str> {
     row.argument(6).split('/').next()
 }
 
-/// The texts of a line's number, perhaps by a layout that the line hands in, and what the database tells of the number.
+/// The texts of a line's number, perhaps by a layout that the line hands in, and what the database
+/// tells of the number.
 fn format(alloc: Global, row: &Row, db: &Database, layouts: &Database) -> Result<String> {
     let number = whole(alloc, row)?;
     let printer = format_with(db, &number);
@@ -69,7 +70,8 @@ fn format(alloc: Global, row: &Row, db: &Database, layouts: &Database) -> Result
     Ok(format!(in alloc; "{texts}\t{queried}")?)
 }
 
-/// The layout of this name: a database, an id in it, and a place in that territory's national list, parted by slashes.
+/// The layout of this name: a database, an id in it, and a place in that territory's national list,
+/// parted by slashes.
 fn layout<'a>(layouts: &'a Database, name: &str) -> Result<&'a Format> {
     let mut words = name.split('/').skip(1);
     let (Some(id), Some(place)) = (words.next(), words.next()) else {
@@ -84,7 +86,8 @@ fn layout<'a>(layouts: &'a Database, name: &str) -> Result<&'a Format> {
     }
 }
 
-/// The text of a line's number in one mode, by the number's own call; `UnknownCode` where it isn't printed.
+/// The text of a line's number in one mode, by the number's own call; `UnknownCode` where it isn't
+/// printed.
 fn format_one(alloc: Global, row: &Row, db: &Database) -> Result<String> {
     let number = whole(alloc, row)?;
     let printer = number.format_with(db).mode(mode(row.argument(6))?);
@@ -102,8 +105,9 @@ fn display(alloc: Global, row: &Row, db: &Database) -> Result<String> {
     displayed(alloc, db, &number, &printer)
 }
 
-/// What this printer of a number writes as it is displayed: its text, which comes in one piece, or nothing where the number's
-/// code isn't listed, `UnknownCode`. An error where nothing was written of another number: memory was refused.
+/// What this printer of a number writes as it is displayed: its text, which comes in one piece, or
+/// nothing where the number's code isn't listed, `UnknownCode`. An error where nothing was written
+/// of another number: memory was refused.
 fn displayed(
     alloc: Global,
     db: &Database,

@@ -10,8 +10,8 @@ use rows::table::Row;
 use rows::words::truth;
 use std::alloc::Global;
 
-/// What the database tells of a line's number, as the table writes it; none for any other call. An error where a line gives a
-/// number that is none, and where memory is refused.
+/// What the database tells of a line's number, as the table writes it; none for any other call. An
+/// error where a line gives a number that is none, and where memory is refused.
 pub fn answer(alloc: Global, row: &Row, db: &Database) -> Result<Option<String>> {
     match row.call() {
         "metadata" | "country-id" | "kind" | "queried" | "is-valid" | "is-valid-with" => {

@@ -49,8 +49,8 @@ fn parts_or_refusal(alloc: Global, read: &Result<PhoneNumber, ParseError>) -> Re
     }
 }
 
-/// `ok` and the number's texts in the four modes, its source, kind, region and validity, and its extension, carrier and
-/// national text, parted by tabs.
+/// `ok` and the number's texts in the four modes, its source, kind, region and validity, and its
+/// extension, carrier and national text, parted by tabs.
 fn report(alloc: Global, db: &Database, number: &PhoneNumber) -> Result<String> {
     let texts = texts(alloc, format_with(db, number), "")?;
     let source = source(number.code().source());

@@ -1,4 +1,5 @@
-//! How the tables tell a number: its parts, its texts in the four modes, and what a database tells of it.
+//! How the tables tell a number: its parts, its texts in the four modes, and what a database tells
+//! of it.
 use anyhow::{Result, anyhow};
 use phone_core::country::Id;
 use phone_meta::Database;

@@ -10,8 +10,9 @@ use rows::table::Row;
 use rows::words::kind;
 use std::alloc::{AllocError, Global};
 
-/// What the port answers to a call of this module, as the table writes it; none for any other call. An error where a
-/// line names a code, a territory or a kind that isn't there, and where memory is refused.
+/// What the port answers to a call of this module, as the table writes it; none for any other call.
+/// An error where a line names a code, a territory or a kind that isn't there, and where memory is
+/// refused.
 pub fn answer(alloc: Global, row: &Row, db: &Database) -> Result<Option<String>> {
     let answer = match row.call() {
         "length" => length(alloc, db, row, row.argument(3))?,
@@ -36,7 +37,8 @@ pub fn answer(alloc: Global, row: &Row, db: &Database) -> Result<Option<String>>
     Ok(Some(answer))
 }
 
-/// What a length says of a national part as a number of the territory and the kind that a line names.
+/// What a length says of a national part as a number of the territory and the kind that a line
+/// names.
 fn length(alloc: Global, db: &Database, row: &Row, national: &str) -> Result<String> {
     let kind = kind(row.argument(2))?;
     let verdict = validator::length(territory(db, row)?, &Number::of(national), kind);

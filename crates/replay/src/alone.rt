@@ -5,8 +5,8 @@ use rows::table::Row;
 use std::alloc::AllocGlobal;
 use std::fs::{self, Files};
 
-/// Answers a line twice, and says of both answers whether they are the wanted one; of one that is an error, which. Gives
-/// whether both are, or the first is an error.
+/// Answers a line twice, and says of both answers whether they are the wanted one; of one that is
+/// an error, which. Gives whether both are, or the first is an error.
 pub fn judge<R: Files + AllocGlobal + Print>(rt: &R, file: &str, line: usize) -> Result<bool> {
     let alloc = rt.alloc();
     let text = fs::read_to_string(rt, file)?;

@@ -9,7 +9,8 @@ use rows::table::Row;
 use std::alloc::{AllocGlobal, Global};
 use std::fs::Files;
 
-/// The answer to a call on no database, or on one that the call takes for itself; none for any other call.
+/// The answer to a call on no database, or on one that the call takes for itself; none for any
+/// other call.
 fn without_database<R: Files + AllocGlobal>(rt: &R, row: &Row) -> Result<Option<String>> {
     if let Some(found) = rows::answer(rt.alloc(), row)? {
         return Ok(Some(found));
@@ -23,7 +24,8 @@ fn without_database<R: Files + AllocGlobal>(rt: &R, row: &Row) -> Result<Option<
     books::answer(rt, row)
 }
 
-/// The answer to a call on a database; none for any other call. `layouts` is the database whose layout the line hands in.
+/// The answer to a call on a database; none for any other call. `layouts` is the database whose
+/// layout the line hands in.
 fn on_database(
     alloc: Global,
     row: &Row,

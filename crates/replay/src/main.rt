@@ -1,12 +1,15 @@
-//! Replays tables of answers. A line is a call, its arguments, the answer that is wanted, and a few words why, parted by tabs.
+//! Replays tables of answers. A line is a call, its arguments, the answer that is wanted, and a few
+//! words why, parted by tabs.
 //!
-//! - Without a word it goes over all tables, prints each line whose answer is another one here, then how many lines agree, for
-//!   each call. Its status is 0 where all do, else 1.
+//! - Without a word it goes over all tables, prints each line whose answer is another one here,
+//!   then how many lines agree, for each call. Its status is 0 where all do, else 1.
 //! - `answers FILE` prints the answer to each line of a file, which may leave out answer and words.
-//! - `line FILE N` answers line N of a file, counted from 1, twice, and says whether both answers are the wanted one, or the
-//!   first is want of memory: `tools/refuse-memory` refuses the requests of that call.
+//! - `line FILE N` answers line N of a file, counted from 1, twice, and says whether both answers
+//!   are the wanted one, or the first is want of memory: `tools/refuse-memory` refuses the requests
+//!   of that call.
 //!
-//! A line's first argument names a database, where its call has one: the file `databases/NAME.json`.
+//! A line's first argument names a database, where its call has one: the file
+//! `databases/NAME.json`.
 #![tactic(auto)]
 
 mod alone;

@@ -5,7 +5,8 @@ use rows::table::{Row, escaped};
 use std::alloc::AllocGlobal;
 use std::fs::{self, Files};
 
-/// Prints the answer to each line, with its escapes, or behind an exclamation mark why there is none.
+/// Prints the answer to each line, with its escapes, or behind an exclamation mark why there is
+/// none.
 pub fn answers<R: Files + AllocGlobal + Print>(rt: &R, file: &str) -> Result<()> {
     let alloc = rt.alloc();
     let text = fs::read_to_string(rt, file)?;

@@ -25,7 +25,8 @@ const TABLES: [&str; 15] = [
     "books.tsv",
 ];
 
-/// Prints each line whose answer is another one here, then the counts. Gives whether all lines agree.
+/// Prints each line whose answer is another one here, then the counts. Gives whether all lines
+/// agree.
 pub fn replay<R: Files + AllocGlobal + Print>(rt: &R) -> Result<bool> {
     let mut tally = Tally::new(rt.alloc());
     for file in TABLES {

@@ -17,8 +17,8 @@ type Hinted<'a> = (Option<Id>, &'a str);
 /// What a book answered to a line.
 type Answer = Result<Place, BookError>;
 
-/// What a book over the database that a line names answers, as the table writes it; none for any other call. An error where
-/// the line's text has no hint, and where memory is refused.
+/// What a book over the database that a line names answers, as the table writes it; none for any
+/// other call. An error where the line's text has no hint, and where memory is refused.
 pub fn answer<R: Files + AllocGlobal>(rt: &R, row: &Row) -> Result<Option<String>> {
     let answer = match row.call() {
         "book" => all_at_once(rt, row)?,
@@ -91,8 +91,8 @@ fn add_each(
     Ok(())
 }
 
-/// The answers of a book to lines, and its numbers. Where a line was answered by want of memory, the book must be as if
-/// the line had not been there; then that is an error.
+/// The answers of a book to lines, and its numbers. Where a line was answered by want of memory,
+/// the book must be as if the line had not been there; then that is an error.
 fn judged<R: Files + AllocGlobal>(
     rt: &R,
     row: &Row,
@@ -141,8 +141,8 @@ fn of_lines<R: Files + AllocGlobal>(rt: &R, row: &Row, lines: &[Hinted<'_>]) -> 
     }
 }
 
-/// Answers, a tab behind each, but for those of want of memory; then an equals sign and the E.164 texts of a book's numbers
-/// in order, parted by spaces.
+/// Answers, a tab behind each, but for those of want of memory; then an equals sign and the E.164
+/// texts of a book's numbers in order, parted by spaces.
 fn told(alloc: Global, book: &Book, answers: &[Answer]) -> Result<String> {
     let mut out = String::new(alloc);
     for answer in answers {
@@ -180,7 +180,8 @@ fn refused(alloc: Global, error: &ParseError) -> Result<String, AllocError> {
     format!(in alloc; "Refused {number}\t")
 }
 
-/// How many numbers a book has that was given all lines, and the number at a place as it was written, or a hyphen.
+/// How many numbers a book has that was given all lines, and the number at a place as it was
+/// written, or a hyphen.
 fn entry<R: Files + AllocGlobal>(rt: &R, row: &Row) -> Result<String> {
     let alloc = rt.alloc();
     let Some(mut book) = blank(rt, row)? else {

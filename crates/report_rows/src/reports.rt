@@ -1,4 +1,5 @@
-//! The calls of `phone_report` over devices in memory: what a run writes, and how it ends where a device fails.
+//! The calls of `phone_report` over devices in memory: what a run writes, and how it ends where a
+//! device fails.
 use anyhow::{Result, anyhow};
 use phone_device::{Limit, MemorySource, Script, Then};
 use phone_meta::Database;
@@ -12,8 +13,8 @@ use std::alloc::{AllocError, Global};
 /// How many bytes the sink of a run takes that isn't to fail.
 const ROOM: usize = 4096;
 
-/// What a run writes, as the table writes it; none for any other call. An error where a line names no place or no end of a
-/// device, and where memory is refused.
+/// What a run writes, as the table writes it; none for any other call. An error where a line names
+/// no place or no end of a device, and where memory is refused.
 pub fn answer(alloc: Global, row: &Row, db: &Database) -> Result<Option<String>> {
     let answer = match row.call() {
         "run" => whole(alloc, row, db)?,
@@ -25,7 +26,8 @@ pub fn answer(alloc: Global, row: &Row, db: &Database) -> Result<Option<String>>
     Ok(Some(answer))
 }
 
-/// The report on a line's input. An error where memory is refused behind whole first lines of the report that is wanted.
+/// The report on a line's input. An error where memory is refused behind whole first lines of the
+/// report that is wanted.
 fn whole(alloc: Global, row: &Row, db: &Database) -> Result<String> {
     let hint = hint(row.argument(1))?;
     let mut source = MemorySource::new(row.argument_bytes(2));
@@ -45,7 +47,8 @@ fn are_first_lines(written: &[u8], report: &[u8]) -> bool {
     report.starts_with(written) && (written.is_empty() || written.ends_with(b"\n"))
 }
 
-/// What was written. The texts of reports are UTF-8, and of a report that breaks off in a character nothing is told.
+/// What was written. The texts of reports are UTF-8, and of a report that breaks off in a character
+/// nothing is told.
 fn text(alloc: Global, written: &[u8]) -> Result<String, AllocError> {
     String::from_str(alloc, std::str::from_utf8(written).unwrap_or("no UTF-8"))
 }
@@ -81,7 +84,8 @@ fn to_sink(alloc: Global, row: &Row, db: &Database) -> Result<String> {
     told(alloc, end, sink.taken())
 }
 
-/// Of the sinks that take less than the report on a line's input, how many end the run by `Output` and hold what they take.
+/// Of the sinks that take less than the report on a line's input, how many end the run by `Output`
+/// and hold what they take.
 fn to_each_sink(alloc: Global, row: &Row, db: &Database) -> Result<String> {
     let then = then(row.argument(3));
     let report = whole(alloc, row, db)?;
@@ -95,8 +99,8 @@ fn to_each_sink(alloc: Global, row: &Row, db: &Database) -> Result<String> {
     Ok(format!(in alloc; "{held} of {all}")?)
 }
 
-/// Whether a sink that takes so many bytes of a report ends the run by `Output` and holds these bytes. An error where memory is
-/// refused.
+/// Whether a sink that takes so many bytes of a report ends the run by `Output` and holds these
+/// bytes. An error where memory is refused.
 fn is_held(
     alloc: Global,
     row: &Row,

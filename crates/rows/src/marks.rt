@@ -1,5 +1,5 @@
-//! The marks around a call whose requests for memory are refused, one in each run: `tools/refuse-memory` counts the requests
-//! between them.
+//! The marks around a call whose requests for memory are refused, one in each run:
+//! `tools/refuse-memory` counts the requests between them.
 use std::alloc::{AllocError, Global};
 
 /// How many bytes the mark before a call asks for. Nothing else asks for as many.

@@ -1,4 +1,5 @@
-//! The calls of `phone_parts`: the two readers, and `extract`. They take no memory, so no marks stand around them.
+//! The calls of `phone_parts`: the two readers, and `extract`. They take no memory, so no marks
+//! stand around them.
 use crate::table::Row;
 use crate::words::source;
 use anyhow::Result;

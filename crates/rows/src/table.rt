@@ -1,9 +1,10 @@
-//! The lines of a table: columns parted by one tab. The first is the call, the last a few words on the line, the last but one
-//! the answer that is wanted; what stands between are the arguments, the first of them a database's name where the call has
-//! a database.
+//! The lines of a table: columns parted by one tab. The first is the call, the last a few words on
+//! the line, the last but one the answer that is wanted; what stands between are the arguments, the
+//! first of them a database's name where the call has a database.
 //!
-//! In each column `\t` is a tab, `\n` a line feed, `\\` a backslash, `\uXXXX` and `\UXXXXXXXX` the character of that
-//! number, and `\xNN` a byte that is part of no text. The columns are parted first, the escapes undone second.
+//! In each column `\t` is a tab, `\n` a line feed, `\\` a backslash, `\uXXXX` and `\UXXXXXXXX` the
+//! character of that number, and `\xNN` a byte that is part of no text. The columns are parted
+//! first, the escapes undone second.
 use anyhow::{Result, anyhow};
 use phone_core::cuts::split_first;
 use std::alloc::{AllocError, Global};
@@ -37,7 +38,8 @@ fn push_numbered(out: &mut Vec<u8>, text: &str, digits: usize) -> Result<()> {
     Ok(())
 }
 
-/// Writes what an escape stands for, and what follows it. The text is what stands behind its backslash.
+/// Writes what an escape stands for, and what follows it. The text is what stands behind its
+/// backslash.
 fn push_escape(out: &mut Vec<u8>, text: &str) -> Result<()> {
     let Some((kind, rest)) = split_first(text) else {
         return Err(anyhow!(MALFORMED));
@@ -61,8 +63,8 @@ fn push_escape(out: &mut Vec<u8>, text: &str) -> Result<()> {
     Ok(())
 }
 
-/// A column with its escapes undone. Cut at its backslashes, an empty part is a second backslash, behind which no
-/// escape begins.
+/// A column with its escapes undone. Cut at its backslashes, an empty part is a second backslash,
+/// behind which no escape begins.
 fn undo(alloc: Global, column: &str) -> Result<Vec<u8>> {
     let mut out = Vec::new(alloc);
     let mut plain = true;

@@ -80,7 +80,8 @@ pub fn source(source: Source) -> &'static str {
     }
 }
 
-/// How a refusal is written: `error`, its number and its text. Want of memory is no answer, but an error.
+/// How a refusal is written: `error`, its number and its text. Want of memory is no answer, but an
+/// error.
 pub fn refusal(alloc: Global, error: &ParseError) -> Result<String> {
     let text = match error {
         ParseError::NoNumber => "error\t1\tnot a number",

@@ -1,5 +1,5 @@
-//! Numbers as values: what serde writes of them and of the records that read them, their copies and hashes, and the texts
-//! of derives and of errors.
+//! Numbers as values: what serde writes of them and of the records that read them, their copies and
+//! hashes, and the texts of derives and of errors.
 use phone_book::{BookError, BookNewError};
 use phonenumber::country::{Code, Id, Source};
 use phonenumber::metadata::Database;

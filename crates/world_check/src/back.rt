@@ -1,5 +1,6 @@
-//! Reads many lines under a database, prints the numbers in three modes, reads these texts again, and counts which numbers
-//! come back. The first differences are printed, numbers within the premises of read-back that don't.
+//! Reads many lines under a database, prints the numbers in three modes, reads these texts again,
+//! and counts which numbers come back. The first differences are printed, numbers within the
+//! premises of read-back that don't.
 use crate::lines::{Hinted, lines_of};
 use anyhow::{Result, anyhow};
 use number_rows::premises::Premises;
@@ -11,7 +12,8 @@ use std::fs::{self, Files};
 /// How many differences are printed for a mode.
 const PRINTED: u64 = 20;
 
-/// How many numbers lie within the premises of a mode and how many without, and how many of either are read back.
+/// How many numbers lie within the premises of a mode and how many without, and how many of either
+/// are read back.
 #[derive(Clone, Copy)]
 struct Count {
     within: u64,
@@ -40,8 +42,8 @@ impl Count {
     }
 }
 
-/// Prints each number in a mode and reads it again; prints the first of those within the premises that come back as others.
-/// An error where memory is refused.
+/// Prints each number in a mode and reads it again; prints the first of those within the premises
+/// that come back as others. An error where memory is refused.
 fn counted<R: AllocGlobal + Print>(
     rt: &R,
     premises: &Premises<'_>,
@@ -82,8 +84,8 @@ fn read_back(
     }
 }
 
-/// Whether the answer is the number again: its code, its national number, and its extension, which is none from E.164. An
-/// error where memory was refused.
+/// Whether the answer is the number again: its code, its national number, and its extension, which
+/// is none from E.164. An error where memory was refused.
 fn is_again(
     mode: Mode,
     number: &PhoneNumber,
@@ -130,8 +132,8 @@ fn numbers(alloc: Global, database: &Database, lines: &[Hinted<'_>]) -> Result<V
     Ok(numbers)
 }
 
-/// Reads the lines of a file under the database of a file, prints the numbers and reads them again; prints the counts. Gives
-/// whether each number within the premises is read back.
+/// Reads the lines of a file under the database of a file, prints the numbers and reads them again;
+/// prints the counts. Gives whether each number within the premises is read back.
 pub fn all_back<R: Files + AllocGlobal + Print>(
     rt: &R,
     database: &str,

@@ -1,9 +1,10 @@
 //! Checks a database by the example numbers that it gives for its territories, kind by kind.
 //!
-//! An example is the number of its territory's calling code and of the example's digits. Its international text is read
-//! without a hint, its national text under the territory's id as the hint; the nine territories whose id is `001` can't be
-//! a hint, so of theirs no national text is read. Then the example should be valid, and of the kind that it is an example
-//! of, or of `FixedLineOrMobile` where that is a fixed line or a mobile.
+//! An example is the number of its territory's calling code and of the example's digits. Its
+//! international text is read without a hint, its national text under the territory's id as the
+//! hint; the nine territories whose id is `001` can't be a hint, so of theirs no national text is
+//! read. Then the example should be valid, and of the kind that it is an example of, or of
+//! `FixedLineOrMobile` where that is a fixed line or a mobile.
 use crate::counts::{Count, tell};
 use crate::examples::{Example, KINDS, territories};
 use crate::reasons::{kind_reason, other_reading};
@@ -16,8 +17,8 @@ use phonenumber::{
 use std::alloc::{AllocGlobal, Global};
 use std::fs::Files;
 
-/// Checks the examples of the database in a file. Prints each exception with its reason, behind those of a kind the counts
-/// of the kind, and at the end those of all.
+/// Checks the examples of the database in a file. Prints each exception with its reason, behind
+/// those of a kind the counts of the kind, and at the end those of all.
 pub fn all_examples<R: Files + AllocGlobal + Print>(rt: &R, path: &str) -> Result<()> {
     let database = Database::load(rt, path)?;
     let territories = territories(&database)?;
@@ -84,7 +85,8 @@ fn one<R: AllocGlobal + Print>(
     })
 }
 
-/// Whether an example is read back from its text in a mode under a hint; prints the exception where it isn't.
+/// Whether an example is read back from its text in a mode under a hint; prints the exception where
+/// it isn't.
 fn is_read_back<R: AllocGlobal + Print>(
     rt: &R,
     database: &Database,

@@ -47,7 +47,8 @@ pub struct Example<'a> {
 }
 
 impl<'a> Example<'a> {
-    /// The example of this kind that a territory gives, if any. An error where its text is no national number.
+    /// The example of this kind that a territory gives, if any. An error where its text is no
+    /// national number.
     pub fn given(territory: &'a Metadata, kind: Type) -> Result<Option<Example<'a>>> {
         let Some(descriptor) = territory.descriptors().get(kind) else {
             return Ok(None);

@@ -6,7 +6,8 @@ use std::alloc::Global;
 /// A text and its hint.
 pub type Hinted<'a> = (Option<Id>, &'a str);
 
-/// The lines of a text. An error where one has no tab or its hint is no region, and where memory is refused.
+/// The lines of a text. An error where one has no tab or its hint is no region, and where memory is
+/// refused.
 pub fn lines_of(alloc: Global, text: &str) -> Result<Vec<Hinted<'_>>> {
     let mut lines = Vec::new(alloc);
     for line in text.lines() {
@@ -15,7 +16,8 @@ pub fn lines_of(alloc: Global, text: &str) -> Result<Vec<Hinted<'_>>> {
     Ok(lines)
 }
 
-/// A line's hint, none for a hyphen, and its text. An error where it has no tab or its hint is no region.
+/// A line's hint, none for a hyphen, and its text. An error where it has no tab or its hint is no
+/// region.
 fn hinted(line: &str) -> Result<Hinted<'_>> {
     let Some((hint, text)) = line.split_once('\t') else {
         return Err(anyhow!("a line has no tab"));

@@ -1,10 +1,11 @@
 //! Checks that are made of many real numbers.
 //!
-//! - Without a word it checks the world's database, `world.json`, by the example numbers that it gives for its territories,
-//!   kind by kind (`check`).
-//! - `back DATABASE LINES` reads lines under a database. A line is a hint, `-` for none, one tab, and the text to be read. It
-//!   prints the numbers in three modes, decides by code of its own whether each lies within the premises of read-back
-//!   (docs/HEADLINE.md), asks `phonenumber::again` for what its text is read as, and counts.
+//! - Without a word it checks the world's database, `world.json`, by the example numbers that it
+//!   gives for its territories, kind by kind (`check`).
+//! - `back DATABASE LINES` reads lines under a database. A line is a hint, `-` for none, one tab,
+//!   and the text to be read. It prints the numbers in three modes, decides by code of its own
+//!   whether each lies within the premises of read-back (docs/HEADLINE.md), asks
+//!   `phonenumber::again` for what its text is read as, and counts.
 //!
 //! Its status is 0, 1 where a number within the premises is not read back, and 2 with other words.
 #![tactic(auto)]

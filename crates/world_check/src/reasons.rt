@@ -6,7 +6,8 @@ use phonenumber::metadata::Database;
 use phonenumber::{PhoneNumber, Type};
 use std::alloc::{AllocError, Global};
 
-/// What the text of a number is read as that isn't read as this number, and why. Refused only for memory.
+/// What the text of a number is read as that isn't read as this number, and why. Refused only for
+/// memory.
 pub fn other_reading(
     alloc: Global,
     text: &str,
