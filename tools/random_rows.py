@@ -1,9 +1,10 @@
 """Random databases, texts and numbers, as rows of calls: what tools/fuzz asks of two programs.
 
-The databases are hostile ones: of empty patterns, nested repetitions, anchors, letters, templates with every mark, codes 0 and
-65535, thousands of lengths, several records of one id or code; about one in six has a fault. Most of the texts are made from a
-record's own code, prefixes and digits, and a part of them is then changed a little; the others are of any characters, or very
-long. The numbers are made of parts, also such as no text is read as, and some whose calling code no record has.
+The databases are hostile ones: of empty patterns, nested repetitions, anchors, letters, templates with every mark, codes 0
+and 65535, thousands of lengths, several records of one id or code; about one in seven has a fault. Most of the texts are
+made from a record's own code, prefixes and digits, and a part of them is then changed a little; the others are of any
+characters, or very long. The numbers are made of parts, also such as no text is read as, and some whose calling code no
+record has.
 
 A database depends on the seed and its place alone, a text and a number on the seed, the place of their database and their own.
 """
