@@ -1,7 +1,7 @@
 -- What the layouts of the samples make of digits.
 use Rattle.std.proofs.Common.{◌≡◌, ◌&&◌, ◌==◌, ◌+◌, ℕ, Bool, true, false, if◌then◌else◌, nat_lt}
-use Rattle.std.proofs.Common.{List, [], ◌∷◌, length, replicate, codes, Option, None, Some, option_map}
-use Rattle.std.proofs.Common.{refl, ap, ap₂, ◌∙◌}
+use Rattle.std.proofs.Common.{List, [], ◌∷◌, length, replicate, codes, Option, None, Some}
+use Rattle.std.proofs.Common.{option_map, refl, ap, ap₂, ◌∙◌}
 use Rattle.std.specs.Fmt.{digits}
 use Rattle.std.specs.List.{list_all}
 use Rattle.std.specs.Option.{option_map_or, option_or}
@@ -59,7 +59,8 @@ spans count seen =
 
 is_whole_match-as_read : {pattern : List ℕ} {re : Re} {count : ℕ} → IsTree pattern re count →
     (hay : List ℕ) → list_all (λ c. nat_lt c 256) hay ≡ true →
-    spans (length hay) (option_map seen_of (find_str re hay 0)) ≡ true → is_whole_match pattern hay ≡ true
+    spans (length hay) (option_map seen_of (find_str re hay 0)) ≡ true →
+    is_whole_match pattern hay ≡ true
 is_whole_match-as_read p hay bytes e =
     ap (spans (length hay)) (first_match-as_read _ hay _ bytes p.read) ∙ e
 
