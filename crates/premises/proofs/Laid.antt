@@ -1,7 +1,7 @@
 -- What the layouts of the samples make of digits.
 use Rattle.std.proofs.Common.{◌≡◌, ◌&&◌, ◌==◌, ◌+◌, ℕ, Bool, true, false, if◌then◌else◌, nat_lt}
-use Rattle.std.proofs.Common.{List, [], ◌∷◌, replicate, codes, Option, None, Some, option_map}
-use Rattle.std.proofs.Common.{refl, ap, ap₂, ◌∙◌}
+use Rattle.std.proofs.Common.{List, [], ◌∷◌, length, replicate, codes, Option, None, Some}
+use Rattle.std.proofs.Common.{option_map, refl, ap, ap₂, ◌∙◌}
 use Rattle.std.specs.Fmt.{digits}
 use Rattle.std.specs.List.{list_all}
 use Rattle.std.specs.Option.{option_map_or, option_or}
@@ -57,9 +57,16 @@ spans count seen =
     option_map_or (λ (s : ℕ × ℕ). (s.0 == 0) && (s.1 == count))
     (option_map (λ (s : Seen). (s.0, s.1)) seen) false
 
+is_whole_match-as_read : {pattern : List ℕ} {re : Re} {count : ℕ} → IsTree pattern re count →
+    (hay : List ℕ) → list_all (λ c. nat_lt c 256) hay ≡ true →
+    spans (length hay) (option_map seen_of (find_str re hay 0)) ≡ true →
+    is_whole_match pattern hay ≡ true
+is_whole_match-as_read p hay bytes e =
+    ap (spans (length hay)) (first_match-as_read _ hay _ bytes p.read) ∙ e
+
 whole : is_whole_match (codes "(\\d)(\\d{3})(\\d{4})") (codes "33316005") ≡ true
 unfolding searching nd_ranges
-whole = ap (spans 8) (first_match-as_read _ (codes "33316005") _ refl nz_tree.read)
+whole = is_whole_match-as_read nz_tree (codes "33316005") refl refl
 
 pub nz_laid : (e : Option (List ℕ)) →
     laid_out nz International None (number 64 0 33316005 e) ≡ codes "3 331 6005"

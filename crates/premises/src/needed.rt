@@ -1,4 +1,4 @@
-//! Numbers that show why each premise is there: it refuses them, while the others take them.
+//! Numbers that a premise refuses, which shows why it is there, and which of the others take them.
 ghost use Rattle.std.specs.Prelude.{◌≡◌, codes, None, Some, false};
 ghost use Rattle.phone_meta.specs.Codes.{is_prefix_free, shortest};
 ghost use Rattle.phone_read.specs.TransformRules.{rules_have_no_plus};

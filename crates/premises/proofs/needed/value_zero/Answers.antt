@@ -1,4 +1,4 @@
-use Rattle.std.proofs.Common.{◌<◌, ◌≡◌, refl, arith, inr}
+use Rattle.std.proofs.Common.{◌<◌, refl, arith, inr}
 use Rattle.phone_core.specs.Ids.{id_of}
 use Rattle.premises.specs.Samples.{ad}
 use Rattle.premises.proofs.needed.value_zero.Goals as goal
