@@ -20,20 +20,26 @@ type Answer = Result<Place, BookError>;
 /// What a book over the database that a line names answers, as the table writes it; none for any
 /// other call. An error where the line's text has no hint, and where memory is refused.
 pub fn answer<R: Files + AllocGlobal>(rt: &R, row: &Row) -> Result<Option<String>> {
-    let answer = match row.call() {
-        "book" => all_at_once(rt, row)?,
-        "book-add" => one_by_one(rt, row)?,
-        "book-get" => entry(rt, row)?,
-        _ => return Ok(None),
-    };
-    Ok(Some(answer))
+    match row.call() {
+        "book" | "book-add" | "book-get" => Ok(Some(of_book(rt, row)?)),
+        _ => Ok(None),
+    }
 }
 
-/// An empty book over the database that a line names; none where one of its codes begins another.
-fn blank<R: Files + AllocGlobal>(rt: &R, row: &Row) -> Result<Option<Book>> {
+/// What a book over the database that a line names answers, or that one of its codes begins another.
+fn of_book<R: Files + AllocGlobal>(rt: &R, row: &Row) -> Result<String> {
     match Book::new(load(rt, row.argument(0))?) {
-        Ok(book) => Ok(Some(book)),
-        Err(_) => Ok(None),
+        Ok(mut book) => in_book(rt.alloc(), row, &mut book),
+        Err(_) => Ok(String::from_str(rt.alloc(), "Ambiguous")?),
+    }
+}
+
+/// What an empty book answers to a line's call.
+fn in_book(alloc: Global, row: &Row, book: &mut Book) -> Result<String> {
+    match row.call() {
+        "book" => all_at_once(alloc, row, book),
+        "book-add" => one_by_one(alloc, row, book),
+        _ => entry(alloc, row, book),
     }
 }
 
@@ -50,33 +56,25 @@ fn lines(alloc: Global, row: &Row, from: usize) -> Result<Vec<Hinted<'_>>> {
 }
 
 /// The answers of a book to all lines at once, and its numbers.
-fn all_at_once<R: Files + AllocGlobal>(rt: &R, row: &Row) -> Result<String> {
-    let alloc = rt.alloc();
-    let Some(mut book) = blank(rt, row)? else {
-        return Ok(String::from_str(alloc, "Ambiguous")?);
-    };
+fn all_at_once(alloc: Global, row: &Row, book: &mut Book) -> Result<String> {
     let lines = lines(alloc, row, 1)?;
     match around(alloc, begin(alloc), book.add_all(lines.as_slice()))? {
-        Ok(answers) => judged(rt, row, &book, lines.as_slice(), answers.as_slice()),
+        Ok(answers) => judged(alloc, book, answers.as_slice()),
         Err(_) if book.len() == 0 => Err(anyhow!("out of memory")),
         Err(_) => Ok(String::from_str(alloc, "numbers without answers")?),
     }
 }
 
 /// The same, line by line.
-fn one_by_one<R: Files + AllocGlobal>(rt: &R, row: &Row) -> Result<String> {
-    let alloc = rt.alloc();
-    let Some(mut book) = blank(rt, row)? else {
-        return Ok(String::from_str(alloc, "Ambiguous")?);
-    };
+fn one_by_one(alloc: Global, row: &Row, book: &mut Book) -> Result<String> {
     let lines = lines(alloc, row, 1)?;
     let mut answers = Vec::with_capacity(alloc, lines.len())?;
     around(
         alloc,
         begin(alloc),
-        add_each(&mut book, lines.as_slice(), &mut answers),
+        add_each(book, lines.as_slice(), &mut answers),
     )??;
-    judged(rt, row, &book, lines.as_slice(), answers.as_slice())
+    judged(alloc, book, answers.as_slice())
 }
 
 /// Adds each line, and keeps its answer, for which there is room.
@@ -91,77 +89,62 @@ fn add_each(
     Ok(())
 }
 
-/// The answers of a book to lines, and its numbers. Where a line was answered by want of memory,
-/// the book must be as if the line had not been there; then that is an error.
-fn judged<R: Files + AllocGlobal>(
-    rt: &R,
-    row: &Row,
-    book: &Book,
-    lines: &[Hinted<'_>],
-    answers: &[Answer],
-) -> Result<String> {
-    let alloc = rt.alloc();
-    let found = told(alloc, book, answers)?;
-    if answers
-        .iter()
-        .all(|answer| *answer != Err(BookError::Memory))
-    {
-        return Ok(found);
+/// Whether an answer says that a number was added.
+fn is_added(answer: &Answer) -> bool {
+    matches!(answer, Ok(Place::Added(_)))
+}
+
+/// Whether an answer is want of memory.
+fn is_memory(answer: &Answer) -> bool {
+    matches!(answer, Err(BookError::Memory))
+}
+
+/// The answers of a book to lines, and its numbers. There must be as many numbers as were added, also
+/// where a line was answered by want of memory; that is then an error.
+fn judged(alloc: Global, book: &Book, answers: &[Answer]) -> Result<String> {
+    if answers.iter().filter(|answer| is_added(answer)).count() != book.len() {
+        return Ok(String::from_str(alloc, "not the numbers that were added")?);
     }
-    let others = with_memory(alloc, lines, answers)?;
-    if found.as_str() == of_lines(rt, row, others.as_slice())?.as_str() {
+    if answers.iter().any(|answer| is_memory(answer)) {
         return Err(anyhow!("out of memory"));
     }
-    Ok(String::from_str(alloc, "a line without memory changes the book")?)
+    Ok(told(alloc, book, answers)?)
 }
 
-/// The lines that were answered otherwise than by want of memory.
-fn with_memory<'a>(
-    alloc: Global,
-    lines: &[Hinted<'a>],
-    answers: &[Answer],
-) -> Result<Vec<Hinted<'a>>, AllocError> {
-    let mut others = Vec::new(alloc);
-    for (line, answer) in lines.iter().zip(answers) {
-        if *answer != Err(BookError::Memory) {
-            others.push(*line)?;
-        }
-    }
-    Ok(others)
+/// Answers, a tab behind each; then an equals sign and the E.164 texts of a book's numbers in order,
+/// parted by spaces.
+fn told(alloc: Global, book: &Book, answers: &[Answer]) -> Result<String, AllocError> {
+    let (answers, numbers) = (words(alloc, answers)?, numbers(alloc, book)?);
+    format!(in alloc; "{answers}={numbers}")
 }
 
-/// What another book answers to these lines, and its numbers.
-fn of_lines<R: Files + AllocGlobal>(rt: &R, row: &Row, lines: &[Hinted<'_>]) -> Result<String> {
-    match blank(rt, row)? {
-        Some(mut book) => {
-            let answers = book.add_all(lines)?;
-            told(rt.alloc(), &book, answers.as_slice())
-        }
-        None => Ok(String::from_str(rt.alloc(), "Ambiguous")?),
-    }
-}
-
-/// Answers, a tab behind each, but for those of want of memory; then an equals sign and the E.164
-/// texts of a book's numbers in order, parted by spaces.
-fn told(alloc: Global, book: &Book, answers: &[Answer]) -> Result<String> {
+/// Answers, a tab behind each.
+fn words(alloc: Global, answers: &[Answer]) -> Result<String, AllocError> {
     let mut out = String::new(alloc);
     for answer in answers {
-        let text = match answer {
-            Ok(Place::Added(place)) => format!(in alloc; "Added {place}\t")?,
-            Ok(Place::Present(place)) => format!(in alloc; "Present {place}\t")?,
-            Err(BookError::Refused(error)) => refused(alloc, error)?,
-            Err(BookError::Memory) => String::new(alloc),
-        };
-        out.push_str(text.as_str())?;
+        out.push_str(word(alloc, answer)?.as_str())?;
     }
-    out.push('=')?;
-    for (place, number) in book.iter().enumerate() {
-        let text = if place == 0 {
-            format!(in alloc; "{number}")?
-        } else {
-            format!(in alloc; " {number}")?
-        };
-        out.push_str(text.as_str())?;
+    Ok(out)
+}
+
+/// An answer, with a tab.
+fn word(alloc: Global, answer: &Answer) -> Result<String, AllocError> {
+    match answer {
+        Ok(Place::Added(place)) => format!(in alloc; "Added {place}\t"),
+        Ok(Place::Present(place)) => format!(in alloc; "Present {place}\t"),
+        Err(BookError::Refused(error)) => refused(alloc, error),
+        Err(BookError::Memory) => String::from_str(alloc, "Memory\t"),
+    }
+}
+
+/// The E.164 texts of a book's numbers in order, parted by spaces.
+fn numbers(alloc: Global, book: &Book) -> Result<String, AllocError> {
+    let mut out = String::new(alloc);
+    for number in book.iter() {
+        if !out.is_empty() {
+            out.push(' ')?;
+        }
+        out.push_str(number.to_string(alloc)?.as_str())?;
     }
     Ok(out)
 }
@@ -180,19 +163,22 @@ fn refused(alloc: Global, error: &ParseError) -> Result<String, AllocError> {
     format!(in alloc; "Refused {number}\t")
 }
 
-/// How many numbers a book has that was given all lines, and the number at a place as it was
-/// written, or a hyphen.
-fn entry<R: Files + AllocGlobal>(rt: &R, row: &Row) -> Result<String> {
-    let alloc = rt.alloc();
-    let Some(mut book) = blank(rt, row)? else {
-        return Ok(String::from_str(alloc, "Ambiguous")?);
-    };
-    let lines = lines(alloc, row, 2)?;
-    let _answers = book.add_all(lines.as_slice())?;
+/// How many numbers a book has that was given all lines, and the number at a place as it was written,
+/// or a hyphen.
+fn entry(alloc: Global, row: &Row, book: &mut Book) -> Result<String> {
+    let place = row.argument(1).parse::<usize>()?;
+    add_all(alloc, row, book)?;
     let count = book.len();
-    let number = match book.get(row.argument(1).parse::<usize>()?) {
+    let number = match book.get(place) {
         Some(number) => parts(alloc, number)?,
         None => String::from_str(alloc, "-")?,
     };
     Ok(format!(in alloc; "{count}\t{number}")?)
+}
+
+/// Adds the lines behind a place.
+fn add_all(alloc: Global, row: &Row, book: &mut Book) -> Result<()> {
+    let lines = lines(alloc, row, 2)?;
+    let _answers = book.add_all(lines.as_slice())?;
+    Ok(())
 }
