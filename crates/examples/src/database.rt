@@ -3,7 +3,7 @@ use anyhow::Result;
 use phonenumber::metadata::loader::{Descriptor, Items, Metadata, Text};
 use phonenumber::metadata::{Database, LoadMetadata};
 use phonenumber::{format_with, parse_with};
-use std::alloc::{AllocGlobal, Global};
+use std::alloc::{AllocError, AllocGlobal, Global};
 
 /// A company's own numbers, from 100 to 999, under a code that no country has.
 const COMPANY: &str =
@@ -11,13 +11,14 @@ const COMPANY: &str =
 
 /// The same as a record.
 fn record(alloc: Global) -> Result<Metadata, LoadMetadata> {
-    let mut lengths = Vec::new(alloc);
-    lengths.push(3)?;
+    let lengths = vec![in alloc; 3u16]?;
+    let pattern = String::from_str(alloc, r"[1-9]\d\d")?;
+    let id = String::from_str(alloc, "001")?;
     let mut general = Descriptor::empty(alloc);
-    general.national_number = Some(Text::from(String::from_str(alloc, r"[1-9]\d\d")?));
+    general.national_number = Some(Text::from(pattern));
     general.possible_length = Items::from(lengths);
     let mut record = Metadata::empty(alloc);
-    record.id = Some(Text::from(String::from_str(alloc, "001")?));
+    record.id = Some(Text::from(id));
     record.country_code = Some(999);
     record.general = Some(general);
     Ok(record)
@@ -38,12 +39,18 @@ fn show<R: AllocGlobal + Print>(rt: &R, database: &Database) -> Result<()> {
     Ok(())
 }
 
+/// Why a text is no database.
+fn refusal(alloc: Global, text: &str) -> Result<String, AllocError> {
+    match Database::parse(alloc, text) {
+        Ok(_) => String::from_str(alloc, "a database"),
+        Err(refusal) => refusal.to_string(alloc),
+    }
+}
+
 /// Prints why a text is no database.
 fn show_refusal<R: AllocGlobal + Print>(rt: &R, text: &str) -> Result<()> {
-    match Database::parse(rt.alloc(), text) {
-        Ok(_) => println!(rt; "{text}: a database")?,
-        Err(refusal) => println!(rt; "{text}: {refusal}")?,
-    }
+    let refusal = refusal(rt.alloc(), text)?;
+    println!(rt; "{text}: {refusal}")?;
     Ok(())
 }
 

@@ -1,5 +1,5 @@
-//! Checking a form's field: whether its text may be a number at all, whether it is one, whether numbers of its country have
-//! its length, and whether it is valid.
+//! Checking a form's field: whether its text may be a number at all, whether it is one, whether
+//! numbers of its country have its length, and whether it is valid.
 use anyhow::Result;
 use phone_read::validator;
 use phonenumber::country::Id;

@@ -1,4 +1,5 @@
-//! Keying a table of customers by E.164 texts: equal texts mean equal calling code and national number.
+//! Keying a table of customers by E.164 texts: equal texts mean equal calling code and national
+//! number.
 use anyhow::Result;
 use phonenumber::country::Id;
 use phonenumber::metadata::Database;
@@ -27,8 +28,8 @@ fn show<R: AllocGlobal + Print>(
     Ok(())
 }
 
-/// Two spellings of one number find one customer. Whether that holds of a database is asked once: no listed code may begin
-/// another (`codes_prefix_free`).
+/// Two spellings of one number find one customer. Whether that holds of a database is asked once:
+/// no listed code may begin another (`codes_prefix_free`).
 pub fn example<R: AllocGlobal + Print>(rt: &R, database: &Database) -> Result<()> {
     println!(rt; "# A table keyed by numbers")?;
     let alone = database.codes_prefix_free();

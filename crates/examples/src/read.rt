@@ -19,7 +19,8 @@ fn show<R: AllocGlobal + Print>(
     Ok(())
 }
 
-/// A hint is the region in which a line was written: without one a number has to name its calling code.
+/// A hint is the region in which a line was written: without one a number has to name its calling
+/// code.
 pub fn example<R: AllocGlobal + Print>(rt: &R, database: &Database) -> Result<()> {
     println!(rt; "# Reading")?;
     show(rt, database, Some(Id::NZ), "03-331 6005")?;

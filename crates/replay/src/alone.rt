@@ -25,8 +25,9 @@ fn is_wanted<R: Files + AllocGlobal + Print>(
     row: &Row,
     which: &str,
 ) -> Result<Option<bool>> {
-    match answer(rt, row, None) {
-        Ok((found, _)) => {
+    let mut at_hand = None;
+    match answer(rt, row, &mut at_hand) {
+        Ok(found) => {
             let agrees = found.as_str().as_bytes() == row.answer();
             println!(rt; "{which}: {agrees}")?;
             Ok(Some(agrees))

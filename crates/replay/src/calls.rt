@@ -44,18 +44,20 @@ fn on_database(
     reports::answer(alloc, row, db)
 }
 
-/// The answer to a line, and the database that it named, which is at hand for the next line.
+/// The answer to a line. The database that it names is at hand for the next line.
 pub fn answer<R: Files + AllocGlobal>(
     rt: &R,
     row: &Row,
-    at_hand: Option<Named>,
-) -> Result<(String, Option<Named>)> {
+    at_hand: &mut Option<Named>,
+) -> Result<String> {
     if let Some(found) = without_database(rt, row)? {
-        return Ok((found, at_hand));
+        return Ok(found);
     }
-    let named = of_name(rt, at_hand, row.argument(0))?;
-    match under(rt, row, &named.database)? {
-        Some(found) => Ok((found, Some(named))),
+    let named = of_name(rt, at_hand.take(), row.argument(0))?;
+    let found = under(rt, row, &named.database);
+    *at_hand = Some(named);
+    match found? {
+        Some(found) => Ok(found),
         None => Err(anyhow!("no call has this name")),
     }
 }
@@ -68,14 +70,14 @@ fn under<R: Files + AllocGlobal>(rt: &R, row: &Row, db: &Database) -> Result<Opt
     }
 }
 
-/// The same, or behind an exclamation mark why there is no answer.
+/// The answer to a line, or behind an exclamation mark why there is none.
 pub fn answer_or_error<R: Files + AllocGlobal>(
     rt: &R,
     row: &Row,
-    at_hand: Option<Named>,
-) -> Result<(String, Option<Named>)> {
+    at_hand: &mut Option<Named>,
+) -> Result<String> {
     match answer(rt, row, at_hand) {
         Ok(found) => Ok(found),
-        Err(error) => Ok((format!(in rt.alloc(); "!{error}")?, None)),
+        Err(error) => Ok(format!(in rt.alloc(); "!{error}")?),
     }
 }

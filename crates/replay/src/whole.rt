@@ -1,6 +1,7 @@
 //! All tables.
 use crate::calls::answer_or_error;
 use anyhow::Result;
+use database_rows::named::Named;
 use rows::table::Row;
 use rows::tally::Tally;
 use std::alloc::AllocGlobal;
@@ -45,18 +46,28 @@ fn replay_table<R: Files + AllocGlobal + Print>(
     file: &str,
     tally: &mut Tally,
 ) -> Result<()> {
-    let alloc = rt.alloc();
     let text = fs::read_to_string(rt, file)?;
     let mut at_hand = None;
     for line in text.as_str().lines() {
-        let row = Row::read(alloc, line)?;
-        let (found, named) = answer_or_error(rt, &row, at_hand)?;
-        at_hand = named;
-        let agrees = found.as_str().as_bytes() == row.answer();
-        tally.count(alloc, row.call(), agrees)?;
-        if !agrees {
-            println!(rt; "{line}\n  but here: {found}")?;
-        }
+        replay_line(rt, line, &mut at_hand, tally)?;
+    }
+    Ok(())
+}
+
+/// One line.
+fn replay_line<R: Files + AllocGlobal + Print>(
+    rt: &R,
+    line: &str,
+    at_hand: &mut Option<Named>,
+    tally: &mut Tally,
+) -> Result<()> {
+    let alloc = rt.alloc();
+    let row = Row::read(alloc, line)?;
+    let found = answer_or_error(rt, &row, at_hand)?;
+    let agrees = found.as_str().as_bytes() == row.answer();
+    tally.count(alloc, row.call(), agrees)?;
+    if !agrees {
+        println!(rt; "{line}\n  but here: {found}")?;
     }
     Ok(())
 }

@@ -139,23 +139,37 @@ pub fn all_back<R: Files + AllocGlobal + Print>(
     database: &str,
     lines: &str,
 ) -> Result<bool> {
+    let text = fs::read_to_string(rt, lines)?;
     let database = Database::load(rt, database)?;
-    let lines = fs::read_to_string(rt, lines)?;
-    let lines = lines_of(rt.alloc(), lines.as_str())?;
-    let numbers = numbers(rt.alloc(), &database, lines.as_slice())?;
-    let (all, found) = (lines.len(), numbers.len());
-    println!(rt; "{all} lines, {found} of them of numbers")?;
-    let premises = Premises::under(&database);
-    let e164 = counted(rt, &premises, Mode::E164, numbers.as_slice())?;
-    let rfc3966 = counted(rt, &premises, Mode::Rfc3966, numbers.as_slice())?;
-    let international = counted(rt, &premises, Mode::International, numbers.as_slice())?;
-    tell(rt, "E.164", e164)?;
-    tell(rt, "RFC 3966", rfc3966)?;
-    tell(rt, "International", international)?;
-    let differences = [
-        e164.differences(),
-        rfc3966.differences(),
-        international.differences(),
-    ];
-    Ok(differences == [0, 0, 0])
+    of_lines(rt, &database, text.as_str())
+}
+
+/// The same of lines under a database.
+fn of_lines<R: AllocGlobal + Print>(rt: &R, database: &Database, text: &str) -> Result<bool> {
+    let lines = lines_of(rt.alloc(), text)?;
+    let numbers = numbers(rt.alloc(), database, lines.as_slice())?;
+    of_numbers(rt, database, lines.len(), numbers.as_slice())
+}
+
+/// The same of the numbers of so many lines.
+fn of_numbers<R: AllocGlobal + Print>(
+    rt: &R,
+    database: &Database,
+    lines: usize,
+    numbers: &[PhoneNumber],
+) -> Result<bool> {
+    let found = numbers.len();
+    println!(rt; "{lines} lines, {found} of them of numbers")?;
+    let premises = Premises::under(database);
+    let mut agrees = true;
+    for (name, mode) in [
+        ("E.164", Mode::E164),
+        ("RFC 3966", Mode::Rfc3966),
+        ("International", Mode::International),
+    ] {
+        let count = counted(rt, &premises, mode, numbers)?;
+        tell(rt, name, count)?;
+        agrees = agrees && count.differences() == 0;
+    }
+    Ok(agrees)
 }

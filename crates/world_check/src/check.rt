@@ -21,10 +21,24 @@ use std::fs::Files;
 /// those of a kind the counts of the kind, and at the end those of all.
 pub fn all_examples<R: Files + AllocGlobal + Print>(rt: &R, path: &str) -> Result<()> {
     let database = Database::load(rt, path)?;
-    let territories = territories(&database)?;
+    under(rt, &database)
+}
+
+/// The same under a database.
+fn under<R: AllocGlobal + Print>(rt: &R, database: &Database) -> Result<()> {
+    let territories = territories(database)?;
+    of_territories(rt, database, territories.as_slice())
+}
+
+/// The same of these territories.
+fn of_territories<R: AllocGlobal + Print>(
+    rt: &R,
+    database: &Database,
+    territories: &[&Metadata],
+) -> Result<()> {
     let mut all = Count::none();
     for kind in KINDS {
-        let count = checked(rt, &database, territories.as_slice(), kind)?;
+        let count = checked(rt, database, territories, kind)?;
         if count.examples > 0 {
             let name = format!(in rt.alloc(); "{kind:?}")?;
             tell(rt, name.as_str(), count)?;
