@@ -29,15 +29,31 @@ pub fn answer(alloc: Global, row: &Row, db: &Database) -> Result<Option<String>>
 /// The report on a line's input. An error where memory is refused behind whole first lines of the
 /// report that is wanted.
 fn whole(alloc: Global, row: &Row, db: &Database) -> Result<String> {
+    let mut sink = Limit::new(alloc, ROOM, Then::Fail)?;
+    let end = run_to(alloc, row, db, &mut sink)?;
+    if end == Err(RunError::Memory) && !are_first_lines(sink.taken(), row.answer()) {
+        return Ok(String::from_str(alloc, "another end")?);
+    }
+    report(alloc, end, sink.taken())
+}
+
+/// How a run over a line's input ends that writes to a sink.
+fn run_to(
+    alloc: Global,
+    row: &Row,
+    db: &Database,
+    sink: &mut Limit,
+) -> Result<Result<(), RunError>> {
     let hint = hint(row.argument(1))?;
     let mut source = MemorySource::new(row.argument_bytes(2));
-    let mut sink = Limit::new(alloc, ROOM, Then::Fail)?;
-    let end = around(alloc, begin(alloc), run(db, hint, &mut source, &mut sink))?;
+    Ok(around(alloc, begin(alloc), run(db, hint, &mut source, sink))?)
+}
+
+/// What a run wrote that came to its end. An error where memory was refused.
+fn report(alloc: Global, end: Result<(), RunError>, written: &[u8]) -> Result<String> {
     match end {
-        Ok(()) => Ok(text(alloc, sink.taken())?),
-        Err(RunError::Memory) if are_first_lines(sink.taken(), row.answer()) => {
-            Err(anyhow!("out of memory"))
-        }
+        Ok(()) => Ok(text(alloc, written)?),
+        Err(RunError::Memory) => Err(anyhow!("out of memory")),
         Err(_) => Ok(String::from_str(alloc, "another end")?),
     }
 }
@@ -76,19 +92,32 @@ fn from_source(alloc: Global, row: &Row, db: &Database) -> Result<String> {
 }
 
 /// A run over a line's input to a sink that takes so many bytes, and then does what the line says.
+/// An error where memory is refused, also where the sink fails over what was written before.
 fn to_sink(alloc: Global, row: &Row, db: &Database) -> Result<String> {
-    let (hint, then) = (hint(row.argument(1))?, then(row.argument(4)));
-    let mut source = MemorySource::new(row.argument_bytes(2));
-    let mut sink = Limit::new(alloc, row.argument(3).parse::<usize>()?, then)?;
-    let end = around(alloc, begin(alloc), run(db, hint, &mut source, &mut sink))?;
+    let room = row.argument(3).parse::<usize>()?;
+    let mut sink = Limit::new(alloc, room, then(row.argument(4)))?;
+    let end = run_to(alloc, row, db, &mut sink)?;
+    if end == Err(RunError::Output) && is_cut_short(sink.taken(), row.answer()) {
+        return Err(anyhow!("out of memory"));
+    }
     told(alloc, end, sink.taken())
+}
+
+/// Whether what was written is the report of an answer that ends by `Output`, but for its end.
+fn is_cut_short(written: &[u8], answer: &[u8]) -> bool {
+    match answer.strip_prefix(b"Output\t") {
+        Some(report) => report.starts_with(written) && written.len() < report.len(),
+        None => false,
+    }
 }
 
 /// Of the sinks that take less than the report on a line's input, how many end the run by `Output`
 /// and hold what they take.
 fn to_each_sink(alloc: Global, row: &Row, db: &Database) -> Result<String> {
     let then = then(row.argument(3));
-    let report = whole(alloc, row, db)?;
+    let mut sink = Limit::new(alloc, ROOM, Then::Fail)?;
+    let end = run_to(alloc, row, db, &mut sink)?;
+    let report = report(alloc, end, sink.taken())?;
     let all = report.len();
     let mut held = 0u64;
     for room in 0..all {

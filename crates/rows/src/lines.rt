@@ -128,21 +128,26 @@ fn each(alloc: Global, row: &Row) -> Result<String> {
         } else {
             (None, n)
         };
-        let sink = Limit::new(alloc, limit, then(row.argument(0)))?;
-        if !one(alloc, row, at, sink, &mut words)? {
+        if !one(alloc, row, at, limit, &mut words)? {
             are_first = false;
         }
     }
     Ok(format!(in alloc; "{words}\t{are_first}")?)
 }
 
-/// One of these runs: writes how it ends, and says whether the sink has a beginning of the report.
-fn one(alloc: Global, row: &Row, at: Option<At>, sink: Limit, words: &mut String) -> Result<bool> {
-    let mut sink = sink;
+/// One of these runs, to a sink with so much room: writes how it ends, and says whether the sink has
+/// a beginning of the report. A sink that fails before it is full, or before it has the report, was
+/// handed too little, as memory was refused.
+fn one(alloc: Global, row: &Row, at: Option<At>, room: usize, words: &mut String) -> Result<bool> {
+    let mut sink = Limit::new(alloc, room, then(row.argument(0)))?;
     let mut source = Script::new(Vec::from_slice(alloc, row.argument_bytes(1))?, at);
     let end = run(alloc, false, &mut source, &mut sink)?;
-    push_counted(alloc, words, end, sink.taken().len())?;
-    Ok(row.argument_bytes(2).starts_with(sink.taken()))
+    let (report, taken) = (row.argument_bytes(2), sink.taken());
+    if end == "Output" && taken.len() < room && taken.len() < report.len() {
+        return Err(anyhow!("out of memory"));
+    }
+    push_counted(alloc, words, end, taken.len())?;
+    Ok(report.starts_with(taken))
 }
 
 /// How a run ends that gets no answer to lines of one length, and what the sink has taken. No marks
