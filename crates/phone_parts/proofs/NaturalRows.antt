@@ -8,9 +8,9 @@ use Rattle.phone_core.specs.Characters.{is_nd}
 use Rattle.phone_parts.specs.Cores.{IsCore, is_start, is_last}
 use Rattle.phone_parts.specs.Naturals
 use Rattle.phone_parts.specs.Naturals.{IsNatural}
-use Rattle.phone_parts.specs.Suffixes.{IsSuffix, indicators, is_lead, is_mark, is_gap, is_sign}
+use Rattle.phone_parts.specs.Suffixes.{IsSuffix, indicators, is_lead, is_mark, is_gap, is_sign, is_dash}
 use Rattle.phone_parts.specs.Texts.{begins, ends, is_like}
-use Rattle.phone_parts.specs.declared.natural.NoReading.TheVariants.{Error, Failure}
+use Rattle.phone_parts.specs.declared.natural.NoReading.TheVariants.{Error}
 use Rattle.phone_parts.specs.declared.suffix.Form.TheVariants.{Parameter, Indicated, NumberSign}
 use Rattle.phone_parts.proofs.CoreRows.{no_second, no_mark, no_start, sign_alone}
 use Rattle.phone_parts.proofs.Cores.{whole_core}
@@ -43,13 +43,29 @@ indicated_row lead word mark gap d sign leads announces marks one_mark gaps digi
   };
 }
 
+-- an extension of each of the two other forms, put together
+parameter_row : (name d : List ℕ) → is_like name (codes ";ext=") ≡ true → list_all is_nd d ≡ true → length d ≤ 7 → IsSuffix (name ++ d) Parameter d
+parameter_row name d named digits few =
+    record { name = name; whole = refl; named = named; digits = record { only = digits; few = few } }
+
+signed_row : (lead d : List ℕ) → list_all is_dash lead ≡ true → 1 ≤ length lead → list_all is_nd d ≡ true → 1 ≤ length d → length d ≤ 5 →
+    IsSuffix (lead ++ (d ++ 35 ∷ [])) NumberSign d
+signed_row lead d leads some_lead digits some_digits few = record {
+  lead = lead;
+  whole = refl;
+  leads = leads;
+  some_lead = some_lead;
+  digits = record { only = digits; few = few };
+  some_digits = some_digits;
+}
+
 pub parameter : IsSuffix (codes ";EXT=12") Parameter (codes "12")
 unfolding ucd_case ucd_category
-parameter = record { name = codes ";EXT="; whole = refl; named = refl; digits = record { only = refl; few = omega arith } }
+parameter = parameter_row (codes ";EXT=") (codes "12") refl refl (omega arith)
 
 pub number_signed : IsSuffix (codes " - 12#") NumberSign (codes "12")
 unfolding ucd_category
-number_signed = record { lead = codes " - "; whole = refl; leads = refl; some_lead = omega arith; digits = record { only = refl; few = omega arith }; some_digits = omega arith }
+number_signed = signed_row (codes " - ") (codes "12") refl (omega arith) refl (omega arith) (omega arith)
 
 pub word : IsSuffix (codes ", Exten" ++ 0x17F ∷ codes "ion. 12#") Indicated (codes "12")
 unfolding ucd_case ucd_category
@@ -82,7 +98,7 @@ unfolding ucd_case ucd_category no_mark fails_at
 extended = Naturals.extended (codes "+64331x12") (codes "+64331") (codes "12") (own_core (codes "+64331x12") refl refl refl (λ e. cc)) (record {
   suffix = codes "x12";
   whole = refl;
-  is_suffix = indicated_row [] (codes "x") [] [] (codes "12") [] refl refl refl (omega arith) refl refl (omega arith) refl (omega arith);
+  is_suffix = (Indicated, indicated_row [] (codes "x") [] [] (codes "12") [] refl refl refl (omega arith) refl refl (omega arith) refl (omega arith));
   longest = no_suffix_before (codes "+64331x12") 6 refl;
 })
 
@@ -91,7 +107,7 @@ unfolding ucd_case ucd_category no_mark fails_at
 spaced = Naturals.extended (codes "650 253 0000 extn. 4567") (codes "650 253 0000") (codes "4567") (own_core (codes "650 253 0000 extn. 4567") refl refl refl (λ e. cc)) (record {
   suffix = codes " extn. 4567";
   whole = refl;
-  is_suffix = indicated_row (codes " ") (codes "extn") (codes ".") (codes " ") (codes "4567") [] refl refl refl (omega arith) refl refl (omega arith) refl (omega arith);
+  is_suffix = (Indicated, indicated_row (codes " ") (codes "extn") (codes ".") (codes " ") (codes "4567") [] refl refl refl (omega arith) refl refl (omega arith) refl (omega arith));
   longest = no_suffix_before (codes "650 253 0000 extn. 4567") 12 refl;
 })
 
@@ -100,34 +116,34 @@ unfolding ucd_case ucd_category no_mark fails_at
 no_digits = Naturals.extended (codes "+64 3 331 6005x") (codes "+64 3 331 6005") [] (own_core (codes "+64 3 331 6005x") refl refl refl (λ e. cc)) (record {
   suffix = codes "x";
   whole = refl;
-  is_suffix = indicated_row [] (codes "x") [] [] [] [] refl refl refl (omega arith) refl refl (omega arith) refl (omega arith);
+  is_suffix = (Indicated, indicated_row [] (codes "x") [] [] [] [] refl refl refl (omega arith) refl refl (omega arith) refl (omega arith));
   longest = no_suffix_before (codes "+64 3 331 6005x") 14 refl;
 })
 
-pub parameter_refused : IsNatural (codes "650;ext=5") (Err Failure)
+pub with_parameter : IsNatural (codes "650;ext=5") (Ok (record { national = codes "650"; prefix = None; extension = Some (codes "5") }))
 unfolding ucd_case ucd_category no_mark fails_at
-parameter_refused = Naturals.with_parameter (codes "650;ext=5") (codes "650") (codes "5") (own_core (codes "650;ext=5") refl refl refl (λ e. cc)) (record {
+with_parameter = Naturals.extended (codes "650;ext=5") (codes "650") (codes "5") (own_core (codes "650;ext=5") refl refl refl (λ e. cc)) (record {
   suffix = codes ";ext=5";
   whole = refl;
-  is_suffix = record { name = codes ";ext="; whole = refl; named = refl; digits = record { only = refl; few = omega arith } };
+  is_suffix = (Parameter, parameter_row (codes ";ext=") (codes "5") refl refl (omega arith));
   longest = no_suffix_before (codes "650;ext=5") 3 refl;
 })
 
-pub sign_refused : IsNatural (codes "650 5#") (Err Failure)
+pub with_sign : IsNatural (codes "650 5#") (Ok (record { national = codes "650"; prefix = None; extension = Some (codes "5") }))
 unfolding ucd_case ucd_category no_mark fails_at
-sign_refused = Naturals.with_sign (codes "650 5#") (codes "650") (codes "5") (own_core (codes "650 5#") refl refl refl (λ e. cc)) (record {
+with_sign = Naturals.extended (codes "650 5#") (codes "650") (codes "5") (own_core (codes "650 5#") refl refl refl (λ e. cc)) (record {
   suffix = codes " 5#";
   whole = refl;
-  is_suffix = record { lead = codes " "; whole = refl; leads = refl; some_lead = omega arith; digits = record { only = refl; few = omega arith }; some_digits = omega arith };
+  is_suffix = (NumberSign, signed_row (codes " ") (codes "5") refl (omega arith) refl (omega arith) (omega arith));
   longest = no_suffix_before (codes "650 5#") 3 refl;
 })
 
-pub longer_sign_refused : IsNatural (codes "+64 3 331 6005#") (Err Failure)
+pub longer_sign : IsNatural (codes "+64 3 331 6005#") (Ok (record { national = codes "+64 3 331"; prefix = None; extension = Some (codes "6005") }))
 unfolding ucd_case ucd_category no_mark fails_at
-longer_sign_refused = Naturals.with_sign (codes "+64 3 331 6005#") (codes "+64 3 331") (codes "6005") (own_core (codes "+64 3 331 6005#") refl refl refl (λ e. cc)) (record {
+longer_sign = Naturals.extended (codes "+64 3 331 6005#") (codes "+64 3 331") (codes "6005") (own_core (codes "+64 3 331 6005#") refl refl refl (λ e. cc)) (record {
   suffix = codes " 6005#";
   whole = refl;
-  is_suffix = record { lead = codes " "; whole = refl; leads = refl; some_lead = omega arith; digits = record { only = refl; few = omega arith }; some_digits = omega arith };
+  is_suffix = (NumberSign, signed_row (codes " ") (codes "6005") refl (omega arith) refl (omega arith) (omega arith));
   longest = no_suffix_before (codes "+64 3 331 6005#") 9 refl;
 })
 

@@ -213,7 +213,7 @@ read_announced cd q ending trailing d h is_ending no_sign no_slash last none =
     signed_core ((cd ++ 32 ∷ q) ++ tail) trailing none (ends-append is_last s tail (λ e. cc) ∙ last) unmarked in
     let whole : s ++ tail ≡ n ++ (c.cut.rest ++ tail) =
     ap (λ t. t ++ tail) (ap (signed cd) c.cut.whole ∙ signed-append cd c.cut.kept c.cut.rest) ∙ append_assoc n c.cut.rest tail in
-    let longest : HasLongestSuffix (s ++ tail) n Indicated d =
+    let longest : HasLongestSuffix (s ++ tail) n d =
     longest_behind (s ++ tail) n (c.cut.rest ++ tail) Indicated d whole
     (none_apart is_opening is_signed opening_signed n (all_signed cd c.cut.kept h.code c.kept)) (ends_signed (λ x. not (is_lead x)) cd c.cut.kept c.cut.last)
     (none_append is_sign s tail (none_apart is_sign is_signed sign_signed s all) no_sign)

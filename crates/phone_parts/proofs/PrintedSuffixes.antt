@@ -74,10 +74,10 @@ no_longer (x ∷ y ∷ before) suffix none last no_sign (suc k) f d less =
 
 -- so an extension behind such a text is the longest
 pub longest_behind : (text before suffix : List ℕ) (f : Form) (d : List ℕ) → text ≡ before ++ suffix → list_any is_opening before ≡ false →
-    ends (λ c. not (is_lead c)) before ≡ true → list_any is_sign text ≡ false → IsSuffix suffix f d → HasLongestSuffix text before f d
+    ends (λ c. not (is_lead c)) before ≡ true → list_any is_sign text ≡ false → IsSuffix suffix f d → HasLongestSuffix text before d
 longest_behind text before suffix f d whole none last no_sign h = record {
   suffix = suffix;
   whole = whole;
-  is_suffix = h;
+  is_suffix = (f, h);
   longest = λ k g e less s. no_longer before suffix none last (ap (list_any is_sign) (sym whole) ∙ no_sign) k g e less (subst (λ t. IsSuffix (drop k t) g e) whole s);
 }

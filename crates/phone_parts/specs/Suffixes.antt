@@ -128,6 +128,10 @@ IsSuffix w Parameter d = IsParameter w d
 IsSuffix w Indicated d = IsIndicated w d
 IsSuffix w NumberSign d = IsNumberSigned w d
 
+-- w is an extension of some form, with these digits
+abbrev pub IsSomeSuffix : List ℕ → List ℕ → Type 0
+IsSomeSuffix w d = (f : Form) × IsSuffix w f d
+
 -- the foldings of the characters that an extension begins with
 abbrev pub suffix_starts : List ℕ
 suffix_starts =
@@ -141,9 +145,9 @@ is_suffix_start c = is_one_of suffix_starts (simple_fold c)
 abbrev pub HasNoSuffix : List ℕ → Type 0
 HasNoSuffix c = (k : ℕ) (f : Form) (d : List ℕ) → ¬ (IsSuffix (drop k c) f d)
 
--- the longest end of the text that is an extension, and what stands before it
-pub record HasLongestSuffix (c before : List ℕ) (f : Form) (d : List ℕ) : Type 0 where
+-- the text is `before` and its longest end that is an extension, of whatever form, with digits d
+pub record HasLongestSuffix (c before d : List ℕ) : Type 0 where
   pub suffix : List ℕ
   pub whole : c ≡ before ++ suffix
-  pub is_suffix : IsSuffix suffix f d
-  pub longest : (k : ℕ) (g : Form) (e : List ℕ) → k < length before → ¬ (IsSuffix (drop k c) g e)
+  pub is_suffix : IsSomeSuffix suffix d
+  pub longest : (k : ℕ) (f : Form) (e : List ℕ) → k < length before → ¬ (IsSuffix (drop k c) f e)

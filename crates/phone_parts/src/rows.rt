@@ -8,7 +8,7 @@ ghost use Rattle.phone_parts.specs.Suffixes.{IsSuffix, indicators};
 ghost use Rattle.phone_parts.specs.Parts.{Parts};
 ghost use Rattle.phone_parts.specs.Tel.{IsTel};
 ghost use Rattle.phone_parts.specs.Texts.{is_like};
-ghost use Rattle.phone_parts.specs.declared.natural.NoReading.TheVariants.{Error, Failure};
+ghost use Rattle.phone_parts.specs.declared.natural.NoReading.TheVariants.{Error};
 ghost use Rattle.phone_parts.specs.declared.suffix.Form.TheVariants.{Parameter, Indicated, NumberSign};
 
 /// Cores: what stands before the first digit or plus sign is cut, what stands after the last letter, number or `#`, and
@@ -66,16 +66,19 @@ pub fn indicator_rows()
     ensures like { (w : List ℕ) → list_any (is_like w) indicators ≡ true → IsSuffix (w ++ codes "5") Indicated (codes "5") }
 {}
 
-/// Readings of free text, with each of the five cases among them.
+/// Readings of free text: each of the three cases, and each of the three forms of an extension.
 pub fn natural_rows()
     ensures whole_text { IsNatural (codes "650253") (Ok (record { national = codes "650253"; prefix = None; extension = None })) }
     ensures spaced { IsNatural (codes "650 253 0000 extn. 4567")
         (Ok (record { national = codes "650 253 0000"; prefix = None; extension = Some (codes "4567") })) }
     ensures no_digits { IsNatural (codes "+64 3 331 6005x") (Ok (record { national = codes "+64 3 331 6005"; prefix = None; extension = Some [] })) }
     ensures extended { IsNatural (codes "+64331x12") (Ok (record { national = codes "+64331"; prefix = None; extension = Some (codes "12") })) }
-    ensures parameter { IsNatural (codes "650;ext=5") (Err Failure) }
-    ensures sign { IsNatural (codes "650 5#") (Err Failure) }
-    ensures longer_sign { IsNatural (codes "+64 3 331 6005#") (Err Failure) }
+    ensures parameter { IsNatural (codes "650;ext=5")
+        (Ok (record { national = codes "650"; prefix = None; extension = Some (codes "5") })) }
+    ensures sign { IsNatural (codes "650 5#")
+        (Ok (record { national = codes "650"; prefix = None; extension = Some (codes "5") })) }
+    ensures longer_sign { IsNatural (codes "+64 3 331 6005#")
+        (Ok (record { national = codes "+64 3 331"; prefix = None; extension = Some (codes "6005") })) }
     ensures no_number { IsNatural (codes "Num-....") (Err Error) }
     ensures no_digit { IsNatural (codes "+") (Err Error) }
 {}

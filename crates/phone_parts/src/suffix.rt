@@ -6,7 +6,7 @@ ghost use Rattle.phone_core.specs.Characters.{is_nd};
 ghost use Rattle.phone_parts.specs.Longest.{AreEndsUpTo, AreEndsWithin};
 ghost use Rattle.phone_parts.specs.Parts.{IsSlice};
 ghost use Rattle.phone_parts.specs.Texts.{begins};
-ghost use Rattle.phone_parts.specs.Suffixes.{IsParameter, IsNumberSigned, IsSomeNumberSigned, IsIndicated, IsAnnounced, IsEnding, IsSomeEnding, IsSuffix, indicators, is_lead, is_suffix_start, HasNoSuffix, HasLongestSuffix};
+ghost use Rattle.phone_parts.specs.Suffixes.{IsParameter, IsNumberSigned, IsSomeNumberSigned, IsIndicated, IsAnnounced, IsEnding, IsSomeEnding, IsSuffix, indicators, is_lead, is_suffix_start, IsSomeSuffix, HasNoSuffix, HasLongestSuffix};
 
 use crate::fronts::{is_nothing, skip_one, strip_char, strip_like};
 use crate::indicators::indicators_from;
@@ -25,13 +25,6 @@ pub enum Form {
     Indicated,
     /// A number sign behind the digits, as in ` 5#`.
     NumberSign,
-}
-
-/// An extension: its form, and its digits.
-#[derive(Clone, Copy)]
-pub(crate) struct Suffix<'a> {
-    pub(crate) form: Form,
-    pub(crate) digits: &'a str,
 }
 
 /// Whether the character may stand before an indicator.
@@ -83,17 +76,18 @@ struct Limits {
     number_sign: usize,
 }
 
-/// The longest end of a text that is an extension, with what stands before it; none where no end is one. What an
-/// extension ends in is found out once, from the right. Then it is asked from the left, at each border between
-/// characters, whether an extension begins there, and a border whose character can't begin one is passed at once. The
-/// indicators are tried only where the character begins one, and what follows is compared by its length alone. Where a
-/// run of spaces, tabs and commas is followed by no indicator, that is found out once, at the front of the run. So the
-/// time is linear in the text.
-pub(crate) fn find_suffix(text: &str) -> Option<(&str, Suffix<'_>)>
+/// What stands before the longest end of a text that is an extension, and the digits of that
+/// extension; none where no end is one. What an extension ends in is found out once, from the
+/// right. Then it is asked from the left, at each border between characters, whether an extension
+/// begins there, and a border whose character can't begin one is passed at once. The indicators are
+/// tried only where the character begins one, and what follows is compared by its length alone.
+/// Where a run of spaces, tabs and commas is followed by no indicator, that is found out once, at
+/// the front of the run. So the time is linear in the text.
+pub(crate) fn find_suffix(text: &str) -> Option<(&str, &str)>
     ensures read { MatchOption result (HasNoSuffix (chars text.now))
-        (λ p. HasLongestSuffix (chars text.now) (chars p.0.now) p.1.form (chars p.1.digits.now)) }
+        (λ p. HasLongestSuffix (chars text.now) (chars p.0.now) (chars p.1.now)) }
     ensures front { IfSome result (λ p. (v : List ℕ) × (text.now ≡ p.0.now ++ v)) }
-    ensures slice { IfSome result (λ p. IsSlice text.now p.1.digits.now) }
+    ensures slice { IfSome result (λ p. IsSlice text.now p.1.now) }
 {
     let limits = Limits {
         ending: ending_limit(text),
@@ -102,8 +96,8 @@ pub(crate) fn find_suffix(text: &str) -> Option<(&str, Suffix<'_>)>
     let mut rest = text;
     let mut in_lead = false;
     while let Some((c, after)) = split_first(rest) {
-        if let Some(found) = read_suffix(rest, limits, in_lead) {
-            return Some((before(text, rest), found));
+        if let Some(digits) = read_suffix(rest, limits, in_lead) {
+            return Some((before(text, rest), digits));
         }
         in_lead = is_lead(c);
         rest = after;
@@ -111,36 +105,27 @@ pub(crate) fn find_suffix(text: &str) -> Option<(&str, Suffix<'_>)>
     None
 }
 
-/// The text as an extension. It may be known that the text has no indicator: then that form isn't tried.
-fn read_suffix(text: &str, limits: Limits, no_indicator: bool) -> Option<Suffix<'_>>
+/// The digits of an extension of any form. It may be known that the text has no indicator: then
+/// that form isn't tried.
+fn read_suffix(text: &str, limits: Limits, no_indicator: bool) -> Option<&str>
     requires unindicated { IsTrue no_indicator → (d : List ℕ) → ¬ (IsIndicated (chars text.now) d) }
     requires ending { AreEndsUpTo IsSomeEnding limits.ending text.now }
     requires number_sign { AreEndsWithin IsSomeNumberSigned limits.number_sign text.now }
     ensures read { MatchOption result
         ((f : Form) (d : List ℕ) → ¬ (IsSuffix (chars text.now) f d))
-        (λ s. IsSuffix (chars text.now) s.form (chars s.digits.now)) }
-    ensures slice { IfSome result (λ s. IsSlice text.now s.digits.now) }
+        (λ d. IsSomeSuffix (chars text.now) (chars d.now)) }
+    ensures slice { IfSome result (λ d. IsSlice text.now d.now) }
 {
     if !begins_suffix(text) {
         return None;
     }
     if let Some(digits) = parameter(text) {
-        return Some(Suffix {
-            form: Form::Parameter,
-            digits,
-        });
+        return Some(digits);
     }
     if let Some(digits) = indicated_unless(text, limits.ending, no_indicator) {
-        return Some(Suffix {
-            form: Form::Indicated,
-            digits,
-        });
+        return Some(digits);
     }
-    let digits = number_signed(text, limits.number_sign)?;
-    Some(Suffix {
-        form: Form::NumberSign,
-        digits,
-    })
+    number_signed(text, limits.number_sign)
 }
 
 /// The digits of an extension with an indicator, unless it is known that the text is none.

@@ -3,7 +3,6 @@ use Rattle.std.specs.Str.{chars}
 use Rattle.phone_parts.specs.Naturals
 use Rattle.phone_parts.specs.Parts.{Parts, parts_of}
 use Rattle.phone_parts.specs.Naturals.{IsNatural}
-use Rattle.phone_parts.specs.Suffixes.{HasLongestSuffix}
 use Rattle.phone_parts.proofs.Slices.{slice_of_slice, slice_from_front}
 use Rattle.phone_parts.proofs.natural.phone_number.Goals as goal
 
@@ -22,35 +21,19 @@ returns-in_default-find_suffix-clause-read c =
     rw (c.of.ensures.no_prefix, c.of.ensures.no_extension) (ap (λ n. made n None None) (sym (ap chars c.of.ensures.national))) in
     subst (λ p. IsNatural text (Ok p)) same (Naturals.plain core c.in-Some.ensures.core c.in_default-find_suffix.ensures.read)
 
-pub returns-in-Indicated-clause-read : goal.returns-in-Indicated-clause-read
-returns-in-Indicated-clause-read c =
+pub returns-clause-read : goal.returns-clause-read
+returns-clause-read c =
     let text = chars c.args.text.now in
     let core = chars c.in-Some.core.now in
     let national = chars c.in-Some-find_suffix.national.now in
-    let digits = chars c.in-Some-find_suffix.found.digits.now in
-    let longest = subst (λ f. HasLongestSuffix core national f digits) c.in-Indicated.is c.in-Some-find_suffix.ensures.read in
-    subst (λ p. IsNatural text (Ok p)) (sym c.extended.ensures.parts) (Naturals.extended core national digits c.in-Some.ensures.core longest)
+    let extension = chars c.in-Some-find_suffix.extension.now in
+    subst (λ p. IsNatural text (Ok p)) (sym c.extended.ensures.parts)
+    (Naturals.extended core national extension c.in-Some.ensures.core c.in-Some-find_suffix.ensures.read)
 
-pub returns-in-Indicated-clause-lent : goal.returns-in-Indicated-clause-lent
-returns-in-Indicated-clause-lent c =
+pub returns-clause-lent : goal.returns-clause-lent
+returns-clause-lent c =
     let v = c.in-Some-find_suffix.ensures.front in
     let core = c.in-Some.ensures.slice in
     c.extended.ensures.lent c.args.text.now
     (slice_of_slice _ _ _ core (slice_from_front _ c.in-Some-find_suffix.national.now v.0 v.1))
     (slice_of_slice _ _ _ core c.in-Some-find_suffix.ensures.slice)
-
-pub returns-in-Parameter-clause-read : goal.returns-in-Parameter-clause-read
-returns-in-Parameter-clause-read c =
-    let core = chars c.in-Some.core.now in
-    let national = chars c.in-Some-find_suffix.national.now in
-    let digits = chars c.in-Some-find_suffix.found.digits.now in
-    Naturals.with_parameter core national digits c.in-Some.ensures.core
-    (subst (λ f. HasLongestSuffix core national f digits) c.in-Parameter.is c.in-Some-find_suffix.ensures.read)
-
-pub returns-in-NumberSign-clause-read : goal.returns-in-NumberSign-clause-read
-returns-in-NumberSign-clause-read c =
-    let core = chars c.in-Some.core.now in
-    let national = chars c.in-Some-find_suffix.national.now in
-    let digits = chars c.in-Some-find_suffix.found.digits.now in
-    Naturals.with_sign core national digits c.in-Some.ensures.core
-    (subst (λ f. HasLongestSuffix core national f digits) c.in-NumberSign.is c.in-Some-find_suffix.ensures.read)

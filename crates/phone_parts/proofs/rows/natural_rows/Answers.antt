@@ -1,4 +1,4 @@
-use Rattle.phone_parts.proofs.NaturalRows.{whole_text, extended, spaced, no_digits, parameter_refused, sign_refused, longer_sign_refused, no_number, no_digit}
+use Rattle.phone_parts.proofs.NaturalRows.{whole_text, extended, spaced, no_digits, with_parameter, with_sign, longer_sign, no_number, no_digit}
 use Rattle.phone_parts.proofs.rows.natural_rows.Goals as goal
 
 pub returns : goal.returns
@@ -7,9 +7,9 @@ returns c = record {
   spaced = spaced;
   no_digits = no_digits;
   extended = extended;
-  parameter = parameter_refused;
-  sign = sign_refused;
-  longer_sign = longer_sign_refused;
+  parameter = with_parameter;
+  sign = with_sign;
+  longer_sign = longer_sign;
   no_number = no_number;
   no_digit = no_digit;
 }

@@ -15,7 +15,7 @@ use Rattle.phone_parts.proofs.suffix.find_suffix.Goals as goal
 pub returns-in-Some-read_suffix-clause-slice : goal.returns-in-Some-read_suffix-clause-slice
 returns-in-Some-read_suffix-clause-slice c =
     let v = c.loop-c.invariant.1 in
-    slice_of_end c.args.text.now v.0 c.loop-c.rest.now c.in-Some-read_suffix.found.digits.now v.1 c.in-Some-read_suffix.ensures.slice
+    slice_of_end c.args.text.now v.0 c.loop-c.rest.now c.in-Some-read_suffix.digits.now v.1 c.in-Some-read_suffix.ensures.slice
 
 pub returns-in-Some-read_suffix-clause-read : goal.returns-in-Some-read_suffix-clause-read
 returns-in-Some-read_suffix-clause-read c =
