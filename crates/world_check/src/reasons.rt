@@ -44,6 +44,12 @@ fn reading_reason(
         Some(cut) if again.code().source() == Source::Number => {
             format!(in alloc; "{cut} at its front is taken for the calling code")
         }
+        Some(cut) if cut.is_empty() => {
+            String::from_str(
+                alloc,
+                "its national prefix stays, as too few digits would be left",
+            )
+        }
         Some(cut) => format!(in alloc; "{cut} at its front is cut off as national prefix"),
         None => String::from_str(alloc, "the national prefix's rule writes it anew"),
     }
