@@ -8,7 +8,7 @@ use Rattle.phone_core.specs.Characters.{is_nd}
 use Rattle.phone_parts.specs.Cores.{IsCore, is_start, is_last}
 use Rattle.phone_parts.specs.Naturals
 use Rattle.phone_parts.specs.Naturals.{IsNatural}
-use Rattle.phone_parts.specs.Suffixes.{IsSuffix, indicators, is_lead, is_mark, is_gap, is_sign, is_dash}
+use Rattle.phone_parts.specs.Suffixes.{IsSuffix, IsSomeSuffix, indicators, is_lead, is_mark, is_gap, is_sign, is_dash}
 use Rattle.phone_parts.specs.Texts.{begins, ends, is_like}
 use Rattle.phone_parts.specs.declared.natural.NoReading.TheVariants.{Error}
 use Rattle.phone_parts.specs.declared.suffix.Form.TheVariants.{Parameter, Indicated, NumberSign}
@@ -43,12 +43,18 @@ indicated_row lead word mark gap d sign leads announces marks one_mark gaps digi
   };
 }
 
--- an extension of each of the two other forms, put together
-parameter_row : (name d : List ℕ) → is_like name (codes ";ext=") ≡ true → list_all is_nd d ≡ true → length d ≤ 7 → IsSuffix (name ++ d) Parameter d
-parameter_row name d named digits few =
-    record { name = name; whole = refl; named = named; digits = record { only = digits; few = few } }
+-- an extension of each of the two other forms
+parameter_row : (name d : List ℕ) → is_like name (codes ";ext=") ≡ true →
+    list_all is_nd d ≡ true → length d ≤ 7 → IsSuffix (name ++ d) Parameter d
+parameter_row name d named digits few = record {
+  name = name;
+  whole = refl;
+  named = named;
+  digits = record { only = digits; few = few };
+}
 
-signed_row : (lead d : List ℕ) → list_all is_dash lead ≡ true → 1 ≤ length lead → list_all is_nd d ≡ true → 1 ≤ length d → length d ≤ 5 →
+signed_row : (lead d : List ℕ) → list_all is_dash lead ≡ true → 1 ≤ length lead →
+    list_all is_nd d ≡ true → 1 ≤ length d → length d ≤ 5 →
     IsSuffix (lead ++ (d ++ 35 ∷ [])) NumberSign d
 signed_row lead d leads some_lead digits some_digits few = record {
   lead = lead;
@@ -65,7 +71,8 @@ parameter = parameter_row (codes ";EXT=") (codes "12") refl refl (omega arith)
 
 pub number_signed : IsSuffix (codes " - 12#") NumberSign (codes "12")
 unfolding ucd_category
-number_signed = signed_row (codes " - ") (codes "12") refl (omega arith) refl (omega arith) (omega arith)
+number_signed =
+    signed_row (codes " - ") (codes "12") refl (omega arith) refl (omega arith) (omega arith)
 
 pub word : IsSuffix (codes ", Exten" ++ 0x17F ∷ codes "ion. 12#") Indicated (codes "12")
 unfolding ucd_case ucd_category
@@ -93,59 +100,85 @@ pub whole_text : IsNatural (codes "650253") (Ok (record { national = codes "6502
 unfolding ucd_case ucd_category no_mark fails_at
 whole_text = Naturals.plain (codes "650253") (own_core (codes "650253") refl refl refl (λ e. cc)) (no_suffix (codes "650253") refl)
 
-pub extended : IsNatural (codes "+64331x12") (Ok (record { national = codes "+64331"; prefix = None; extension = Some (codes "12") }))
-unfolding ucd_case ucd_category no_mark fails_at
-extended = Naturals.extended (codes "+64331x12") (codes "+64331") (codes "12") (own_core (codes "+64331x12") refl refl refl (λ e. cc)) (record {
-  suffix = codes "x12";
-  whole = refl;
-  is_suffix = (Indicated, indicated_row [] (codes "x") [] [] (codes "12") [] refl refl refl (omega arith) refl refl (omega arith) refl (omega arith));
-  longest = no_suffix_before (codes "+64331x12") 6 refl;
-})
+-- a text that is its own core, parted before an extension that is its longest
+parted_row : (national suffix d : List ℕ) → IsCore (national ++ suffix) (national ++ suffix) →
+    IsSomeSuffix suffix d → all_below (fails_at (national ++ suffix)) (length national) ≡ true →
+    IsNatural (national ++ suffix)
+    (Ok (record { national = national; prefix = None; extension = Some d }))
+parted_row national suffix d core extension none =
+    Naturals.extended (national ++ suffix) national d core (record {
+      suffix = suffix;
+      whole = refl;
+      is_suffix = extension;
+      longest = no_suffix_before (national ++ suffix) (length national) none;
+    })
 
-pub spaced : IsNatural (codes "650 253 0000 extn. 4567") (Ok (record { national = codes "650 253 0000"; prefix = None; extension = Some (codes "4567") }))
+pub extended : IsNatural (codes "+64331x12")
+    (Ok (record { national = codes "+64331"; prefix = None; extension = Some (codes "12") }))
 unfolding ucd_case ucd_category no_mark fails_at
-spaced = Naturals.extended (codes "650 253 0000 extn. 4567") (codes "650 253 0000") (codes "4567") (own_core (codes "650 253 0000 extn. 4567") refl refl refl (λ e. cc)) (record {
-  suffix = codes " extn. 4567";
-  whole = refl;
-  is_suffix = (Indicated, indicated_row (codes " ") (codes "extn") (codes ".") (codes " ") (codes "4567") [] refl refl refl (omega arith) refl refl (omega arith) refl (omega arith));
-  longest = no_suffix_before (codes "650 253 0000 extn. 4567") 12 refl;
-})
+extended =
+    parted_row (codes "+64331") (codes "x12") (codes "12")
+    (own_core (codes "+64331x12") refl refl refl (λ e. cc)) (
+      Indicated,
+      indicated_row [] (codes "x") [] [] (codes "12") []
+          refl refl refl (omega arith) refl refl (omega arith) refl (omega arith),
+    )
+    refl
 
-pub no_digits : IsNatural (codes "+64 3 331 6005x") (Ok (record { national = codes "+64 3 331 6005"; prefix = None; extension = Some [] }))
+pub spaced : IsNatural (codes "650 253 0000 extn. 4567")
+    (Ok (record { national = codes "650 253 0000"; prefix = None; extension = Some (codes "4567") }))
 unfolding ucd_case ucd_category no_mark fails_at
-no_digits = Naturals.extended (codes "+64 3 331 6005x") (codes "+64 3 331 6005") [] (own_core (codes "+64 3 331 6005x") refl refl refl (λ e. cc)) (record {
-  suffix = codes "x";
-  whole = refl;
-  is_suffix = (Indicated, indicated_row [] (codes "x") [] [] [] [] refl refl refl (omega arith) refl refl (omega arith) refl (omega arith));
-  longest = no_suffix_before (codes "+64 3 331 6005x") 14 refl;
-})
+spaced =
+    parted_row (codes "650 253 0000") (codes " extn. 4567") (codes "4567")
+    (own_core (codes "650 253 0000 extn. 4567") refl refl refl (λ e. cc)) (
+      Indicated,
+      indicated_row (codes " ") (codes "extn") (codes ".") (codes " ") (codes "4567") []
+          refl refl refl (omega arith) refl refl (omega arith) refl (omega arith),
+    )
+    refl
 
-pub with_parameter : IsNatural (codes "650;ext=5") (Ok (record { national = codes "650"; prefix = None; extension = Some (codes "5") }))
+pub no_digits : IsNatural (codes "+64 3 331 6005x")
+    (Ok (record { national = codes "+64 3 331 6005"; prefix = None; extension = Some [] }))
 unfolding ucd_case ucd_category no_mark fails_at
-with_parameter = Naturals.extended (codes "650;ext=5") (codes "650") (codes "5") (own_core (codes "650;ext=5") refl refl refl (λ e. cc)) (record {
-  suffix = codes ";ext=5";
-  whole = refl;
-  is_suffix = (Parameter, parameter_row (codes ";ext=") (codes "5") refl refl (omega arith));
-  longest = no_suffix_before (codes "650;ext=5") 3 refl;
-})
+no_digits =
+    parted_row (codes "+64 3 331 6005") (codes "x") []
+    (own_core (codes "+64 3 331 6005x") refl refl refl (λ e. cc)) (
+      Indicated,
+      indicated_row [] (codes "x") [] [] [] []
+          refl refl refl (omega arith) refl refl (omega arith) refl (omega arith),
+    )
+    refl
 
-pub with_sign : IsNatural (codes "650 5#") (Ok (record { national = codes "650"; prefix = None; extension = Some (codes "5") }))
+pub with_parameter : IsNatural (codes "650;ext=5")
+    (Ok (record { national = codes "650"; prefix = None; extension = Some (codes "5") }))
 unfolding ucd_case ucd_category no_mark fails_at
-with_sign = Naturals.extended (codes "650 5#") (codes "650") (codes "5") (own_core (codes "650 5#") refl refl refl (λ e. cc)) (record {
-  suffix = codes " 5#";
-  whole = refl;
-  is_suffix = (NumberSign, signed_row (codes " ") (codes "5") refl (omega arith) refl (omega arith) (omega arith));
-  longest = no_suffix_before (codes "650 5#") 3 refl;
-})
+with_parameter =
+    parted_row (codes "650") (codes ";ext=5") (codes "5")
+    (own_core (codes "650;ext=5") refl refl refl (λ e. cc))
+    (Parameter, parameter_row (codes ";ext=") (codes "5") refl refl (omega arith))
+    refl
 
-pub longer_sign : IsNatural (codes "+64 3 331 6005#") (Ok (record { national = codes "+64 3 331"; prefix = None; extension = Some (codes "6005") }))
+pub with_sign : IsNatural (codes "650 5#")
+    (Ok (record { national = codes "650"; prefix = None; extension = Some (codes "5") }))
 unfolding ucd_case ucd_category no_mark fails_at
-longer_sign = Naturals.extended (codes "+64 3 331 6005#") (codes "+64 3 331") (codes "6005") (own_core (codes "+64 3 331 6005#") refl refl refl (λ e. cc)) (record {
-  suffix = codes " 6005#";
-  whole = refl;
-  is_suffix = (NumberSign, signed_row (codes " ") (codes "6005") refl (omega arith) refl (omega arith) (omega arith));
-  longest = no_suffix_before (codes "+64 3 331 6005#") 9 refl;
-})
+with_sign =
+    parted_row (codes "650") (codes " 5#") (codes "5")
+    (own_core (codes "650 5#") refl refl refl (λ e. cc)) (
+      NumberSign,
+      signed_row (codes " ") (codes "5") refl (omega arith) refl (omega arith) (omega arith),
+    )
+    refl
+
+pub longer_sign : IsNatural (codes "+64 3 331 6005#")
+    (Ok (record { national = codes "+64 3 331"; prefix = None; extension = Some (codes "6005") }))
+unfolding ucd_case ucd_category no_mark fails_at
+longer_sign =
+    parted_row (codes "+64 3 331") (codes " 6005#") (codes "6005")
+    (own_core (codes "+64 3 331 6005#") refl refl refl (λ e. cc)) (
+      NumberSign,
+      signed_row (codes " ") (codes "6005") refl (omega arith) refl (omega arith) (omega arith),
+    )
+    refl
 
 pub no_number : IsNatural (codes "Num-....") (Err Error)
 no_number = Naturals.nothing no_start

@@ -202,7 +202,7 @@ cut_digits_same w d e g h = at g.signs h.signs
     at (inr s) (inr t) =
         cut_same (append_cancel_right (g.before ++ d) (h.before ++ e) (35 ∷ []) (sym (number_signed g.before d g.sign s) ∙ whole ∙ number_signed h.before e h.sign t))
 
-pub indicated_digits_same : (w d e : List ℕ) → IsIndicated w d → IsIndicated w e → d ≡ e
+indicated_digits_same : (w d e : List ℕ) → IsIndicated w d → IsIndicated w e → d ≡ e
 indicated_digits_same w d e g h = cut_digits_same w d e (indicated_cut w d g) (indicated_cut w e h)
 
 -- ---- the forms apart
@@ -211,7 +211,7 @@ abbrev is_dash_or_digit : ℕ → Bool
 is_dash_or_digit c = is_dash c || is_nd c
 
 -- no text is of the indicated and of the number_signed form
-pub indicated_not_number_signed : (w d e : List ℕ) → IsIndicated w d → ¬ (IsNumberSigned w e)
+indicated_not_number_signed : (w d e : List ℕ) → IsIndicated w d → ¬ (IsNumberSigned w e)
 indicated_not_number_signed w d e g h = at g.announced.word refl
   where
     run : List ℕ
@@ -295,7 +295,7 @@ begins_parameter (a ∷ b ∷ name) d h =
     }
 
 -- no text is of the indicated and of the parameter's form
-pub indicated_not_parameter : (w d e : List ℕ) → IsIndicated w d → ¬ (IsParameter w e)
+indicated_not_parameter : (w d e : List ℕ) → IsIndicated w d → ¬ (IsParameter w e)
 indicated_not_parameter w d e g h = at_lead g.lead g.announced.word (sym b.whole ∙ sym h.whole ∙ whole) (none_at_all folds_to_semicolon is_lead lead_semicolon g.lead g.leads) g.announced.announces
   where
     b : BeginsParameter (h.name ++ e)

@@ -16,7 +16,7 @@ use phone_core::chars::is_nd;
 use phone_core::cuts::{after_run, before, split_first, split_run};
 use unicode::case::simple_fold;
 
-/// The forms of an extension.
+/// The forms of an extension, as the definitions name them.
 #[derive(Clone, Copy, PartialEq, Eq, Debug)]
 pub enum Form {
     /// `;ext=` before the digits.
