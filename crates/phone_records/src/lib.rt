@@ -1,4 +1,4 @@
-//! The records that a database is made of, what they may not lack, and why they are refused.
+//! The records that a database is made of, and what they may not lack.
 #![tactic(auto)]
 
 pub mod loader;
