@@ -1,5 +1,5 @@
-//! Texts and lists as records hold them, and why a database is refused: what the patterns of a database stand on, without its
-//! records.
+//! Texts and lists as records hold them, and why a database is refused: what the patterns of a
+//! database stand on, without its records.
 #![tactic(auto)]
 
 pub mod error;
