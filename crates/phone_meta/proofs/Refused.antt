@@ -7,7 +7,7 @@ use Rattle.phone_records.specs.Missing.{descriptors_of, first_missing}
 use Rattle.phone_meta.specs.Records.{first_group_pattern}
 use Rattle.phone_meta.specs.Refusals.{IsPatternRefusal, IsRefusalOf, TellsMissing, patterns, patterns_in, patterns_in_descriptor, patterns_in_format}
 use Rattle.phone_pattern.proofs.Refused.{ArePatterns, HavePatterns, Texts, both-patterns, refused-left, refused-right}
-use Rattle.phone_records.specs.declared.error.LoadMetadata.{LoadMetadata}
+use Rattle.phone_texts.specs.declared.error.LoadMetadata.{LoadMetadata}
 use Rattle.phone_records.specs.declared.loader.Metadata.{Metadata}
 
 -- what is refused of the item at a place is refused of the list, where the items before it have patterns

@@ -4,11 +4,11 @@ use Rattle.std.specs.List.{flat_map}
 use Rattle.std.specs.Option.{option_and_then, option_to_list}
 -- one of a list of patterns is refused, and all before it are patterns
 pub use Rattle.phone_pattern.specs.Refusals.{IsRefusedIn, IsPatternRefusal}
-use Rattle.phone_records.specs.Errors.{told}
+use Rattle.phone_texts.specs.Errors.{told}
 use Rattle.phone_records.specs.Missing.{descriptors_of, first_missing, phase_of, name_of}
 use Rattle.phone_meta.specs.Records.{first_group_pattern}
-use Rattle.phone_records.specs.declared.error.LoadMetadata.{LoadMetadata}
-use Rattle.phone_records.specs.declared.error.LoadMetadata.TheVariants as error
+use Rattle.phone_texts.specs.declared.error.LoadMetadata.{LoadMetadata}
+use Rattle.phone_texts.specs.declared.error.LoadMetadata.TheVariants as error
 use Rattle.phone_records.specs.declared.loader.Descriptor.{Descriptor}
 use Rattle.phone_records.specs.declared.loader.Format.{Format}
 use Rattle.phone_records.specs.declared.loader.Metadata.{Metadata}

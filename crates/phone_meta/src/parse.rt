@@ -5,7 +5,7 @@ ghost use Rattle.serde_json.specs.Read.{read};
 ghost use Rattle.phone_device.specs.Passing.{IsAtEnd, PassesSome};
 ghost use Rattle.phone_json.specs.Records.{records_of};
 ghost use Rattle.phone_records.specs.Missing.{first_missing};
-ghost use Rattle.phone_records.specs.declared.error.LoadMetadata.TheVariants as error;
+ghost use Rattle.phone_texts.specs.declared.error.LoadMetadata.TheVariants as error;
 ghost use Rattle.phone_meta.specs.First.{IsPattern};
 ghost use Rattle.phone_meta.specs.Refusals.{patterns};
 ghost use Rattle.phone_meta.specs.Texts.{IsTextRefusal, IsByteRefusal, IsCutShort, IsRefusalOfSome, faults_of};

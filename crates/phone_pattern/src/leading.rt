@@ -7,8 +7,7 @@ ghost use Rattle.phone_pattern.specs.Refusals.{IsPatternRefusal};
 
 use crate::pattern;
 use crate::warm::Warm;
-use phone_records::LoadMetadata;
-use phone_records::loader::Text;
+use phone_texts::{LoadMetadata, Text};
 use regex::Regex;
 use std::alloc::{AllocError, Global};
 use std::marker::Model;

@@ -6,8 +6,7 @@ ghost use Rattle.phone_pattern.specs.First.{at_start, captured, first_span, is_w
 ghost use Rattle.phone_pattern.specs.Refusals.{IsPatternRefusal};
 
 use crate::warm::Warm;
-use phone_records::LoadMetadata;
-use phone_records::loader::Text;
+use phone_texts::{LoadMetadata, Text};
 use regex::{Captures, Error, Match, Regex, RegexBuilder, Template};
 use std::alloc::{AllocError, Global};
 use std::marker::Model;

@@ -6,8 +6,7 @@ ghost use Rattle.phone_pattern.specs.Refusals.{IsPatternRefusal};
 
 use crate::leading::Leading;
 use crate::pattern::Pattern;
-use phone_records::LoadMetadata;
-use phone_records::loader::Text;
+use phone_texts::{LoadMetadata, Text};
 use std::alloc::{AllocError, Global};
 use std::cell::RefCell;
 use std::collections::HashMap;

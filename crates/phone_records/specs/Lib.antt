@@ -1,4 +1,3 @@
 pub mod Empty
-pub mod Errors
 pub mod Kinds
 pub mod Missing

@@ -1,8 +1,7 @@
-//! The records that a database is made of, what they may not lack, and why they are refused.
+//! The records that a database is made of, and what they may not lack.
 #![tactic(auto)]
 
-pub mod error;
 pub mod loader;
 pub mod missing;
 
-pub use error::LoadMetadata;
+pub use phone_texts::{LoadMetadata, error};

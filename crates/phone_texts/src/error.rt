@@ -1,6 +1,6 @@
 //! Why a list of records is no database.
 ghost use Rattle.std.specs.Prelude.{◌≡◌};
-ghost use Rattle.phone_records.specs.Errors.{told};
+ghost use Rattle.phone_texts.specs.Errors.{told};
 
 use phone_core::MetadataError;
 use std::alloc::{AllocError, AllocFailed};
@@ -57,7 +57,7 @@ impl LoadMetadata {
 
 impl From<AllocError> for LoadMetadata {
     ghost use Rattle.std.specs.Prelude.{◌≡◌};
-    ghost use Rattle.phone_records.specs.declared.error.LoadMetadata.TheVariants as error;
+    ghost use Rattle.phone_texts.specs.declared.error.LoadMetadata.TheVariants as error;
 
     ghost from_gives = { λ _ e. e ≡ error.Memory };
 
@@ -68,7 +68,7 @@ impl From<AllocError> for LoadMetadata {
 
 impl<T: Drop> From<AllocFailed<T>> for LoadMetadata {
     ghost use Rattle.std.specs.Prelude.{◌≡◌};
-    ghost use Rattle.phone_records.specs.declared.error.LoadMetadata.TheVariants as error;
+    ghost use Rattle.phone_texts.specs.declared.error.LoadMetadata.TheVariants as error;
 
     ghost from_gives = { λ _ e. e ≡ error.Memory };
 

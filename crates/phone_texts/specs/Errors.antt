@@ -3,8 +3,8 @@ use Rattle.std.specs.Prelude.{ℕ, List, [], ◌∷◌, string_bytes}
 use Rattle.phone_core.specs.Errors.{told as told_of_record}
 use Rattle.phone_core.specs.declared.error.MetadataError.{MetadataError}
 use Rattle.phone_core.specs.declared.error.MetadataError.TheVariants as fault
-use Rattle.phone_records.specs.declared.error.LoadMetadata.{LoadMetadata}
-use Rattle.phone_records.specs.declared.error.LoadMetadata.TheVariants as error
+use Rattle.phone_texts.specs.declared.error.LoadMetadata.{LoadMetadata}
+use Rattle.phone_texts.specs.declared.error.LoadMetadata.TheVariants as error
 
 -- the number of what is wrong with a record: 1 for a missing value, 2 for a key that may not stand there, 8 for the others,
 -- which are never given

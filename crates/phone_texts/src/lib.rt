@@ -1,0 +1,11 @@
+//! Texts and lists as records hold them, and why a database is refused: what the patterns of a
+//! database stand on, without its records.
+#![tactic(auto)]
+
+pub mod error;
+pub mod items;
+pub mod text;
+
+pub use error::LoadMetadata;
+pub use items::{Items, TryCopy};
+pub use text::Text;
