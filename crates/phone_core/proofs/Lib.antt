@@ -1,10 +1,5 @@
 pub mod Digits
 pub mod Finds
-pub mod Norms
+pub mod Names
 pub mod ReadBack
-pub mod Runs
-pub mod Signed
 pub mod Texts
-pub mod ViableRows
-pub mod Trims
-pub mod Walks
