@@ -1,25 +1,22 @@
 -- The report line of a number, by its territory.
-use Rattle.std.proofs.Common.{◌≡◌, ℕ, List, [], ◌∷◌, ◌++◌, Option, None, Some, codes, option_map, append_assoc, refl, sym, ap, ◌∙◌}
+use Rattle.std.proofs.Common.{◌≡◌, ℕ, List, [], ◌∷◌, ◌++◌, Option, None, Some, Result, Ok, Err}
+use Rattle.std.proofs.Common.{option_map, append_assoc, refl, sym, ap, subst, ◌∙◌}
+use Rattle.std.specs.Prelude.{IfOk, MatchResult}
 use Rattle.std.proofs.lemmas.Option.{none-some, same_Some}
 use Rattle.phone_core.specs.declared.mode.Mode.{Mode}
 use Rattle.phone_core.specs.declared.mode.Mode.TheVariants.{E164, International, National, Rfc3966}
 use Rattle.phone_read.specs.declared.reading.Reading.{Reading}
 use Rattle.phone_records.specs.declared.loader.Format.{Format}
 use Rattle.phone_records.specs.declared.loader.Metadata.{Metadata}
-use Rattle.phonenumber.specs.Queries.{region_of_number, kind_of_number, is_valid}
-use Rattle.phonenumber.specs.Reports.{kind_word, number_line, region_word, source_word, validity_word}
+use Rattle.phonenumber.specs.Reports.{number_line}
 use Rattle.phonenumber.specs.Texts.{printed, text_by}
-
--- the line of four texts and of what is told of the number
-abbrev pub line_of : List Metadata → Reading → (e164 international national rfc3966 : List ℕ) → List ℕ
-line_of db n e i t r =
-    111 ∷ 107 ∷ 9 ∷ (e ++ 9 ∷ (i ++ 9 ∷ (t ++ 9 ∷ (r ++ 9 ∷ (source_word n.code.source ++ 9 ∷ (kind_word (kind_of_number db n) ++ 9 ∷ (region_word (region_of_number db n) ++ 9 ∷ validity_word (is_valid db n))))))))
+use Rattle.phone_report.specs.Lines.{line_of_texts}
 
 -- where the four texts were printed, there is a territory, and the line is the number's
 pub number_line-from : (db : List Metadata) (n : Reading) (o : Option Metadata) (e i t r line : List ℕ) →
     option_map (λ m. text_by m E164 None n) o ≡ Some e → option_map (λ m. text_by m International None n) o ≡ Some i →
     option_map (λ m. text_by m National None n) o ≡ Some t → option_map (λ m. text_by m Rfc3966 None n) o ≡ Some r →
-    line ≡ line_of db n e i t r → (m : Metadata) × (o ≡ Some m) × (line ≡ number_line db m n)
+    line ≡ line_of_texts db n e i t r → (m : Metadata) × (o ≡ Some m) × (line ≡ number_line db m n)
 number_line-from db n None e i t r line he hi ht hr is = absurd (none-some e he)
 number_line-from db n (Some m) e i t r line he hi ht hr is =
     let e' = text_by m E164 None n in
@@ -29,8 +26,8 @@ number_line-from db n (Some m) e i t r line he hi ht hr is =
       m,
       refl,
       is ∙ sym
-          (ap (λ x. line_of db n x i' t' r') (same_Some e' e he) ∙ ap (λ x. line_of db n e x t' r') (same_Some i' i hi)
-          ∙ ap (λ x. line_of db n e i x r') (same_Some t' t ht) ∙ ap (λ x. line_of db n e i t x) (same_Some r' r hr)),
+          (ap (λ x. line_of_texts db n x i' t' r') (same_Some e' e he) ∙ ap (λ x. line_of_texts db n e x t' r') (same_Some i' i hi)
+          ∙ ap (λ x. line_of_texts db n e i x r') (same_Some t' t ht) ∙ ap (λ x. line_of_texts db n e i t x) (same_Some r' r hr)),
     )
 
 -- what a printer of a number under a database, without a layout of its own, prints
@@ -55,3 +52,9 @@ fields-parted e i t r s k g v =
     ap (λ z. 111 ∷ 107 ∷ 9 ∷ z)
     (append_assoc e (9 ∷ (i ++ 9 ∷ (t ++ 9 ∷ r))) words
     ∙ ap (λ z. e ++ 9 ∷ z) (append_assoc i (9 ∷ (t ++ 9 ∷ r)) words ∙ ap (λ z. i ++ 9 ∷ z) (append_assoc t (9 ∷ r) words)))
+
+-- what holds of a value that was made holds of it under another refusal
+pub kept_value : {T E F : Type 0} (made : Result T E) (r : Result T F) (e : F) (P : T → Type 0) →
+    MatchResult made (λ v. r ≡ Ok v) (λ _. r ≡ Err e) → IfOk made P → IfOk r P
+kept_value (Ok v) r e P h p = subst (λ s. IfOk s P) (sym h) p
+kept_value (Err _) r e P h p = subst (λ s. IfOk s P) (sym h) tt

@@ -1,8 +1,10 @@
 //! What the report says of one line.
-ghost use Rattle.std.specs.Prelude.{◌≡◌, [], ◌∷◌, ◌++◌, None, Some, Err, IfOk, codes, string_bytes};
+ghost use Rattle.std.specs.Prelude.{◌≡◌, [], ◌∷◌, ◌++◌, None, Some, Ok, Err};
+ghost use Rattle.std.specs.Prelude.{IfOk, MatchResult, codes, string_bytes};
 ghost use Rattle.phone_meta.specs.Codes.{first_of, territories};
 ghost use Rattle.phone_records.specs.declared.loader.Metadata.{Metadata};
-ghost use Rattle.phonenumber.specs.Reports.{IsReportLine, number_line, tabbed};
+ghost use Rattle.phone_report.specs.Lines.{line_of_texts};
+ghost use Rattle.phonenumber.specs.Reports.{number_line, tabbed};
 
 use crate::words::{kind_word, refusal_line, region_word, source_word, validity_word};
 use phone_lines::Answers;
@@ -31,20 +33,38 @@ fn number_line(
     ensures unknown { result ≡ Err FormatError.UnknownCode → first_of (territories number.now.code.value database.now) ≡ None }
 {
     let texts = format_with(database, number).to_texts(alloc)?;
-    let Ok(queried) = number.queried(database) else {
-        return Err(FormatError::Memory);
-    };
-    let Ok(front) = texts_in_front(alloc, &texts) else {
-        return Err(FormatError::Memory);
-    };
+    or_memory(line_of_texts(alloc, database, number, &texts))
+}
+
+/// What was refused only for memory, with the refusal of printing.
+fn or_memory<T: Drop>(made: Result<T, AllocError>) -> Result<T, FormatError>
+    ensures { MatchResult made (λ value. result ≡ Ok value)
+        (λ _. result ≡ Err FormatError.Memory) }
+{
+    match made {
+        Ok(value) => Ok(value),
+        Err(_) => Err(FormatError::Memory),
+    }
+}
+
+/// The report line of a number whose texts these are. Refused only for memory.
+fn line_of_texts(
+    alloc: Global,
+    database: &Database,
+    number: &PhoneNumber,
+    texts: &Texts,
+) -> Result<String, AllocError>
+    ensures { IfOk result (λ line. string_bytes line ≡ line_of_texts database.now number.now
+        (string_bytes texts.now.e164) (string_bytes texts.now.international)
+        (string_bytes texts.now.national) (string_bytes texts.now.rfc3966)) }
+{
+    let queried = number.queried(database)?;
+    let front = texts_in_front(alloc, texts)?;
     let source = source_word(number.code().source());
     let kind = kind_word(queried.kind);
     let region = region_word(queried.region);
     let validity = validity_word(queried.is_valid);
-    match with_words(alloc, front.as_str(), source, kind, region, validity) {
-        Ok(line) => Ok(line),
-        Err(_) => Err(FormatError::Memory),
-    }
+    with_words(alloc, front.as_str(), source, kind, region, validity)
 }
 
 /// `ok` and the four texts of a number, parted by tabs. Refused only for memory.

@@ -1,12 +1,14 @@
 //! The printed text of a number, by a territory.
-ghost use Rattle.std.specs.Prelude.{◌≡◌, ◌∷◌, ◌++◌, IfOk, chars, codes, encode_utf8_all, string_bytes};
+ghost use Rattle.std.specs.Prelude.{◌≡◌, ◌∷◌, ◌++◌, IfOk, Ok, chars, codes, encode_utf8_all, string_bytes};
 ghost use Rattle.std.specs.Fmt.{decimal};
 ghost use Rattle.std.specs.List.{find};
 ghost use Rattle.std.specs.Option.{option_copied};
 ghost use Rattle.phone_core.specs.declared.mode.Mode.TheVariants as mode;
 ghost use Rattle.phone_meta.specs.Layouts.{suits};
 ghost use Rattle.phonenumber.specs.Layouts.{laid, layout_for, layouts_for};
-ghost use Rattle.phonenumber.specs.Texts.{extension_parameter, extension_part, hyphenated, laid_out, text_by};
+ghost use Rattle.phone_core.specs.Numbers.{text_of};
+ghost use Rattle.phonenumber.specs.Texts.{e164_text, extension_parameter, extension_part};
+ghost use Rattle.phonenumber.specs.Texts.{hyphenated, laid_out, text_by};
 
 use crate::PhoneNumber;
 use crate::hyphens::hyphenated;
@@ -65,30 +67,86 @@ pub(crate) fn texts_by(
 {
     let national = number.national();
     let digits = format!(in alloc; "{national}")?;
-    let layouts = layouts_of(m, own, digits.as_str())?;
-    let laid = laid_by(
-        alloc,
-        finder,
-        m,
-        Mode::International,
-        layouts.abroad,
-        number,
-        digits.as_str(),
+    texts_of(alloc, finder, m, own, number, digits.as_str())
+}
+
+/// The texts in all modes of a number whose national digits are these.
+fn texts_of(
+    alloc: Global,
+    finder: &FirstGroup,
+    m: &Metadata,
+    own: Option<&Format>,
+    number: &PhoneNumber,
+    digits: &str,
+) -> Result<Texts, AllocError>
+    requires { digits.now ≡ text_of number.now.national }
+    ensures e164 { IfOk result (λ t. string_bytes t.e164 ≡
+        text_by m.now mode.E164 (option_copied own.entry) number.now) }
+    ensures international { IfOk result (λ t. string_bytes t.international ≡
+        text_by m.now mode.International (option_copied own.entry) number.now) }
+    ensures national { IfOk result (λ t. string_bytes t.national ≡
+        text_by m.now mode.National (option_copied own.entry) number.now) }
+    ensures rfc3966 { IfOk result (λ t. string_bytes t.rfc3966 ≡
+        text_by m.now mode.Rfc3966 (option_copied own.entry) number.now) }
+{
+    let layouts = layouts_of(m, own, digits)?;
+    let (abroad, at_home) = (layouts.abroad, layouts.at_home);
+    let (abroad, at_home) = both(
+        laid_by(
+            alloc,
+            finder,
+            m,
+            Mode::International,
+            abroad,
+            number,
+            digits,
+        ),
+        laid_by(alloc, finder, m, Mode::National, at_home, number, digits),
     )?;
-    let laid_at_home = laid_by(
-        alloc,
-        finder,
-        m,
-        Mode::National,
-        layouts.at_home,
-        number,
-        digits.as_str(),
+    texts_laid(alloc, abroad.as_str(), at_home, m, number)
+}
+
+/// Two values, where neither is refused; else a refusal.
+fn both<A: Drop, B: Drop, E: Drop>(first: Result<A, E>, second: Result<B, E>) -> Result<(A, B), E>
+    ensures { IfOk result (λ pair. (first ≡ Ok pair.0) × (second ≡ Ok pair.1)) }
+{
+    Ok((first?, second?))
+}
+
+/// The texts in all modes of a number that is laid out so, abroad and at home.
+fn texts_laid(
+    alloc: Global,
+    abroad: &str,
+    at_home: String,
+    m: &Metadata,
+    number: &PhoneNumber,
+) -> Result<Texts, AllocError>
+    ensures e164 { IfOk result (λ t. string_bytes t.e164 ≡ e164_text number.now) }
+    ensures international { IfOk result (λ t. string_bytes t.international ≡
+        43 ∷ (decimal number.now.code.value ++
+        32 ∷ (abroad.now ++ extension_part m.now number.now.extension))) }
+    ensures national { IfOk result (λ t. string_bytes t.national ≡
+        string_bytes at_home ++ extension_part m.now number.now.extension) }
+    ensures rfc3966 { IfOk result (λ t. string_bytes t.rfc3966 ≡
+        codes "tel:+" ++ (decimal number.now.code.value ++
+        45 ∷ (encode_utf8_all (hyphenated (chars abroad.now)) ++
+        extension_parameter number.now.extension))) }
+{
+    let ((e164, international), (national, rfc3966)) = both(
+        both(
+            format!(in alloc; "{number}"),
+            international(alloc, abroad, m, number),
+        ),
+        both(
+            with_extension(at_home, m, number),
+            rfc3966(alloc, abroad, number),
+        ),
     )?;
     Ok(Texts {
-        e164: format!(in alloc; "{number}")?,
-        international: international(alloc, laid.as_str(), m, number)?,
-        national: with_extension(laid_at_home, m, number)?,
-        rfc3966: rfc3966(alloc, laid.as_str(), number)?,
+        e164,
+        international,
+        national,
+        rfc3966,
     })
 }
 
@@ -109,27 +167,45 @@ fn international(
 fn rfc3966(alloc: Global, laid: &str, number: &PhoneNumber) -> Result<String, AllocError>
     ensures { IfOk result (λ t. string_bytes t ≡ codes "tel:+" ++ (decimal number.now.code.value ++ 45 ∷ (encode_utf8_all (hyphenated (chars laid.now)) ++ extension_parameter number.now.extension))) }
 {
-    let code = number.code().value();
     let hyphens = hyphenated(alloc, laid)?;
-    let mut text = format!(in alloc; "{RFC3966_PREFIX}+{code}-{hyphens}")?;
-    if let Some(extension) = number.extension() {
-        text.push_str(RFC3966_EXTN_PREFIX)?;
-        text.push_str(extension.as_str())?;
+    rfc3966_of(alloc, hyphens.as_str(), number)
+}
+
+/// The text of RFC 3966 of a number whose national number is written so, with hyphens alone.
+fn rfc3966_of(alloc: Global, hyphens: &str, number: &PhoneNumber) -> Result<String, AllocError>
+    ensures { IfOk result (λ t. string_bytes t ≡
+        codes "tel:+" ++ (decimal number.now.code.value ++
+        45 ∷ (hyphens.now ++ extension_parameter number.now.extension))) }
+{
+    let code = number.code().value();
+    let text = format!(in alloc; "{RFC3966_PREFIX}+{code}-{hyphens}")?;
+    match number.extension() {
+        Some(extension) => announced(text, RFC3966_EXTN_PREFIX, extension.as_str()),
+        None => Ok(text),
     }
-    Ok(text)
 }
 
 /// A text and the extension after it, announced by the territory's preferred prefix, else by ` ext. `.
 fn with_extension(text: String, m: &Metadata, number: &PhoneNumber) -> Result<String, AllocError>
     ensures { IfOk result (λ t. string_bytes t ≡ string_bytes text ++ extension_part m.now number.now.extension) }
 {
+    let prefix = m
+        .preferred_extension_prefix()
+        .unwrap_or(DEFAULT_EXTN_PREFIX);
+    match number.extension() {
+        Some(extension) => announced(text, prefix, extension.as_str()),
+        None => Ok(text),
+    }
+}
+
+/// A text, and after it an extension that a prefix announces.
+fn announced(text: String, prefix: &str, extension: &str) -> Result<String, AllocError>
+    ensures { IfOk result (λ t. string_bytes t ≡
+        string_bytes text ++ (prefix.now ++ extension.now)) }
+{
     let mut text = text;
-    if let Some(extension) = number.extension() {
-        let prefix = m
-            .preferred_extension_prefix()
-            .unwrap_or(DEFAULT_EXTN_PREFIX);
-        text.push_str(prefix)?;
-        text.push_str(extension.as_str())?;
+    if text.push_str(prefix).is_err() || text.push_str(extension).is_err() {
+        return Err(AllocError);
     }
     Ok(text)
 }
@@ -147,8 +223,25 @@ fn laid_out(
 {
     let national = number.national();
     let digits = format!(in alloc; "{national}")?;
-    let layout = layout_for(m, mode, own, digits.as_str())?;
-    laid_by(alloc, finder, m, mode, layout, number, digits.as_str())
+    laid_in_mode(alloc, finder, m, mode, own, number, digits.as_str())
+}
+
+/// Digits of a number, laid out by the layout that counts; the digits where there is none.
+fn laid_in_mode(
+    alloc: Global,
+    finder: &FirstGroup,
+    m: &Metadata,
+    mode: Mode,
+    own: Option<&Format>,
+    number: &PhoneNumber,
+    digits: &str,
+) -> Result<String, AllocError>
+    ensures { IfOk result (λ t. string_bytes t ≡
+        laid (layout_for m.now mode (option_copied own.entry) digits.now)
+        m.now mode number.now.carrier digits.now) }
+{
+    let layout = layout_for(m, mode, own, digits)?;
+    laid_by(alloc, finder, m, mode, layout, number, digits)
 }
 
 /// Digits of a number, laid out by a layout; the digits themselves where there is none.

@@ -1,7 +1,11 @@
 //! What a database tells of a number: its territory, its region, its kind, whether it is valid.
-ghost use Rattle.std.specs.Prelude.{◌≡◌, IfOk, string_bytes};
+ghost use Rattle.std.specs.Prelude.{◌≡◌, IfOk, false, string_bytes};
 ghost use Rattle.std.specs.Fmt.{decimal};
-ghost use Rattle.std.specs.Option.{option_copied};
+ghost use Rattle.std.specs.Option.{option_and_then, option_copied, option_map_or};
+ghost use Rattle.phone_core.specs.Ids.{id_of};
+ghost use Rattle.phone_core.specs.declared.kind.«Type».TheVariants.{Unknown};
+ghost use Rattle.phone_read.specs.Regions.{home, is_known, type_of};
+ghost use Rattle.phone_records.specs.declared.loader.Metadata as loader;
 ghost use Rattle.phonenumber.specs.Queries.{is_valid, kind_of_number, region_of_number, territory_of_number};
 
 use crate::PhoneNumber;
@@ -94,11 +98,17 @@ impl PhoneNumber {
     pub fn number_type(&self, database: &Database) -> Result<Type, AllocError>
         ensures { IfOk result (λ kind. kind ≡ kind_of_number database.now self.now) }
     {
-        let digits = self.value_text(database.allocator())?;
-        match validator::home(database, self.code().value(), digits.as_str())? {
-            Some(territory) => validator::number_type(territory, digits.as_str()),
-            None => Ok(Type::Unknown),
-        }
+        let (_, kind) = self.region_and_kind(database)?;
+        Ok(kind)
+    }
+
+    /// The region of the number's territory, and the kind of number that its value is there.
+    fn region_and_kind(&self, database: &Database) -> Result<(Option<Id>, Type), AllocError>
+        ensures region { IfOk result (λ told. told.0 ≡ region_of_number database.now self.now) }
+        ensures kind { IfOk result (λ told. told.1 ≡ kind_of_number database.now self.now) }
+    {
+        let value = self.value_text(database.allocator())?;
+        region_and_kind_of(database, self.code().value(), value.as_str())
     }
 
     /// The number's region, kind and validity at once, as `country`, `number_type` and `is_valid_with` tell them: its territory
@@ -108,14 +118,7 @@ impl PhoneNumber {
         ensures kind { IfOk result (λ q. q.kind ≡ kind_of_number database.now self.now) }
         ensures is_valid { IfOk result (λ q. q.is_valid ≡ is_valid database.now self.now) }
     {
-        let value = self.value_text(database.allocator())?;
-        let (region, kind) = match validator::home(database, self.code().value(), value.as_str())? {
-            Some(territory) => (
-                territory.id().parse::<Id>().ok(),
-                validator::number_type(territory, value.as_str())?,
-            ),
-            None => (None, Type::Unknown),
-        };
+        let (region, kind) = self.region_and_kind(database)?;
         let is_valid = match self.national().zeros() {
             0 => kind != Type::Unknown,
             _ => self.is_valid_with(database)?,
@@ -133,12 +136,41 @@ impl PhoneNumber {
     {
         let national = self.national();
         let digits = format!(in database.allocator(); "{national}")?;
-        match validator::home(database, self.code().value(), digits.as_str())? {
-            Some(territory) => {
-                Ok(validator::number_type(territory, digits.as_str())? != Type::Unknown)
-            }
-            None => Ok(false),
+        is_known_in(database, self.code().value(), digits.as_str())
+    }
+}
+
+/// The region of the territory that digits of this calling code belong to, and their kind there.
+fn region_and_kind_of(
+    database: &Database,
+    code: u16,
+    digits: &str,
+) -> Result<(Option<Id>, Type), AllocError>
+    ensures region { IfOk result (λ told. told.0 ≡
+        option_and_then (λ (m : loader.Metadata). option_and_then id_of m.id)
+        (home database.now code digits.now)) }
+    ensures kind { IfOk result (λ told. told.1 ≡
+        option_map_or (λ (m : loader.Metadata). type_of m digits.now)
+        (home database.now code digits.now) Unknown) }
+{
+    match validator::home(database, code, digits)? {
+        Some(territory) => {
+            let kind = validator::number_type(territory, digits)?;
+            Ok((territory.id().parse::<Id>().ok(), kind))
         }
+        None => Ok((None, Type::Unknown)),
+    }
+}
+
+/// Whether digits of this calling code are of a known kind in a territory.
+fn is_known_in(database: &Database, code: u16, digits: &str) -> Result<bool, AllocError>
+    ensures { IfOk result (λ known. known ≡
+        option_map_or (λ (m : loader.Metadata). is_known (type_of m digits.now))
+        (home database.now code digits.now) false) }
+{
+    match validator::home(database, code, digits)? {
+        Some(territory) => Ok(validator::number_type(territory, digits)? != Type::Unknown),
+        None => Ok(false),
     }
 }
 
