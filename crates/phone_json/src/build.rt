@@ -8,6 +8,7 @@ ghost use Rattle.phone_json.specs.Records.{descriptor_of, descriptor_at, format_
 ghost use Rattle.phone_records.specs.Empty.{no_descriptor, no_format, no_defaults};
 
 use crate::fields::{field, items_at, items_in, number_at, small_number, truth_at};
+use crate::steps::{both, put};
 use phone_records::loader::{Defaults, Descriptor, Format, Items, Metadata, Text};
 use serde_json::Value;
 use std::alloc::{AllocError, Global};
@@ -58,11 +59,21 @@ fn numbers_at(alloc: Global, object: &Value, key: &str) -> Result<Items<u16>, Al
 fn descriptor(alloc: Global, object: &Value) -> Result<Descriptor, AllocError>
     ensures { IfOk result (λ d. d ≡ descriptor_of (view object.now)) }
 {
+    let ((national_number, example), (possible_length, possible_local_length)) = both(
+        both(
+            text_at(alloc, object, "national_number"),
+            text_at(alloc, object, "example"),
+        ),
+        both(
+            numbers_at(alloc, object, "possible_length"),
+            numbers_at(alloc, object, "possible_local_length"),
+        ),
+    )?;
     Ok(Descriptor {
-        national_number: text_at(alloc, object, "national_number")?,
-        possible_length: numbers_at(alloc, object, "possible_length")?,
-        possible_local_length: numbers_at(alloc, object, "possible_local_length")?,
-        example: text_at(alloc, object, "example")?,
+        national_number,
+        possible_length,
+        possible_local_length,
+        example,
     })
 }
 
@@ -79,16 +90,28 @@ fn descriptor_at(alloc: Global, object: &Value, key: &str) -> Result<Option<Desc
 fn format(alloc: Global, object: &Value) -> Result<Format, AllocError>
     ensures { IfOk result (λ f. f ≡ format_of (view object.now)) }
 {
+    let rules = both(
+        text_at(alloc, object, "national_prefix_formatting_rule"),
+        text_at(alloc, object, "domestic_carrier"),
+    );
+    let ((pattern, format), (leading_digits, rules)) = both(
+        both(
+            text_at(alloc, object, "pattern"),
+            text_at(alloc, object, "format"),
+        ),
+        both(texts_at(alloc, object, "leading_digits"), rules),
+    )?;
+    let (national_prefix_formatting_rule, domestic_carrier) = rules;
     Ok(Format {
-        pattern: text_at(alloc, object, "pattern")?,
-        format: text_at(alloc, object, "format")?,
-        leading_digits: texts_at(alloc, object, "leading_digits")?,
-        national_prefix_formatting_rule: text_at(alloc, object, "national_prefix_formatting_rule")?,
+        pattern,
+        format,
+        leading_digits,
+        national_prefix_formatting_rule,
         national_prefix_optional_when_formatting: truth_at(
             object,
             "national_prefix_optional_when_formatting",
         ),
-        domestic_carrier: text_at(alloc, object, "domestic_carrier")?,
+        domestic_carrier,
     })
 }
 
@@ -127,24 +150,37 @@ fn defaults_at(alloc: Global, object: &Value) -> Result<Defaults, AllocError>
     let Some(value) = field(object, "defaults") else {
         return Ok(Defaults::empty(alloc));
     };
-    Ok(Defaults {
-        format: default_format(alloc, value)?,
-        descriptor: default_descriptor(alloc, value)?,
-    })
+    let (format, descriptor) = both(
+        default_format(alloc, value),
+        default_descriptor(alloc, value),
+    )?;
+    Ok(Defaults { format, descriptor })
 }
 
 #[tactic(auto, unfolding(crate::specs::Records::with_first_kinds))]
 fn read_first_kinds(alloc: Global, object: &Value, m: &mut Metadata) -> Result<(), AllocError>
     ensures { OnOk result (m.new ≡ with_first_kinds (view object.now) m.old) }
 {
-    m.general = descriptor_at(alloc, object, "general")?;
-    m.fixed_line = descriptor_at(alloc, object, "fixed_line")?;
-    m.mobile = descriptor_at(alloc, object, "mobile")?;
-    m.toll_free = descriptor_at(alloc, object, "toll_free")?;
-    m.premium_rate = descriptor_at(alloc, object, "premium_rate")?;
-    m.shared_cost = descriptor_at(alloc, object, "shared_cost")?;
-    m.personal_number = descriptor_at(alloc, object, "personal_number")?;
-    m.voip = descriptor_at(alloc, object, "voip")?;
+    put(descriptor_at(alloc, object, "general"), &mut m.general)?;
+    put(
+        descriptor_at(alloc, object, "fixed_line"),
+        &mut m.fixed_line,
+    )?;
+    put(descriptor_at(alloc, object, "mobile"), &mut m.mobile)?;
+    put(descriptor_at(alloc, object, "toll_free"), &mut m.toll_free)?;
+    put(
+        descriptor_at(alloc, object, "premium_rate"),
+        &mut m.premium_rate,
+    )?;
+    put(
+        descriptor_at(alloc, object, "shared_cost"),
+        &mut m.shared_cost,
+    )?;
+    put(
+        descriptor_at(alloc, object, "personal_number"),
+        &mut m.personal_number,
+    )?;
+    put(descriptor_at(alloc, object, "voip"), &mut m.voip)?;
     Ok(())
 }
 
@@ -152,14 +188,23 @@ fn read_first_kinds(alloc: Global, object: &Value, m: &mut Metadata) -> Result<(
 fn read_last_kinds(alloc: Global, object: &Value, m: &mut Metadata) -> Result<(), AllocError>
     ensures { OnOk result (m.new ≡ with_last_kinds (view object.now) m.old) }
 {
-    m.pager = descriptor_at(alloc, object, "pager")?;
-    m.uan = descriptor_at(alloc, object, "uan")?;
-    m.emergency = descriptor_at(alloc, object, "emergency")?;
-    m.voicemail = descriptor_at(alloc, object, "voicemail")?;
-    m.short_code = descriptor_at(alloc, object, "short_code")?;
-    m.standard_rate = descriptor_at(alloc, object, "standard_rate")?;
-    m.carrier = descriptor_at(alloc, object, "carrier")?;
-    m.no_international = descriptor_at(alloc, object, "no_international")?;
+    put(descriptor_at(alloc, object, "pager"), &mut m.pager)?;
+    put(descriptor_at(alloc, object, "uan"), &mut m.uan)?;
+    put(descriptor_at(alloc, object, "emergency"), &mut m.emergency)?;
+    put(descriptor_at(alloc, object, "voicemail"), &mut m.voicemail)?;
+    put(
+        descriptor_at(alloc, object, "short_code"),
+        &mut m.short_code,
+    )?;
+    put(
+        descriptor_at(alloc, object, "standard_rate"),
+        &mut m.standard_rate,
+    )?;
+    put(descriptor_at(alloc, object, "carrier"), &mut m.carrier)?;
+    put(
+        descriptor_at(alloc, object, "no_international"),
+        &mut m.no_international,
+    )?;
     Ok(())
 }
 
@@ -167,12 +212,30 @@ fn read_last_kinds(alloc: Global, object: &Value, m: &mut Metadata) -> Result<()
 fn read_prefixes(alloc: Global, object: &Value, m: &mut Metadata) -> Result<(), AllocError>
     ensures { OnOk result (m.new ≡ with_prefixes (view object.now) m.old) }
 {
-    m.international_prefix = text_at(alloc, object, "international_prefix")?;
-    m.preferred_international_prefix = text_at(alloc, object, "preferred_international_prefix")?;
-    m.national_prefix = text_at(alloc, object, "national_prefix")?;
-    m.preferred_extension_prefix = text_at(alloc, object, "preferred_extension_prefix")?;
-    m.national_prefix_for_parsing = text_at(alloc, object, "national_prefix_for_parsing")?;
-    m.national_prefix_transform_rule = text_at(alloc, object, "national_prefix_transform_rule")?;
+    put(
+        text_at(alloc, object, "international_prefix"),
+        &mut m.international_prefix,
+    )?;
+    put(
+        text_at(alloc, object, "preferred_international_prefix"),
+        &mut m.preferred_international_prefix,
+    )?;
+    put(
+        text_at(alloc, object, "national_prefix"),
+        &mut m.national_prefix,
+    )?;
+    put(
+        text_at(alloc, object, "preferred_extension_prefix"),
+        &mut m.preferred_extension_prefix,
+    )?;
+    put(
+        text_at(alloc, object, "national_prefix_for_parsing"),
+        &mut m.national_prefix_for_parsing,
+    )?;
+    put(
+        text_at(alloc, object, "national_prefix_transform_rule"),
+        &mut m.national_prefix_transform_rule,
+    )?;
     Ok(())
 }
 
@@ -180,14 +243,20 @@ fn read_prefixes(alloc: Global, object: &Value, m: &mut Metadata) -> Result<(), 
 fn read_others(alloc: Global, object: &Value, m: &mut Metadata) -> Result<(), AllocError>
     ensures { OnOk result (m.new ≡ with_others (view object.now) m.old) }
 {
-    m.id = text_at(alloc, object, "id")?;
     m.country_code = number_at(object, "country_code");
-    m.formats = formats_at(alloc, object, "formats")?;
-    m.international_formats = formats_at(alloc, object, "international_formats")?;
     m.main_country_for_code = truth_at(object, "main_country_for_code");
-    m.leading_digits = text_at(alloc, object, "leading_digits")?;
     m.mobile_number_portable = truth_at(object, "mobile_number_portable");
-    m.defaults = defaults_at(alloc, object)?;
+    put(text_at(alloc, object, "id"), &mut m.id)?;
+    put(formats_at(alloc, object, "formats"), &mut m.formats)?;
+    put(
+        formats_at(alloc, object, "international_formats"),
+        &mut m.international_formats,
+    )?;
+    put(
+        text_at(alloc, object, "leading_digits"),
+        &mut m.leading_digits,
+    )?;
+    put(defaults_at(alloc, object), &mut m.defaults)?;
     Ok(())
 }
 
