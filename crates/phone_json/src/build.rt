@@ -157,30 +157,42 @@ fn defaults_at(alloc: Global, object: &Value) -> Result<Defaults, AllocError>
     Ok(Defaults { format, descriptor })
 }
 
+/// Puts the text at a key in its place.
+fn read_text(
+    alloc: Global,
+    object: &Value,
+    key: &str,
+    place: &mut Option<Text>,
+) -> Result<(), AllocError>
+    ensures { OnOk result (place.new ≡ text_at key.now (view object.now)) }
+{
+    put(text_at(alloc, object, key), place)
+}
+
+/// Puts the descriptor at a key in its place.
+fn read_descriptor(
+    alloc: Global,
+    object: &Value,
+    key: &str,
+    place: &mut Option<Descriptor>,
+) -> Result<(), AllocError>
+    ensures { OnOk result (place.new ≡ descriptor_at key.now (view object.now)) }
+{
+    put(descriptor_at(alloc, object, key), place)
+}
+
 #[tactic(auto, unfolding(crate::specs::Records::with_first_kinds))]
 fn read_first_kinds(alloc: Global, object: &Value, m: &mut Metadata) -> Result<(), AllocError>
     ensures { OnOk result (m.new ≡ with_first_kinds (view object.now) m.old) }
 {
-    put(descriptor_at(alloc, object, "general"), &mut m.general)?;
-    put(
-        descriptor_at(alloc, object, "fixed_line"),
-        &mut m.fixed_line,
-    )?;
-    put(descriptor_at(alloc, object, "mobile"), &mut m.mobile)?;
-    put(descriptor_at(alloc, object, "toll_free"), &mut m.toll_free)?;
-    put(
-        descriptor_at(alloc, object, "premium_rate"),
-        &mut m.premium_rate,
-    )?;
-    put(
-        descriptor_at(alloc, object, "shared_cost"),
-        &mut m.shared_cost,
-    )?;
-    put(
-        descriptor_at(alloc, object, "personal_number"),
-        &mut m.personal_number,
-    )?;
-    put(descriptor_at(alloc, object, "voip"), &mut m.voip)?;
+    read_descriptor(alloc, object, "general", &mut m.general)?;
+    read_descriptor(alloc, object, "fixed_line", &mut m.fixed_line)?;
+    read_descriptor(alloc, object, "mobile", &mut m.mobile)?;
+    read_descriptor(alloc, object, "toll_free", &mut m.toll_free)?;
+    read_descriptor(alloc, object, "premium_rate", &mut m.premium_rate)?;
+    read_descriptor(alloc, object, "shared_cost", &mut m.shared_cost)?;
+    read_descriptor(alloc, object, "personal_number", &mut m.personal_number)?;
+    read_descriptor(alloc, object, "voip", &mut m.voip)?;
     Ok(())
 }
 
@@ -188,23 +200,14 @@ fn read_first_kinds(alloc: Global, object: &Value, m: &mut Metadata) -> Result<(
 fn read_last_kinds(alloc: Global, object: &Value, m: &mut Metadata) -> Result<(), AllocError>
     ensures { OnOk result (m.new ≡ with_last_kinds (view object.now) m.old) }
 {
-    put(descriptor_at(alloc, object, "pager"), &mut m.pager)?;
-    put(descriptor_at(alloc, object, "uan"), &mut m.uan)?;
-    put(descriptor_at(alloc, object, "emergency"), &mut m.emergency)?;
-    put(descriptor_at(alloc, object, "voicemail"), &mut m.voicemail)?;
-    put(
-        descriptor_at(alloc, object, "short_code"),
-        &mut m.short_code,
-    )?;
-    put(
-        descriptor_at(alloc, object, "standard_rate"),
-        &mut m.standard_rate,
-    )?;
-    put(descriptor_at(alloc, object, "carrier"), &mut m.carrier)?;
-    put(
-        descriptor_at(alloc, object, "no_international"),
-        &mut m.no_international,
-    )?;
+    read_descriptor(alloc, object, "pager", &mut m.pager)?;
+    read_descriptor(alloc, object, "uan", &mut m.uan)?;
+    read_descriptor(alloc, object, "emergency", &mut m.emergency)?;
+    read_descriptor(alloc, object, "voicemail", &mut m.voicemail)?;
+    read_descriptor(alloc, object, "short_code", &mut m.short_code)?;
+    read_descriptor(alloc, object, "standard_rate", &mut m.standard_rate)?;
+    read_descriptor(alloc, object, "carrier", &mut m.carrier)?;
+    read_descriptor(alloc, object, "no_international", &mut m.no_international)?;
     Ok(())
 }
 
@@ -212,28 +215,35 @@ fn read_last_kinds(alloc: Global, object: &Value, m: &mut Metadata) -> Result<()
 fn read_prefixes(alloc: Global, object: &Value, m: &mut Metadata) -> Result<(), AllocError>
     ensures { OnOk result (m.new ≡ with_prefixes (view object.now) m.old) }
 {
-    put(
-        text_at(alloc, object, "international_prefix"),
+    read_text(
+        alloc,
+        object,
+        "international_prefix",
         &mut m.international_prefix,
     )?;
-    put(
-        text_at(alloc, object, "preferred_international_prefix"),
+    read_text(
+        alloc,
+        object,
+        "preferred_international_prefix",
         &mut m.preferred_international_prefix,
     )?;
-    put(
-        text_at(alloc, object, "national_prefix"),
-        &mut m.national_prefix,
-    )?;
-    put(
-        text_at(alloc, object, "preferred_extension_prefix"),
+    read_text(alloc, object, "national_prefix", &mut m.national_prefix)?;
+    read_text(
+        alloc,
+        object,
+        "preferred_extension_prefix",
         &mut m.preferred_extension_prefix,
     )?;
-    put(
-        text_at(alloc, object, "national_prefix_for_parsing"),
+    read_text(
+        alloc,
+        object,
+        "national_prefix_for_parsing",
         &mut m.national_prefix_for_parsing,
     )?;
-    put(
-        text_at(alloc, object, "national_prefix_transform_rule"),
+    read_text(
+        alloc,
+        object,
+        "national_prefix_transform_rule",
         &mut m.national_prefix_transform_rule,
     )?;
     Ok(())
@@ -246,16 +256,13 @@ fn read_others(alloc: Global, object: &Value, m: &mut Metadata) -> Result<(), Al
     m.country_code = number_at(object, "country_code");
     m.main_country_for_code = truth_at(object, "main_country_for_code");
     m.mobile_number_portable = truth_at(object, "mobile_number_portable");
-    put(text_at(alloc, object, "id"), &mut m.id)?;
+    read_text(alloc, object, "id", &mut m.id)?;
     put(formats_at(alloc, object, "formats"), &mut m.formats)?;
     put(
         formats_at(alloc, object, "international_formats"),
         &mut m.international_formats,
     )?;
-    put(
-        text_at(alloc, object, "leading_digits"),
-        &mut m.leading_digits,
-    )?;
+    read_text(alloc, object, "leading_digits", &mut m.leading_digits)?;
     put(defaults_at(alloc, object), &mut m.defaults)?;
     Ok(())
 }
