@@ -8,6 +8,7 @@ ghost use Rattle.phone_json.specs.Records.{descriptor_of, descriptor_at, format_
 ghost use Rattle.phone_records.specs.Empty.{no_descriptor, no_format, no_defaults};
 
 use crate::fields::{field, items_at, items_in, number_at, small_number, truth_at};
+use crate::steps::{both, put};
 use phone_records::loader::{Defaults, Descriptor, Format, Items, Metadata, Text};
 use serde_json::Value;
 use std::alloc::{AllocError, Global};
@@ -58,11 +59,21 @@ fn numbers_at(alloc: Global, object: &Value, key: &str) -> Result<Items<u16>, Al
 fn descriptor(alloc: Global, object: &Value) -> Result<Descriptor, AllocError>
     ensures { IfOk result (λ d. d ≡ descriptor_of (view object.now)) }
 {
+    let ((national_number, example), (possible_length, possible_local_length)) = both(
+        both(
+            text_at(alloc, object, "national_number"),
+            text_at(alloc, object, "example"),
+        ),
+        both(
+            numbers_at(alloc, object, "possible_length"),
+            numbers_at(alloc, object, "possible_local_length"),
+        ),
+    )?;
     Ok(Descriptor {
-        national_number: text_at(alloc, object, "national_number")?,
-        possible_length: numbers_at(alloc, object, "possible_length")?,
-        possible_local_length: numbers_at(alloc, object, "possible_local_length")?,
-        example: text_at(alloc, object, "example")?,
+        national_number,
+        possible_length,
+        possible_local_length,
+        example,
     })
 }
 
@@ -79,16 +90,28 @@ fn descriptor_at(alloc: Global, object: &Value, key: &str) -> Result<Option<Desc
 fn format(alloc: Global, object: &Value) -> Result<Format, AllocError>
     ensures { IfOk result (λ f. f ≡ format_of (view object.now)) }
 {
+    let rules = both(
+        text_at(alloc, object, "national_prefix_formatting_rule"),
+        text_at(alloc, object, "domestic_carrier"),
+    );
+    let ((pattern, format), (leading_digits, rules)) = both(
+        both(
+            text_at(alloc, object, "pattern"),
+            text_at(alloc, object, "format"),
+        ),
+        both(texts_at(alloc, object, "leading_digits"), rules),
+    )?;
+    let (national_prefix_formatting_rule, domestic_carrier) = rules;
     Ok(Format {
-        pattern: text_at(alloc, object, "pattern")?,
-        format: text_at(alloc, object, "format")?,
-        leading_digits: texts_at(alloc, object, "leading_digits")?,
-        national_prefix_formatting_rule: text_at(alloc, object, "national_prefix_formatting_rule")?,
+        pattern,
+        format,
+        leading_digits,
+        national_prefix_formatting_rule,
         national_prefix_optional_when_formatting: truth_at(
             object,
             "national_prefix_optional_when_formatting",
         ),
-        domestic_carrier: text_at(alloc, object, "domestic_carrier")?,
+        domestic_carrier,
     })
 }
 
@@ -127,24 +150,49 @@ fn defaults_at(alloc: Global, object: &Value) -> Result<Defaults, AllocError>
     let Some(value) = field(object, "defaults") else {
         return Ok(Defaults::empty(alloc));
     };
-    Ok(Defaults {
-        format: default_format(alloc, value)?,
-        descriptor: default_descriptor(alloc, value)?,
-    })
+    let (format, descriptor) = both(
+        default_format(alloc, value),
+        default_descriptor(alloc, value),
+    )?;
+    Ok(Defaults { format, descriptor })
+}
+
+/// Puts the text at a key in its place.
+fn read_text(
+    alloc: Global,
+    object: &Value,
+    key: &str,
+    place: &mut Option<Text>,
+) -> Result<(), AllocError>
+    ensures { OnOk result (place.new ≡ text_at key.now (view object.now)) }
+{
+    put(text_at(alloc, object, key), place)
+}
+
+/// Puts the descriptor at a key in its place.
+fn read_descriptor(
+    alloc: Global,
+    object: &Value,
+    key: &str,
+    place: &mut Option<Descriptor>,
+) -> Result<(), AllocError>
+    ensures { OnOk result (place.new ≡ descriptor_at key.now (view object.now)) }
+{
+    put(descriptor_at(alloc, object, key), place)
 }
 
 #[tactic(auto, unfolding(crate::specs::Records::with_first_kinds))]
 fn read_first_kinds(alloc: Global, object: &Value, m: &mut Metadata) -> Result<(), AllocError>
     ensures { OnOk result (m.new ≡ with_first_kinds (view object.now) m.old) }
 {
-    m.general = descriptor_at(alloc, object, "general")?;
-    m.fixed_line = descriptor_at(alloc, object, "fixed_line")?;
-    m.mobile = descriptor_at(alloc, object, "mobile")?;
-    m.toll_free = descriptor_at(alloc, object, "toll_free")?;
-    m.premium_rate = descriptor_at(alloc, object, "premium_rate")?;
-    m.shared_cost = descriptor_at(alloc, object, "shared_cost")?;
-    m.personal_number = descriptor_at(alloc, object, "personal_number")?;
-    m.voip = descriptor_at(alloc, object, "voip")?;
+    read_descriptor(alloc, object, "general", &mut m.general)?;
+    read_descriptor(alloc, object, "fixed_line", &mut m.fixed_line)?;
+    read_descriptor(alloc, object, "mobile", &mut m.mobile)?;
+    read_descriptor(alloc, object, "toll_free", &mut m.toll_free)?;
+    read_descriptor(alloc, object, "premium_rate", &mut m.premium_rate)?;
+    read_descriptor(alloc, object, "shared_cost", &mut m.shared_cost)?;
+    read_descriptor(alloc, object, "personal_number", &mut m.personal_number)?;
+    read_descriptor(alloc, object, "voip", &mut m.voip)?;
     Ok(())
 }
 
@@ -152,14 +200,14 @@ fn read_first_kinds(alloc: Global, object: &Value, m: &mut Metadata) -> Result<(
 fn read_last_kinds(alloc: Global, object: &Value, m: &mut Metadata) -> Result<(), AllocError>
     ensures { OnOk result (m.new ≡ with_last_kinds (view object.now) m.old) }
 {
-    m.pager = descriptor_at(alloc, object, "pager")?;
-    m.uan = descriptor_at(alloc, object, "uan")?;
-    m.emergency = descriptor_at(alloc, object, "emergency")?;
-    m.voicemail = descriptor_at(alloc, object, "voicemail")?;
-    m.short_code = descriptor_at(alloc, object, "short_code")?;
-    m.standard_rate = descriptor_at(alloc, object, "standard_rate")?;
-    m.carrier = descriptor_at(alloc, object, "carrier")?;
-    m.no_international = descriptor_at(alloc, object, "no_international")?;
+    read_descriptor(alloc, object, "pager", &mut m.pager)?;
+    read_descriptor(alloc, object, "uan", &mut m.uan)?;
+    read_descriptor(alloc, object, "emergency", &mut m.emergency)?;
+    read_descriptor(alloc, object, "voicemail", &mut m.voicemail)?;
+    read_descriptor(alloc, object, "short_code", &mut m.short_code)?;
+    read_descriptor(alloc, object, "standard_rate", &mut m.standard_rate)?;
+    read_descriptor(alloc, object, "carrier", &mut m.carrier)?;
+    read_descriptor(alloc, object, "no_international", &mut m.no_international)?;
     Ok(())
 }
 
@@ -167,12 +215,37 @@ fn read_last_kinds(alloc: Global, object: &Value, m: &mut Metadata) -> Result<()
 fn read_prefixes(alloc: Global, object: &Value, m: &mut Metadata) -> Result<(), AllocError>
     ensures { OnOk result (m.new ≡ with_prefixes (view object.now) m.old) }
 {
-    m.international_prefix = text_at(alloc, object, "international_prefix")?;
-    m.preferred_international_prefix = text_at(alloc, object, "preferred_international_prefix")?;
-    m.national_prefix = text_at(alloc, object, "national_prefix")?;
-    m.preferred_extension_prefix = text_at(alloc, object, "preferred_extension_prefix")?;
-    m.national_prefix_for_parsing = text_at(alloc, object, "national_prefix_for_parsing")?;
-    m.national_prefix_transform_rule = text_at(alloc, object, "national_prefix_transform_rule")?;
+    read_text(
+        alloc,
+        object,
+        "international_prefix",
+        &mut m.international_prefix,
+    )?;
+    read_text(
+        alloc,
+        object,
+        "preferred_international_prefix",
+        &mut m.preferred_international_prefix,
+    )?;
+    read_text(alloc, object, "national_prefix", &mut m.national_prefix)?;
+    read_text(
+        alloc,
+        object,
+        "preferred_extension_prefix",
+        &mut m.preferred_extension_prefix,
+    )?;
+    read_text(
+        alloc,
+        object,
+        "national_prefix_for_parsing",
+        &mut m.national_prefix_for_parsing,
+    )?;
+    read_text(
+        alloc,
+        object,
+        "national_prefix_transform_rule",
+        &mut m.national_prefix_transform_rule,
+    )?;
     Ok(())
 }
 
@@ -180,14 +253,17 @@ fn read_prefixes(alloc: Global, object: &Value, m: &mut Metadata) -> Result<(), 
 fn read_others(alloc: Global, object: &Value, m: &mut Metadata) -> Result<(), AllocError>
     ensures { OnOk result (m.new ≡ with_others (view object.now) m.old) }
 {
-    m.id = text_at(alloc, object, "id")?;
     m.country_code = number_at(object, "country_code");
-    m.formats = formats_at(alloc, object, "formats")?;
-    m.international_formats = formats_at(alloc, object, "international_formats")?;
     m.main_country_for_code = truth_at(object, "main_country_for_code");
-    m.leading_digits = text_at(alloc, object, "leading_digits")?;
     m.mobile_number_portable = truth_at(object, "mobile_number_portable");
-    m.defaults = defaults_at(alloc, object)?;
+    read_text(alloc, object, "id", &mut m.id)?;
+    put(formats_at(alloc, object, "formats"), &mut m.formats)?;
+    put(
+        formats_at(alloc, object, "international_formats"),
+        &mut m.international_formats,
+    )?;
+    read_text(alloc, object, "leading_digits", &mut m.leading_digits)?;
+    put(defaults_at(alloc, object), &mut m.defaults)?;
     Ok(())
 }
 

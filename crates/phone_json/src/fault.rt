@@ -1,8 +1,9 @@
 //! What may be wrong with a value of a database text.
-ghost use Rattle.std.specs.Prelude.{◌≡◌, IfOk};
-ghost use Rattle.phone_texts.specs.Errors.{told};
+ghost use Rattle.std.specs.Prelude.{◌≡◌, IfOk, string_bytes};
+ghost use Rattle.phone_records.specs.Errors.{told};
 ghost use Rattle.phone_json.specs.Told.{refusal_of};
 
+use crate::steps::both;
 use phone_core::MetadataError;
 use phone_records::LoadMetadata;
 use std::alloc::{AllocError, Global};
@@ -22,16 +23,21 @@ impl<'v> Fault<'v> {
         ensures { IfOk result (λ e. told e ≡ refusal_of self.entry) }
     {
         match self {
-            Fault::UnknownKey { phase, key } => Ok(LoadMetadata::Metadata(
-                MetadataError::UnhandledElement {
-                    phase: String::from_str(alloc, phase)?,
-                    name: String::from_str(alloc, key)?,
-                },
-            )),
-            Fault::WrongKind { phase, name } => Ok(LoadMetadata::Kind {
-                phase: String::from_str(alloc, phase)?,
-                name: String::from_str(alloc, name)?,
-            }),
+            Fault::UnknownKey { phase, key } => {
+                let (phase, name) = owned(alloc, phase, key)?;
+                Ok(LoadMetadata::Metadata(MetadataError::UnhandledElement { phase, name }))
+            }
+            Fault::WrongKind { phase, name } => {
+                let (phase, name) = owned(alloc, phase, name)?;
+                Ok(LoadMetadata::Kind { phase, name })
+            }
         }
     }
+}
+
+/// Two texts as strings of their own.
+fn owned(alloc: Global, a: &str, b: &str) -> Result<(String, String), AllocError>
+    ensures { IfOk result (λ pair. (string_bytes pair.0 ≡ a.now) × (string_bytes pair.1 ≡ b.now)) }
+{
+    both(String::from_str(alloc, a), String::from_str(alloc, b))
 }

@@ -29,7 +29,10 @@ pub fn small_number(value: &Value) -> Option<u16>
 pub fn number_at(object: &Value, key: &str) -> Option<u16>
     ensures { result ≡ number_at key.now (view object.now) }
 {
-    small_number(field(object, key)?)
+    match field(object, key) {
+        Some(value) => small_number(value),
+        None => None,
+    }
 }
 
 /// The truth value at a key; false where there is none.

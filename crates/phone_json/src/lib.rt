@@ -5,13 +5,14 @@ ghost use Rattle.std.specs.Prelude.{◌≡◌, ◌⊎◌, Err, IfOk, IfErr, None
 ghost use Rattle.std.specs.Result.{result_map_both};
 ghost use Rattle.serde_json.specs.Read.{read};
 ghost use Rattle.serde_json.specs.View.{view};
-ghost use Rattle.phone_texts.specs.Errors.{told};
-ghost use Rattle.phone_texts.specs.declared.error.LoadMetadata.TheVariants as error;
-ghost use Rattle.phone_json.specs.Records.{records_of};
+ghost use Rattle.phone_records.specs.Errors.{told};
+ghost use Rattle.phone_records.specs.declared.error.LoadMetadata.TheVariants as error;
+ghost use Rattle.phone_json.specs.Records.{records_in, records_of};
 
 mod build;
 mod fault;
 mod fields;
+mod steps;
 mod walk;
 
 use phone_records::LoadMetadata;
@@ -32,10 +33,17 @@ pub fn records(alloc: Global, text: &str) -> Result<Vec<Metadata>, LoadMetadata>
     ensures { (result ≡ Err error.Memory) ⊎ (result_map_both (λ v. v.items) told result ≡ records_of text.now) }
 {
     let value = read(alloc, text)?;
-    if let Some(fault) = walk::in_database(&value) {
+    records_in(alloc, &value)
+}
+
+/// The records that a value is, unless it has a fault.
+fn records_in(alloc: Global, value: &Value) -> Result<Vec<Metadata>, LoadMetadata>
+    ensures { (result ≡ Err error.Memory) ⊎ (result_map_both (λ v. v.items) told result ≡ records_in (view value.now)) }
+{
+    if let Some(fault) = walk::in_database(value) {
         return Err(fault.into_refusal(alloc)?);
     }
-    Ok(build::records(alloc, &value)?)
+    Ok(build::records(alloc, value)?)
 }
 
 fn read(alloc: Global, text: &str) -> Result<Value, LoadMetadata>

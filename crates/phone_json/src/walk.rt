@@ -45,8 +45,13 @@ fn least_unknown<'v>(known: &[&str], members: &'v Map<String, Value>) -> Option<
 fn unknown_key<'v>(object: &'v Value, phase: &'v str, known: &[&str]) -> Option<Fault<'v>>
     ensures { option_map refusal_of result ≡ unknown_fault phase.now (map shown known.now) (view object.now) }
 {
-    let key = least_unknown(known, object.as_object()?)?;
-    Some(Fault::UnknownKey { phase, key })
+    match object.as_object() {
+        Some(members) => match least_unknown(known, members) {
+            Some(key) => Some(Fault::UnknownKey { phase, key }),
+            None => None,
+        },
+        None => None,
+    }
 }
 
 fn in_text<'v>(value: &Value, wrong: Fault<'v>) -> Option<Fault<'v>>
@@ -109,31 +114,46 @@ fn in_numbers<'v>(value: &Value, wrong: Fault<'v>) -> Option<Fault<'v>>
 fn text_at<'v>(object: &'v Value, phase: &'v str, key: &'v str) -> Option<Fault<'v>>
     ensures { option_map refusal_of result ≡ fault_at text_fault phase.now (view object.now) key.now }
 {
-    in_text(field(object, key)?, Fault::WrongKind { phase, name: key })
+    match field(object, key) {
+        Some(value) => in_text(value, Fault::WrongKind { phase, name: key }),
+        None => None,
+    }
 }
 
 fn number_at<'v>(object: &'v Value, phase: &'v str, key: &'v str) -> Option<Fault<'v>>
     ensures { option_map refusal_of result ≡ fault_at number_fault phase.now (view object.now) key.now }
 {
-    in_number(field(object, key)?, Fault::WrongKind { phase, name: key })
+    match field(object, key) {
+        Some(value) => in_number(value, Fault::WrongKind { phase, name: key }),
+        None => None,
+    }
 }
 
 fn truth_at<'v>(object: &'v Value, phase: &'v str, key: &'v str) -> Option<Fault<'v>>
     ensures { option_map refusal_of result ≡ fault_at truth_fault phase.now (view object.now) key.now }
 {
-    in_truth(field(object, key)?, Fault::WrongKind { phase, name: key })
+    match field(object, key) {
+        Some(value) => in_truth(value, Fault::WrongKind { phase, name: key }),
+        None => None,
+    }
 }
 
 fn texts_at<'v>(object: &'v Value, phase: &'v str, key: &'v str) -> Option<Fault<'v>>
     ensures { option_map refusal_of result ≡ fault_at (list_fault text_fault) phase.now (view object.now) key.now }
 {
-    in_texts(field(object, key)?, Fault::WrongKind { phase, name: key })
+    match field(object, key) {
+        Some(value) => in_texts(value, Fault::WrongKind { phase, name: key }),
+        None => None,
+    }
 }
 
 fn numbers_at<'v>(object: &'v Value, phase: &'v str, key: &'v str) -> Option<Fault<'v>>
     ensures { option_map refusal_of result ≡ fault_at (list_fault number_fault) phase.now (view object.now) key.now }
 {
-    in_numbers(field(object, key)?, Fault::WrongKind { phase, name: key })
+    match field(object, key) {
+        Some(value) => in_numbers(value, Fault::WrongKind { phase, name: key }),
+        None => None,
+    }
 }
 
 fn first_of<'v>(faults: &[Option<Fault<'v>>]) -> Option<Fault<'v>>
@@ -152,14 +172,17 @@ fn in_descriptor<'v>(object: &'v Value) -> Option<Fault<'v>>
     ensures { option_map refusal_of result ≡ descriptor_fault (view object.now) }
 {
     let phase = "descriptor";
-    let known = [
-        "national_number",
-        "possible_length",
-        "possible_local_length",
-        "example",
-    ];
     first_of(&[
-        unknown_key(object, phase, &known),
+        unknown_key(
+            object,
+            phase,
+            &[
+                "national_number",
+                "possible_length",
+                "possible_local_length",
+                "example",
+            ],
+        ),
         text_at(object, phase, "national_number"),
         numbers_at(object, phase, "possible_length"),
         numbers_at(object, phase, "possible_local_length"),
@@ -172,16 +195,19 @@ fn in_format<'v>(object: &'v Value) -> Option<Fault<'v>>
     ensures { option_map refusal_of result ≡ format_fault (view object.now) }
 {
     let phase = "format";
-    let known = [
-        "pattern",
-        "format",
-        "leading_digits",
-        "national_prefix_formatting_rule",
-        "national_prefix_optional_when_formatting",
-        "domestic_carrier",
-    ];
     first_of(&[
-        unknown_key(object, phase, &known),
+        unknown_key(
+            object,
+            phase,
+            &[
+                "pattern",
+                "format",
+                "leading_digits",
+                "national_prefix_formatting_rule",
+                "national_prefix_optional_when_formatting",
+                "domestic_carrier",
+            ],
+        ),
         text_at(object, phase, "pattern"),
         text_at(object, phase, "format"),
         texts_at(object, phase, "leading_digits"),
@@ -227,19 +253,28 @@ fn in_formats<'v>(value: &'v Value, wrong: Fault<'v>) -> Option<Fault<'v>>
 fn descriptor_at<'v>(object: &'v Value, phase: &'v str, key: &'v str) -> Option<Fault<'v>>
     ensures { option_map refusal_of result ≡ fault_at (record_fault descriptor_fault) phase.now (view object.now) key.now }
 {
-    in_descriptor_record(field(object, key)?, Fault::WrongKind { phase, name: key })
+    match field(object, key) {
+        Some(value) => in_descriptor_record(value, Fault::WrongKind { phase, name: key }),
+        None => None,
+    }
 }
 
 fn format_at<'v>(object: &'v Value, phase: &'v str, key: &'v str) -> Option<Fault<'v>>
     ensures { option_map refusal_of result ≡ fault_at (record_fault format_fault) phase.now (view object.now) key.now }
 {
-    in_format_record(field(object, key)?, Fault::WrongKind { phase, name: key })
+    match field(object, key) {
+        Some(value) => in_format_record(value, Fault::WrongKind { phase, name: key }),
+        None => None,
+    }
 }
 
 fn formats_at<'v>(object: &'v Value, phase: &'v str, key: &'v str) -> Option<Fault<'v>>
     ensures { option_map refusal_of result ≡ fault_at (list_fault (record_fault format_fault)) phase.now (view object.now) key.now }
 {
-    in_formats(field(object, key)?, Fault::WrongKind { phase, name: key })
+    match field(object, key) {
+        Some(value) => in_formats(value, Fault::WrongKind { phase, name: key }),
+        None => None,
+    }
 }
 
 #[tactic(auto, unfolding(crate::specs::Faults::defaults_fault))]
@@ -266,45 +301,51 @@ fn in_defaults_record<'v>(value: &'v Value, wrong: Fault<'v>) -> Option<Fault<'v
 fn defaults_at<'v>(object: &'v Value, phase: &'v str, key: &'v str) -> Option<Fault<'v>>
     ensures { option_map refusal_of result ≡ fault_at (record_fault defaults_fault) phase.now (view object.now) key.now }
 {
-    in_defaults_record(field(object, key)?, Fault::WrongKind { phase, name: key })
+    match field(object, key) {
+        Some(value) => in_defaults_record(value, Fault::WrongKind { phase, name: key }),
+        None => None,
+    }
 }
 
 fn unknown_in_metadata<'v>(object: &'v Value) -> Option<Fault<'v>>
     ensures { option_map refusal_of result ≡ unknown_fault (codes "metadata") metadata_keys (view object.now) }
 {
-    let known = [
-        "general",
-        "fixed_line",
-        "mobile",
-        "toll_free",
-        "premium_rate",
-        "shared_cost",
-        "personal_number",
-        "voip",
-        "pager",
-        "uan",
-        "emergency",
-        "voicemail",
-        "short_code",
-        "standard_rate",
-        "carrier",
-        "no_international",
-        "international_prefix",
-        "preferred_international_prefix",
-        "national_prefix",
-        "preferred_extension_prefix",
-        "national_prefix_for_parsing",
-        "national_prefix_transform_rule",
-        "id",
-        "country_code",
-        "formats",
-        "international_formats",
-        "main_country_for_code",
-        "leading_digits",
-        "mobile_number_portable",
-        "defaults",
-    ];
-    unknown_key(object, "metadata", &known)
+    unknown_key(
+        object,
+        "metadata",
+        &[
+            "general",
+            "fixed_line",
+            "mobile",
+            "toll_free",
+            "premium_rate",
+            "shared_cost",
+            "personal_number",
+            "voip",
+            "pager",
+            "uan",
+            "emergency",
+            "voicemail",
+            "short_code",
+            "standard_rate",
+            "carrier",
+            "no_international",
+            "international_prefix",
+            "preferred_international_prefix",
+            "national_prefix",
+            "preferred_extension_prefix",
+            "national_prefix_for_parsing",
+            "national_prefix_transform_rule",
+            "id",
+            "country_code",
+            "formats",
+            "international_formats",
+            "main_country_for_code",
+            "leading_digits",
+            "mobile_number_portable",
+            "defaults",
+        ],
+    )
 }
 
 fn in_kinds<'v>(object: &'v Value) -> Option<Fault<'v>>

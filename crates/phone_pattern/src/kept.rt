@@ -1,6 +1,7 @@
 //! A machine that is kept with the text of its pattern, for texts of ASCII.
 ghost use Rattle.std.specs.Prelude.{◌≡◌, ◌<◌, All, IfOk, IfSome, string_bytes};
 ghost use Rattle.phone_pattern.specs.First.{at_start, captured, first_span, replaced, verbose};
+ghost use Rattle.phone_pattern.specs.Kept.{Serves};
 
 use crate::pattern::Captured;
 use phone_search::Machine;
@@ -9,7 +10,6 @@ use std::alloc::{AllocError, Global};
 use std::marker::Model;
 
 /// A pattern's machine, and the text of that pattern. Contracts see the text.
-#[derive(Drop)]
 pub(crate) struct Kept {
     text: String,
     machine: Machine,
@@ -26,6 +26,15 @@ impl Model for Kept {
     ghost invariant = { λ k. Serves (string_bytes k.text) k.machine };
 }
 
+/// Drops the text and the machine: as a function it is proved once.
+impl Drop for Kept {
+    fn drop(self) {
+        let Kept { text, machine } = self;
+        drop(text);
+        drop(machine);
+    }
+}
+
 /// Flag x: white space and `#` comments in a pattern don't count.
 fn under_x() -> Config
     ensures { result ≡ verbose }
@@ -35,6 +44,18 @@ fn under_x() -> Config
     config
 }
 
+/// A machine that serves a pattern. None where memory is refused, or it would be too large.
+#[cold]
+#[inline(never)]
+fn machine(alloc: Global, pattern: &str) -> Option<Machine>
+    ensures { IfSome result (Serves pattern.now) }
+{
+    match regex_syntax::parse(alloc, pattern, &under_x()) {
+        Ok(parsed) => Machine::new(alloc, &parsed),
+        Err(_) => None,
+    }
+}
+
 impl Kept {
     /// The machine of a pattern. None where memory is refused, or the machine would be too large.
     #[cold]
@@ -42,14 +63,11 @@ impl Kept {
     pub(crate) fn new(alloc: Global, pattern: &str) -> Option<Kept>
         ensures { IfSome result (λ k. k ≡ pattern.now) }
     {
-        let Ok(parsed) = regex_syntax::parse(alloc, pattern, &under_x()) else {
-            return None;
-        };
-        let machine = Machine::new(alloc, &parsed)?;
-        let Ok(text) = String::from_str(alloc, pattern) else {
-            return None;
-        };
-        Some(Kept { text, machine })
+        let machine = machine(alloc, pattern)?;
+        match String::from_str(alloc, pattern) {
+            Ok(text) => Some(Kept { text, machine }),
+            Err(_) => None,
+        }
     }
 
     /// The text of the pattern.

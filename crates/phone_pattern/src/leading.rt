@@ -13,7 +13,6 @@ use std::alloc::{AllocError, Global};
 use std::marker::Model;
 
 /// Patterns of digits in front, of which the last decides. Contracts see their texts.
-#[derive(Drop)]
 pub struct Leading {
     alloc: Global,
     patterns: Vec<Regex>,
@@ -32,6 +31,19 @@ impl Model for Leading {
     ghost view = { λ l. map regex_source l.patterns.items };
 
     ghost invariant = { λ l. AllByRecursion IsUnderX l.patterns.items };
+}
+
+/// Drops what was compiled: as a function it is proved once.
+impl Drop for Leading {
+    fn drop(self) {
+        let Leading {
+            alloc: _,
+            patterns,
+            led,
+        } = self;
+        drop(patterns);
+        drop(led);
+    }
 }
 
 impl Leading {

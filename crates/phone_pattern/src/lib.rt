@@ -5,6 +5,7 @@ mod kept;
 mod leading;
 mod pattern;
 mod pool;
+mod shelf;
 mod warm;
 
 pub use leading::Leading;

@@ -1,5 +1,5 @@
 //! A pattern that is compiled once and held. Contracts see its text.
-ghost use Rattle.std.specs.Prelude.{◌≡◌, ℕ, List, [], ◌∷◌, nat_le, if◌then◌else◌, None, IfOk, IfErr, IfSome, IsTrue, string_bytes};
+ghost use Rattle.std.specs.Prelude.{◌≡◌, ℕ, List, [], ◌∷◌, nat_le, if◌then◌else◌, Some, None, IfOk, IfErr, IfSome, IsTrue, string_bytes};
 ghost use Rattle.std.specs.List.{AllByRecursion};
 ghost use Rattle.regex.specs.Strings.{regex_source, captures_haystack, captures_span, match_haystack, match_span, IsReadFrom};
 ghost use Rattle.phone_pattern.specs.First.{at_start, captured, first_span, is_whole_match, names_in, replaced, ArePatternsOf, AreCuts, IsCut, IsPattern, IsPatternOf, IsUnderX};
@@ -12,7 +12,6 @@ use std::alloc::{AllocError, Global};
 use std::marker::Model;
 
 /// A compiled pattern of a database, read under flag x: white space and `#` comments in it don't count.
-#[derive(Drop)]
 pub struct Pattern {
     alloc: Global,
     re: Regex,
@@ -30,6 +29,15 @@ impl Model for Pattern {
     ghost view = { λ p. regex_source p.re };
 
     ghost invariant = { λ p. (regex_config p.re ≡ verbose) × IsReadFromSource p.re };
+}
+
+/// Drops what was compiled: as a function it is proved once.
+impl Drop for Pattern {
+    fn drop(self) {
+        let Pattern { alloc: _, re, warm } = self;
+        drop(re);
+        drop(warm);
+    }
 }
 
 /// Compiles a text. Refused by `Regex` with the text where it is no pattern or compiles to more than 10 MiB, by `Memory`
@@ -144,14 +152,10 @@ impl Pattern {
     {
         let last = self.re.captures_len().saturating_sub(1);
         let mut matcher = self.re.matcher(self.alloc)?;
-        let Some(captures) = matcher.captures(text) else {
-            return Ok(None);
-        };
-        Ok(Some(Captured {
-            span: span_of(captures.get_match()),
-            first: first_group(&captures, last),
-            last: group(&captures, last),
-        }))
+        match matcher.captures(text) {
+            Some(captures) => Ok(Some(captured_in(&captures, last))),
+            None => Ok(None),
+        }
     }
 
     /// The text with its first match replaced by a template, in which `$1` stands for the first group; a text without
@@ -233,6 +237,20 @@ fn are_cuts_if_any(text: &str, captured: Option<Captured>) -> bool
                 && is_cut_if_any(text, captured.last)
         }
         None => true,
+    }
+}
+
+/// What a match captures, if its last group has this number.
+fn captured_in(captures: &Captures<'_, '_>, last: usize) -> Captured
+    ensures span { Some result.span ≡ captures_span captures.now 0 }
+    ensures first { result.first ≡ (if nat_le 1 last then captures_span captures.now 1 else None) }
+    ensures last { result.last ≡ captures_span captures.now last }
+    ensures borders { AreCuts (captures_haystack captures.now) result }
+{
+    Captured {
+        span: span_of(captures.get_match()),
+        first: first_group(captures, last),
+        last: group(captures, last),
     }
 }
 

@@ -1,24 +1,36 @@
 //! What is compiled once for all that have the same text.
-ghost use Rattle.std.specs.Prelude.{◌≡◌, [], ◌∷◌, IfOk, IfErr, IfSome};
+ghost use Rattle.std.specs.Prelude.{◌≡◌, [], ◌∷◌, IfOk, IfErr};
 ghost use Rattle.std.specs.List.{AllByRecursion};
 ghost use Rattle.phone_pattern.specs.First.{IsPattern};
 ghost use Rattle.phone_pattern.specs.Refusals.{IsPatternRefusal};
 
 use crate::leading::Leading;
 use crate::pattern::Pattern;
-use phone_texts::{LoadMetadata, Text};
+use crate::shelf::Shelf;
+use phone_records::LoadMetadata;
+use phone_records::loader::Text;
 use std::alloc::{AllocError, Global};
-use std::cell::RefCell;
-use std::collections::HashMap;
 use std::rc::Rc;
 
-/// The patterns and the lists of leading digits that a database compiled so far, by their texts. Of what a cell holds
-/// nothing is known, so the texts of what is found are compared.
-#[derive(Drop)]
+/// The patterns and the lists of leading digits that a database compiled so far, by their texts. The
+/// texts of what is found are compared.
 pub struct Pool {
     alloc: Global,
-    patterns: RefCell<HashMap<String, Rc<Pattern>>>,
-    lists: RefCell<HashMap<String, Rc<Leading>>>,
+    patterns: Shelf<Pattern>,
+    lists: Shelf<Leading>,
+}
+
+/// Drops what is kept: as a function it is proved once.
+impl Drop for Pool {
+    fn drop(self) {
+        let Pool {
+            alloc: _,
+            patterns,
+            lists,
+        } = self;
+        drop(patterns);
+        drop(lists);
+    }
 }
 
 impl Pool {
@@ -26,8 +38,8 @@ impl Pool {
     pub fn new(alloc: Global) -> Pool {
         Pool {
             alloc,
-            patterns: RefCell::new(HashMap::new(alloc)),
-            lists: RefCell::new(HashMap::new(alloc)),
+            patterns: Shelf::new(alloc),
+            lists: Shelf::new(alloc),
         }
     }
 
@@ -43,35 +55,24 @@ impl Pool {
         ensures read { IfOk result (λ p. IsPattern text) }
         ensures refused { IfErr result (IsPatternRefusal (text ∷ [])) }
     {
-        if let Some(kept) = self.kept_pattern(text.as_str())? {
-            return Ok(kept);
+        if let Some(found) = self.patterns.find(text.as_str())? {
+            if found.is_of(text.as_str()) {
+                return Ok(found);
+            }
         }
-        let made = Rc::new(self.alloc, Pattern::new(self.alloc, text)?)?;
-        self.keep_pattern(&made)?;
-        Ok(made)
+        self.new_pattern(text)
     }
 
-    /// The pattern that is kept for a text.
-    fn kept_pattern(&self, text: &str) -> Result<Option<Rc<Pattern>>, AllocError>
-        ensures kept { IfOk result (λ found. IfSome found (λ p. p.value ≡ text.now)) }
-        ensures read { IfOk result (λ found. IfSome found (λ p. IsPattern text.now)) }
+    /// The same, of a text for which nothing is kept.
+    fn new_pattern(&self, text: Text) -> Result<Rc<Pattern>, LoadMetadata>
+        ensures compiled { IfOk result (λ p. p.value ≡ text) }
+        ensures read { IfOk result (λ p. IsPattern text) }
+        ensures refused { IfErr result (IsPatternRefusal (text ∷ [])) }
     {
-        let Ok(patterns) = self.patterns.try_borrow() else {
-            return Ok(None);
-        };
-        match patterns.get(text) {
-            Some(found) if found.is_of(text) => Ok(Some(found.clone()?)),
-            _ => Ok(None),
-        }
-    }
-
-    /// Keeps a pattern for those that have its text as well.
-    fn keep_pattern(&self, made: &Rc<Pattern>) -> Result<(), AllocError> {
-        if let Ok(mut patterns) = self.patterns.try_borrow_mut() {
-            let text = String::from_str(self.alloc, made.as_str())?;
-            patterns.insert(text, made.clone()?)?;
-        }
-        Ok(())
+        let made = Rc::new(self.alloc, Pattern::new(self.alloc, text)?)?;
+        let name = String::from_str(self.alloc, made.as_str());
+        self.patterns.keep(name, &made)?;
+        Ok(made)
     }
 
     /// A list of leading digits, compiled where its texts are new. Refused by `Regex` with the first text that is no
@@ -82,34 +83,23 @@ impl Pool {
         ensures refused { IfErr result (IsPatternRefusal texts.items) }
     {
         let name = joined(self.alloc, texts.as_slice())?;
-        if let Some(kept) = self.kept_list(name.as_str(), texts.as_slice())? {
-            return Ok(kept);
+        if let Some(found) = self.lists.find(name.as_str())? {
+            if found.is_of(texts.as_slice()) {
+                return Ok(found);
+            }
         }
-        let made = Rc::new(self.alloc, Leading::new(self.alloc, texts)?)?;
-        self.keep_list(name, &made)?;
-        Ok(made)
+        self.new_leading(name, texts)
     }
 
-    /// The list that is kept by a name, if it has these texts.
-    fn kept_list(&self, name: &str, texts: &[Text]) -> Result<Option<Rc<Leading>>, AllocError>
-        ensures kept { IfOk result (λ found. IfSome found (λ l. l.value ≡ texts.now)) }
-        ensures read { IfOk result (λ found. IfSome found (λ l. AllByRecursion IsPattern texts.now)) }
+    /// The same, of texts for which nothing is kept, and their name.
+    fn new_leading(&self, name: String, texts: Vec<Text>) -> Result<Rc<Leading>, LoadMetadata>
+        ensures compiled { IfOk result (λ l. l.value ≡ texts.items) }
+        ensures read { IfOk result (λ l. AllByRecursion IsPattern texts.items) }
+        ensures refused { IfErr result (IsPatternRefusal texts.items) }
     {
-        let Ok(lists) = self.lists.try_borrow() else {
-            return Ok(None);
-        };
-        match lists.get(name) {
-            Some(found) if found.is_of(texts) => Ok(Some(found.clone()?)),
-            _ => Ok(None),
-        }
-    }
-
-    /// Keeps a list for those that have the same texts.
-    fn keep_list(&self, name: String, made: &Rc<Leading>) -> Result<(), AllocError> {
-        if let Ok(mut lists) = self.lists.try_borrow_mut() {
-            lists.insert(name, made.clone()?)?;
-        }
-        Ok(())
+        let made = Rc::new(self.alloc, Leading::new(self.alloc, texts)?)?;
+        self.lists.keep(Ok(name), &made)?;
+        Ok(made)
     }
 }
 
@@ -117,8 +107,14 @@ impl Pool {
 fn joined(alloc: Global, texts: &[Text]) -> Result<String, AllocError> {
     let mut name = String::new(alloc);
     for text in texts {
-        name.push_str(text.as_str())?;
-        name.push('\n')?;
+        push_line(&mut name, text.as_str())?;
     }
     Ok(name)
+}
+
+/// Puts a text and a line's end behind a name.
+fn push_line(name: &mut String, text: &str) -> Result<(), AllocError> {
+    name.push_str(text)?;
+    name.push('\n')?;
+    Ok(())
 }

@@ -1,5 +1,5 @@
 //! The place in which a pattern keeps its machine from one search to the next.
-ghost use Rattle.std.specs.Prelude.{◌≡◌, ◌<◌, All, IfOk, IfSome, IsTrue, string_bytes};
+ghost use Rattle.std.specs.Prelude.{◌≡◌, ◌<◌, All, IfOk, IfSome, string_bytes};
 ghost use Rattle.phone_pattern.specs.First.{at_start, captured, first_span, replaced};
 
 use crate::kept::Kept;
@@ -10,17 +10,17 @@ use std::cell::RefCell;
 /// Keeps the machine of one pattern, which the first search makes. Of what a cell holds nothing is known, so each search
 /// names the pattern, and a machine of another one is dropped. It serves texts of ASCII; for others, and where it gives
 /// up, it answers none.
-#[derive(Drop)]
 pub(crate) struct Warm {
     alloc: Global,
     slot: RefCell<Option<Box<Kept>>>,
 }
 
-/// Whether a machine serves a text: it is ASCII.
-fn is_served(text: &str) -> bool
-    ensures { IsTrue result → All (λ x. x < 128) text.now }
-{
-    text.is_ascii()
+/// Drops the machine: as a function it is proved once.
+impl Drop for Warm {
+    fn drop(self) {
+        let Warm { alloc: _, slot } = self;
+        drop(slot);
+    }
 }
 
 impl Warm {
@@ -32,16 +32,28 @@ impl Warm {
         }
     }
 
-    /// The machine of a pattern: that which was kept, if it is of this pattern, else a new one.
-    fn of(&self, pattern: &str, kept: Option<Box<Kept>>) -> Option<Box<Kept>>
-        ensures { IfSome result (λ k. k.value ≡ pattern.now) }
+    /// Takes the machine of a pattern out of its place, for a text of ASCII: that which was kept, if
+    /// it is of this pattern, else a new one.
+    fn taken(&self, pattern: &str, text: &str) -> Option<Box<Kept>>
+        ensures same { IfSome result (λ k. k.value ≡ pattern.now) }
+        ensures ascii { IfSome result (λ k. All (λ x. x < 128) text.now) }
     {
-        if let Some(kept) = kept {
+        if !text.is_ascii() {
+            return None;
+        }
+        if let Ok(Some(kept)) = self.slot.try_take() {
             if kept.as_str() == pattern {
                 return Some(kept);
             }
         }
         self.made(pattern)
+    }
+
+    /// Puts a machine in its place, for the next search.
+    fn keep(&self, kept: Box<Kept>) {
+        if let Ok(mut slot) = self.slot.try_borrow_mut() {
+            *slot = Some(kept);
+        }
     }
 
     /// A new machine of a pattern. Each pattern needs it once, and its frame is large: a function of its own keeps that
@@ -61,15 +73,9 @@ impl Warm {
     pub(crate) fn is_at_start(&self, pattern: &str, text: &str) -> Option<bool>
         ensures { IfSome result (λ b. b ≡ at_start pattern.now text.now) }
     {
-        if !is_served(text) {
-            return None;
-        }
-        let Ok(mut slot) = self.slot.try_borrow_mut() else {
-            return None;
-        };
-        let mut kept = self.of(pattern, slot.take())?;
+        let mut kept = self.taken(pattern, text)?;
         let found = kept.is_at_start(text);
-        *slot = Some(kept);
+        self.keep(kept);
         found
     }
 
@@ -77,15 +83,9 @@ impl Warm {
     pub(crate) fn first_span(&self, pattern: &str, text: &str) -> Option<Option<(usize, usize)>>
         ensures { IfSome result (λ found. found ≡ first_span pattern.now text.now) }
     {
-        if !is_served(text) {
-            return None;
-        }
-        let Ok(mut slot) = self.slot.try_borrow_mut() else {
-            return None;
-        };
-        let mut kept = self.of(pattern, slot.take())?;
+        let mut kept = self.taken(pattern, text)?;
         let found = kept.first_span(text);
-        *slot = Some(kept);
+        self.keep(kept);
         found
     }
 
@@ -93,15 +93,9 @@ impl Warm {
     pub(crate) fn captured(&self, pattern: &str, text: &str) -> Option<Option<Captured>>
         ensures { IfSome result (λ found. found ≡ captured pattern.now text.now) }
     {
-        if !is_served(text) {
-            return None;
-        }
-        let Ok(mut slot) = self.slot.try_borrow_mut() else {
-            return None;
-        };
-        let mut kept = self.of(pattern, slot.take())?;
+        let mut kept = self.taken(pattern, text)?;
         let found = kept.captured(text);
-        *slot = Some(kept);
+        self.keep(kept);
         found
     }
 
@@ -114,17 +108,11 @@ impl Warm {
     ) -> Result<Option<String>, AllocError>
         ensures { IfOk result (λ found. IfSome found (λ out. string_bytes out ≡ replaced pattern.now template.now text.now)) }
     {
-        if !is_served(text) {
-            return Ok(None);
-        }
-        let Ok(mut slot) = self.slot.try_borrow_mut() else {
-            return Ok(None);
-        };
-        let Some(mut kept) = self.of(pattern, slot.take()) else {
+        let Some(mut kept) = self.taken(pattern, text) else {
             return Ok(None);
         };
         let found = kept.replaced(self.alloc, template, text);
-        *slot = Some(kept);
+        self.keep(kept);
         found
     }
 }

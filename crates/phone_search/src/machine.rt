@@ -42,7 +42,6 @@ const LARGEST: usize = 10 << 20;
 
 /// A pattern's automaton for texts of ASCII, and the steps that its searches have worked out, with groups and without.
 /// Contracts see what it finds in each text, `finds`, and the number of the last group.
-#[derive(Drop)]
 pub struct Machine {
     dfa: Dfa,
     forward: Forward,
@@ -62,6 +61,24 @@ impl Model for Machine {
     ghost Value = { Searcher };
 
     ghost view = { λ m. record { nfa = m.dfa.nfa; last = m.last } };
+}
+
+/// Drops the automaton and the steps. As a function it is proved here alone, and not in each crate
+/// that drops a machine.
+impl Drop for Machine {
+    fn drop(self) {
+        let Machine {
+            dfa,
+            forward,
+            tagged,
+            last: _,
+            cells,
+        } = self;
+        drop(dfa);
+        drop(forward);
+        drop(tagged);
+        drop(cells);
+    }
 }
 
 /// The automaton of a tree with this many groups, group 0 included.

@@ -1,16 +1,17 @@
 use Rattle.phone_pattern.proofs.Matches.{captures-captured, none-captured}
 use Rattle.phone_pattern.proofs.pattern.Pattern.captured_anew.Goals as goal
 
-pub returns-in_default-clause-found : goal.returns-in_default-clause-found
-returns-in_default-clause-found c =
+pub returns-in-Some-clause-found : goal.returns-in-Some-clause-found
+returns-in-Some-clause-found c =
+    let m = rw c.in_ok-matcher.ensures.pattern at c.in-Some.ensures.found in
+    let counted = rw c.captures_len.ensures.names at c.saturating_sub-last.ensures in
+    let told = c.captured_in.ensures in
     rw (← c.self.view_is)
-    (none-captured c.self.inside.re c.self.invariant.0 c.self.invariant.1 c.args.text.now (λ k. (c.type_inv.text k).fits)
-    (rw c.in_ok-matcher.ensures.pattern at c.in_default.ensures.found))
+    (captures-captured c.self.inside.re c.self.invariant.0 c.self.invariant.1 c.args.text.now
+    (λ k. (c.type_inv.text k).fits) m.0 c.in-Some.captures _ _ _ m.1 m.2 told.span (rw (← counted) told.first) (rw (← counted) told.last))
 
 pub returns-clause-found : goal.returns-clause-found
 returns-clause-found c =
-    let m = rw c.in_ok-matcher.ensures.pattern at c.in-Some.ensures.found in
-    let counted = rw c.captures_len.ensures.names at c.saturating_sub-last.ensures in
     rw (← c.self.view_is)
-    (captures-captured c.self.inside.re c.self.invariant.0 c.self.invariant.1 c.args.text.now (λ k. (c.type_inv.text k).fits) m.0 c.in-Some.captures
-    _ _ _ m.1 m.2 (rw c.span_of.ensures.span c.get_match.ensures.found) (rw (← counted) c.first_group.ensures.span) (rw (← counted) c.group.ensures.span))
+    (none-captured c.self.inside.re c.self.invariant.0 c.self.invariant.1 c.args.text.now
+    (λ k. (c.type_inv.text k).fits) (rw c.in_ok-matcher.ensures.pattern at c.in-None.ensures.found))
