@@ -1,6 +1,6 @@
 //! What may be wrong with a value of a database text.
 ghost use Rattle.std.specs.Prelude.{◌≡◌, IfOk, string_bytes};
-ghost use Rattle.phone_records.specs.Errors.{told};
+ghost use Rattle.phone_texts.specs.Errors.{told};
 ghost use Rattle.phone_json.specs.Told.{refusal_of};
 
 use crate::steps::both;

@@ -7,8 +7,7 @@ ghost use Rattle.phone_pattern.specs.Refusals.{IsPatternRefusal};
 use crate::leading::Leading;
 use crate::pattern::Pattern;
 use crate::shelf::Shelf;
-use phone_records::LoadMetadata;
-use phone_records::loader::Text;
+use phone_texts::{LoadMetadata, Text};
 use std::alloc::{AllocError, Global};
 use std::rc::Rc;
 
