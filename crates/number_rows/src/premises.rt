@@ -2,7 +2,7 @@
 //! by code of its own and not by reading a text.
 use crate::given::extended;
 use anyhow::{Result, anyhow};
-use phone_core::chars::{is_digit, is_punctuation, is_separator};
+use phone_chars::chars::{is_digit, is_punctuation, is_separator};
 use phone_core::consts::{MAX_LENGTH_FOR_NSN, MIN_LENGTH_FOR_NSN};
 use phone_core::{Mode, Type, Validation};
 use phone_meta::{Database, Metadata};

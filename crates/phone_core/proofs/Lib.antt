@@ -1,10 +1,4 @@
 pub mod Digits
 pub mod Finds
-pub mod Norms
 pub mod ReadBack
-pub mod Runs
-pub mod Signed
 pub mod Texts
-pub mod ViableRows
-pub mod Trims
-pub mod Walks

@@ -6,10 +6,9 @@ use Rattle.std.proofs.lemmas.List.{length-replicate, append_cancel_left}
 use Rattle.std.proofs.lemmas.Str.{digit_value_digit}
 use Rattle.std.proofs.lemmas.Str.Parse.{without_leading_plus_none, digit_from_value, numerals_by_value, tells_digits}
 use Rattle.std.specs.Fmt.{decimal}
-use Rattle.std.specs.Char.{digit_value}
+use Rattle.std.specs.Char.{digit_value, is_ascii_digit}
 use Rattle.std.specs.List.{list_all}
 use Rattle.std.specs.Str.Parse.{AllDigits, digits_value, without_leading_plus}
-use Rattle.phone_core.specs.Characters.{is_digit}
 use Rattle.phone_core.specs.Numbers.{National, IsHeld, packed, leading_zeros, number_in, national_in, text_of}
 use Rattle.phone_core.proofs.Digits.{number_some, national_in_parts, zeros_then}
 
@@ -39,14 +38,14 @@ pub after_zeros_of : (t : List ℕ) → IsAfterZeros t (leading_zeros t) (drop (
 after_zeros_of [] = record { whole = refl; value = refl; digits = λ d. d; first = λ e. absurd (omega (arith, e)) }
 after_zeros_of (c ∷ cs) = after_zeros_step c cs (c == 48) refl (after_zeros_of cs)
 
-digit_below : (c : ℕ) → is_digit c ≡ true → digit_value c < 10
+digit_below : (c : ℕ) → is_ascii_digit c ≡ true → digit_value c < 10
 digit_below c h =
     let both = and_parts (nat_le 48 c) (nat_le c 57) h in
     omega (arith, digit_value_digit c (leb-true 48 c both.0, leb-true c 57 both.1), leb-true c 57 both.1)
 
-pub all_digits : (t : List ℕ) → list_all is_digit t ≡ true → AllDigits 10 t
+pub all_digits : (t : List ℕ) → list_all is_ascii_digit t ≡ true → AllDigits 10 t
 all_digits [] h = tt
-all_digits (c ∷ cs) h = let both = and_parts (is_digit c) (list_all is_digit cs) h in (digit_below c both.0, all_digits cs both.1)
+all_digits (c ∷ cs) h = let both = and_parts (is_ascii_digit c) (list_all is_ascii_digit cs) h in (digit_below c both.0, all_digits cs both.1)
 
 some_of_value : (ds : List ℕ) → 0 < digits_value 10 ds → 0 < length ds
 some_of_value [] h = absurd (omega (arith, h))
@@ -56,7 +55,7 @@ no_plus : (ds : List ℕ) → AllDigits 10 ds → get_or ds 0 0 ≢ 43
 no_plus [] h e = absurd (omega (arith, e))
 no_plus (d ∷ ds) h e = let r = digit_from_value d h.0 in absurd (omega (arith, r.0, e))
 
-module _ (t : List ℕ) (digits : list_all is_digit t ≡ true) (few : leading_zeros t < 256)
+module _ (t : List ℕ) (digits : list_all is_ascii_digit t ≡ true) (few : leading_zeros t < 256)
     (some : 0 < digits_value 10 t) (below : digits_value 10 t < 2 ^ 56) where
   pub text_is_read : national_in t ≡ Ok (record { zeros = leading_zeros t; value = digits_value 10 t })
   text_is_read =

@@ -1,10 +1,6 @@
-pub mod Characters
 pub mod Codes
-pub mod Cuts
 pub mod Errors
 pub mod Ids
-pub mod Norm
 pub mod Nsn
 pub mod Numbers
 pub mod Validations
-pub mod Viable

@@ -1,14 +1,11 @@
-//! What is true of the values for every text and every number: laws over their definitions alone, rows of single texts
-//! that are computed on the definitions, and what the constants are. A law is a function without arguments whose
-//! contract is the law; all but `default_source` do nothing.
-ghost use Rattle.std.specs.Prelude.{◌≡◌, ◌<◌, ◌^◌, ◌↔◌, ℕ, List, [], ◌∷◌, ◌++◌, true, not, Some, Ok, chars, codes, encode_utf8_all};
+//! What is true of the values for every text and every number: laws over their definitions alone, and what the constants
+//! are. A law is a function without arguments whose contract is the law; all but `default_source` do nothing.
+ghost use Rattle.std.specs.Prelude.{◌≡◌, ◌<◌, ◌^◌, ◌↔◌, ℕ, List, [], ◌∷◌, true, not, Some, Ok, codes};
+ghost use Rattle.std.specs.Char.{is_ascii_digit};
 ghost use Rattle.std.specs.List.{list_all};
 ghost use Rattle.std.specs.Str.Parse.{digits_value};
-ghost use Rattle.phone_core.specs.Characters.{is_digit};
 ghost use Rattle.phone_core.specs.Ids.{id_of, name};
-ghost use Rattle.phone_core.specs.Norm.{norm};
 ghost use Rattle.phone_core.specs.Validations.{is_possible, is_invalid, is_invalid_length};
-ghost use Rattle.phone_core.specs.Viable.{IsViable};
 ghost use Rattle.phone_core.specs.declared.consts.TheConstants as consts;
 ghost use Rattle.phone_core.specs.declared.country.Id.{Id};
 ghost use Rattle.phone_core.specs.declared.country.Source.TheVariants as source;
@@ -30,16 +27,10 @@ pub fn number_read_back()
 /// A text of digits with at most 255 zeros at its front and a value of 1 to 2^56 - 1 is read as these zeros and this
 /// value, and printed back unchanged.
 pub fn text_printed_back()
-    ensures read { (t : List ℕ) → list_all is_digit t ≡ true → leading_zeros t < 256 → 0 < digits_value 10 t → digits_value 10 t < 2 ^ 56 →
+    ensures read { (t : List ℕ) → list_all is_ascii_digit t ≡ true → leading_zeros t < 256 → 0 < digits_value 10 t → digits_value 10 t < 2 ^ 56 →
         national_in t ≡ Ok (record { zeros = leading_zeros t; value = digits_value 10 t }) }
-    ensures printed { (t : List ℕ) → list_all is_digit t ≡ true → leading_zeros t < 256 → 0 < digits_value 10 t → digits_value 10 t < 2 ^ 56 →
+    ensures printed { (t : List ℕ) → list_all is_ascii_digit t ≡ true → leading_zeros t < 256 → 0 < digits_value 10 t → digits_value 10 t < 2 ^ 56 →
         text_of (record { zeros = leading_zeros t; value = digits_value 10 t }) ≡ t }
-{}
-
-/// What is left of a text once it is normalised is digits alone, and normalising it again changes nothing.
-pub fn digits_stay()
-    ensures digits { (t : List ℕ) → list_all is_digit (norm t) ≡ true }
-    ensures again { (t : List ℕ) → norm (norm t) ≡ norm t }
 {}
 
 /// A text is the id of a region exactly if it is the region's name: each of the 245 names is accepted, capitals and
@@ -54,49 +45,12 @@ pub fn verdicts()
     ensures length { (v : Validation) → is_invalid_length v ≡ true → is_invalid v ≡ true }
 {}
 
-/// A text of digits is one list, as bytes and as characters; so the bytes of a normalised text are its digits.
-pub fn digits_are_bytes()
-    ensures read { (t : List ℕ) → list_all is_digit t ≡ true → chars t ≡ t }
-    ensures written { (t : List ℕ) → list_all is_digit t ≡ true → encode_utf8_all t ≡ t }
-{}
-
 /// The source that a number has before anything is found of its calling code: the hint's, `Default`.
 pub fn default_source() -> Source
     ensures { result ≡ source.Default }
 {
     Source::default()
 }
-
-/// Normalised texts: letters of the keypad, marks that give nothing, wide digits.
-pub fn norm_rows()
-    ensures letters { norm (codes "034-I-am-HUNGRY") ≡ codes "034426486479" }
-    ensures marks { norm (codes "034-56&+#2") ≡ codes "034562" }
-    ensures wide { norm (0xFF14 ∷ 0xFF12 ∷ codes "0") ≡ codes "420" }
-{}
-
-/// Texts that may be a number: two digits; three digits with letters behind them, a plus sign before them, a small `x`
-/// between them.
-pub fn viable_rows()
-    ensures two { IsViable (codes "00") }
-    ensures three { IsViable (codes "111") }
-    ensures word { IsViable (codes "0800-4-pizza") }
-    ensures capitals { IsViable (codes "0800-4-PIZZA") }
-    ensures signed { IsViable (codes "+64 3 331 6005") }
-    ensures between { IsViable (codes "1x2x3") }
-{}
-
-/// Texts that are no number: too few digits, plus signs or other characters among them, a letter before the third digit.
-pub fn not_viable_rows()
-    ensures nothing { ¬ (IsViable []) }
-    ensures one { ¬ (IsViable (codes "1")) }
-    ensures plus_between { ¬ (IsViable (codes "1+1+1")) }
-    ensures plus_after { ¬ (IsViable (codes "80+0")) }
-    ensures two_and_letters { ¬ (IsViable (codes "08-PIZZA")) }
-    ensures early_letter { ¬ (IsViable (codes "08-P1ZZA")) }
-    ensures one_and_letters { ¬ (IsViable (codes "8-PIZZA")) }
-    ensures date { ¬ (IsViable (codes "12. March")) }
-    ensures address { ¬ (IsViable (codes "1110@gmail.com")) }
-{}
 
 /// The published constants: the least and the largest number of digits, and the signs and marks as they are written.
 pub fn published_constants()

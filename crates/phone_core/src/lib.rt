@@ -1,12 +1,10 @@
 //! The values that all other crates speak of: national numbers, calling codes with their source, region ids,
-//! extensions and carriers, errors, the classes of characters, and when a text may be a number at all.
+//! extensions and carriers, kinds, verdicts, errors, and the constants of reading and printing.
 #![tactic(auto)]
 
 mod carrier;
-pub mod chars;
 pub mod consts;
 pub mod country;
-pub mod cuts;
 pub mod equality;
 mod error;
 mod extension;
@@ -14,9 +12,7 @@ mod kind;
 pub mod laws;
 mod mode;
 mod national_number;
-mod norm;
 pub mod validator;
-mod viable;
 
 pub use carrier::Carrier;
 pub use error::{MetadataError, ParseError};
@@ -25,4 +21,3 @@ pub use kind::Type;
 pub use mode::Mode;
 pub use national_number::NationalNumber;
 pub use validator::Validation;
-pub use viable::is_viable;

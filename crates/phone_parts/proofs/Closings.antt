@@ -3,7 +3,7 @@ use Rattle.std.proofs.Common.{◌≡◌, ⊎_elim, ℕ, ◌≤◌, ◌<◌, true
 use Rattle.std.proofs.lemmas.Bool.{and_parts, cases_lt, eq-eqb}
 use Rattle.std.proofs.lemmas.List.{append_cancel_left, append_cancel_right, nil_from_length}
 use Rattle.std.specs.List.{list_all}
-use Rattle.phone_core.specs.Characters.{is_nd}
+use Rattle.phone_chars.specs.Characters.{is_nd}
 use Rattle.phone_parts.specs.Longest.{IsWithoutLongest}
 use Rattle.phone_parts.specs.Suffixes.{IsFew, IsSomeEnding, IsNumberSigned, is_mark, is_gap, is_sign, is_dash}
 use Rattle.phone_parts.specs.Texts.{ends}

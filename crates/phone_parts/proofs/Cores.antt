@@ -7,8 +7,8 @@ use Rattle.std.specs.Str.{chars}
 use Rattle.std.proofs.lemmas.List.Folds.{list_any-append}
 use Rattle.std.proofs.Math.Seq.{drop-append_seam, take-append_seam}
 use Rattle.std.specs.List.{list_any, list_all}
-use Rattle.phone_core.proofs.Trims.{IsWithoutEnd}
-use Rattle.phone_core.specs.Cuts.{after_front}
+use Rattle.phone_chars.proofs.Trims.{IsWithoutEnd}
+use Rattle.phone_chars.specs.Cuts.{after_front}
 use Rattle.phone_parts.specs.Cores.{IsCore, IsTrimmed, IsBeforeSecondNumber, is_start, is_last, begins_second_number}
 use Rattle.phone_parts.specs.Texts.{begins, ends}
 

@@ -4,8 +4,8 @@ use Rattle.std.proofs.lemmas.Bool.{and_parts, false_from_ne_true, le-leb, not-tr
 use Rattle.std.specs.List.{list_any, list_all}
 use Rattle.std.specs.Str.{chars}
 use Rattle.ucd_category.proofs.Computing.{ucd_category}
-use Rattle.phone_core.specs.Characters.{is_nd, is_one_of}
-use Rattle.phone_core.specs.Cuts.{front, after_front}
+use Rattle.phone_chars.specs.Characters.{is_nd, is_one_of}
+use Rattle.phone_chars.specs.Cuts.{front, after_front}
 use Rattle.phone_parts.specs.Suffixes.{IsAnnounced, IsOptional, IsDigits, IsEnding, IsParameter, IsNumberSigned, is_mark, is_gap, is_sign, is_dash}
 use Rattle.phone_parts.specs.Texts.{begins, after_one, after_like, is_like}
 use Rattle.phone_parts.proofs.Likes.{after_like_front, after_like_parts}

@@ -3,7 +3,7 @@ use Rattle.std.proofs.Common.{◌≡◌, ℕ, ◌==◌, Bool, true, false, cond,
 use Rattle.std.proofs.lemmas.Bool.{and_parts, false_from_ne_true, or_left, or_right}
 use Rattle.std.specs.List.{filter, list_any, list_all}
 use Rattle.ucd_case.specs.CaseFolding.{simple_fold}
-use Rattle.phone_core.specs.Characters.{is_one_of, same_fold}
+use Rattle.phone_chars.specs.Characters.{is_one_of, same_fold}
 use Rattle.phone_parts.specs.Suffixes.{IsAnnounced, indicators}
 use Rattle.phone_parts.specs.Texts.{begins, is_like}
 use Rattle.phone_parts.proofs.Openings.{openings, is_opening, indicators_open}

@@ -13,7 +13,7 @@ use Rattle.ucd_category.specs.declared.GeneralCategory.{GeneralCategory}
 use Rattle.ucd_category.specs.declared.GeneralCategory.TheVariants.{DecimalNumber}
 use Rattle.ucd_table.proofs.Facts.{Stepped-everywhere}
 use Rattle.ucd_table.proofs.Stepped.{zip_stepped}
-use Rattle.phone_core.specs.Characters.{is_nd, same_fold}
+use Rattle.phone_chars.specs.Characters.{is_nd, same_fold}
 use Rattle.phone_parts.specs.Texts.{begins, ends, is_like}
 use Rattle.phone_parts.proofs.Ends.{begins_wider, ends_wider}
 

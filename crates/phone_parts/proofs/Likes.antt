@@ -5,7 +5,7 @@ use Rattle.std.proofs.lemmas.Slice.Eq.{bytes_eq-Decides}
 use Rattle.std.proofs.lemmas.Str.{encodes-chars}
 use Rattle.std.specs.Bool.{Decides, one_answer}
 use Rattle.std.specs.Str.{bytes_eq, chars}
-use Rattle.phone_core.specs.Characters.{same_fold}
+use Rattle.phone_chars.specs.Characters.{same_fold}
 use Rattle.phone_parts.specs.Texts.{is_like, after_like}
 
 -- what follows a front that is like the word

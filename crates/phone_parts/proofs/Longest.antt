@@ -7,7 +7,7 @@ use Rattle.std.proofs.lemmas.Str.{IsCharBoundary-at_seam, IsUtf8-take, chars-app
 use Rattle.std.proofs.Math.Seq.{take-append_seam}
 use Rattle.std.specs.List.{list_all}
 use Rattle.std.specs.Str.{chars}
-use Rattle.phone_core.proofs.Runs.{IsUtf8-after}
+use Rattle.phone_chars.proofs.Runs.{IsUtf8-after}
 use Rattle.phone_parts.specs.Longest.{IsWithoutLongest, AreEndsUpTo, AreEndsWithin}
 use Rattle.phone_parts.specs.Suffixes.{IsFew}
 use Rattle.phone_parts.proofs.Cores.{nil_from_chars}

@@ -7,7 +7,7 @@ use Rattle.std.specs.List.{list_any, list_all}
 use Rattle.ucd_case.proofs.Computing.{ucd_case}
 use Rattle.ucd_case.specs.CaseFolding.{simple_fold}
 use Rattle.ucd_category.proofs.Computing.{ucd_category}
-use Rattle.phone_core.specs.Characters.{is_nd, same_fold}
+use Rattle.phone_chars.specs.Characters.{is_nd, same_fold}
 use Rattle.phone_parts.specs.Suffixes.{IsSuffix, IsOptional, IsEnding, IsParameter, IsNumberSigned, IsIndicated, indicators, is_lead, is_mark, is_gap, is_sign, is_dash}
 use Rattle.phone_parts.specs.Texts.{begins, ends, is_like}
 use Rattle.phone_parts.specs.declared.suffix.Form.{Form}

@@ -9,8 +9,8 @@ use Rattle.std.specs.List.{list_any}
 use Rattle.std.specs.Str.{NonePass, NoCharPasses, chars, all_scalars}
 use Rattle.std.specs.Str.Pattern.{FindsChar, FindsCharPrefix, FindsPrefixBy, HasMatch, HasPrefixMatch, StripsPrefix}
 use denote.Param.Members.{Mut}
-use Rattle.phone_core.proofs.Trims.{FindsFirst, Answers}
-use Rattle.phone_core.specs.Characters.{is_one_of}
+use Rattle.phone_chars.proofs.Trims.{FindsFirst, Answers}
+use Rattle.phone_chars.specs.Characters.{is_one_of}
 use Rattle.phone_parts.specs.Texts.{begins, after_one}
 
 -- a character finds what its own set does

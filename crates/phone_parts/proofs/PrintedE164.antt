@@ -4,7 +4,7 @@ use Rattle.std.proofs.lemmas.Bool.{and_parts}
 use Rattle.std.specs.List.{list_any, list_all}
 use Rattle.ucd_case.proofs.Computing.{ucd_case}
 use Rattle.ucd_category.proofs.Computing.{ucd_category}
-use Rattle.phone_core.specs.Characters.{is_digit}
+use Rattle.phone_chars.specs.Characters.{is_digit}
 use Rattle.phone_parts.specs.Cores.{IsCore, is_last}
 use Rattle.phone_parts.specs.Naturals
 use Rattle.phone_parts.specs.Parts.{Parts}

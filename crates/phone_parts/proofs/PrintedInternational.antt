@@ -6,7 +6,7 @@ use Rattle.std.specs.List.{list_any, list_all}
 use Rattle.std.specs.Option.{option_map_or}
 use Rattle.ucd_case.proofs.Computing.{ucd_case}
 use Rattle.ucd_category.proofs.Computing.{ucd_category}
-use Rattle.phone_core.specs.Characters.{is_digit, is_nd, is_one_of, is_punctuation, punctuation}
+use Rattle.phone_chars.specs.Characters.{is_digit, is_nd, is_one_of, is_punctuation, punctuation}
 use Rattle.phone_parts.specs.Cores.{IsCore, is_last}
 use Rattle.phone_parts.specs.Naturals
 use Rattle.phone_parts.specs.Naturals.{IsNatural}

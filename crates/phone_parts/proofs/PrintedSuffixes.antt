@@ -4,7 +4,7 @@ use Rattle.std.proofs.lemmas.Bool.{and_parts, or_parts, or_right, not-true}
 use Rattle.std.proofs.lemmas.List.Folds.{list_any-append}
 use Rattle.std.specs.List.{list_any, list_all}
 use Rattle.ucd_case.proofs.Computing.{ucd_case}
-use Rattle.phone_core.specs.Characters.{is_one_of}
+use Rattle.phone_chars.specs.Characters.{is_one_of}
 use Rattle.phone_parts.specs.Suffixes.{IsAnnounced, IsSuffix, HasLongestSuffix, indicators, is_lead, is_sign}
 use Rattle.phone_parts.specs.declared.suffix.Form.{Form}
 use Rattle.phone_parts.specs.declared.suffix.Form.TheVariants.{Parameter, Indicated, NumberSign}

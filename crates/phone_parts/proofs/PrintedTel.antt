@@ -4,7 +4,7 @@ use Rattle.std.proofs.lemmas.Bool.{not-true, or_cases}
 use Rattle.std.specs.List.{list_any, list_all}
 use Rattle.std.specs.Option.{option_map_or}
 use Rattle.ucd_case.proofs.Computing.{ucd_case}
-use Rattle.phone_core.specs.Characters.{is_digit}
+use Rattle.phone_chars.specs.Characters.{is_digit}
 use Rattle.phone_parts.specs.Readers
 use Rattle.phone_parts.specs.Readers.{HasParts}
 use Rattle.phone_parts.specs.Tel

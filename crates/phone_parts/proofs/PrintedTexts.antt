@@ -5,7 +5,7 @@ use Rattle.std.proofs.lemmas.Bool.Decides.{nat_tests}
 use Rattle.std.proofs.lemmas.List.Folds.{list_any-append}
 use Rattle.std.specs.List.{list_any, list_all}
 use Rattle.ucd_table.proofs.TrieCheck.{all_below, all_below-at}
-use Rattle.phone_core.specs.Characters.{is_digit, is_one_of}
+use Rattle.phone_chars.specs.Characters.{is_digit, is_one_of}
 use Rattle.phone_parts.specs.Tel
 use Rattle.phone_parts.specs.Tel.{IsSignedRun}
 use Rattle.phone_parts.specs.Texts.{begins}

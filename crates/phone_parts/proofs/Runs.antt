@@ -2,8 +2,8 @@
 use Rattle.std.proofs.Common.{◌≡◌, ℕ, Bool, true, false, List, [], ◌∷◌, ◌++◌, refl, ap, sym, ◌∙◌, ap₂}
 use Rattle.std.proofs.lemmas.Bool.{and_parts}
 use Rattle.std.specs.List.{list_all}
-use Rattle.phone_core.proofs.Runs.{front-append-after_front}
-use Rattle.phone_core.specs.Cuts.{front, after_front}
+use Rattle.phone_chars.proofs.Runs.{front-append-after_front}
+use Rattle.phone_chars.specs.Cuts.{front, after_front}
 use Rattle.phone_parts.specs.Texts.{begins}
 
 -- the front of a run and a rest that doesn't begin with a member is the run

@@ -4,7 +4,7 @@ use Rattle.std.proofs.lemmas.Bool.{and_parts}
 use Rattle.std.specs.List.{list_any, list_all}
 use Rattle.ucd_case.proofs.Computing.{ucd_case}
 use Rattle.ucd_case.specs.CaseFolding.{simple_fold}
-use Rattle.phone_core.specs.Characters.{is_one_of, same_fold}
+use Rattle.phone_chars.specs.Characters.{is_one_of, same_fold}
 use Rattle.phone_parts.specs.Suffixes.{IsAnnounced, IsIndicated, IsSuffix, is_lead, is_dash, is_suffix_start, suffix_starts, indicators}
 use Rattle.phone_parts.specs.declared.suffix.Form.{Form}
 use Rattle.phone_parts.specs.declared.suffix.Form.TheVariants.{Parameter, Indicated, NumberSign}

@@ -7,8 +7,8 @@ use Rattle.std.specs.List.{list_any, list_all}
 use Rattle.std.specs.Option.{option_map_or}
 use Rattle.std.specs.Str.{bytes_eq}
 use Rattle.ucd_table.proofs.TrieCheck.{all_below, all_below-at}
-use Rattle.phone_core.specs.Characters.{is_nd}
-use Rattle.phone_core.specs.Cuts.{front, after_front}
+use Rattle.phone_chars.specs.Characters.{is_nd}
+use Rattle.phone_chars.specs.Cuts.{front, after_front}
 use Rattle.phone_parts.specs.Suffixes.{IsSuffix, IsAnnounced, IsEnding, HasNoSuffix, indicators, is_lead, is_mark, is_gap, is_sign, is_dash, is_suffix_start}
 use Rattle.phone_parts.specs.Texts.{begins, after_like, after_one, is_like}
 use Rattle.phone_parts.specs.declared.suffix.Form.{Form}

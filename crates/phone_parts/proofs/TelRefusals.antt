@@ -2,7 +2,7 @@
 use Rattle.std.proofs.Common.{◌≡◌, ⊎_elim, ℕ, ◌==◌, true, false, Option, Some, None, List, [], ◌∷◌, ◌++◌, codes, refl, ap, sym, ◌∙◌, true≢false}
 use Rattle.std.specs.List.{list_any}
 use Rattle.ucd_case.proofs.Computing.{ucd_case}
-use Rattle.phone_core.specs.Cuts.{front, after_front}
+use Rattle.phone_chars.specs.Cuts.{front, after_front}
 use Rattle.phone_parts.specs.Tel
 use Rattle.phone_parts.specs.Parts.{Parts}
 use Rattle.phone_parts.specs.Tel.{IsTel, IsSignedRun, is_phonedigit}

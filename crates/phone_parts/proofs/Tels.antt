@@ -9,8 +9,8 @@ use Rattle.ucd_case.proofs.CaseFoldingLemmas.{simple_folding_stepped}
 use Rattle.ucd_case.proofs.Computing.{ucd_case}
 use Rattle.ucd_case.specs.CaseFolding.{simple_folding}
 use Rattle.ucd_table.proofs.Facts.{Stepped-below}
-use Rattle.phone_core.specs.Cuts.{front, after_front}
-use Rattle.phone_core.specs.Characters.{same_fold}
+use Rattle.phone_chars.specs.Cuts.{front, after_front}
+use Rattle.phone_chars.specs.Characters.{same_fold}
 use Rattle.phone_parts.specs.Tel
 use Rattle.phone_parts.specs.Parts.{Parts}
 use Rattle.phone_parts.specs.Tel.{IsTel, Parameter, BeginsWith, HasParameters, IsSignedRun, value_of, is_visual, is_phonedigit, is_name_char, is_value_char}

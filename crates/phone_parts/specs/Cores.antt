@@ -1,8 +1,8 @@
 -- The core of a text, the part that free text is read from: after `extract` of the original's `parser/helper`, and its patterns in `consts`.
 use Rattle.std.specs.Prelude.{◌≡◌, ◌⊎◌, ℕ, ◌<◌, ◌==◌, ◌||◌, ◌&&◌, Bool, true, false, List, [], ◌∷◌, ◌++◌, length, drop}
 use Rattle.std.specs.List.{list_any}
-use Rattle.phone_core.specs.Characters.{is_plus, is_nd, is_letter, is_number, is_one_of}
-use Rattle.phone_core.specs.Cuts.{after_front}
+use Rattle.phone_chars.specs.Characters.{is_plus, is_nd, is_letter, is_number, is_one_of}
+use Rattle.phone_chars.specs.Cuts.{after_front}
 use Rattle.phone_parts.specs.Texts.{begins, ends}
 
 -- a number starts at a plus sign or a decimal digit of any script

@@ -1,7 +1,7 @@
 -- The three forms of an extension at the end of a text, after the pattern for them in the original's `consts`. Letters are compared by simple folding.
 use Rattle.std.specs.Prelude.{◌≡◌, ℕ, ◌≤◌, ◌<◌, ◌==◌, Bool, true, List, [], ◌∷◌, ◌++◌, length, drop, codes, map}
 use Rattle.std.specs.List.{list_all, list_any}
-use Rattle.phone_core.specs.Characters.{is_nd, is_one_of}
+use Rattle.phone_chars.specs.Characters.{is_nd, is_one_of}
 use Rattle.phone_parts.specs.Texts.{is_like}
 use Rattle.phone_parts.specs.declared.suffix.Form.{Form}
 use Rattle.phone_parts.specs.declared.suffix.Form.TheVariants.{Parameter, Indicated, NumberSign}

@@ -4,7 +4,7 @@ use Rattle.std.specs.Char.{is_ascii_hexdigit, is_ascii_alphanumeric}
 use Rattle.std.specs.List.{list_any, list_all, find}
 use Rattle.std.specs.Option.{option_or}
 use Rattle.std.specs.Str.{bytes_eq}
-use Rattle.phone_core.specs.Characters.{is_one_of}
+use Rattle.phone_chars.specs.Characters.{is_one_of}
 use Rattle.phone_parts.specs.Parts.{Parts}
 use Rattle.phone_parts.specs.Texts.{begins, is_like}
 

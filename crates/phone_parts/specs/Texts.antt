@@ -2,7 +2,7 @@
 use Rattle.std.specs.Prelude.{ℕ, Bool, false, if◌then◌else◌, List, [], ◌∷◌, length, take, drop, map, Option, None, Some}
 use Rattle.std.specs.Str.{bytes_eq}
 use Rattle.ucd_case.specs.CaseFolding.{simple_fold}
-use Rattle.phone_core.specs.Characters.{same_fold}
+use Rattle.phone_chars.specs.Characters.{same_fold}
 
 -- the first character is there and is in the set
 abbrev pub begins : (ℕ → Bool) → List ℕ → Bool

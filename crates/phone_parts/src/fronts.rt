@@ -2,8 +2,8 @@
 ghost use Rattle.std.specs.Prelude.{◌≡◌, ◌==◌, ℕ, List, [], true, ◌∷◌, ◌++◌, ◌<◌, length, false, None, Some, MatchOption, IfSome, chars};
 ghost use Rattle.phone_parts.specs.Texts.{begins, after_like, after_one};
 
-use phone_core::chars::same_fold;
-use phone_core::cuts::{CharSet, split_first};
+use phone_chars::chars::same_fold;
+use phone_chars::cuts::{CharSet, split_first};
 
 /// Whether the text has no character.
 pub(crate) fn is_nothing(text: &str) -> bool

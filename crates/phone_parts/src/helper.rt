@@ -4,8 +4,8 @@ ghost use Rattle.phone_parts.specs.Cores.{IsCore, IsTrimmed, IsBeforeSecondNumbe
 ghost use Rattle.phone_parts.specs.Parts.{IsSlice};
 
 use crate::fronts::{begins_with, is_nothing};
-use phone_core::chars::{is_letter, is_nd, is_number, is_plus};
-use phone_core::cuts::{CharSet, after_run, before, split_first};
+use phone_chars::chars::{is_letter, is_nd, is_number, is_plus};
+use phone_chars::cuts::{CharSet, after_run, before, split_first};
 
 /// Characters at which no number starts.
 struct BeforeStart;

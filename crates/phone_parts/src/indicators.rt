@@ -4,7 +4,7 @@
 ghost use Rattle.std.specs.Prelude.{◌≡◌, ℕ, List, chars, map};
 ghost use Rattle.std.specs.Borrow.{Bor};
 ghost use Rattle.std.specs.List.{filter};
-ghost use Rattle.phone_core.specs.Characters.{same_fold};
+ghost use Rattle.phone_chars.specs.Characters.{same_fold};
 ghost use Rattle.phone_parts.specs.Suffixes.{indicators};
 ghost use Rattle.phone_parts.specs.Texts.{begins};
 

@@ -5,7 +5,7 @@ ghost use Rattle.phone_parts.specs.Parts.{IsSlice};
 ghost use Rattle.phone_parts.specs.Tel.{BeginsWith, HasParameters, Parameter, value_of};
 
 use crate::fronts::strip_char;
-use phone_core::cuts::{CharSet, split_run};
+use phone_chars::cuts::{CharSet, split_run};
 
 /// The characters of a parameter's name.
 struct NameChars;

@@ -2,7 +2,7 @@
 ghost use Rattle.std.specs.Prelude.{◌≡◌, ◌≤◌, ℕ, ◌==◌, ◌||◌, List, [], ◌∷◌, ◌++◌, length, codes, Option, None, Some, IfSome, true};
 ghost use Rattle.std.specs.List.{list_all};
 ghost use Rattle.std.specs.Option.{option_map_or};
-ghost use Rattle.phone_core.specs.Characters.{is_digit};
+ghost use Rattle.phone_chars.specs.Characters.{is_digit};
 ghost use Rattle.phone_parts.specs.Readers.{HasParts};
 
 /// A plus sign and at least one ASCII digit are read as free text: all of it is the national part, and there is neither prefix nor extension.

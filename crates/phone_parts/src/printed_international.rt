@@ -2,7 +2,7 @@
 ghost use Rattle.std.specs.Prelude.{◌≡◌, ℕ, ◌≤◌, ◌||◌, true, false, List, [], ◌∷◌, ◌++◌, length, codes, Option, Some, None};
 ghost use Rattle.std.specs.List.{list_all, list_any};
 ghost use Rattle.std.specs.Option.{option_map_or};
-ghost use Rattle.phone_core.specs.Characters.{is_digit, is_one_of, is_punctuation};
+ghost use Rattle.phone_chars.specs.Characters.{is_digit, is_one_of, is_punctuation};
 ghost use Rattle.phone_parts.specs.Readers.{HasParts};
 
 /// A printed international text is a plus sign, the digits of a code, a space, a number of digits and punctuation with a digit in it,

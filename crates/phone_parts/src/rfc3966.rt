@@ -14,7 +14,7 @@ use crate::number::Number;
 use crate::parameters::read_parameters;
 use phone_core::consts::RFC3966_PREFIX;
 use phone_core::country::Source;
-use phone_core::cuts::{CharSet, split_run};
+use phone_chars::cuts::{CharSet, split_run};
 use std::borrow::CowStr;
 
 /// What may stand between a plus sign and the national part.

@@ -1,7 +1,7 @@
 //! The sets of characters that the parts of an extension are made of.
 
-use phone_core::chars::is_nd;
-use phone_core::cuts::CharSet;
+use phone_chars::chars::is_nd;
+use phone_chars::cuts::CharSet;
 
 /// What may follow an indicator at once.
 pub(crate) struct Marks;
@@ -33,7 +33,7 @@ impl CharSet for Gaps {
 pub(crate) struct Digits;
 
 impl CharSet for Digits {
-    ghost use Rattle.phone_core.specs.Characters.{is_nd};
+    ghost use Rattle.phone_chars.specs.Characters.{is_nd};
 
     ghost members = { λ _ c. is_nd c };
 

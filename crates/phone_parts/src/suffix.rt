@@ -2,7 +2,7 @@
 ghost use Rattle.std.specs.Prelude.{◌≡◌, ℕ, List, ◌∷◌, ◌++◌, ◌&&◌, [], nat_le, length, MatchOption, IfSome, IsTrue, chars, map};
 ghost use Rattle.std.specs.Borrow.{Bor};
 ghost use Rattle.std.specs.List.{list_all};
-ghost use Rattle.phone_core.specs.Characters.{is_nd};
+ghost use Rattle.phone_chars.specs.Characters.{is_nd};
 ghost use Rattle.phone_parts.specs.Longest.{AreEndsUpTo, AreEndsWithin};
 ghost use Rattle.phone_parts.specs.Parts.{IsSlice};
 ghost use Rattle.phone_parts.specs.Texts.{begins};
@@ -12,8 +12,8 @@ use crate::fronts::{is_nothing, skip_one, strip_char, strip_like};
 use crate::indicators::indicators_from;
 use crate::sets::{Dashes, Digits, Gaps, Marks, Sign};
 use crate::tails::{ending_limit, number_sign_limit};
-use phone_core::chars::is_nd;
-use phone_core::cuts::{after_run, before, split_first, split_run};
+use phone_chars::chars::is_nd;
+use phone_chars::cuts::{after_run, before, split_first, split_run};
 use unicode::case::simple_fold;
 
 /// The forms of an extension.

@@ -5,7 +5,7 @@ ghost use Rattle.phone_parts.specs.Longest.{IsWithoutLongest, AreEndsUpTo, AreEn
 ghost use Rattle.phone_parts.specs.Suffixes.{IsFew, IsSomeEnding, IsSomeNumberSigned};
 
 use crate::sets::{Dashes, Digits, Gaps, Marks, Sign};
-use phone_core::cuts::{CharSet, split_last};
+use phone_chars::cuts::{CharSet, split_last};
 
 /// The text without its longest end of characters of the set, at most so many.
 fn before_few<'a, S: CharSet>(text: &'a str, set: &S, most: usize) -> &'a str

@@ -3,9 +3,9 @@ use Rattle.std.proofs.Common.{◌≡◌, ◌==◌, ◌&&◌, ◌||◌, ℕ, Bool
 use Rattle.std.proofs.lemmas.Bool.{and_from, and_parts, cond_both}
 use Rattle.std.specs.List.{list_all}
 use Rattle.std.specs.Option.{option_map_or}
-use Rattle.phone_core.specs.Characters.{digit_of, is_digit, is_plus}
-use Rattle.phone_core.specs.Cuts.{after_front}
-use Rattle.phone_core.specs.Norm.{norm}
+use Rattle.phone_chars.specs.Characters.{digit_of, is_digit, is_plus}
+use Rattle.phone_chars.specs.Cuts.{after_front}
+use Rattle.phone_chars.specs.Norm.{norm}
 use Rattle.phone_read.specs.Codes.{is_bare, is_plain}
 
 -- what all of a text are, all that follows a front of it are

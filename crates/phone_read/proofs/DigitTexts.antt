@@ -3,9 +3,9 @@ use Rattle.std.proofs.Common.{◌≡◌, ℕ, ◌<◌, true, nat_le, List, [], �
 use Rattle.std.proofs.lemmas.Bool.{and_parts, leb-true}
 use Rattle.std.proofs.lemmas.Str.{encode_ascii}
 use Rattle.std.specs.List.{list_all}
-use Rattle.phone_core.specs.Characters.{is_digit}
-use Rattle.phone_core.specs.Norm.{norm}
-use Rattle.phone_core.proofs.Norms.{list_all-norm}
+use Rattle.phone_chars.specs.Characters.{is_digit}
+use Rattle.phone_chars.specs.Norm.{norm}
+use Rattle.phone_chars.proofs.Norms.{list_all-norm}
 
 pub encode_utf8_all-digits : (ds : List ℕ) → list_all is_digit ds ≡ true → encode_utf8_all ds ≡ ds
 encode_utf8_all-digits [] h = refl

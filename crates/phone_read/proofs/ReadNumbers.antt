@@ -16,10 +16,10 @@ use Rattle.either.specs.declared.Either.{Either}
 use Rattle.either.specs.declared.Either.TheVariants.{Left, Right}
 use Rattle.regex.specs.Replace.{bytes_of}
 use Rattle.regex.specs.Templates.{at_dollar, group_called, name_at, text_or_nothing, written_after}
-use Rattle.phone_core.specs.Characters.{is_digit, is_plus}
-use Rattle.phone_core.specs.Cuts.{after_front}
+use Rattle.phone_chars.specs.Characters.{is_digit, is_plus}
+use Rattle.phone_chars.specs.Cuts.{after_front}
 use Rattle.phone_core.specs.Ids.{name}
-use Rattle.phone_core.specs.Norm.{norm}
+use Rattle.phone_chars.specs.Norm.{norm}
 use Rattle.phone_core.specs.Nsn.{nsn}
 use Rattle.phone_core.specs.Numbers.{National, leading_zeros, national_in, national_with, number_in, text_of}
 use Rattle.phone_core.specs.declared.country.Id.{Id}
@@ -28,7 +28,7 @@ use Rattle.phone_core.specs.declared.country.Source.TheVariants.{Plus, Idd, Numb
 use Rattle.phone_core.specs.declared.error.ParseError.{ParseError}
 use Rattle.phone_core.specs.declared.error.ParseError.TheVariants.{InvalidCountryCode, MalformedInteger, TooLong, TooShortNsn}
 use Rattle.phone_core.proofs.Finds.{IfSome-option_or}
-use Rattle.phone_core.proofs.Norms.{list_all-norm}
+use Rattle.phone_chars.proofs.Norms.{list_all-norm}
 use Rattle.phone_core.proofs.ReadBack.{after_zeros_of}
 use Rattle.phone_meta.specs.Codes.{first_of, is_listed, is_main_of, is_other_of, shortest, territories}
 use Rattle.phone_meta.specs.First.{Captured, Seen, captured, first_match, group_in, names_in, replaced, with_first_replaced}

@@ -1,7 +1,7 @@
 -- A text whose parts are known has a reading.
 use Rattle.std.proofs.Common.{◌≡◌, ◌↔◌, Bool, true, false, IsTrue, List, ℕ, Option, option_map, Some, Result, Ok, Err, refl, true≢false, sym}
-use Rattle.phone_core.specs.Norm.{norm}
-use Rattle.phone_core.specs.Viable.{IsViable}
+use Rattle.phone_chars.specs.Norm.{norm}
+use Rattle.phone_chars.specs.Viable.{IsViable}
 use Rattle.phone_core.specs.declared.country.Id.{Id}
 use Rattle.phone_core.specs.declared.error.ParseError.{ParseError}
 use Rattle.phone_core.specs.declared.error.ParseError.TheVariants.{NoNumber}

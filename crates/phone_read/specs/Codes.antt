@@ -8,9 +8,9 @@ use Rattle.std.specs.Fmt.{decimal}
 use Rattle.regex.specs.Patterns.{find_str, span}
 use Rattle.regex.specs.Strings.{regex_pattern}
 use Rattle.regex.specs.declared.string.regex.Regex.{Regex}
-use Rattle.phone_core.specs.Characters.{is_digit, is_plus}
-use Rattle.phone_core.specs.Cuts.{after_front}
-use Rattle.phone_core.specs.Norm.{norm}
+use Rattle.phone_chars.specs.Characters.{is_digit, is_plus}
+use Rattle.phone_chars.specs.Cuts.{after_front}
+use Rattle.phone_chars.specs.Norm.{norm}
 use Rattle.phone_core.specs.Numbers.{number_in}
 use Rattle.phone_core.specs.declared.country.Id.{Id}
 use Rattle.phone_core.specs.declared.country.Source.{Source}

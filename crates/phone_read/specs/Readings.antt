@@ -1,8 +1,8 @@
 -- What a text is read as: after the original's `parser`.
 use Rattle.std.specs.Prelude.{◌≡◌, ℕ, ◌==◌, List, Option, None, Some, option_map, Result, Ok, Err}
-use Rattle.phone_core.specs.Norm.{norm}
-use Rattle.phone_core.specs.Cuts.{after_front}
-use Rattle.phone_core.specs.Viable.{IsViable}
+use Rattle.phone_chars.specs.Norm.{norm}
+use Rattle.phone_chars.specs.Cuts.{after_front}
+use Rattle.phone_chars.specs.Viable.{IsViable}
 use Rattle.phone_core.specs.declared.country.Id.{Id}
 use Rattle.phone_core.specs.declared.error.ParseError.{ParseError}
 use Rattle.phone_core.specs.declared.error.ParseError.TheVariants.{NoNumber}

@@ -4,7 +4,7 @@ ghost use Rattle.std.specs.Cow.{cow_str_bytes, IsBorrowedStr};
 ghost use Rattle.std.specs.Fmt.{decimal};
 ghost use Rattle.std.specs.Option.{option_and_then, option_copied, option_map_or};
 ghost use Rattle.std.specs.Result.{result_map_both};
-ghost use Rattle.phone_core.specs.Norm.{norm};
+ghost use Rattle.phone_chars.specs.Norm.{norm};
 ghost use Rattle.phone_core.specs.declared.country.Source.{Source};
 ghost use Rattle.phone_core.specs.declared.country.Source.TheVariants.{Plus, Default};
 ghost use Rattle.phone_parts.specs.Parts.{parts_of};

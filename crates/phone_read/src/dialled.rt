@@ -3,18 +3,18 @@ ghost use Rattle.std.specs.Prelude.{◌≡◌, ◌==◌, ℕ, Bool, true, List, 
 ghost use Rattle.std.specs.Cow.{cow_str_bytes, IsBorrowedStr};
 ghost use Rattle.std.specs.List.{list_all};
 ghost use Rattle.std.specs.Option.{option_map_or};
-ghost use Rattle.phone_core.specs.Characters.{is_digit, is_plus};
-ghost use Rattle.phone_core.specs.Cuts.{after_front};
-ghost use Rattle.phone_core.specs.Norm.{norm};
+ghost use Rattle.phone_chars.specs.Characters.{is_digit, is_plus};
+ghost use Rattle.phone_chars.specs.Cuts.{after_front};
+ghost use Rattle.phone_chars.specs.Norm.{norm};
 ghost use Rattle.phone_meta.specs.First.{IsCut};
 ghost use Rattle.phone_parts.specs.Parts.{parts_of};
 ghost use Rattle.phone_parts.specs.Texts.{begins};
 ghost use Rattle.phone_read.specs.Codes.{IsLentDigits, after_match, dialled, found_by, is_bare, is_plain, unsigned};
 
 use crate::trims::trim;
-use phone_core::chars::{is_plus, normalize};
+use phone_chars::chars::{is_plus, normalize};
 use phone_core::country::Source;
-use phone_core::cuts::{CharSet, after_run};
+use phone_chars::cuts::{CharSet, after_run};
 use phone_meta::Pattern;
 use phone_parts::Number;
 use regex::Regex;
@@ -90,7 +90,7 @@ impl Finder for OfTerritory<'_> {
 struct PlusSigns;
 
 impl CharSet for PlusSigns {
-    ghost use Rattle.phone_core.specs.Characters.{is_plus};
+    ghost use Rattle.phone_chars.specs.Characters.{is_plus};
 
     ghost members = { λ _ c. is_plus c };
 

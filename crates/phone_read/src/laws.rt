@@ -11,7 +11,7 @@ ghost use Rattle.phone_read.specs.Hints.{Coded};
 ghost use Rattle.phone_read.specs.Readings.{Reads};
 ghost use Rattle.phone_read.specs.declared.reading.Reading.{Reading};
 
-use phone_core::is_viable;
+use phone_chars::is_viable;
 use phone_parts::parts;
 
 /// A text has at most one reading, under each database and hint.

@@ -3,7 +3,7 @@
 ghost use Rattle.std.specs.Prelude.{◌≡◌, ◌<◌, ◌≤◌, ℕ, List, length, Option, Ok, true};
 ghost use Rattle.std.specs.List.{list_all};
 ghost use Rattle.std.specs.Option.{option_map_or};
-ghost use Rattle.phone_core.specs.Characters.{is_digit};
+ghost use Rattle.phone_chars.specs.Characters.{is_digit};
 ghost use Rattle.phone_core.specs.Numbers.{text_of};
 ghost use Rattle.phone_core.specs.declared.country.Id.{Id};
 ghost use Rattle.phone_meta.specs.Codes.{is_listed};

@@ -8,14 +8,14 @@ use Rattle.std.specs.Fmt.{decimal}
 use Rattle.std.specs.List.{list_all, list_any}
 use Rattle.std.specs.Option.{option_map_or}
 use Rattle.std.specs.Str.{chars}
-use Rattle.phone_core.proofs.Norms.{norm_digits}
-use Rattle.phone_core.proofs.Signed.{after_front-append}
-use Rattle.phone_core.specs.Characters.{digit_of, is_digit, is_one_of, is_plus, is_punctuation, is_separator}
-use Rattle.phone_core.specs.Cuts.{after_front}
-use Rattle.phone_core.specs.Norm.{norm}
+use Rattle.phone_chars.proofs.Norms.{norm_digits}
+use Rattle.phone_chars.proofs.Signed.{after_front-append}
+use Rattle.phone_chars.specs.Characters.{digit_of, is_digit, is_one_of, is_plus, is_punctuation, is_separator}
+use Rattle.phone_chars.specs.Cuts.{after_front}
+use Rattle.phone_chars.specs.Norm.{norm}
 use Rattle.phone_core.specs.Nsn.{nsn}
 use Rattle.phone_core.specs.Numbers.{IsHeld, text_of}
-use Rattle.phone_core.specs.Viable.{IsViable}
+use Rattle.phone_chars.specs.Viable.{IsViable}
 use Rattle.phone_core.specs.declared.country.Source.TheVariants.{Plus}
 use Rattle.phone_core.specs.declared.mode.Mode.{Mode}
 use Rattle.phone_core.specs.declared.mode.Mode.TheVariants.{E164, International, Rfc3966}

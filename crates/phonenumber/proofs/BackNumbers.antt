@@ -9,7 +9,7 @@ use Rattle.std.specs.List.{list_all}
 use Rattle.std.specs.Str.{all_ascii_digits}
 use Rattle.std.specs.Str.Parse.{digits_value}
 use Rattle.phone_core.proofs.Digits.{national_in-text_of}
-use Rattle.phone_core.specs.Characters.{is_digit}
+use Rattle.phone_chars.specs.Characters.{is_digit}
 use Rattle.phone_core.specs.Nsn.{nsn}
 use Rattle.phone_core.specs.Numbers.{IsHeld, National, text_of}
 

@@ -4,13 +4,13 @@ use Rattle.std.proofs.Math.Seq.{drop-append_seam}
 use Rattle.std.proofs.lemmas.Fmt.{decimal_nonempty}
 use Rattle.std.specs.Fmt.{decimal}
 use Rattle.std.specs.Result.{result_map_both}
-use Rattle.phone_core.proofs.Norms.{norm_digits}
-use Rattle.phone_core.specs.Characters.{is_plus}
-use Rattle.phone_core.specs.Cuts.{after_front}
-use Rattle.phone_core.specs.Norm.{norm}
+use Rattle.phone_chars.proofs.Norms.{norm_digits}
+use Rattle.phone_chars.specs.Characters.{is_plus}
+use Rattle.phone_chars.specs.Cuts.{after_front}
+use Rattle.phone_chars.specs.Norm.{norm}
 use Rattle.phone_core.specs.Nsn.{nsn}
 use Rattle.phone_core.specs.Numbers.{National, text_of}
-use Rattle.phone_core.specs.Viable.{IsViable}
+use Rattle.phone_chars.specs.Viable.{IsViable}
 use Rattle.phone_core.specs.declared.country.Source.{Source}
 use Rattle.phone_core.specs.declared.country.Source.TheVariants.{Plus}
 use Rattle.phone_core.specs.declared.error.ParseError.{ParseError}

@@ -8,8 +8,8 @@ use Rattle.std.specs.Fmt.{decimal}
 use Rattle.std.specs.List.{list_all}
 use Rattle.std.specs.Option.{option_map_or}
 use Rattle.std.specs.Str.{IsAscii, chars}
-use Rattle.phone_core.proofs.Runs.{IsUtf8-after}
-use Rattle.phone_core.specs.Characters.{is_digit, is_separator}
+use Rattle.phone_chars.proofs.Runs.{IsUtf8-after}
+use Rattle.phone_chars.specs.Characters.{is_digit, is_separator}
 use Rattle.phone_core.specs.Numbers.{IsHeld, text_of}
 use Rattle.phone_core.specs.declared.mode.Mode.TheVariants.{International, Rfc3966}
 use Rattle.phone_records.specs.declared.loader.Format.{Format}

@@ -3,10 +3,10 @@ use Rattle.std.proofs.Common.{◌≡◌, inl, inr, ℕ, zero, suc, ◌<◌, ◌�
 use Rattle.std.proofs.lemmas.Bool.{and_from, and_parts, cond-false, cond-true, false_from_ne_true, not-true, or_cases, or_left, or_right}
 use Rattle.std.proofs.lemmas.List.Sums.{length-filter}
 use Rattle.std.specs.List.{cons_option, count_by, list_all, slice_index}
-use Rattle.phone_core.proofs.Signed.{digit_is_early}
-use Rattle.phone_core.specs.Characters.{digit_of, is_digit, is_one_of, is_plus, is_punctuation, punctuation}
-use Rattle.phone_core.specs.Norm.{norm}
-use Rattle.phone_core.specs.Viable.{IsViable, is_allowed, is_early}
+use Rattle.phone_chars.proofs.Signed.{digit_is_early}
+use Rattle.phone_chars.specs.Characters.{digit_of, is_digit, is_one_of, is_plus, is_punctuation, punctuation}
+use Rattle.phone_chars.specs.Norm.{norm}
+use Rattle.phone_chars.specs.Viable.{IsViable, is_allowed, is_early}
 use Rattle.phone_parts.proofs.Endings.{member_passes}
 use Rattle.phone_parts.proofs.Ends.{all_wider}
 

@@ -2,7 +2,7 @@
 use Rattle.std.proofs.Common.{◌≡◌, ℕ, ◌==◌, ◌||◌, not, Bool, true, false, if◌then◌else◌, List, [], ◌∷◌, ◌++◌, drop, get_or, refl, ap, sym, ◌∙◌, true≢false}
 use Rattle.std.proofs.lemmas.Bool.{and_from}
 use Rattle.std.specs.List.{list_all}
-use Rattle.phone_core.specs.Characters.{is_separator}
+use Rattle.phone_chars.specs.Characters.{is_separator}
 use Rattle.phone_parts.specs.Texts.{begins}
 use Rattle.phonenumber.specs.Texts.{hyphenated}
 

@@ -4,7 +4,7 @@ use Rattle.std.proofs.lemmas.Bool.{and_parts, cond-true}
 use Rattle.std.specs.List.{list_all, list_any}
 use Rattle.std.specs.Option.{option_map_or}
 use Rattle.std.specs.Str.{chars}
-use Rattle.phone_core.specs.Characters.{is_digit, is_one_of, is_punctuation, is_separator}
+use Rattle.phone_chars.specs.Characters.{is_digit, is_one_of, is_punctuation, is_separator}
 use Rattle.phone_core.specs.Numbers.{text_of}
 use Rattle.phone_core.specs.declared.country.Id.{Id}
 use Rattle.phone_core.specs.declared.mode.Mode.TheVariants.{International}

@@ -6,7 +6,7 @@ use Rattle.std.specs.Fmt.{decimal}
 use Rattle.std.specs.Option.{option_and_then, option_map_or}
 use Rattle.std.specs.Str.{chars, is_utf8}
 use Rattle.phone_core.specs.Ids.{id_of}
-use Rattle.phone_core.specs.Viable.{IsViable}
+use Rattle.phone_chars.specs.Viable.{IsViable}
 use Rattle.phone_core.specs.declared.country.Id.{Id}
 use Rattle.phone_core.specs.declared.country.Id.TheVariants.{NZ}
 use Rattle.phone_core.specs.declared.country.Source.TheVariants.{Default}
@@ -16,7 +16,7 @@ use Rattle.phone_core.specs.declared.kind.«Type».TheVariants.{Unknown}
 use Rattle.phone_core.specs.declared.mode.Mode.TheVariants.{E164, International, National, Rfc3966}
 use Rattle.phone_records.specs.declared.loader.Metadata.{Metadata}
 use Rattle.phone_core.proofs.Texts.{id_of-name}
-use Rattle.phone_core.proofs.ViableRows.{not_viable}
+use Rattle.phone_chars.proofs.ViableRows.{not_viable}
 use Rattle.phone_read.specs.Hints.{code_by_hint}
 use Rattle.phone_read.specs.Readings.{Reads}
 use Rattle.phone_read.specs.Regions.{home, type_of, is_known}

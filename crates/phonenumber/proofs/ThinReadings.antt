@@ -1,11 +1,11 @@
 -- What a thin text is read as under a thin database is what it is read as.
 use Rattle.std.proofs.Common.{◌≡◌, ⊎_elim, ℕ, ◌==◌, ◌≤◌, if◌then◌else◌, Bool, true, false, List, [], ◌∷◌, ◌++◌, Option, option_map, Some, None, Result, Ok, Err, length, refl, ap, sym, subst, ◌∙◌, true≢false, arith}
 use Rattle.std.specs.List.{list_any, count_by}
-use Rattle.phone_core.specs.Characters.{is_digit, is_plus}
+use Rattle.phone_chars.specs.Characters.{is_digit, is_plus}
 use Rattle.phone_core.specs.Ids.{name}
-use Rattle.phone_core.specs.Cuts.{after_front}
-use Rattle.phone_core.specs.Norm.{norm}
-use Rattle.phone_core.specs.Viable.{IsViable}
+use Rattle.phone_chars.specs.Cuts.{after_front}
+use Rattle.phone_chars.specs.Norm.{norm}
+use Rattle.phone_chars.specs.Viable.{IsViable}
 use Rattle.phone_core.specs.declared.country.Id.{Id}
 use Rattle.phone_core.specs.declared.error.ParseError.{ParseError}
 use Rattle.phone_core.specs.declared.error.ParseError.TheVariants.{InvalidCountryCode}

@@ -1,7 +1,7 @@
 -- What a number is printed as: after E.164, RFC 3966, section 3, and the original's `formatter`.
 use Rattle.std.specs.Prelude.{ℕ, List, [], ◌∷◌, ◌++◌, codes, chars, encode_utf8_all, if◌then◌else◌, Option, None, Some, option_map, unwrap_or}
 use Rattle.std.specs.Fmt.{decimal}
-use Rattle.phone_core.specs.Characters.{is_separator}
+use Rattle.phone_chars.specs.Characters.{is_separator}
 use Rattle.phone_core.specs.Numbers.{text_of}
 use Rattle.phone_core.specs.declared.mode.Mode.{Mode}
 use Rattle.phone_core.specs.declared.mode.Mode.TheVariants.{E164, International, National, Rfc3966}

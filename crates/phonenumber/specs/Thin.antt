@@ -2,9 +2,9 @@
 -- territory that has no pattern but the general one. On these it is the reading relation.
 use Rattle.std.specs.Prelude.{◌≡◌, ℕ, ◌==◌, ◌||◌, ◌&&◌, Bool, true, if◌then◌else◌, List, [], ◌∷◌, length, Option, None, Some, Result, Err}
 use Rattle.std.specs.List.{list_all}
-use Rattle.phone_core.specs.Characters.{is_digit}
-use Rattle.phone_core.specs.Norm.{norm}
-use Rattle.phone_core.specs.Viable.{IsViable}
+use Rattle.phone_chars.specs.Characters.{is_digit}
+use Rattle.phone_chars.specs.Norm.{norm}
+use Rattle.phone_chars.specs.Viable.{IsViable}
 use Rattle.phone_core.specs.declared.country.Id.{Id}
 use Rattle.phone_core.specs.declared.error.ParseError.{ParseError}
 use Rattle.phone_core.specs.declared.error.ParseError.TheVariants.{NoNumber, InvalidCountryCode}

@@ -1,11 +1,11 @@
 //! Separators made hyphens, as texts of RFC 3966 have them.
 ghost use Rattle.std.specs.Prelude.{◌≡◌, chars, encode_utf8_all, string_bytes, IfOk};
-ghost use Rattle.phone_core.specs.Characters.{is_separator};
+ghost use Rattle.phone_chars.specs.Characters.{is_separator};
 ghost use Rattle.phone_parts.specs.Texts.{begins};
 ghost use Rattle.phonenumber.specs.Texts.{hyphenated};
 
-use phone_core::chars::is_separator;
-use phone_core::cuts::split_first;
+use phone_chars::chars::is_separator;
+use phone_chars::cuts::split_first;
 use std::alloc::{AllocError, Global};
 
 /// Whether the first character of a text is a separator.

@@ -3,7 +3,7 @@
 ghost use Rattle.std.specs.Prelude.{◌≡◌, ◌⊎◌, ◌↔◌, ◌≤◌, ◌||◌, ◌==◌, ◌++◌, ◌∷◌, ℕ, List, Option, None, Some, Result, Ok, IsUtf8, chars, fold, length, true, not};
 ghost use Rattle.std.specs.Hash.DefaultHasher as sip;
 ghost use Rattle.std.specs.List.{list_all};
-ghost use Rattle.phone_core.specs.Characters.{is_separator};
+ghost use Rattle.phone_chars.specs.Characters.{is_separator};
 ghost use Rattle.phone_core.specs.Numbers.{IsHeld, text_of};
 ghost use Rattle.phone_core.specs.declared.country.Id.{Id};
 ghost use Rattle.phone_core.specs.declared.error.ParseError.{ParseError};

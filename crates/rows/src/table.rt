@@ -6,7 +6,7 @@
 //! character of that number, and `\xNN` a byte that is part of no text. The columns are parted
 //! first, the escapes undone second.
 use anyhow::{Result, anyhow};
-use phone_core::cuts::split_first;
+use phone_chars::cuts::split_first;
 use std::alloc::{AllocError, Global};
 
 /// Why a line could not be read.

@@ -1,6 +1,6 @@
 //! Why an example is an exception.
 use crate::examples::Example;
-use phone_core::chars::is_digit;
+use phone_chars::chars::is_digit;
 use phonenumber::country::Source;
 use phonenumber::metadata::Database;
 use phonenumber::{PhoneNumber, Type};

@@ -1,6 +1,6 @@
 use Rattle.std.proofs.Common.{◌≡◌, ⊎_elim, not, [], ◌∙◌, subst}
 use Rattle.std.specs.Str.{chars}
-use Rattle.phone_core.specs.Cuts.{after_front}
+use Rattle.phone_chars.specs.Cuts.{after_front}
 use Rattle.phone_parts.specs.Cores.{is_start, IsTrimmed}
 use Rattle.phone_parts.proofs.Cores.{core_same, from_first, nil_trimmed, nil_first_number}
 use Rattle.phone_parts.proofs.helper.extract.Goals as goal

@@ -2,9 +2,9 @@ use Rattle.std.proofs.Common.{◌≡◌, ℕ, ◌==◌, ◌&&◌, false, List, [
 use Rattle.std.proofs.lemmas.Str.{IsUtf8-past_char}
 use Rattle.std.specs.Str.{chars}
 use Rattle.std.specs.Str.Pattern.{FindsCharPrefix}
-use Rattle.phone_core.proofs.Trims.{after_front-trimmed}
-use Rattle.phone_core.specs.Characters.{is_one_of}
-use Rattle.phone_core.specs.Cuts.{after_front}
+use Rattle.phone_chars.proofs.Trims.{after_front-trimmed}
+use Rattle.phone_chars.specs.Characters.{is_one_of}
+use Rattle.phone_chars.specs.Cuts.{after_front}
 use Rattle.phone_parts.specs.Cores.{begins_second_number}
 use Rattle.phone_parts.specs.Texts.{begins}
 use Rattle.phone_parts.proofs.Patterns.{IsPastOne, FindsListed, one_char, one_listed, strip-begins}

@@ -1,5 +1,5 @@
 use Rattle.std.proofs.Common.{rules, not}
-use Rattle.phone_core.proofs.Trims.{trim_end-answers}
+use Rattle.phone_chars.proofs.Trims.{trim_end-answers}
 use Rattle.phone_parts.specs.Cores.{is_last}
 use Rattle.phone_parts.proofs.Cores.{trimmed_without_end}
 use Rattle.phone_parts.proofs.helper.trimmed.Goals as goal

@@ -2,7 +2,7 @@ use Rattle.std.proofs.Common.{◌∙◌, ap, sym, rules}
 use Rattle.std.specs.Str.{chars}
 use Rattle.ucd_case.proofs.Computing.{ucd_case}
 use Rattle.ucd_case.specs.CaseFolding.{simple_fold}
-use Rattle.phone_core.specs.Characters.{is_one_of}
+use Rattle.phone_chars.specs.Characters.{is_one_of}
 use Rattle.phone_parts.proofs.FirstLetters.{from_this, none_from}
 use Rattle.phone_parts.proofs.Openings.{openings}
 use Rattle.phone_parts.proofs.indicators.indicators_from.Goals as goal

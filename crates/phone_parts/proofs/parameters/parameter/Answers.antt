@@ -1,6 +1,6 @@
 use Rattle.std.proofs.Common.{◌≡◌, ◌==◌, ◌∷◌, ◌++◌, true≢false, ap, sym, ◌∙◌}
 use Rattle.std.specs.Str.{chars}
-use Rattle.phone_core.specs.Cuts.{after_front}
+use Rattle.phone_chars.specs.Cuts.{after_front}
 use Rattle.phone_parts.specs.Tel.{is_name_char, is_value_char}
 use Rattle.phone_parts.specs.Texts.{begins}
 use Rattle.phone_parts.proofs.Runs.{all_in_front, none_after_front, run_whole}

@@ -2,7 +2,7 @@ use Rattle.std.proofs.Common.{◌≡◌, ℕ, List, Option, Some, None, MatchOpt
 use Rattle.std.proofs.lemmas.Str.{chars-nil}
 use Rattle.std.specs.List.{filter}
 use Rattle.std.specs.Str.{chars}
-use Rattle.phone_core.specs.Characters.{same_fold}
+use Rattle.phone_chars.specs.Characters.{same_fold}
 use Rattle.phone_parts.specs.Suffixes.{IsAnnounced, indicators}
 use Rattle.phone_parts.specs.Texts.{begins}
 use Rattle.phone_parts.proofs.FirstLetters.{announced_from, announced_kept}

@@ -1,7 +1,7 @@
 use Rattle.std.proofs.Common.{◌≡◌, ap, sym, ◌∙◌, true≢false}
 use Rattle.std.specs.Str.{chars}
-use Rattle.phone_core.specs.Characters.{is_nd}
-use Rattle.phone_core.specs.Cuts.{front, after_front}
+use Rattle.phone_chars.specs.Characters.{is_nd}
+use Rattle.phone_chars.specs.Cuts.{front, after_front}
 use Rattle.phone_parts.specs.Suffixes.{is_gap, is_sign}
 use Rattle.phone_parts.specs.Texts.{after_one}
 use Rattle.phone_parts.proofs.Endings.{ending_cut, ending_of, after_sign, digits_test, digits_of_test}

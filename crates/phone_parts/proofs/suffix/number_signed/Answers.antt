@@ -1,7 +1,7 @@
 use Rattle.std.proofs.Common.{◌≡◌, ◌==◌, ◌∷◌, [], length, refl, ap, sym, ◌∙◌, true≢false, arith}
 use Rattle.std.specs.Str.{chars}
-use Rattle.phone_core.specs.Characters.{is_nd}
-use Rattle.phone_core.specs.Cuts.{front, after_front}
+use Rattle.phone_chars.specs.Characters.{is_nd}
+use Rattle.phone_chars.specs.Cuts.{front, after_front}
 use Rattle.phone_parts.specs.Texts.{begins}
 use Rattle.phone_parts.proofs.Endings.{number_signed_cut, digits_test, digits_of_test, number_signed_of}
 use Rattle.phone_parts.proofs.suffix.number_signed.Goals as goal

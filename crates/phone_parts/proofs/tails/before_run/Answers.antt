@@ -1,6 +1,6 @@
 use Rattle.std.proofs.Common.{rules, ⊎_elim, length, ap, sym, ◌∙◌, arith}
 use Rattle.std.specs.Str.{chars}
-use Rattle.phone_core.proofs.Trims.{trim_end-answers}
+use Rattle.phone_chars.proofs.Trims.{trim_end-answers}
 use Rattle.phone_parts.proofs.Longest.{stops_at_other}
 use Rattle.phone_parts.proofs.tails.before_run.Goals as goal
 

@@ -5,7 +5,7 @@ use Rattle.std.specs.Cow.{cow_str_bytes}
 use Rattle.std.specs.Fmt.{decimal}
 use Rattle.std.specs.Option.{option_copied, option_map_or}
 use Rattle.std.specs.Str.{chars}
-use Rattle.phone_core.specs.Norm.{norm}
+use Rattle.phone_chars.specs.Norm.{norm}
 use Rattle.phone_core.specs.declared.country.Source.TheVariants.{Plus, Default}
 use Rattle.phone_core.specs.declared.error.ParseError.TheVariants.{InvalidCountryCode}
 use Rattle.phone_read.specs.Codes.{code_by, code_by_prefix, found_in, international_prefix_of, with_three}

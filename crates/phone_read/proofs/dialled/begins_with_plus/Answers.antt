@@ -1,5 +1,5 @@
 use Rattle.std.proofs.Common.{rules}
-use Rattle.phone_core.specs.Characters.{is_plus}
+use Rattle.phone_chars.specs.Characters.{is_plus}
 use Rattle.phone_parts.proofs.Patterns.{starts-answers}
 use Rattle.phone_read.proofs.dialled.begins_with_plus.Goals as goal
 

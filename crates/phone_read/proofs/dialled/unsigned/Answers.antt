@@ -1,7 +1,7 @@
 use Rattle.std.proofs.Common.{ap, ◌∙◌}
 use Rattle.std.specs.Cow.{cow_str_bytes}
 use Rattle.std.specs.Str.{chars}
-use Rattle.phone_core.specs.Norm.{norm}
+use Rattle.phone_chars.specs.Norm.{norm}
 use Rattle.phone_read.proofs.BareParts.{norm-after_plus}
 use Rattle.phone_read.proofs.FoundCodes.{ok_again}
 use Rattle.phone_read.proofs.dialled.unsigned.Goals as goal

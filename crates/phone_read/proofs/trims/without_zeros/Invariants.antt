@@ -1,7 +1,7 @@
 use Rattle.std.proofs.Common.{◌≡◌, ◌==◌, length}
 use denote.Text.{Utf8}
 use denote.Shadow.{shadow}
-use Rattle.phone_core.specs.Cuts.{after_front}
+use Rattle.phone_chars.specs.Cuts.{after_front}
 use Rattle.phone_read.proofs.trims.without_zeros.Given as goal
 
 abbrev pub invariant-loop-after : goal.invariant-loop-after

@@ -1,7 +1,7 @@
 use Rattle.std.proofs.Common.{ap, sym, ◌∙◌}
 use Rattle.std.proofs.lemmas.Str.{chars-nil}
 use Rattle.std.specs.Str.{chars}
-use Rattle.phone_core.specs.Characters.{is_separator}
+use Rattle.phone_chars.specs.Characters.{is_separator}
 use Rattle.phone_parts.specs.Texts.{begins}
 use Rattle.phonenumber.proofs.hyphens.begins_apart.Goals as goal
 

@@ -1,0 +1,4 @@
+pub mod Characters
+pub mod Cuts
+pub mod Norm
+pub mod Viable

@@ -1,0 +1,61 @@
+//! A text's digits: what is left of it once each character is read as a digit or dialled on a keypad.
+ghost use Rattle.std.specs.Prelude.{◌≡◌, string_bytes, encode_utf8_all, IfOk, Ok, IsTrue, chars};
+ghost use Rattle.std.specs.Cow.{cow_str_bytes, IsBorrowedStr};
+ghost use Rattle.std.specs.List.{list_all};
+ghost use Rattle.std.specs.Option.{option_or};
+ghost use Rattle.phone_chars.specs.Characters.{is_digit, digit_of};
+ghost use Rattle.phone_chars.specs.Norm.{norm};
+
+use crate::chars::{as_dec_digit, is_digit, keypad};
+use std::alloc::{AllocError, Global};
+use std::borrow::CowStr;
+
+/// The digit of a character: as a digit of some script, else on the keypad.
+fn digit_of(c: char) -> Option<char>
+    ensures { result ≡ digit_of c }
+{
+    match as_dec_digit(c) {
+        Some(digit) => Some(digit),
+        None => keypad(c),
+    }
+}
+
+/// The digits of a text, in a text of their own.
+fn digits(alloc: Global, text: &str) -> Result<String, AllocError>
+    ensures { IfOk result (λ s. string_bytes s ≡ encode_utf8_all (norm (chars text.now))) }
+{
+    text.chars().filter_map(digit_of).collect(alloc)
+}
+
+/// Whether each character of a text is a digit from `0` to `9`.
+pub(crate) fn has_digits_alone(text: &str) -> bool
+    ensures { result ≡ list_all is_digit (chars text.now) }
+{
+    text.chars().all(|c| is_digit(c))
+}
+
+/// Whether a text is digits from `0` to `9` alone, and so is its own digits; no other text is.
+fn is_normal(text: &str) -> bool
+    ensures digits { result ≡ list_all is_digit (chars text.now) }
+    ensures own { IsTrue result → encode_utf8_all (norm (chars text.now)) ≡ text.now }
+    ensures only { encode_utf8_all (norm (chars text.now)) ≡ text.now → IsTrue result }
+{
+    has_digits_alone(text)
+}
+
+/// The digits of a text: for each character the digit that `as_dec_digit` gives it, else the one of its key on a
+/// telephone (`keypad`), else nothing. A text of digits from `0` to `9` alone, also the empty one, is given back as
+/// it is, and takes no memory; so a borrowed one stays borrowed. No other text is its own digits. Refused only for
+/// memory.
+pub fn normalize(alloc: Global, text: CowStr<'_>) -> Result<CowStr<'_>, AllocError>
+    ensures text { IfOk result (λ out. cow_str_bytes out ≡ encode_utf8_all (norm (chars (cow_str_bytes text.entry)))) }
+    ensures no_memory { IsTrue (list_all is_digit (chars (cow_str_bytes text.entry))) → result ≡ Ok text.entry }
+    ensures own { encode_utf8_all (norm (chars (cow_str_bytes text.entry))) ≡ cow_str_bytes text.entry → result ≡ Ok text.entry }
+    ensures borrowed { IfOk result (λ out. IsBorrowedStr text.entry →
+        IsTrue (list_all is_digit (chars (cow_str_bytes text.entry))) → IsBorrowedStr out) }
+{
+    if is_normal(text.as_str()) {
+        return Ok(text);
+    }
+    Ok(CowStr::Owned(digits(alloc, text.as_str())?))
+}

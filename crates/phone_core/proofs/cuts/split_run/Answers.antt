@@ -1,5 +1,0 @@
-use Rattle.phone_core.proofs.Runs.{front_before}
-use Rattle.phone_core.proofs.cuts.split_run.Goals as goal
-
-pub returns-clause-front : goal.returns-clause-front
-returns-clause-front g c = front_before _ _ _ _ (c.before-2.ensures.read c.after_run-rest.ensures.end) c.after_run-rest.ensures.rest
