@@ -1,4 +1,5 @@
 pub mod Digits
 pub mod Finds
+pub mod Names
 pub mod ReadBack
 pub mod Texts

@@ -1,5 +1,5 @@
 //! Where a number belongs: region ids, and calling codes with the way they were found.
-ghost use Rattle.std.specs.Prelude.{◌≡◌, MatchOption, Some, None};
+ghost use Rattle.std.specs.Prelude.{◌≡◌, MatchOption, Some, None, [], get_or, map};
 ghost use Rattle.std.specs.List.{find};
 ghost use Rattle.std.specs.Str.{bytes_eq};
 ghost use Rattle.phone_core.specs.Ids.{name, id_of};
@@ -7,13 +7,13 @@ ghost use Rattle.phone_core.specs.declared.country.Id.{Id};
 
 use serde::{Described, Deserialize, Deserializer, Format, Serialize, Serializer};
 use std::alloc::Global;
+use std::fmt;
 use std::marker::Model;
 use std::str::FromStr;
 use thiserror::Error;
 
 /// How the calling code of a number was found.
-#[derive(Clone, Copy, PartialEq, Eq, Hash, Debug, Default, Serialize, Deserialize)]
-#[serde(rename_all = "snake_case")]
+#[derive(Clone, Copy, PartialEq, Eq, Hash, Debug, Default)]
 pub enum Source {
     /// After a plus sign, as `+64` in `+64 3 331 6005`, or from the `phone-context` of a `tel:` text.
     Plus,
@@ -85,7 +85,7 @@ impl From<Code> for u16 {
 pub struct UnknownId;
 
 /// The id of a region, mostly its two letters of ISO 3166.
-#[derive(Clone, Copy, PartialEq, Eq, Hash, Debug)]
+#[derive(Clone, Copy, PartialEq, Eq, Hash)]
 pub enum Id {
     AC,
     AD,
@@ -581,7 +581,7 @@ pub use self::Id::ZA;
 pub use self::Id::ZM;
 pub use self::Id::ZW;
 
-/// Hands the ids, in the order of the alphabet, to a macro: the one table that both conversions are made from.
+/// Hands the ids, in the order of the alphabet, to a macro: the one table that ids and names are made from.
 macro_rules! each_id {
     ($then:ident, $value:expr) => {
         $then!($value,
@@ -599,11 +599,9 @@ macro_rules! each_id {
     };
 }
 
-macro_rules! name_of {
-    ($id:expr, $($name:ident)*) => {
-        match $id {
-            $(Id::$name => stringify!($name),)*
-        }
+macro_rules! names_of {
+    ($none:expr, $($name:ident)*) => {
+        [$(stringify!($name)),*]
     };
 }
 
@@ -616,12 +614,31 @@ macro_rules! list_of {
 /// All ids, in the order of the alphabet.
 pub const ALL: [Id; 245] = each_id!(list_of, ());
 
+/// Their names, in the same order.
+const NAMES: [&str; 245] = each_id!(names_of, ());
+
+/// The text at this place of a list; the empty one past its end.
+fn name_at(names: &[&'static str], at: usize) -> &'static str
+    ensures { result.now ≡ get_or (map (λ n. n.now) names.now) at [] }
+{
+    match names.get(at) {
+        Some(name) => name,
+        None => "",
+    }
+}
+
 impl Id {
     /// The id's text: its name.
     pub fn as_str(&self) -> &'static str
         ensures { result.now ≡ name self.now }
     {
-        each_id!(name_of, self)
+        name_at(&NAMES, *self as usize)
+    }
+}
+
+impl fmt::Debug for Id {
+    fn fmt<W: fmt::Write>(&self, f: &mut fmt::Formatter<W>) -> fmt::Result {
+        f.write_str(self.as_str())
     }
 }
 

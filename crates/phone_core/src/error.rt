@@ -1,5 +1,5 @@
 //! Why a text is no number, and why a record is no territory.
-ghost use Rattle.std.specs.Prelude.{◌≡◌, IfOk};
+ghost use Rattle.std.specs.Prelude.{◌≡◌, IfOk, string_bytes};
 ghost use Rattle.phone_core.specs.Errors.{told};
 
 use std::alloc::AllocError;
@@ -91,6 +91,26 @@ pub enum MetadataError {
     },
 }
 
+/// Two texts again; refused only for memory.
+fn two(first: &String, second: &String) -> Result<(String, String), AllocError>
+    ensures { IfOk result (λ all. (string_bytes all.0 ≡ string_bytes first.now) × (string_bytes all.1 ≡ string_bytes second.now)) }
+{
+    Ok((first.clone()?, second.clone()?))
+}
+
+/// Three texts again; refused only for memory.
+fn three(
+    first: &String,
+    second: &String,
+    third: &String,
+) -> Result<(String, String, String), AllocError>
+    ensures { IfOk result (λ all. (string_bytes all.0 ≡ string_bytes first.now)
+        × (string_bytes all.1 ≡ string_bytes second.now) × (string_bytes all.2 ≡ string_bytes third.now)) }
+{
+    let (first, second) = two(first, second)?;
+    Ok((first, second, third.clone()?))
+}
+
 impl MetadataError {
     /// The same error again; refused only for memory.
     pub fn clone(&self) -> Result<MetadataError, AllocError>
@@ -99,27 +119,22 @@ impl MetadataError {
         match self {
             MetadataError::UnexpectedEof => Ok(MetadataError::UnexpectedEof),
             MetadataError::MismatchedTag(tag) => Ok(MetadataError::MismatchedTag(tag.clone()?)),
-            MetadataError::MissingValue { phase, name } => Ok(MetadataError::MissingValue {
-                phase: phase.clone()?,
-                name: name.clone()?,
-            }),
-            MetadataError::UnhandledElement { phase, name } => Ok(
-                MetadataError::UnhandledElement {
-                    phase: phase.clone()?,
-                    name: name.clone()?,
-                },
-            ),
-            MetadataError::UnhandledAttribute { phase, name, value } => {
-                Ok(MetadataError::UnhandledAttribute {
-                    phase: phase.clone()?,
-                    name: name.clone()?,
-                    value: value.clone()?,
-                })
+            MetadataError::MissingValue { phase, name } => {
+                let (phase, name) = two(phase, name)?;
+                Ok(MetadataError::MissingValue { phase, name })
             }
-            MetadataError::UnhandledEvent { phase, event } => Ok(MetadataError::UnhandledEvent {
-                phase: phase.clone()?,
-                event: event.clone()?,
-            }),
+            MetadataError::UnhandledElement { phase, name } => {
+                let (phase, name) = two(phase, name)?;
+                Ok(MetadataError::UnhandledElement { phase, name })
+            }
+            MetadataError::UnhandledAttribute { phase, name, value } => {
+                let (phase, name, value) = three(phase, name, value)?;
+                Ok(MetadataError::UnhandledAttribute { phase, name, value })
+            }
+            MetadataError::UnhandledEvent { phase, event } => {
+                let (phase, event) = two(phase, event)?;
+                Ok(MetadataError::UnhandledEvent { phase, event })
+            }
         }
     }
 }

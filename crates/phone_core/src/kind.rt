@@ -1,9 +1,7 @@
 //! What kind of service a number reaches.
-use serde::{Deserialize, Serialize};
 
 /// The kind of a number.
-#[derive(Clone, Copy, PartialEq, Eq, Hash, Debug, Serialize, Deserialize)]
-#[serde(rename_all = "snake_case")]
+#[derive(Clone, Copy, PartialEq, Eq, Hash, Debug)]
 pub enum Type {
     FixedLine,
     Mobile,

@@ -11,6 +11,7 @@ mod extension;
 mod kind;
 pub mod laws;
 mod mode;
+mod named;
 mod national_number;
 pub mod validator;
 
