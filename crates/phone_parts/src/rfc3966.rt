@@ -12,9 +12,9 @@ ghost use Rattle.std.specs.Cow.{cow_str_bytes};
 use crate::fronts::{begins_with, is_nothing, strip_char, strip_like};
 use crate::number::Number;
 use crate::parameters::read_parameters;
+use phone_chars::cuts::{CharSet, split_run};
 use phone_core::consts::RFC3966_PREFIX;
 use phone_core::country::Source;
-use phone_chars::cuts::{CharSet, split_run};
 use std::borrow::CowStr;
 
 /// What may stand between a plus sign and the national part.

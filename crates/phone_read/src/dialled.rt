@@ -13,8 +13,8 @@ ghost use Rattle.phone_read.specs.Codes.{IsLentDigits, after_match, dialled, fou
 
 use crate::trims::trim;
 use phone_chars::chars::{is_plus, normalize};
-use phone_core::country::Source;
 use phone_chars::cuts::{CharSet, after_run};
+use phone_core::country::Source;
 use phone_meta::Pattern;
 use phone_parts::Number;
 use regex::Regex;
