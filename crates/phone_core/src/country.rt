@@ -581,7 +581,8 @@ pub use self::Id::ZA;
 pub use self::Id::ZM;
 pub use self::Id::ZW;
 
-/// Hands the ids, in the order of the alphabet, to a macro: the one table that ids and names are made from.
+/// Hands the ids, in the order of the alphabet, to a macro: the one table of which ids and names
+/// are made.
 macro_rules! each_id {
     ($then:ident, $value:expr) => {
         $then!($value,

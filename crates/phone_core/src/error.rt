@@ -93,7 +93,8 @@ pub enum MetadataError {
 
 /// Two texts again; refused only for memory.
 fn two(first: &String, second: &String) -> Result<(String, String), AllocError>
-    ensures { IfOk result (λ all. (string_bytes all.0 ≡ string_bytes first.now) × (string_bytes all.1 ≡ string_bytes second.now)) }
+    ensures { IfOk result (λ all. (string_bytes all.0 ≡ string_bytes first.now)
+        × (string_bytes all.1 ≡ string_bytes second.now)) }
 {
     Ok((first.clone()?, second.clone()?))
 }
@@ -105,7 +106,8 @@ fn three(
     third: &String,
 ) -> Result<(String, String, String), AllocError>
     ensures { IfOk result (λ all. (string_bytes all.0 ≡ string_bytes first.now)
-        × (string_bytes all.1 ≡ string_bytes second.now) × (string_bytes all.2 ≡ string_bytes third.now)) }
+        × (string_bytes all.1 ≡ string_bytes second.now)
+        × (string_bytes all.2 ≡ string_bytes third.now)) }
 {
     let (first, second) = two(first, second)?;
     Ok((first, second, third.clone()?))

@@ -1,6 +1,6 @@
-//! How sources and kinds are written and read, as a `derive` would do it: by the variant's name in snake case, which is also
-//! read as the one key of an object over nothing. What a derive writes goes from variant to variant, and of seventeen it
-//! takes long to prove.
+//! How sources and kinds are written and read, as a `derive` would do it: by the variant's name in
+//! snake case, which is also read as the one key of an object over nothing. What a derive writes
+//! goes from variant to variant, and of seventeen it takes long to prove.
 use crate::Type;
 use crate::country::Source;
 use serde::{
