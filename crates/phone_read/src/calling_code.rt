@@ -120,7 +120,8 @@ pub(crate) fn coded<'a>(
     };
     let number = dialled(db.allocator(), &finder, number)?;
     if let Some(prefix) = &number.prefix {
-        let code = code_by_prefix(db, prefix.as_str(), number.national.as_str())?;
+        let code = code_by_prefix(db, prefix.as_str(), number.national.as_str());
+        let (code, number) = beside(code, number)?;
         return Ok(CodedNumber { code, number });
     }
     match number.country {
@@ -248,7 +249,8 @@ fn by_hint<'a>(
         return Err(ParseError::InvalidCountryCode);
     };
     let code = territory.country_code();
-    let is_apart = is_code_apart(territory, code, number.national.as_str())?;
+    let is_apart = is_code_apart(territory, code, number.national.as_str());
+    let (is_apart, number) = beside(is_apart, number)?;
     if is_apart {
         return Ok(cut_off(code, Source::Number, number));
     }

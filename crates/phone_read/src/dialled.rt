@@ -210,8 +210,7 @@ fn digits(alloc: Global, part: CowStr<'_>) -> Result<CowStr<'_>, AllocError>
     ensures no_memory { list_all is_digit (chars (cow_str_bytes part.entry)) ≡ true → IsOk result }
     ensures borrowed { IfOk result (λ d. IsBorrowedStr part.entry → list_all is_digit (chars (cow_str_bytes part.entry)) ≡ true → IsBorrowedStr d) }
 {
-    let digits = normalize(alloc, part)?;
-    Ok(digits)
+    normalize(alloc, part)
 }
 
 /// The digits of a part, if it is there.

@@ -10,7 +10,7 @@ ghost use Rattle.phone_read.specs.Strips.{Stripped, by_match, by_rule, held, is_
 
 use crate::together::{beside, instead};
 use crate::trims::{part, trim, without_front};
-use crate::validator::length_of;
+use crate::validator::{is_general, length_of};
 use phone_core::{Type, Validation};
 use phone_meta::{Captured, Metadata, Pattern};
 use phone_parts::Number;
@@ -191,9 +191,8 @@ fn anew_in_kind(
 fn leaves_general(m: &Metadata, digits: &str, anew: &str) -> Result<bool, AllocError>
     ensures { IfOk result (λ b. b ≡ (is_of m.now.general digits.now && not (is_of m.now.general anew.now))) }
 {
-    let general = m.descriptors().general();
-    let was = general.is_match(digits)?;
-    let is = general.is_match(anew)?;
+    let was = is_general(m, digits)?;
+    let is = is_general(m, anew)?;
     Ok(was && !is)
 }
 

@@ -3,7 +3,7 @@ use Rattle.std.specs.Cow.{cow_str_bytes, IsBorrowedStr}
 use Rattle.std.specs.Option.{option_copied, option_map_or}
 use Rattle.phone_meta.specs.First.{captured}
 use Rattle.phone_parts.specs.declared.number.Number.{Number as Parts}
-use Rattle.phone_read.specs.Strips.{is_anew, is_anew_by_match}
+use Rattle.phone_read.specs.Strips.{is_anew_by_match}
 use Rattle.phone_read.proofs.FoundCodes.{ok_again}
 use Rattle.phone_read.proofs.stripping.national_number.Goals as goal
 
