@@ -24,6 +24,10 @@ transformed m pattern rule digits was found =
     if is_of m.general digits && not (is_of m.general (replaced pattern rule digits)) then record { national = digits; carrier = was }
     else record { national = replaced pattern rule digits; carrier = held digits found.first }
 
+-- the digits as a transform rule writes them are no longer of the territory's general kind, and were
+abbrev pub is_left_by_rule : Metadata → List ℕ → List ℕ → List ℕ → Bool
+is_left_by_rule m pattern rule digits = is_of m.general digits && not (is_of m.general (replaced pattern rule digits))
+
 -- a match at the front is cut off, and the last group (the match where there is none) names the carrier; with a rule and that group there, the rule counts
 abbrev pub by_rule : Metadata → List ℕ → Option (List ℕ) → List ℕ → Option (List ℕ) → Captured → Option (ℕ × ℕ) → Stripped
 by_rule m pattern (Some rule) digits was found (Some last) = transformed m pattern rule digits was found

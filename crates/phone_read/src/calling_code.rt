@@ -1,5 +1,5 @@
 //! The calling code of a number, and the digits that follow it.
-ghost use Rattle.std.specs.Prelude.{◌≡◌, ◌⊎◌, ◌&&◌, ℕ, Bool, List, not, true, Ok, Err, drop, length, IfOk, IfErr, IfSome, IsSome, None, Some, option_map, unwrap_or};
+ghost use Rattle.std.specs.Prelude.{◌≡◌, ◌⊎◌, ◌&&◌, ℕ, Bool, List, not, true, Ok, Err, drop, length, IfOk, IfErr, IfSome, IsSome, None, Some, option_map, unwrap_or, string_bytes};
 ghost use Rattle.std.specs.Cow.{cow_str_bytes, IsBorrowedStr};
 ghost use Rattle.std.specs.Fmt.{decimal};
 ghost use Rattle.std.specs.Option.{option_and_then, option_copied, option_map_or};
@@ -14,6 +14,7 @@ ghost use Rattle.phone_read.specs.Hints.{Coded, code_by_hint, hinted, looks_nati
 
 use crate::dialled::{OfTerritory, dialled};
 use crate::hints::{hinted, looks_national};
+use crate::together::{beside, instead};
 use crate::trims::{begins_with_number, behind_number, lent_front, trim};
 use phone_core::ParseError;
 use phone_core::consts::MIN_LENGTH_FOR_NSN;
@@ -82,11 +83,18 @@ fn prefixed<'a>(alloc: Global, coded: CodedNumber<'a>) -> Result<Number<'a>, All
     if number.prefix.is_some() {
         return Ok(number);
     }
-    let prefix = format!(in alloc; "{code}")?;
+    let (prefix, number) = beside(in_decimal(alloc, code), number)?;
     Ok(Number {
-        prefix: Some(CowStr::Owned(prefix)),
+        prefix: instead(number.prefix, Some(CowStr::Owned(prefix))),
         ..number
     })
+}
+
+/// A code in decimal.
+fn in_decimal(alloc: Global, code: u16) -> Result<String, AllocError>
+    ensures { IfOk result (λ text. string_bytes text ≡ decimal code) }
+{
+    format!(in alloc; "{code}")
 }
 
 /// A number with its calling code, as [`country_code`] has it but for a prefix that would be a copy, and the code itself.
@@ -112,7 +120,8 @@ pub(crate) fn coded<'a>(
     };
     let number = dialled(db.allocator(), &finder, number)?;
     if let Some(prefix) = &number.prefix {
-        let code = code_by_prefix(db, prefix.as_str(), number.national.as_str())?;
+        let code = code_by_prefix(db, prefix.as_str(), number.national.as_str());
+        let (code, number) = beside(code, number)?;
         return Ok(CodedNumber { code, number });
     }
     match number.country {
@@ -192,7 +201,8 @@ fn by_front<'a>(db: &Database, number: Number<'a>) -> Result<CodedNumber<'a>, Pa
     ensures lent_prefix { IfOk result (λ r. IfSome r.number.prefix (λ p. IsBorrowedStr p)) }
     ensures has_prefix { IfOk result (λ r. IsBorrowedStr number.entry.national → IsSome r.number.prefix) }
 {
-    let code = code_by_front(db, number.national.as_str())?;
+    let code = code_by_front(db, number.national.as_str());
+    let (code, number) = beside(code, number)?;
     let country = number.country;
     Ok(cut_off(code, country, number))
 }
@@ -215,9 +225,8 @@ fn cut_off<'a>(code: u16, country: Source, number: Number<'a>) -> CodedNumber<'a
         number: Number {
             country,
             national,
-            prefix,
-            extension: number.extension,
-            carrier: number.carrier,
+            prefix: instead(number.prefix, prefix),
+            ..number
         },
     }
 }
@@ -240,7 +249,8 @@ fn by_hint<'a>(
         return Err(ParseError::InvalidCountryCode);
     };
     let code = territory.country_code();
-    let is_apart = is_code_apart(territory, code, number.national.as_str())?;
+    let is_apart = is_code_apart(territory, code, number.national.as_str());
+    let (is_apart, number) = beside(is_apart, number)?;
     if is_apart {
         return Ok(cut_off(code, Source::Number, number));
     }

@@ -3,9 +3,10 @@ ghost use Rattle.std.specs.Prelude.{◌≡◌, ◌==◌, ℕ, Bool, true, List, 
 ghost use Rattle.std.specs.Cow.{cow_str_bytes, IsBorrowedStr};
 ghost use Rattle.std.specs.List.{list_all};
 ghost use Rattle.std.specs.Option.{option_map_or};
-ghost use Rattle.phone_chars.specs.Characters.{is_digit, is_plus};
-ghost use Rattle.phone_chars.specs.Cuts.{after_front};
-ghost use Rattle.phone_chars.specs.Norm.{norm};
+ghost use Rattle.regex.specs.Strings.{match_span};
+ghost use Rattle.phone_core.specs.Characters.{is_digit, is_plus};
+ghost use Rattle.phone_core.specs.Cuts.{after_front};
+ghost use Rattle.phone_core.specs.Norm.{norm};
 ghost use Rattle.phone_meta.specs.First.{IsCut};
 ghost use Rattle.phone_parts.specs.Parts.{parts_of};
 ghost use Rattle.phone_parts.specs.Texts.{begins};
@@ -17,7 +18,7 @@ use phone_chars::cuts::{CharSet, after_run};
 use phone_core::country::Source;
 use phone_meta::Pattern;
 use phone_parts::Number;
-use regex::Regex;
+use regex::{Match, Regex};
 use std::alloc::{AllocError, Global};
 use std::borrow::CowStr;
 
@@ -56,10 +57,17 @@ impl Finder for Handed<'_> {
             return Ok(None);
         };
         let mut matcher = pattern.matcher(self.alloc)?;
-        match matcher.find(digits) {
-            Some(found) => Ok(Some((found.start(), found.end()))),
-            None => Ok(None),
-        }
+        Ok(span_of(matcher.find(digits)))
+    }
+}
+
+/// The bytes at which a match begins and ends, if there is one.
+fn span_of(found: Option<Match<'_>>) -> Option<(usize, usize)>
+    ensures { result ≡ option_map match_span found.entry }
+{
+    match found {
+        Some(found) => Some((found.start(), found.end())),
+        None => None,
     }
 }
 
@@ -202,8 +210,7 @@ fn digits(alloc: Global, part: CowStr<'_>) -> Result<CowStr<'_>, AllocError>
     ensures no_memory { list_all is_digit (chars (cow_str_bytes part.entry)) ≡ true → IsOk result }
     ensures borrowed { IfOk result (λ d. IsBorrowedStr part.entry → list_all is_digit (chars (cow_str_bytes part.entry)) ≡ true → IsBorrowedStr d) }
 {
-    let digits = normalize(alloc, part)?;
-    Ok(digits)
+    normalize(alloc, part)
 }
 
 /// The digits of a part, if it is there.

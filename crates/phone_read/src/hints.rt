@@ -3,7 +3,7 @@ ghost use Rattle.std.specs.Prelude.{◌≡◌, IfOk};
 ghost use Rattle.std.specs.Option.{option_copied};
 ghost use Rattle.phone_read.specs.Hints.{hinted, looks_national};
 
-use crate::validator::length_of;
+use crate::validator::{is_general, length_of};
 use phone_core::Type;
 use phone_core::country::Id;
 use phone_meta::{Database, Metadata};
@@ -23,6 +23,6 @@ pub(crate) fn hinted(db: &Database, hint: Option<Id>) -> Option<&Metadata>
 pub(crate) fn looks_national(territory: &Metadata, digits: &str) -> Result<bool, AllocError>
     ensures { IfOk result (λ b. b ≡ looks_national territory.now digits.now) }
 {
-    let is_general = territory.descriptors().general().is_match(digits)?;
+    let is_general = is_general(territory, digits)?;
     Ok(is_general && length_of(territory, digits.len(), Type::Unknown).is_possible())
 }

@@ -10,6 +10,7 @@ pub mod number_laws;
 mod reading;
 pub mod rows;
 mod stripping;
+mod together;
 mod trims;
 pub mod validator;
 

@@ -12,6 +12,7 @@ ghost use Rattle.phone_read.specs.Regions.{home};
 use crate::calling_code::{CodedNumber, coded};
 use crate::hints::hinted;
 use crate::stripping::stripped;
+use crate::together::{both, instead};
 use crate::trims::without_zeros;
 use crate::validator::home;
 use phone_chars::is_viable;
@@ -92,22 +93,46 @@ fn numbered(
     let Number {
         country,
         national,
+        prefix,
         extension,
-        ..
+        carrier,
     } = number;
-    let left = stripped(territory, national.as_str())?;
-    let national_number = nsn(left.national.as_str())?;
+    let left = left_of(alloc, territory, national.as_str());
+    let left = instead((national, prefix, carrier), left);
+    let ((national, carrier), extension) = both(left, extension_of(alloc, extension))?;
     Ok(Reading {
         code: Code::new(code, country),
-        national: national_number,
-        extension: extension_of(alloc, extension)?,
-        carrier: carrier_of(alloc, left.carrier)?,
+        national,
+        extension,
+        carrier,
     })
 }
 
+/// The national number and the carrier that stripping by a territory leaves.
+fn left_of(
+    alloc: Global,
+    territory: Option<&Metadata>,
+    digits: &str,
+) -> Result<(NationalNumber, Option<Carrier>), ParseError>
+    ensures left { IfOk result (λ left. (nsn (stripped (option_copied territory.entry) digits.now).national ≡ Ok left.0)
+        × (left.1 ≡ (stripped (option_copied territory.entry) digits.now).carrier)) }
+    ensures refused { IfErr result (λ e. (e ≡ ParseError.Memory) ⊎ (nsn (stripped (option_copied territory.entry) digits.now).national ≡ Err e)) }
+{
+    let Number {
+        country: _,
+        national,
+        prefix,
+        extension,
+        carrier,
+    } = stripped(territory, digits)?;
+    let number = instead((prefix, extension), nsn(national.as_str()));
+    both(instead(national, number), carrier_of(alloc, carrier))
+}
+
 /// The extension of a text, if there is one.
-fn extension_of(alloc: Global, text: Option<CowStr<'_>>) -> Result<Option<Extension>, AllocError>
-    ensures { IfOk result (λ e. e ≡ option_map cow_str_bytes text.entry) }
+fn extension_of(alloc: Global, text: Option<CowStr<'_>>) -> Result<Option<Extension>, ParseError>
+    ensures extension { IfOk result (λ e. e ≡ option_map cow_str_bytes text.entry) }
+    ensures refused { IfErr result (λ e. e ≡ ParseError.Memory) }
 {
     match text {
         Some(text) => Ok(Some(Extension::from(text.into_owned(alloc)?))),
@@ -116,8 +141,9 @@ fn extension_of(alloc: Global, text: Option<CowStr<'_>>) -> Result<Option<Extens
 }
 
 /// The carrier of a text, if there is one.
-fn carrier_of(alloc: Global, text: Option<CowStr<'_>>) -> Result<Option<Carrier>, AllocError>
-    ensures { IfOk result (λ c. c ≡ option_map cow_str_bytes text.entry) }
+fn carrier_of(alloc: Global, text: Option<CowStr<'_>>) -> Result<Option<Carrier>, ParseError>
+    ensures carrier { IfOk result (λ c. c ≡ option_map cow_str_bytes text.entry) }
+    ensures refused { IfErr result (λ e. e ≡ ParseError.Memory) }
 {
     match text {
         Some(text) => Ok(Some(Carrier::from(text.into_owned(alloc)?))),

@@ -1,14 +1,16 @@
 //! What is cut off the digits after the calling code: national prefix and carrier code.
-ghost use Rattle.std.specs.Prelude.{◌≡◌, ◌⊎◌, ◌==◌, ℕ, List, IfOk, IfSome, IsOk, None, Some, drop, option_map, true, false};
+ghost use Rattle.std.specs.Prelude.{◌≡◌, ◌⊎◌, ◌==◌, ◌&&◌, not, ℕ, List, IfOk, IfSome, IsOk, None, Some, drop, option_map, true, false, string_bytes, MatchOption};
 ghost use Rattle.std.specs.Cow.{cow_str_bytes, IsBorrowedStr};
 ghost use Rattle.std.specs.Option.{option_copied};
-ghost use Rattle.phone_meta.specs.First.{AreCuts, IsCut, captured};
+ghost use Rattle.phone_meta.specs.First.{AreCuts, IsCut, captured, replaced};
 ghost use Rattle.phone_records.specs.declared.loader.Metadata as loader;
+ghost use Rattle.phone_read.specs.Hints.{is_of};
 ghost use Rattle.phone_read.specs.Readings.{stripped};
-ghost use Rattle.phone_read.specs.Strips.{Stripped, by_match, by_rule, held, is_anew, is_anew_by_match, is_anew_by_rule, once_more, step, strip, transformed};
+ghost use Rattle.phone_read.specs.Strips.{Stripped, by_match, by_rule, held, is_anew, is_anew_by_match, is_anew_by_rule, is_left_by_rule, once_more, step, strip, transformed};
 
+use crate::together::{beside, instead};
 use crate::trims::{part, trim, without_front};
-use crate::validator::length_of;
+use crate::validator::{is_general, length_of};
 use phone_core::{Type, Validation};
 use phone_meta::{Captured, Metadata, Pattern};
 use phone_parts::Number;
@@ -38,7 +40,9 @@ pub fn national_number<'a>(m: &Metadata, number: Number<'a>) -> Result<Number<'a
         let national = without_front(m.national_prefix(), number.national);
         return Ok(Number { national, ..number });
     };
-    match pattern.captured(number.national.as_str())? {
+    let found = pattern.captured(number.national.as_str());
+    let (found, number) = beside(found, number)?;
+    match found {
         Some(found) => at_match(m, pattern, found, number),
         None => Ok(number),
     }
@@ -86,13 +90,12 @@ fn cut<'a>(
     ensures borrowed { IfOk result (λ n. IsBorrowedStr number.entry.national → IsBorrowedStr n.national) }
     ensures lent_carrier { IfOk result (λ n. IsBorrowedStr number.entry.national → IfSome n.carrier (λ c. IsBorrowedStr c)) }
 {
-    let carrier = part_if_any(m.allocator(), &number.national, last)?;
+    let carrier = part_if_any(m.allocator(), &number.national, last);
+    let (carrier, number) = beside(carrier, number)?;
     Ok(Number {
         national: trim(number.national, found.span.1),
-        carrier,
-        country: number.country,
-        prefix: number.prefix,
-        extension: number.extension,
+        carrier: instead(number.carrier, carrier),
+        ..number
     })
 }
 
@@ -129,21 +132,68 @@ fn transformed<'a>(
     ensures borrowed { (last : ℕ × ℕ) → IfOk result (λ n. IsBorrowedStr number.entry.national → is_anew_by_rule m.now pattern.now (Some rule.now) (cow_str_bytes number.entry.national) (Some last) ≡ false → IsBorrowedStr n.national) }
     ensures lent_carrier { IfOk result (λ n. IsBorrowedStr number.entry.national → (n.carrier ≡ number.entry.carrier) ⊎ IfSome n.carrier (λ c. IsBorrowedStr c)) }
 {
-    let anew = pattern.replaced(rule, number.national.as_str())?;
-    let general = m.descriptors().general();
-    let was = general.is_match(number.national.as_str())?;
-    let is = general.is_match(anew.as_str())?;
-    if was && !is {
-        return Ok(number);
+    let made = written_anew(m, pattern, rule, found, &number.national);
+    let (made, number) = beside(made, number)?;
+    match made {
+        Some((anew, carrier)) => Ok(Number {
+            national: instead(number.national, CowStr::Owned(anew)),
+            carrier: instead(number.carrier, carrier),
+            ..number
+        }),
+        None => Ok(number),
     }
-    let carrier = part_if_any(m.allocator(), &number.national, found.first)?;
-    Ok(Number {
-        national: CowStr::Owned(anew),
-        carrier,
-        country: number.country,
-        prefix: number.prefix,
-        extension: number.extension,
-    })
+}
+
+/// The digits as the transform rule writes them anew, and the carrier; none where they would leave the territory's general
+/// kind.
+fn written_anew<'a>(
+    m: &Metadata,
+    pattern: &Pattern,
+    rule: &str,
+    found: Captured,
+    digits: &CowStr<'a>,
+) -> Result<Option<(String, Option<CowStr<'a>>)>, AllocError>
+    requires { AreCuts (cow_str_bytes digits.now) found }
+    ensures anew { IfOk result (λ made. MatchOption made
+        (is_left_by_rule m.now pattern.now rule.now (cow_str_bytes digits.now) ≡ true)
+        (λ made. (is_left_by_rule m.now pattern.now rule.now (cow_str_bytes digits.now) ≡ false)
+        × (string_bytes made.0 ≡ replaced pattern.now rule.now (cow_str_bytes digits.now))
+        × (option_map cow_str_bytes made.1 ≡ held (cow_str_bytes digits.now) found.first)
+        × (IsBorrowedStr digits.now → IfSome made.1 (λ c. IsBorrowedStr c)))) }
+{
+    let Some(anew) = anew_in_kind(m, pattern, rule, digits.as_str())? else {
+        return Ok(None);
+    };
+    let carrier = part_if_any(m.allocator(), digits, found.first);
+    let (carrier, anew) = beside(carrier, anew)?;
+    Ok(Some((anew, carrier)))
+}
+
+/// The digits as the transform rule writes them anew; none where they would leave the territory's general kind.
+fn anew_in_kind(
+    m: &Metadata,
+    pattern: &Pattern,
+    rule: &str,
+    digits: &str,
+) -> Result<Option<String>, AllocError>
+    ensures { IfOk result (λ made. MatchOption made
+        (is_left_by_rule m.now pattern.now rule.now digits.now ≡ true)
+        (λ anew. (is_left_by_rule m.now pattern.now rule.now digits.now ≡ false)
+        × (string_bytes anew ≡ replaced pattern.now rule.now digits.now))) }
+{
+    let anew = pattern.replaced(rule, digits)?;
+    let leaves = leaves_general(m, digits, anew.as_str());
+    let (leaves, anew) = beside(leaves, anew)?;
+    if leaves { Ok(None) } else { Ok(Some(anew)) }
+}
+
+/// Whether the digits are of the territory's general kind, and no longer are as they are written anew.
+fn leaves_general(m: &Metadata, digits: &str, anew: &str) -> Result<bool, AllocError>
+    ensures { IfOk result (λ b. b ≡ (is_of m.now.general digits.now && not (is_of m.now.general anew.now))) }
+{
+    let was = is_general(m, digits)?;
+    let is = is_general(m, anew)?;
+    Ok(was && !is)
 }
 
 /// The digits that stripping by a territory leaves, with the carrier that was named: [`national_number`], then the
@@ -155,14 +205,16 @@ pub(crate) fn strip<'b>(m: &Metadata, digits: &'b str) -> Result<Number<'b>, All
 {
     let stepped = national_number(m, Number::of(digits))?;
     let national = without_front(m.national_prefix(), stepped.national);
-    match length_of(m, national.as_str().len(), Type::Unknown) {
-        Validation::TooShort => Ok(Number::of(digits)),
-        _ => Ok(Number {
-            national,
-            carrier: stepped.carrier,
-            ..Number::of(digits)
-        }),
-    }
+    let left = Number {
+        national,
+        ..stepped
+    };
+    Ok(
+        match length_of(m, left.national.as_str().len(), Type::Unknown) {
+            Validation::TooShort => instead(left, Number::of(digits)),
+            _ => left,
+        },
+    )
 }
 
 /// The digits that stripping leaves; all of them without a territory.

@@ -132,6 +132,13 @@ fn first_kind(kinds: &Descriptors, tried: &[Type], text: &str) -> Result<Option<
     Ok(None)
 }
 
+/// Whether the digits are of the territory's general kind.
+pub(crate) fn is_general(m: &Metadata, digits: &str) -> Result<bool, AllocError>
+    ensures { IfOk result (λ b. b ≡ is_of m.now.general digits.now) }
+{
+    m.descriptors().general().is_match(digits)
+}
+
 /// Whether a descriptor is there and matches.
 fn is_of(descriptor: Option<&Descriptor>, text: &str) -> Result<bool, AllocError>
     ensures { IfOk result (λ b. b ≡ is_of (option_copied descriptor.entry) text.now) }

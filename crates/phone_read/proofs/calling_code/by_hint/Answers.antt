@@ -1,21 +1,33 @@
-use Rattle.std.proofs.Common.{◌≡◌, ◌&&◌, not, true, false, Ok, Err, drop, length, refl, ap, sym, ◌∙◌}
+use Rattle.std.proofs.Common.{◌≡◌, ℕ, Bool, List, ◌&&◌, not, None, Result, Ok, Err, IfOk, option_map, drop, length, refl, ap, sym, subst, ◌∙◌}
 use Rattle.std.specs.Cow.{cow_str_bytes}
 use Rattle.std.specs.Fmt.{decimal}
 use Rattle.std.specs.Option.{option_copied, option_map_or}
 use Rattle.phone_core.specs.declared.country.Source.TheVariants.{Number, Default}
 use Rattle.phone_core.specs.declared.error.ParseError.TheVariants.{InvalidCountryCode}
 use Rattle.phone_parts.specs.Texts.{is_front}
-use Rattle.phone_read.specs.Hints.{code_by_hint, looks_national}
+use Rattle.phone_parts.specs.declared.number.Number.{Number as Parts}
+use Rattle.phone_read.specs.Codes.{IsCoded}
+use Rattle.phone_read.specs.Hints.{Coded, code_by_hint, looks_national}
 use Rattle.phone_read.proofs.HintCodes.{code_by_hint-apart, code_by_hint-kept}
 use Rattle.phone_read.proofs.calling_code.by_hint.Goals as goal
+
+-- what was asked of one number's digits, told of another's that are the same
+told : {E : Type 0} (f : List ℕ → Bool) (r : Result Bool E) (b : Bool) (t : List ℕ) (n m : Parts) →
+    IfOk r (λ b. b ≡ f t) → r ≡ Ok b → t ≡ cow_str_bytes n.national → n ≡ m → b ≡ f (cow_str_bytes m.national)
+told f r b t n m asked made text same = subst (λ r. IfOk r (λ b. b ≡ f t)) made asked ∙ ap f (text ∙ ap (λ (n : Parts). cow_str_bytes n.national) same)
 
 pub returns-then-is_apart-clause-coded : goal.returns-then-is_apart-clause-coded
 returns-then-is_apart-clause-coded c =
     let m = c.in-Some.territory.now in
-    let digits = cow_str_bytes c.args.number.national in
+    let number = c.in_ok-is_apart.number in
+    let digits = cow_str_bytes number.national in
     let code = c.country_code-code.result in
-    let apart : true ≡ (is_front (decimal code) digits && not (looks_national m digits)) =
-    sym c.if-is_apart.true ∙ c.in_ok-is_apart.ensures ∙ ap (λ d. is_front (decimal code) d && not (looks_national m d)) c.as_str.ensures.value in (
+    let apart = sym c.if-is_apart.true
+    ∙ told (λ d. is_front (decimal code) d && not (looks_national m d)) c.is_code_apart-is_apart.result c.in_ok-is_apart.is_apart c.as_str.result.now c.args.number number
+    c.is_code_apart-is_apart.ensures c.in_ok-is_apart.ensures.made.0 c.as_str.ensures.value c.in_ok-is_apart.ensures.made.1 in
+    subst (λ (n : Parts). (x : Coded) × (option_map_or (λ m. Ok (code_by_hint m (cow_str_bytes n.national))) (option_copied c.args.territory) (Err InvalidCountryCode) ≡ Ok x)
+    × (c.cut_off.result.code ≡ x.value) × IsCoded x (decimal x.value) (option_map cow_str_bytes n.extension) n c.cut_off.result.number)
+    (sym c.in_ok-is_apart.ensures.made.1) (
       record { source = Number; value = code; rest = drop (length (decimal code)) digits },
       ap (λ o. option_map_or (λ m. Ok (code_by_hint m digits)) (option_copied o) (Err InvalidCountryCode)) c.in-Some.is
           ∙ ap Ok (code_by_hint-apart m digits (decimal code) code c.country_code-code.ensures refl apart),
@@ -26,13 +38,25 @@ returns-then-is_apart-clause-coded c =
 pub returns-clause-coded : goal.returns-clause-coded
 returns-clause-coded c =
     let m = c.in-Some.territory.now in
-    let digits = cow_str_bytes c.args.number.national in
+    let number = c.in_ok-is_apart.number in
+    let digits = cow_str_bytes number.national in
     let code = c.country_code-code.result in
-    let kept : false ≡ (is_front (decimal code) digits && not (looks_national m digits)) =
-    sym c.if-is_apart.false ∙ c.in_ok-is_apart.ensures ∙ ap (λ d. is_front (decimal code) d && not (looks_national m d)) c.as_str.ensures.value in (
+    let kept = sym c.if-is_apart.false
+    ∙ told (λ d. is_front (decimal code) d && not (looks_national m d)) c.is_code_apart-is_apart.result c.in_ok-is_apart.is_apart c.as_str.result.now c.args.number number
+    c.is_code_apart-is_apart.ensures c.in_ok-is_apart.ensures.made.0 c.as_str.ensures.value c.in_ok-is_apart.ensures.made.1 in
+    let left : Parts = record { country = Default; national = number.national; prefix = None; extension = number.extension; carrier = number.carrier } in
+    subst (λ (n : Parts). (x : Coded) × (option_map_or (λ m. Ok (code_by_hint m (cow_str_bytes n.national))) (option_copied c.args.territory) (Err InvalidCountryCode) ≡ Ok x)
+    × (code ≡ x.value) × IsCoded x (decimal x.value) (option_map cow_str_bytes n.extension) n left)
+    (sym c.in_ok-is_apart.ensures.made.1) (
       record { source = Default; value = code; rest = digits },
       ap (λ o. option_map_or (λ m. Ok (code_by_hint m digits)) (option_copied o) (Err InvalidCountryCode)) c.in-Some.is
           ∙ ap Ok (code_by_hint-kept m digits (decimal code) code c.country_code-code.ensures refl kept),
       refl,
-      record { country = refl; national = refl; prefix = refl; extension = refl; carrier = refl },
+      record {
+        country = refl;
+        national = refl;
+        prefix = refl;
+        extension = refl;
+        carrier = refl;
+      },
     )

@@ -1,14 +1,16 @@
-use Rattle.std.proofs.Common.{◌≡◌, inl, inr, ⊎_elim, Some, None, true, false, Option, option_map, unwrap_or, Err, IfErr, refl, ap, sym, subst, ◌∙◌}
+use Rattle.std.proofs.Common.{◌≡◌, ℕ, inl, inr, ⊎_elim, Some, None, true, false, Option, option_map, unwrap_or, Err, IfErr, refl, ap, sym, subst, ◌∙◌}
 use Rattle.std.proofs.lemmas.Bool.{false≢true}
 use Rattle.std.specs.Borrow.{Bor}
 use Rattle.std.specs.Cow.{cow_str_bytes}
 use Rattle.std.specs.Fmt.{decimal}
 use Rattle.std.specs.Option.{option_copied, option_map_or}
+use Rattle.std.specs.Result.{result_map_both}
 use Rattle.std.specs.Str.{chars}
 use Rattle.phone_chars.specs.Norm.{norm}
 use Rattle.phone_core.specs.declared.country.Source.TheVariants.{Plus, Default}
 use Rattle.phone_core.specs.declared.error.ParseError.TheVariants.{InvalidCountryCode}
-use Rattle.phone_read.specs.Codes.{code_by, code_by_prefix, found_in, international_prefix_of, with_three}
+use Rattle.phone_read.specs.Codes.{IsCoded, code_by, code_by_prefix, found_in, international_prefix_of, prefix_of, with_three}
+use Rattle.phone_read.specs.Hints.{Coded}
 use Rattle.phone_read.proofs.BareParts.{bare_plain}
 use Rattle.phone_read.proofs.FoundCodes.{code_of-dialled, plus_by_prefix, prefix_some, prefix_none, code_by-front, ok_again, err_again, is_coded_again, refused_as}
 use Rattle.phone_read.proofs.calling_code.coded.Goals as goal
@@ -31,6 +33,7 @@ returns-in-Some-clause-coded c =
     let number = c.in_ok-number.number in
     let n = chars (cow_str_bytes c.args.number.national) in
     let p = option_map (λ p. chars (cow_str_bytes p)) c.args.number.prefix in
+    let e = option_map (λ e. chars (cow_str_bytes e)) c.args.number.extension in
     let m = option_copied c.hinted-territory.result in
     let digits = cow_str_bytes number.national in
     let x = cow_str_bytes c.in-Some.prefix in
@@ -38,20 +41,23 @@ returns-in-Some-clause-coded c =
     let told =
     code_of-dialled c.args.db.now c.args.hint m (option_copied c.prefix_pattern.result) n p (Some x) number.country digits
     c.hinted-territory.ensures c.prefix_pattern.ensures (sym some) c.in_ok-number.ensures.source c.in_ok-number.ensures.national in
+    let at : ℕ → Coded = λ code. record { source = Plus; value = code; rest = c.as_str-in-Some.result.now } in
     let read =
     ap (λ t. with_three t (code_by_prefix c.args.db.now x t)) (sym c.as_str-in-Some.ensures.value)
     ∙ ap (λ t. with_three c.as_str-in-Some.result.now (code_by_prefix c.args.db.now t c.as_str-in-Some.result.now)) (sym c.as_str.ensures.value)
-    ∙ c.in_ok-code.ensures in (
-      record { source = Plus; value = c.in_ok-code.code; rest = c.as_str-in-Some.result.now },
+    ∙ c.code_by_prefix-code.ensures
+    ∙ ap (result_map_both at (λ e. e)) c.in_ok-code.ensures.made.0 in
+    let value = c.in_ok-code.code in (
+      at value,
       told ∙ read,
       refl,
-      record {
+      subst (IsCoded (at value) (prefix_of p value) (option_map norm e) c.args.number) c.in_ok-code.ensures.made.1 (record {
         country = c.in_ok-number.ensures.source ∙ plus_by_prefix (found_in (option_copied c.prefix_pattern.result)) n p x some;
         national = sym c.as_str-in-Some.ensures.value;
-        prefix = ap (λ o. unwrap_or o (decimal c.in_ok-code.code)) (c.in_ok-number.ensures.prefix ∙ prefix_some p x c.in_ok-code.code some);
+        prefix = ap (λ o. unwrap_or o (decimal value)) (c.in_ok-number.ensures.prefix ∙ prefix_some p x value some);
         extension = c.in_ok-number.ensures.extension;
         carrier = c.in_ok-number.ensures.carrier;
-      },
+      }),
     )
 
 pub returns-in_default-country : goal.returns-in_default-country
