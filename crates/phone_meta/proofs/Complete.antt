@@ -3,6 +3,8 @@ use Rattle.std.proofs.Common.{◌≡◌, List, [], ◌∷◌, map, Option, None,
 use Rattle.std.proofs.lemmas.Option.{none-some}
 use Rattle.std.specs.List.{AllByRecursion}
 use Rattle.std.specs.Option.{IsSome}
+use Rattle.phone_meta.specs.Kinds.{AreWhole}
+use Rattle.phone_records.specs.Kinds.{kinds_of}
 use Rattle.phone_records.specs.Missing.{first_given, missing_if_none, missing_in, missing_in_descriptor, missing_in_format, descriptors_of, lacks_of}
 use Rattle.phone_records.specs.declared.loader.Metadata.{Metadata}
 use Rattle.phone_records.specs.declared.missing.Missing.{Missing}
@@ -42,3 +44,16 @@ has_all m e =
 pub first_given-cons : {X : Type 0} (a : Option X) (rest : List (Option X)) → first_given (a ∷ rest) ≡ None → (a ≡ None) × (first_given rest ≡ None)
 first_given-cons None rest e = (refl, e)
 first_given-cons (Some x) rest e = absurd (none-some x (sym e))
+
+-- none of the sixteen descriptors of a complete record lacks its pattern
+pub whole_kinds : (m : Metadata) → HasAll m → AreWhole (kinds_of m).0 × AreWhole (kinds_of m).1 × AreWhole (kinds_of m).2 × AreWhole (kinds_of m).3
+whole_kinds m h =
+    let k = h.kinds in
+    let l = k.1.1.1.1 in
+    let n = l.1.1.1.1 in
+    let o = n.1.1.1.1 in (
+      (k.0, k.1.0, k.1.1.0, k.1.1.1.0),
+      (l.0, l.1.0, l.1.1.0, l.1.1.1.0),
+      (n.0, n.1.0, n.1.1.0, n.1.1.1.0),
+      (o.0, o.1.0, o.1.1.0, o.1.1.1.0),
+    )

@@ -1,21 +1,17 @@
 -- A pattern of a part of a record is refused as one of the record's, where what is compiled before it are patterns.
-use Rattle.std.proofs.Common.{MatchOption, inl, ◌≡◌, ℕ, zero, suc, List, [], ◌∷◌, ◌++◌, take, None, Some, subst, sym}
-use Rattle.std.proofs.lemmas.Option.{none-some}
-use Rattle.std.specs.List.{flat_map, slice_get}
-use Rattle.std.specs.Option.{option_to_list, unwrap_or}
+use Rattle.std.proofs.Common.{MatchOption, ◌⊎◌, inl, inr, ◌≡◌, ℕ, List, [], ◌∷◌, ◌++◌, Option, None, Some, Result, Ok, Err, IfOk, IfErr, refl, subst, sym}
+use Rattle.std.proofs.lemmas.Bool.{false≢true}
+use Rattle.std.specs.List.{flat_map}
+use Rattle.std.specs.Option.{option_to_list}
+use Rattle.std.specs.Result.{IsOk}
 use Rattle.phone_records.specs.Missing.{descriptors_of, first_missing}
+use Rattle.phone_meta.specs.First.{IsPattern}
 use Rattle.phone_meta.specs.Records.{first_group_pattern}
-use Rattle.phone_meta.specs.Refusals.{IsPatternRefusal, IsRefusalOf, TellsMissing, patterns, patterns_in, patterns_in_descriptor, patterns_in_format}
+use Rattle.phone_meta.specs.Refusals.{AreRead, IsPatternRefusal, IsRefusalOf, TellsMissing, patterns, patterns_in, patterns_besides, patterns_in_descriptor}
 use Rattle.phone_pattern.proofs.Refused.{ArePatterns, HavePatterns, Texts, both-patterns, refused-left, refused-right}
-use Rattle.phone_texts.specs.declared.error.LoadMetadata.{LoadMetadata}
+use Rattle.phone_records.specs.declared.error.LoadMetadata.{LoadMetadata}
+use Rattle.phone_records.specs.declared.loader.Format.{Format}
 use Rattle.phone_records.specs.declared.loader.Metadata.{Metadata}
-
--- what is refused of the item at a place is refused of the list, where the items before it have patterns
-pub refused-at : {X : Type 0} (f : X → Texts) (xs : List X) (k : ℕ) (x : X) (e : LoadMetadata) → slice_get xs k ≡ Some x → HavePatterns f (take k xs) →
-    IsPatternRefusal (f x) e → IsPatternRefusal (flat_map f xs) e
-refused-at f [] k x e at are h = absurd (none-some x at)
-refused-at f (y ∷ xs) zero x e at are h = refused-left (f y) (flat_map f xs) e (subst (λ o. IsPatternRefusal (f (unwrap_or o x)) e) (sym at) h)
-refused-at f (y ∷ xs) (suc k) x e at are h = refused-right (f y) (flat_map f xs) e are.0 (refused-at f xs k x e at are.1 h)
 
 between : {X : Type 0} (f : X → Texts) (xs ys : List X) (x : X) (e : LoadMetadata) → HavePatterns f xs → IsPatternRefusal (f x) e → IsPatternRefusal (flat_map f (xs ++ x ∷ ys)) e
 between f [] ys x e are h = refused-left (f x) (flat_map f ys) e h
@@ -37,56 +33,38 @@ refused-territories db e none h =
     inl (subst (λ o. MatchOption o (IsPatternRefusal (patterns db) e) (λ missing. TellsMissing missing e)) (sym none)
     (refused-left (flat_map patterns_in db) (first_group_pattern ∷ []) e h))
 
-module _ (m : Metadata) where
-  -- the parts of a record's patterns
-  abbrev pub kinds : Texts
-  kinds = flat_map patterns_in_descriptor (descriptors_of m)
+-- what was compiled of the one text that is given
+pub one-read : {A : Type 0} (given : Option (List ℕ)) (text : List ℕ) (made : Result A LoadMetadata) → given ≡ Some text →
+    IfOk made (λ _. IsPattern text) → IfErr made (IsPatternRefusal (text ∷ [])) → AreRead (option_to_list given) made
+one-read given text (Ok a) is ok err = (subst (λ o. ArePatterns (option_to_list o)) (sym is) (ok, tt), tt)
+one-read given text (Err e) is ok err = (tt, subst (λ o. IsPatternRefusal (option_to_list o) e) (sym is) err)
 
-  abbrev pub dialled : Texts
-  dialled = option_to_list m.international_prefix
+-- of what two steps made together, where it was made and where it was refused: it is read as the patterns of both
+pub both-read : {A B : Type 0} (ps qs : Texts) (first : Result A LoadMetadata) (second : Result B LoadMetadata) (made : Result (A × B) LoadMetadata) →
+    IfOk made (λ all. (first ≡ Ok all.0) × (second ≡ Ok all.1)) → IfErr made (λ e. (first ≡ Err e) ⊎ (IsOk first × (second ≡ Err e))) →
+    AreRead ps first → AreRead qs second → AreRead (ps ++ qs) made
+both-read ps qs first second (Ok all) ok err p q =
+    (both-patterns ps qs (subst (λ r. IfOk r (λ _. ArePatterns ps)) ok.0 p.0) (subst (λ r. IfOk r (λ _. ArePatterns qs)) ok.1 q.0), tt)
+both-read ps qs first second (Err e) ok (inl is) p q = (tt, refused-left ps qs e (subst (λ r. IfErr r (IsPatternRefusal ps)) is p.1))
+both-read ps qs (Ok a) second (Err e) ok (inr is) p q = (tt, refused-right ps qs e p.0 (subst (λ r. IfErr r (IsPatternRefusal qs)) is.1 q.1))
+both-read ps qs (Err x) second (Err e) ok (inr is) p q = absurd (false≢true is.0)
 
-  abbrev pub parsing : Texts
-  parsing = option_to_list m.national_prefix_for_parsing
+-- what was made of something that was read, or refused as it is, is read as the same patterns
+pub still-read : {A B : Type 0} (f : B → A) (ps : Texts) (first : Result A LoadMetadata) (made : Result B LoadMetadata) →
+    IfOk made (λ b. first ≡ Ok (f b)) → IfErr made (λ e. first ≡ Err e) → AreRead ps first → AreRead ps made
+still-read f ps first (Ok b) ok err p = (subst (λ r. IfOk r (λ _. ArePatterns ps)) ok p.0, tt)
+still-read f ps first (Err e) ok err p = (tt, subst (λ r. IfErr r (IsPatternRefusal ps)) err p.1)
 
-  abbrev pub leading : Texts
-  leading = option_to_list m.leading_digits
+-- a territory's patterns are those of its descriptors, and then its others
+pub in_order : (m : Metadata) →
+    flat_map patterns_in_descriptor (descriptors_of m) ++ patterns_besides m.international_prefix m.national_prefix_for_parsing m.leading_digits m.formats m.international_formats ≡ patterns_in m
+unfolding patterns_in
+in_order m = refl
 
-  abbrev pub national : Texts
-  national = flat_map patterns_in_format m.formats
-
-  abbrev pub international : Texts
-  international = flat_map patterns_in_format m.international_formats
-
-  pub all-patterns : ArePatterns kinds → ArePatterns dialled → ArePatterns parsing → ArePatterns leading → ArePatterns national → ArePatterns international → ArePatterns (patterns_in m)
-  unfolding patterns_in
-  all-patterns k d p l n i = both-patterns kinds _ k (both-patterns dialled _ d (both-patterns parsing _ p (both-patterns leading _ l (both-patterns national _ n i))))
-
-  module _ (e : LoadMetadata) where
-    pub refused-kinds : IsPatternRefusal kinds e → IsPatternRefusal (patterns_in m) e
-    unfolding patterns_in
-    refused-kinds h = refused-left kinds _ e h
-
-    module _ (k : ArePatterns kinds) where
-      pub refused-dialled : IsPatternRefusal dialled e → IsPatternRefusal (patterns_in m) e
-      unfolding patterns_in
-      refused-dialled h = refused-right kinds _ e k (refused-left dialled _ e h)
-
-      module _ (d : ArePatterns dialled) where
-        pub refused-parsing : IsPatternRefusal parsing e → IsPatternRefusal (patterns_in m) e
-        unfolding patterns_in
-        refused-parsing h = refused-right kinds _ e k (refused-right dialled _ e d (refused-left parsing _ e h))
-
-        module _ (p : ArePatterns parsing) where
-          pub refused-leading : IsPatternRefusal leading e → IsPatternRefusal (patterns_in m) e
-          unfolding patterns_in
-          refused-leading h = refused-right kinds _ e k (refused-right dialled _ e d (refused-right parsing _ e p (refused-left leading _ e h)))
-
-          module _ (l : ArePatterns leading) where
-            pub refused-formats : IsPatternRefusal national e → IsPatternRefusal (patterns_in m) e
-            unfolding patterns_in
-            refused-formats h = refused-right kinds _ e k (refused-right dialled _ e d (refused-right parsing _ e p (refused-right leading _ e l (refused-left national _ e h))))
-
-            module _ (n : ArePatterns national) where
-              pub refused-international : IsPatternRefusal international e → IsPatternRefusal (patterns_in m) e
-              unfolding patterns_in
-              refused-international h = refused-right kinds _ e k (refused-right dialled _ e d (refused-right parsing _ e p (refused-right leading _ e l (refused-right national _ e n h))))
+-- what was compiled of a territory's patterns besides its descriptors', by lists that are its layouts
+pub besides-read : {A : Type 0} (m : Metadata) (made : Result A LoadMetadata) (national international : List Format) → national ≡ m.formats → international ≡ m.international_formats →
+    AreRead (patterns_besides m.international_prefix m.national_prefix_for_parsing m.leading_digits national international) made →
+    AreRead (patterns_besides m.international_prefix m.national_prefix_for_parsing m.leading_digits m.formats m.international_formats) made
+besides-read m made national international n i h =
+    subst (λ xs. AreRead (patterns_besides m.international_prefix m.national_prefix_for_parsing m.leading_digits m.formats xs) made) i
+    (subst (λ xs. AreRead (patterns_besides m.international_prefix m.national_prefix_for_parsing m.leading_digits xs international) made) n h)

@@ -13,6 +13,7 @@ ghost use Rattle.phone_trie.specs.Codes.{is_in};
 
 use crate::metadata::{self, Metadata};
 use crate::rules::FirstGroup;
+use crate::together::both;
 use crate::{index, loader};
 use phone_core::MetadataError;
 use phone_records::LoadMetadata;
@@ -141,8 +142,8 @@ impl Database {
 fn missing_value(alloc: Global, missing: Missing) -> Result<LoadMetadata, AllocError>
     ensures { IfOk result (TellsMissing missing) }
 {
-    Ok(LoadMetadata::Metadata(MetadataError::MissingValue {
-        phase: String::from_str(alloc, missing.phase())?,
-        name: String::from_str(alloc, missing.name())?,
-    }))
+    let phase = String::from_str(alloc, missing.phase());
+    let name = String::from_str(alloc, missing.name());
+    let (phase, name) = both(phase, name)?;
+    Ok(LoadMetadata::Metadata(MetadataError::MissingValue { phase, name }))
 }

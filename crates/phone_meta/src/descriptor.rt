@@ -8,6 +8,7 @@ ghost use Rattle.phone_meta.specs.Refusals.{IsPatternRefusal, patterns_in_descri
 ghost use Rattle.phone_meta.specs.Records.{allows_length, matches, pattern_of};
 
 use crate::loader::{self, Text};
+use crate::together::both;
 use phone_pattern::{Pattern, Pool};
 use phone_records::LoadMetadata;
 use regex::Regex;
@@ -44,11 +45,16 @@ impl Descriptor {
         ensures read { IfOk result (λ d. AllByRecursion IsPattern (patterns_in_descriptor (Some given))) }
         ensures refused { IfErr result (IsPatternRefusal (patterns_in_descriptor (Some given))) }
     {
+        let lengths = given.possible_length.into_vec();
+        let local_lengths = given.possible_local_length.into_vec();
+        let pattern = pool.pattern(given.national_number.unwrap());
+        let (others, national_number) = both(Ok((lengths, local_lengths, given.example)), pattern)?;
+        let (possible_length, possible_local_length, example) = others;
         Ok(Descriptor {
-            national_number: pool.pattern(given.national_number.unwrap())?,
-            possible_length: given.possible_length.into_vec(),
-            possible_local_length: given.possible_local_length.into_vec(),
-            example: given.example,
+            national_number,
+            possible_length,
+            possible_local_length,
+            example,
         })
     }
 

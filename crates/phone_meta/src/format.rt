@@ -11,6 +11,7 @@ ghost use Rattle.phone_meta.specs.Refusals.{IsPatternRefusal, patterns_in_format
 
 use crate::loader::{self, Text};
 use crate::rules::FirstGroup;
+use crate::together::both_read;
 use phone_pattern::{Leading, Pattern, Pool};
 use phone_records::LoadMetadata;
 use regex::Regex;
@@ -46,15 +47,23 @@ impl Format {
         ensures read { IfOk result (λ f. AllByRecursion IsPattern (patterns_in_format given)) }
         ensures refused { IfErr result (IsPatternRefusal (patterns_in_format given)) }
     {
-        let pattern = pool.pattern(given.pattern.unwrap())?;
-        let text = given.format.unwrap();
+        let pattern = pool.pattern(given.pattern.unwrap());
+        let leading = pool.leading(given.leading_digits.into_vec());
+        let others = (
+            given.format.unwrap(),
+            given.national_prefix_formatting_rule,
+            given.domestic_carrier,
+        );
+        let (others, patterns) = both_read(Ok(others), both_read(pattern, leading))?;
+        let (text, national_prefix_rule, domestic_carrier) = others;
+        let (pattern, leading_digits) = patterns;
         Ok(Format {
             pattern,
             text,
-            leading_digits: pool.leading(given.leading_digits.into_vec())?,
-            national_prefix_rule: given.national_prefix_formatting_rule,
+            leading_digits,
+            national_prefix_rule,
             is_national_prefix_optional: given.national_prefix_optional_when_formatting,
-            domestic_carrier: given.domestic_carrier,
+            domestic_carrier,
         })
     }
 

@@ -11,8 +11,10 @@ mod iter;
 pub mod loader;
 mod metadata;
 mod parse;
+mod patterns;
 mod placed;
 mod rules;
+mod together;
 
 pub use database::Database;
 pub use descriptor::Descriptor;

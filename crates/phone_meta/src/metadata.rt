@@ -1,40 +1,42 @@
 //! A territory, with its patterns compiled.
 ghost use Rattle.std.specs.Prelude.{◌≡◌, None, Some, IfOk, IfErr, option_map};
 ghost use Rattle.std.specs.List.{AllByRecursion, flat_map};
-ghost use Rattle.std.specs.Option.{option_copied, option_to_list};
-ghost use Rattle.phone_meta.specs.Refusals.{IsPatternRefusal, patterns_in, patterns_in_descriptor};
+ghost use Rattle.std.specs.Option.{option_copied};
+ghost use Rattle.phone_meta.specs.Refusals.{IsPatternRefusal, patterns_in};
 ghost use Rattle.phone_meta.specs.First.{IsPattern, IsLentPattern};
 ghost use Rattle.phone_meta.specs.Kinds.{kinds_of};
-ghost use Rattle.phone_records.specs.Missing.{first_missing, missing_in, missing_in_descriptor};
+ghost use Rattle.phone_records.specs.Missing.{first_missing, missing_in};
 
-use crate::descriptor::Descriptor;
 use crate::descriptors::Descriptors;
-use crate::format::{self, Format};
+use crate::format::Format;
 use crate::loader::{self, Text};
+use crate::patterns::Patterns;
+use crate::together::both_read;
 use phone_pattern::{Pattern, Pool};
 use phone_records::LoadMetadata;
 use regex::Regex;
 use std::alloc::Global;
 use std::marker::Model;
-use std::rc::Rc;
 
 /// All that is known of a territory.
 #[derive(Drop)]
 pub struct Metadata {
     alloc: Global,
     descriptors: Descriptors,
+    patterns: Patterns,
+    kept: Kept,
+}
+
+/// What is kept of a record as it is.
+#[derive(Drop)]
+struct Kept {
     id: Text,
     country_code: u16,
-    international_prefix: Option<Rc<Pattern>>,
     preferred_international_prefix: Option<Text>,
     national_prefix: Option<Text>,
     preferred_extension_prefix: Option<Text>,
-    national_prefix_for_parsing: Option<Rc<Pattern>>,
     national_prefix_transform_rule: Option<Text>,
-    formats: Vec<Format>,
-    international_formats: Vec<Format>,
     main_country_for_code: bool,
-    leading_digits: Option<Rc<Pattern>>,
     mobile_number_portable: bool,
     defaults: loader::Defaults,
 }
@@ -45,33 +47,7 @@ impl Model for Metadata {
 
     ghost Value = { loader.Metadata };
 
-    ghost view = { λ m. record { general = m.descriptors.general; fixed_line = m.descriptors.fixed_line; mobile = m.descriptors.mobile; toll_free = m.descriptors.toll_free; premium_rate = m.descriptors.premium_rate; shared_cost = m.descriptors.shared_cost; personal_number = m.descriptors.personal_number; voip = m.descriptors.voip; pager = m.descriptors.pager; uan = m.descriptors.uan; emergency = m.descriptors.emergency; voicemail = m.descriptors.voicemail; short_code = m.descriptors.short_code; standard_rate = m.descriptors.standard_rate; carrier = m.descriptors.carrier; no_international = m.descriptors.no_international; id = Some m.id; country_code = Some m.country_code; international_prefix = option_map (λ p. p.value) m.international_prefix; preferred_international_prefix = m.preferred_international_prefix; national_prefix = m.national_prefix; preferred_extension_prefix = m.preferred_extension_prefix; national_prefix_for_parsing = option_map (λ p. p.value) m.national_prefix_for_parsing; national_prefix_transform_rule = m.national_prefix_transform_rule; formats = m.formats.items; international_formats = m.international_formats.items; main_country_for_code = m.main_country_for_code; leading_digits = option_map (λ p. p.value) m.leading_digits; mobile_number_portable = m.mobile_number_portable; defaults = m.defaults } };
-}
-
-fn compile_text(pool: &Pool, text: Option<Text>) -> Result<Option<Rc<Pattern>>, LoadMetadata>
-    ensures compiled { IfOk result (λ pattern. option_map (λ p. p.value) pattern ≡ text) }
-    ensures read { IfOk result (λ pattern. AllByRecursion IsPattern (option_to_list text)) }
-    ensures refused { IfErr result (IsPatternRefusal (option_to_list text)) }
-{
-    match text {
-        Some(text) => Ok(Some(pool.pattern(text)?)),
-        None => Ok(None),
-    }
-}
-
-fn compile_descriptor(
-    pool: &Pool,
-    given: Option<loader::Descriptor>,
-) -> Result<Option<Descriptor>, LoadMetadata>
-    requires { missing_in_descriptor given ≡ None }
-    ensures compiled { IfOk result (λ d. d ≡ given) }
-    ensures read { IfOk result (λ d. AllByRecursion IsPattern (patterns_in_descriptor given)) }
-    ensures refused { IfErr result (IsPatternRefusal (patterns_in_descriptor given)) }
-{
-    match given {
-        Some(given) => Ok(Some(Descriptor::compile(pool, given)?)),
-        None => Ok(None),
-    }
+    ghost view = { λ m. record { general = m.descriptors.general; fixed_line = m.descriptors.fixed_line; mobile = m.descriptors.mobile; toll_free = m.descriptors.toll_free; premium_rate = m.descriptors.premium_rate; shared_cost = m.descriptors.shared_cost; personal_number = m.descriptors.personal_number; voip = m.descriptors.voip; pager = m.descriptors.pager; uan = m.descriptors.uan; emergency = m.descriptors.emergency; voicemail = m.descriptors.voicemail; short_code = m.descriptors.short_code; standard_rate = m.descriptors.standard_rate; carrier = m.descriptors.carrier; no_international = m.descriptors.no_international; id = Some m.kept.id; country_code = Some m.kept.country_code; international_prefix = option_map (λ p. p.value) m.patterns.international_prefix; preferred_international_prefix = m.kept.preferred_international_prefix; national_prefix = m.kept.national_prefix; preferred_extension_prefix = m.kept.preferred_extension_prefix; national_prefix_for_parsing = option_map (λ p. p.value) m.patterns.national_prefix_for_parsing; national_prefix_transform_rule = m.kept.national_prefix_transform_rule; formats = m.patterns.formats.items; international_formats = m.patterns.international_formats.items; main_country_for_code = m.kept.main_country_for_code; leading_digits = option_map (λ p. p.value) m.patterns.leading_digits; mobile_number_portable = m.kept.mobile_number_portable; defaults = m.kept.defaults } };
 }
 
 impl Metadata {
@@ -82,43 +58,58 @@ impl Metadata {
         ensures read { IfOk result (λ m. AllByRecursion IsPattern (patterns_in given)) }
         ensures refused { IfErr result (IsPatternRefusal (patterns_in given)) }
     {
-        Ok(Metadata {
-            alloc: pool.allocator(),
-            descriptors: Descriptors {
-                general: Descriptor::compile(pool, given.general.unwrap())?,
-                fixed_line: compile_descriptor(pool, given.fixed_line)?,
-                mobile: compile_descriptor(pool, given.mobile)?,
-                toll_free: compile_descriptor(pool, given.toll_free)?,
-                premium_rate: compile_descriptor(pool, given.premium_rate)?,
-                shared_cost: compile_descriptor(pool, given.shared_cost)?,
-                personal_number: compile_descriptor(pool, given.personal_number)?,
-                voip: compile_descriptor(pool, given.voip)?,
-                pager: compile_descriptor(pool, given.pager)?,
-                uan: compile_descriptor(pool, given.uan)?,
-                emergency: compile_descriptor(pool, given.emergency)?,
-                voicemail: compile_descriptor(pool, given.voicemail)?,
-                short_code: compile_descriptor(pool, given.short_code)?,
-                standard_rate: compile_descriptor(pool, given.standard_rate)?,
-                carrier: compile_descriptor(pool, given.carrier)?,
-                no_international: compile_descriptor(pool, given.no_international)?,
-            },
+        let kept = Kept {
             id: given.id.unwrap(),
             country_code: given.country_code.unwrap(),
-            international_prefix: compile_text(pool, given.international_prefix)?,
             preferred_international_prefix: given.preferred_international_prefix,
             national_prefix: given.national_prefix,
             preferred_extension_prefix: given.preferred_extension_prefix,
-            national_prefix_for_parsing: compile_text(pool, given.national_prefix_for_parsing)?,
             national_prefix_transform_rule: given.national_prefix_transform_rule,
-            leading_digits: compile_text(pool, given.leading_digits)?,
-            formats: format::compile_all(pool, given.formats.into_vec())?,
-            international_formats: format::compile_all(
-                pool,
-                given.international_formats.into_vec(),
-            )?,
             main_country_for_code: given.main_country_for_code,
             mobile_number_portable: given.mobile_number_portable,
             defaults: given.defaults,
+        };
+        let descriptors = Descriptors::compile(
+            pool,
+            (
+                (
+                    given.general,
+                    given.fixed_line,
+                    given.mobile,
+                    given.toll_free,
+                ),
+                (
+                    given.premium_rate,
+                    given.shared_cost,
+                    given.personal_number,
+                    given.voip,
+                ),
+                (given.pager, given.uan, given.emergency, given.voicemail),
+                (
+                    given.short_code,
+                    given.standard_rate,
+                    given.carrier,
+                    given.no_international,
+                ),
+            ),
+        );
+        let patterns = Patterns::compile(
+            pool,
+            given.international_prefix,
+            given.national_prefix_for_parsing,
+            given.leading_digits,
+            given.formats.into_vec(),
+            given.international_formats.into_vec(),
+        );
+        let (kept, (descriptors, patterns)) = both_read(
+            Ok(kept),
+            both_read(descriptors, patterns),
+        )?;
+        Ok(Metadata {
+            alloc: pool.allocator(),
+            descriptors,
+            patterns,
+            kept,
         })
     }
 
@@ -138,21 +129,21 @@ impl Metadata {
     pub fn id(&self) -> &str
         ensures { self.now.id ≡ Some result.now }
     {
-        self.id.as_str()
+        self.kept.id.as_str()
     }
 
     /// The calling code.
     pub fn country_code(&self) -> u16
         ensures { self.now.country_code ≡ Some result }
     {
-        self.country_code
+        self.kept.country_code
     }
 
     /// The pattern of what is dialled before a calling code.
     pub fn international_prefix(&self) -> Option<&Regex>
         ensures { IsLentPattern self.now.international_prefix result }
     {
-        match &self.international_prefix {
+        match &self.patterns.international_prefix {
             Some(pattern) => Some(pattern.regex()),
             None => None,
         }
@@ -162,7 +153,7 @@ impl Metadata {
     pub fn international_prefix_pattern(&self) -> Option<&Pattern>
         ensures { option_copied result ≡ self.now.international_prefix }
     {
-        match &self.international_prefix {
+        match &self.patterns.international_prefix {
             Some(pattern) => Some(pattern.as_ref()),
             None => None,
         }
@@ -172,7 +163,7 @@ impl Metadata {
     pub fn preferred_international_prefix(&self) -> Option<&str>
         ensures { option_copied result ≡ self.now.preferred_international_prefix }
     {
-        match &self.preferred_international_prefix {
+        match &self.kept.preferred_international_prefix {
             Some(text) => Some(text.as_str()),
             None => None,
         }
@@ -182,7 +173,7 @@ impl Metadata {
     pub fn national_prefix(&self) -> Option<&str>
         ensures { option_copied result ≡ self.now.national_prefix }
     {
-        match &self.national_prefix {
+        match &self.kept.national_prefix {
             Some(text) => Some(text.as_str()),
             None => None,
         }
@@ -192,7 +183,7 @@ impl Metadata {
     pub fn preferred_extension_prefix(&self) -> Option<&str>
         ensures { option_copied result ≡ self.now.preferred_extension_prefix }
     {
-        match &self.preferred_extension_prefix {
+        match &self.kept.preferred_extension_prefix {
             Some(text) => Some(text.as_str()),
             None => None,
         }
@@ -202,7 +193,7 @@ impl Metadata {
     pub fn national_prefix_for_parsing(&self) -> Option<&Regex>
         ensures { IsLentPattern self.now.national_prefix_for_parsing result }
     {
-        match &self.national_prefix_for_parsing {
+        match &self.patterns.national_prefix_for_parsing {
             Some(pattern) => Some(pattern.regex()),
             None => None,
         }
@@ -212,7 +203,7 @@ impl Metadata {
     pub fn national_prefix_for_parsing_pattern(&self) -> Option<&Pattern>
         ensures { option_copied result ≡ self.now.national_prefix_for_parsing }
     {
-        match &self.national_prefix_for_parsing {
+        match &self.patterns.national_prefix_for_parsing {
             Some(pattern) => Some(pattern.as_ref()),
             None => None,
         }
@@ -222,7 +213,7 @@ impl Metadata {
     pub fn national_prefix_transform_rule(&self) -> Option<&str>
         ensures { option_copied result ≡ self.now.national_prefix_transform_rule }
     {
-        match &self.national_prefix_transform_rule {
+        match &self.kept.national_prefix_transform_rule {
             Some(text) => Some(text.as_str()),
             None => None,
         }
@@ -232,28 +223,28 @@ impl Metadata {
     pub fn formats(&self) -> &[Format]
         ensures { result.now ≡ self.now.formats }
     {
-        self.formats.as_slice()
+        self.patterns.formats.as_slice()
     }
 
     /// The layouts of international text.
     pub fn international_formats(&self) -> &[Format]
         ensures { result.now ≡ self.now.international_formats }
     {
-        self.international_formats.as_slice()
+        self.patterns.international_formats.as_slice()
     }
 
     /// Whether the territory is the main one of its calling code.
     pub fn is_main_country_for_code(&self) -> bool
         ensures { result ≡ self.now.main_country_for_code }
     {
-        self.main_country_for_code
+        self.kept.main_country_for_code
     }
 
     /// The pattern of digits that tell the territory from others of its calling code.
     pub fn leading_digits(&self) -> Option<&Regex>
         ensures { IsLentPattern self.now.leading_digits result }
     {
-        match &self.leading_digits {
+        match &self.patterns.leading_digits {
             Some(pattern) => Some(pattern.regex()),
             None => None,
         }
@@ -263,7 +254,7 @@ impl Metadata {
     pub fn leading_digits_pattern(&self) -> Option<&Pattern>
         ensures { option_copied result ≡ self.now.leading_digits }
     {
-        match &self.leading_digits {
+        match &self.patterns.leading_digits {
             Some(pattern) => Some(pattern.as_ref()),
             None => None,
         }
@@ -273,7 +264,7 @@ impl Metadata {
     pub fn is_mobile_number_portable(&self) -> bool
         ensures { result ≡ self.now.mobile_number_portable }
     {
-        self.mobile_number_portable
+        self.kept.mobile_number_portable
     }
 }
 
