@@ -9,7 +9,7 @@ use Rattle.phone_meta.specs.First.{IsPattern}
 use Rattle.phone_meta.specs.Records.{first_group_pattern}
 use Rattle.phone_meta.specs.Refusals.{AreRead, IsPatternRefusal, IsRefusalOf, TellsMissing, patterns, patterns_in, patterns_besides, patterns_in_descriptor}
 use Rattle.phone_pattern.proofs.Refused.{ArePatterns, HavePatterns, Texts, both-patterns, refused-left, refused-right}
-use Rattle.phone_records.specs.declared.error.LoadMetadata.{LoadMetadata}
+use Rattle.phone_texts.specs.declared.error.LoadMetadata.{LoadMetadata}
 use Rattle.phone_records.specs.declared.loader.Format.{Format}
 use Rattle.phone_records.specs.declared.loader.Metadata.{Metadata}
 

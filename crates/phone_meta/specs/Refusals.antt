@@ -5,7 +5,7 @@ use Rattle.std.specs.Option.{option_and_then, option_to_list}
 -- one of a list of patterns is refused, and all before it are patterns
 pub use Rattle.phone_pattern.specs.Refusals.{IsRefusedIn, IsPatternRefusal}
 use Rattle.phone_pattern.specs.First.{IsPattern}
-use Rattle.phone_records.specs.Errors.{told}
+use Rattle.phone_texts.specs.Errors.{told}
 use Rattle.phone_records.specs.Kinds.{Four}
 use Rattle.phone_records.specs.Missing.{descriptors_of, first_missing, phase_of, name_of}
 use Rattle.phone_meta.specs.Records.{first_group_pattern}
