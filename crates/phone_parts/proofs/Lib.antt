@@ -1,3 +1,4 @@
+pub mod AnnouncedParts
 pub mod Borders
 pub mod Closings
 pub mod CoreRows

@@ -61,7 +61,7 @@ indicators_one_if_sign = refl
 nothing_announces : list_any (is_like []) indicators ≡ false
 nothing_announces = refl
 
-word_some : (word : List ℕ) → list_any (is_like word) indicators ≡ true → ¬ (word ≡ [])
+pub word_some : (word : List ℕ) → list_any (is_like word) indicators ≡ true → ¬ (word ≡ [])
 word_some word h e = true≢false (sym h ∙ ap (λ t. list_any (is_like t) indicators) e ∙ nothing_announces)
 
 -- the same of a text that is like an indicator

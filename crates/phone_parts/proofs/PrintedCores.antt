@@ -17,7 +17,7 @@ pub unmarked_nil : IsUnmarked []
 unmarked_nil zero = refl
 unmarked_nil (suc k) = refl
 
-unmarked_more : (c : ℕ) (cs : List ℕ) → begins_second_number (c ∷ cs) ≡ false → IsUnmarked cs → IsUnmarked (c ∷ cs)
+pub unmarked_more : (c : ℕ) (cs : List ℕ) → begins_second_number (c ∷ cs) ≡ false → IsUnmarked cs → IsUnmarked (c ∷ cs)
 unmarked_more c cs here later zero = here
 unmarked_more c cs here later (suc k) = later k
 

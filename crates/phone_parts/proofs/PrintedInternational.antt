@@ -32,7 +32,7 @@ abbrev pub announcing : List ℕ
 announcing = 120 ∷ 126 ∷ 0xFF5E ∷ []
 
 -- a digit, or other punctuation
-abbrev is_printed : ℕ → Bool
+abbrev pub is_printed : ℕ → Bool
 is_printed c = (is_digit c || is_punctuation c) && not (is_one_of announcing c)
 
 printed_passes : (p : ℕ → Bool) → list_all p ascii_digits ≡ true → list_all (λ c. is_one_of announcing c || p c) punctuation ≡ true → (c : ℕ) →
@@ -57,7 +57,7 @@ printed_rest (x ∷ xs) all none =
     and_from (is_punctuation x) (list_all is_punctuation xs) (ap (λ b. b || is_punctuation x) (sym digits.0) ∙ one.0) (printed_rest xs parts.1 digits.1)
 
 -- the two premises on a printed number, as one
-all_printed : (q : List ℕ) → list_all (λ c. is_digit c || is_punctuation c) q ≡ true → list_any (is_one_of announcing) q ≡ false → list_all is_printed q ≡ true
+pub all_printed : (q : List ℕ) → list_all (λ c. is_digit c || is_punctuation c) q ≡ true → list_any (is_one_of announcing) q ≡ false → list_all is_printed q ≡ true
 all_printed [] all none = refl
 all_printed (c ∷ cs) all none =
     let parts = and_parts (is_digit c || is_punctuation c) (list_all (λ x. is_digit x || is_punctuation x) cs) all in
@@ -65,17 +65,17 @@ all_printed (c ∷ cs) all none =
     and_from _ _ (and_from _ _ parts.0 (not_from_false _ others.0)) (all_printed cs parts.1 others.1)
 
 -- a plus sign too
-abbrev is_signed : ℕ → Bool
+abbrev pub is_signed : ℕ → Bool
 is_signed c = (c == 43) || is_printed c
 
 digit_printed : (c : ℕ) → is_digit c ≡ true → is_signed c ≡ true
 digit_printed = digit_passes is_signed refl
 
 -- plus sign, code, space and number
-abbrev signed : List ℕ → List ℕ → List ℕ
+abbrev pub signed : List ℕ → List ℕ → List ℕ
 signed cd q = 43 ∷ (cd ++ 32 ∷ q)
 
-all_signed : (cd q : List ℕ) → list_all is_digit cd ≡ true → list_all is_printed q ≡ true → list_all is_signed (signed cd q) ≡ true
+pub all_signed : (cd q : List ℕ) → list_all is_digit cd ≡ true → list_all is_printed q ≡ true → list_all is_signed (signed cd q) ≡ true
 all_signed cd q digits printed =
     list_all-append is_signed cd (32 ∷ q)
     ∙ and_from _ _ (all_wider is_digit is_signed digit_printed cd digits) (all_wider is_printed is_signed (λ c e. or_right (c == 43) (is_printed c) e) q printed)
@@ -93,25 +93,25 @@ signed_apart : (p : ℕ → Bool) → not (p 43) ≡ true → list_all (λ c. no
 signed_apart p plus digits others c e = not-true (p c) (signed_passes (λ x. not (p x)) plus digits others c e)
 
 -- none of them begins an indicator, is an x or a number sign
-opening_signed : AreApart is_opening is_signed
+pub opening_signed : AreApart is_opening is_signed
 unfolding ucd_case
 opening_signed = signed_apart is_opening refl refl refl
 
-x_signed : AreApart (λ c. c == 120) is_signed
+pub x_signed : AreApart (λ c. c == 120) is_signed
 x_signed = signed_apart (λ c. c == 120) refl refl refl
 
-sign_signed : AreApart is_sign is_signed
+pub sign_signed : AreApart is_sign is_signed
 sign_signed = signed_apart is_sign refl refl refl
 
-digit_last : (c : ℕ) → is_digit c ≡ true → is_last c ≡ true
+pub digit_last : (c : ℕ) → is_digit c ≡ true → is_last c ≡ true
 unfolding ucd_category
 digit_last = digit_passes is_last refl
 
-digit_nd : (c : ℕ) → is_digit c ≡ true → is_nd c ≡ true
+pub digit_nd : (c : ℕ) → is_digit c ≡ true → is_nd c ≡ true
 unfolding ucd_category
 digit_nd = digit_passes is_nd refl
 
-digit_no_lead : (c : ℕ) → is_digit c ≡ true → not (is_lead c) ≡ true
+pub digit_no_lead : (c : ℕ) → is_digit c ≡ true → not (is_lead c) ≡ true
 digit_no_lead = digit_passes (λ c. not (is_lead c)) refl
 
 any_wider : (p q : ℕ → Bool) → ((c : ℕ) → p c ≡ true → q c ≡ true) → (xs : List ℕ) → list_any p xs ≡ true → list_any q xs ≡ true
@@ -142,16 +142,16 @@ printed_cut p wider q printed some =
     }
 
 -- a text ends as its number does
-some_text : (p : ℕ → Bool) (xs : List ℕ) → ends p xs ≡ true → ¬ (xs ≡ [])
+pub some_text : (p : ℕ → Bool) (xs : List ℕ) → ends p xs ≡ true → ¬ (xs ≡ [])
 some_text p [] e f = true≢false (sym e)
 some_text p (x ∷ xs) e f = cc
 
-ends_signed : (p : ℕ → Bool) (cd q : List ℕ) → ends p q ≡ true → ends p (signed cd q) ≡ true
+pub ends_signed : (p : ℕ → Bool) (cd q : List ℕ) → ends p q ≡ true → ends p (signed cd q) ≡ true
 ends_signed p cd q last = ends-append p (43 ∷ cd) (32 ∷ q) (λ e. cc) ∙ ends-append p (32 ∷ []) q (some_text p q last) ∙ last
 
 -- ---- the reading
 
-signed-append : (cd q r : List ℕ) → signed cd (q ++ r) ≡ signed cd q ++ r
+pub signed-append : (cd q r : List ℕ) → signed cd (q ++ r) ≡ signed cd q ++ r
 signed-append cd q r = ap (λ t. 43 ∷ t) (sym (append_assoc cd (32 ∷ q) r))
 
 -- what a text is read as, up to the punctuation at the end of the number
@@ -228,7 +228,7 @@ read_announced cd q ending trailing d h is_ending no_sign no_slash last none =
     }
 
 -- an ending without digits, and one with digits
-no_ending : IsEnding [] []
+pub no_ending : IsEnding [] []
 no_ending = record {
   mark = [];
   gap = [];
@@ -281,7 +281,7 @@ read cd q (Some []) h digits few = read_announced cd q [] (codes ". ") [] h no_e
 read cd q (Some (x ∷ xs)) h digits few = read_digits cd q x xs h digits few
 
 -- it has a space, so it has no `tel:` form
-has_space : (cd q : List ℕ) → list_any (λ c. c == 32) (signed cd q) ≡ true
+pub has_space : (cd q : List ℕ) → list_any (λ c. c == 32) (signed cd q) ≡ true
 has_space cd q = list_any-append (λ c. c == 32) cd (32 ∷ q) ∙ or_right (list_any (λ c. c == 32) cd) _ refl
 
 pub international_parts : (cd q : List ℕ) (e : Option (List ℕ)) → list_all is_digit cd ≡ true → list_all (λ c. is_digit c || is_punctuation c) q ≡ true →

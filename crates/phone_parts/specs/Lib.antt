@@ -1,3 +1,4 @@
+pub mod Announcements
 pub mod Cores
 pub mod Longest
 pub mod Naturals
