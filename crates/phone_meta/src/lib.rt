@@ -13,6 +13,7 @@ mod metadata;
 mod parse;
 mod patterns;
 mod placed;
+mod prefixes;
 mod rules;
 mod together;
 

@@ -5,12 +5,14 @@ ghost use Rattle.std.specs.Option.{option_copied};
 ghost use Rattle.phone_meta.specs.Refusals.{IsPatternRefusal, patterns_in};
 ghost use Rattle.phone_meta.specs.First.{IsPattern, IsLentPattern};
 ghost use Rattle.phone_meta.specs.Kinds.{kinds_of};
+ghost use Rattle.phone_meta.specs.Prefixes.{is_benign_prefix};
 ghost use Rattle.phone_records.specs.Missing.{first_missing, missing_in};
 
 use crate::descriptors::Descriptors;
 use crate::format::Format;
 use crate::loader::{self, Text};
 use crate::patterns::Patterns;
+use crate::prefixes;
 use crate::together::both_read;
 use phone_pattern::{Pattern, Pool};
 use phone_records::LoadMetadata;
@@ -187,6 +189,14 @@ impl Metadata {
             Some(text) => Some(text.as_str()),
             None => None,
         }
+    }
+
+    /// Whether that prefix is known to announce an extension: there is none, or it is one of seven
+    /// texts that a reader of free text knows. Takes no memory.
+    pub fn has_benign_prefix(&self) -> bool
+        ensures { result ≡ is_benign_prefix self.now.preferred_extension_prefix }
+    {
+        prefixes::is_benign(self.preferred_extension_prefix())
     }
 
     /// The pattern of what may stand before a national number and is taken off.
