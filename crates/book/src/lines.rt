@@ -4,7 +4,7 @@ use anyhow::{Result, anyhow};
 use phone_book::{Book, BookError, Place};
 use phonenumber::country::Id;
 use std::alloc::Global;
-use std::io::{BufRead, Write};
+use std::io::{self, BufRead, Write};
 
 /// A line without the carriage return at its end, where it has one.
 fn without_return(line: &[u8]) -> &[u8] {
@@ -37,6 +37,18 @@ fn add_line<W: Write>(
     Ok(counts.with_added())
 }
 
+/// Adds a line as it was read.
+fn add_read<W: Write>(
+    output: &mut W,
+    book: &mut Book,
+    hint: Option<Id>,
+    line: io::Result<Vec<u8>>,
+    counts: Counts,
+) -> Result<Counts> {
+    let line = line?;
+    add_line(output, book, hint, without_return(line.as_slice()), counts)
+}
+
 /// Adds each line of a reader, and writes those of new numbers.
 pub fn add_lines<R: BufRead + Drop, W: Write>(
     alloc: Global,
@@ -47,8 +59,8 @@ pub fn add_lines<R: BufRead + Drop, W: Write>(
 ) -> Result<Counts> {
     let mut counts = Counts::none();
     for line in input.split(alloc, b'\n') {
-        let line = line?;
-        counts = add_line(output, book, hint, without_return(line.as_slice()), counts)?;
+        counts = add_read(output, book, hint, line, counts)?;
     }
+    output.flush()?;
     Ok(counts)
 }

@@ -295,14 +295,27 @@ fn layouts_of<'a>(
     ensures at_home { IfOk result (λ l. option_copied l.at_home ≡ layout_for m.entry.now mode.National (option_copied own.entry) digits.now) }
 {
     let abroad = layout_for(m, Mode::International, own, digits)?;
-    if m.international_formats().is_empty() {
-        return Ok(Layouts {
-            abroad,
-            at_home: abroad,
-        });
-    }
-    let at_home = layout_for(m, Mode::National, own, digits)?;
+    let at_home = at_home(m, own, digits, abroad)?;
     Ok(Layouts { abroad, at_home })
+}
+
+/// The layout at home, where the one abroad is known: it is the same, unless the territory has
+/// layouts for abroad alone.
+fn at_home<'a>(
+    m: &'a Metadata,
+    own: Option<&'a Format>,
+    digits: &str,
+    abroad: Option<&'a Format>,
+) -> Result<Option<&'a Format>, AllocError>
+    requires { option_copied abroad ≡
+        layout_for m.now mode.International (option_copied own) digits.now }
+    ensures { IfOk result (λ f. option_copied f ≡
+        layout_for m.entry.now mode.National (option_copied own.entry) digits.now) }
+{
+    if m.international_formats().is_empty() {
+        return Ok(abroad);
+    }
+    layout_for(m, Mode::National, own, digits)
 }
 
 /// The layout that was handed in, else the first of the territory's that suits the digits.
