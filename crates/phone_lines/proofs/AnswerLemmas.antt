@@ -1,11 +1,12 @@
 -- Answers to lines, one after the other; and what begins whatever is the report.
-use Rattle.std.proofs.Common.{◌≡◌, ◌==◌, ℕ, Bool, true, false, ◌||◌, List, [], ◌∷◌, ◌++◌, Option, refl, sym, ap, ap₂, ◌∙◌, append_assoc, subst, true≢false}
+use Rattle.std.proofs.Common.{◌≡◌, ◌==◌, ℕ, Bool, true, false, ◌||◌, List, [], ◌∷◌, ◌++◌, refl, sym}
+use Rattle.std.proofs.Common.{ap, ap₂, ◌∙◌, append_assoc, subst, true≢false}
 use Rattle.std.proofs.lemmas.List.{append-nil}
 use Rattle.std.proofs.lemmas.List.Folds.{list_any-append}
 use Rattle.std.specs.List.{AllByRecursion, list_any}
-use Rattle.phone_device.specs.Passing.{TakesFront}
 use Rattle.phone_lines.specs.Lines.{AreCut, AreLines, IsUnbroken, ended, last_line, without_return}
-use Rattle.phone_lines.specs.Reports.{AreAnswers, Gives, HasOneAnswer, IsReport, IsReportOnEnded, IsReportOnFirst, TakesBeginning}
+use Rattle.phone_lines.specs.Reports.{AreAnswers, Gives, HasOneAnswer, IsReport, IsReportOnEnded}
+use Rattle.phone_lines.specs.Reports.{IsReportOnFirst}
 use Rattle.phone_lines.specs.Reports.AreAnswers.{none, next}
 
 -- the answers to lines, and to one more
@@ -16,24 +17,16 @@ AreAnswers-then gives _ _ line answer (next l a ls others g rest) h =
     subst (λ t. AreAnswers gives (l ∷ (ls ++ line ∷ [])) t) (sym (append_assoc a (10 ∷ others) (answer ++ 10 ∷ [])))
     (next l a (ls ++ line ∷ []) (others ++ (answer ++ 10 ∷ [])) g (AreAnswers-then gives ls others line answer rest h))
 
--- what is answered to first lines begins what is answered to all of them
+-- a text that another begins with
 pub record Begun (r whole : List ℕ) : Type 0 where
   pub rest : List ℕ
   pub is : whole ≡ r ++ rest
 
-begun_then : (a r whole b : List ℕ) → a ≡ b → Begun r whole → Begun (a ++ 10 ∷ r) (b ++ 10 ∷ whole)
-begun_then a r whole b e h = record { rest = h.rest; is = ap₂ (λ x y. x ++ 10 ∷ y) (sym e) h.is ∙ sym (append_assoc a (10 ∷ r) h.rest) }
-
-pub begun : (gives : Gives) → HasOneAnswer gives → (first others : List (List ℕ)) (r whole : List ℕ) →
-    AreAnswers gives first r → AreAnswers gives (first ++ others) whole → Begun r whole
-begun gives one _ others _ whole none h = record { rest = whole; is = refl }
-begun gives one _ others _ _ (next l a ls r g rest) (next _ b _ whole g' rest') = begun_then a r whole b (one _ a b g g') (begun gives one ls others r whole rest rest')
-
-abbrev head_or_zero : List ℕ → ℕ
+abbrev pub head_or_zero : List ℕ → ℕ
 head_or_zero [] = 0
 head_or_zero (c ∷ cs) = c
 
-abbrev tail_of : List ℕ → List ℕ
+abbrev pub tail_of : List ℕ → List ℕ
 tail_of [] = []
 tail_of (c ∷ cs) = cs
 
@@ -89,26 +82,6 @@ same_pieces (l ∷ lines) (m ∷ others) last end p q h k e =
     let s = same_first l m (ended lines ++ last) (ended others ++ end) p.0 q.0 (sym (seam l (ended lines) last) ∙ e ∙ seam m (ended others) end) in
     one_more l m lines others last end s.0 (same_pieces lines others last end p.1 q.1 h k s.1)
 
--- whatever is the report on bytes begins with the report on some first lines of them
-pub IsReportOnFirst-begins : (gives : Gives) → HasOneAnswer gives → (bytes r whole : List ℕ) → IsReportOnFirst gives bytes r → IsReport gives bytes whole → Begun r whole
-IsReportOnFirst-begins gives one bytes r whole (first, others, last, cut, answers) (lines, (ended_ones, end, cut', all), answers') =
-    let same = same_pieces (first ++ others) ended_ones last end cut.unbroken cut'.unbroken cut.last_unbroken cut'.last_unbroken (sym cut.whole ∙ cut'.whole) in
-    begun gives one first (others ++ last_line end) r whole answers
-    (subst (λ t. AreAnswers gives t whole) (all ∙ ap (λ t. t ++ last_line end) (sym same.lines_are) ∙ append_assoc first others (last_line end)) answers')
-
-further : (before after : Option (List ℕ)) (r whole : List ℕ) → Begun r whole → TakesFront before r after → TakesFront before whole after
-further before after r whole b t = record {
-  front = t.front;
-  rest = t.rest ++ b.rest;
-  whole = b.is ∙ ap (λ x. x ++ b.rest) t.whole ∙ append_assoc t.front t.rest b.rest;
-  taken = t.taken;
-}
-
--- a sink that took a beginning of the report on some first lines took a beginning of whatever is the report
-pub TakesFront-begins : (gives : Gives) (bytes r : List ℕ) (before after : Option (List ℕ)) → IsReportOnFirst gives bytes r → TakesFront before r after →
-    HasOneAnswer gives → TakesBeginning gives bytes before after
-TakesFront-begins gives bytes r before after first taken one whole is = further before after r whole (IsReportOnFirst-begins gives one bytes r whole first is) taken
-
 -- of the ended lines all are some first ones
 pub IsReportOnEnded-first : (gives : Gives) (bytes r : List ℕ) → IsReportOnEnded gives bytes r → IsReportOnFirst gives bytes r
 IsReportOnEnded-first gives bytes r (lines, last, cut, answers) = (lines, [], last, subst (λ t. AreCut bytes t last) (sym (append-nil lines)) cut, answers)
@@ -128,8 +101,3 @@ same_lines bytes lines others (front, last, cut, all) (front', last', cut', all'
 pub same_report : (gives : Gives) → HasOneAnswer gives → (bytes a b : List ℕ) → IsReport gives bytes a → IsReport gives bytes b → a ≡ b
 same_report gives one bytes a b (lines, are, answers) (others, are', answers') =
     same_answers gives one lines a b answers (subst (λ t. AreAnswers gives t b) (same_lines bytes others lines are' are) answers')
-
--- a sink that took a beginning of the report took a beginning of whatever is the report
-pub TakesFront-report : (gives : Gives) (bytes r : List ℕ) (before after : Option (List ℕ)) → IsReport gives bytes r → TakesFront before r after →
-    HasOneAnswer gives → TakesBeginning gives bytes before after
-TakesFront-report gives bytes r before after first taken one whole is = subst (λ t. TakesFront before t after) (same_report gives one bytes r whole first is) taken

@@ -1,4 +1,5 @@
 pub mod AnswerLemmas
+pub mod Beginnings
 pub mod CutLemmas
 pub mod Ends
 pub mod LineLemmas

@@ -2,12 +2,14 @@
 use Rattle.std.proofs.Common.{◌≡◌, add-one, ℕ, ◌+◌, ◌<◌, take, drop, length, get_or, List, [], ◌∷◌, ◌++◌, Option, Some, None, refl, sym, ap, ◌∙◌, append_assoc, subst}
 use Rattle.std.proofs.lemmas.List.{append-nil, take-append-drop}
 use Rattle.std.proofs.Math.Seq.{take-suc}
-use Rattle.phone_device.specs.Passing.{Takes, TakesFront}
+use Rattle.phone_device.specs.Passing.{IsAtEnd, Takes, TakesFront}
 use Rattle.phone_lines.specs.Lines.{last_line, without_return}
-use Rattle.phone_lines.specs.Reports.{AreAnswers, Gives, IsReport, IsReportOnEnded, IsReportOnFirst}
+use Rattle.phone_lines.specs.Reports.{AreAnswers, Gives, IsBeginning, IsReport, IsReportOnEnded}
+use Rattle.phone_lines.specs.Reports.{IsReportOnFirst}
 use Rattle.phone_lines.specs.Reports.AreAnswers.{none}
 use Rattle.phone_lines.specs.Runs.{BreaksOff, Holds, IsSoFar, Stands, TakesA}
-use Rattle.phone_lines.proofs.AnswerLemmas.{AreAnswers-then, IsReportOnEnded-first, TakesFront-begins, TakesFront-report}
+use Rattle.phone_lines.proofs.AnswerLemmas.{AreAnswers-then, IsReportOnEnded-first}
+use Rattle.phone_lines.proofs.Beginnings.{TakesFront-all, TakesFront-first}
 use Rattle.phone_lines.proofs.CutLemmas.{AreCut-ended, AreCut-grown, AreCut-nothing, cut_on}
 
 -- a byte that is no line feed
@@ -96,7 +98,7 @@ front_then before middle after written held t f = record {
 pub Holds-breaks : (gives : Gives) (bytes held : List ℕ) (before middle after : Option (List ℕ)) → Holds (IsReportOnFirst gives bytes) held before middle →
     TakesFront middle held after → BreaksOff gives bytes before after
 Holds-breaks gives bytes held before middle after h f =
-    TakesFront-begins gives bytes (h.written ++ held) before after h.text (front_then before middle after h.written held h.taken f)
+    (h.written ++ held, h.text, front_then before middle after h.written held h.taken f)
 
 -- the bytes of a block up to a place, and those from there on
 pub at_place : (bytes block : List ℕ) (i : ℕ) → (bytes ++ take i block) ++ drop i block ≡ bytes ++ block
@@ -138,15 +140,30 @@ pub Holds-out : (is_text : List ℕ → Type 0) (held : List ℕ) (before middle
     TakesA is_text before after
 Holds-out is_text held before middle after h t = (h.written ++ held, h.text, takes_then before middle after h.written held h.taken t)
 
--- and where a sink fails in the middle of the whole report
-pub Holds-report-breaks : (gives : Gives) (bytes held : List ℕ) (before middle after : Option (List ℕ)) → Holds (IsReport gives bytes) held before middle →
-    TakesFront middle held after → BreaksOff gives bytes before after
-Holds-report-breaks gives bytes held before middle after h f =
-    TakesFront-report gives bytes (h.written ++ held) before after h.text (front_then before middle after h.written held h.taken f)
+-- where a sink fails in the middle of the whole report, at the end of all
+pub Holds-report-breaks : (gives : Gives) (to_come : Option (List ℕ)) (bytes held : List ℕ)
+    (before middle after : Option (List ℕ)) → IsAtEnd to_come →
+    Holds (IsReport gives bytes) held before middle → TakesFront middle held after →
+    TakesA (IsBeginning gives to_come bytes) before after
+Holds-report-breaks gives to_come bytes held before middle after end h f =
+    TakesFront-all gives to_come bytes (h.written ++ held) before after end h.text
+    (front_then before middle after h.written held h.taken f)
 
--- or of the report on the ended lines
-pub Holds-ended-breaks : (gives : Gives) (bytes held : List ℕ) (before middle after : Option (List ℕ)) → Holds (IsReportOnEnded gives bytes) held before middle →
-    TakesFront middle held after → BreaksOff gives bytes before after
-Holds-ended-breaks gives bytes held before middle after h f =
-    TakesFront-begins gives bytes (h.written ++ held) before after (IsReportOnEnded-first gives bytes (h.written ++ held) h.text)
+-- or of the report on some first lines
+pub Holds-first-breaks : (gives : Gives) (to_come : Option (List ℕ)) (bytes held : List ℕ)
+    (before middle after : Option (List ℕ)) →
+    Holds (IsReportOnFirst gives bytes) held before middle → TakesFront middle held after →
+    TakesA (IsBeginning gives to_come bytes) before after
+Holds-first-breaks gives to_come bytes held before middle after h f =
+    TakesFront-first gives to_come bytes (h.written ++ held) before after h.text
+    (front_then before middle after h.written held h.taken f)
+
+-- or on the ended lines
+pub Holds-ended-breaks : (gives : Gives) (to_come : Option (List ℕ)) (bytes held : List ℕ)
+    (before middle after : Option (List ℕ)) →
+    Holds (IsReportOnEnded gives bytes) held before middle → TakesFront middle held after →
+    TakesA (IsBeginning gives to_come bytes) before after
+Holds-ended-breaks gives to_come bytes held before middle after h f =
+    TakesFront-first gives to_come bytes (h.written ++ held) before after
+    (IsReportOnEnded-first gives bytes (h.written ++ held) h.text)
     (front_then before middle after h.written held h.taken f)

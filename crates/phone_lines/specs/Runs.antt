@@ -1,8 +1,8 @@
 -- How far a run over lines is, and how it ends.
 use Rattle.std.specs.Prelude.{ℕ, ◌-◌, ◌^◌, List, [], ◌++◌, Option}
-use Rattle.phone_device.specs.Passing.{Passes, Takes}
+use Rattle.phone_device.specs.Passing.{Passes, Takes, TakesFront}
 use Rattle.phone_lines.specs.Lines.{AreCut}
-use Rattle.phone_lines.specs.Reports.{AreAnswers, Gives, HasOneAnswer, TakesBeginning}
+use Rattle.phone_lines.specs.Reports.{AreAnswers, Gives, IsReportOnFirst}
 
 -- so far these bytes were read, of which the last piece isn't ended yet, and these answers given to the other lines
 pub record IsSoFar (gives : List ℕ → List ℕ → Type 0) (bytes line answers : List ℕ) : Type 0 where
@@ -22,9 +22,10 @@ pub record Holds (is_text : List ℕ → Type 0) (held : List ℕ) (before after
   pub taken : Takes before written after
   pub text : is_text (written ++ held)
 
--- where a line has at most one answer, whatever is the report on these bytes, the sink took a beginning of it
+-- a sink took a beginning of the answers to some first lines, of those that a line feed ends
 abbrev pub BreaksOff : Gives → List ℕ → Option (List ℕ) → Option (List ℕ) → Type 0
-BreaksOff gives bytes before after = HasOneAnswer gives → TakesBeginning gives bytes before after
+BreaksOff gives bytes before after =
+    (answers : List ℕ) × IsReportOnFirst gives bytes answers × TakesFront before answers after
 
 -- this holds of the bytes that a source gave
 abbrev pub OfRead : Option (List ℕ) → Option (List ℕ) → (List ℕ → Type 0) → Type 0

@@ -15,7 +15,7 @@ pub trait Answers {
 }
 
 /// A line without one carriage return at its end.
-fn without_return(line: &[u8]) -> &[u8]
+pub fn without_return(line: &[u8]) -> &[u8]
     ensures { result.now ≡ without_return line.now }
 {
     let Some((last, front)) = line.split_last() else {

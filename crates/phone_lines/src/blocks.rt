@@ -2,7 +2,8 @@
 ghost use Rattle.std.specs.Prelude.{◌≡◌, ◌+◌, ◌<◌, ◌⊎◌, ℕ, List, Ok, Err, OnOk, OnErr, length, vec_len};
 ghost use Rattle.phone_device.specs.Passing.{IsAtEnd};
 ghost use Rattle.phone_lines.specs.Faults.{number_of, sink_faults_of};
-ghost use Rattle.phone_lines.specs.Reports.{HasOneAnswer, IsReport, IsReportOnEnded, IsReportOnFirst, TakesBeginning};
+ghost use Rattle.phone_lines.specs.Reports.{IsBeginning, IsReport};
+ghost use Rattle.phone_lines.specs.Reports.{IsReportOnEnded, IsReportOnFirst};
 ghost use Rattle.phone_lines.specs.Runs.{BreaksOff, Holds, IsFresh, OfRead, Stands, TakesA, most_bytes};
 ghost use Rattle.phone_lines.specs.declared.blocks.End.TheVariants as end;
 ghost use Rattle.phone_lines.specs.declared.blocks.RunError.TheVariants as error;
@@ -126,10 +127,12 @@ fn take_all<A: Answers, S: ByteSource, W: ByteSink>(
 /// line's end is dropped. Each answer is ended by a line feed. What is held in memory are a block, the longest line and
 /// its answer: it does not grow with the number of lines.
 ///
-/// Refused by `Input` where the source failed or 2^64 - 1 bytes were read: then the answers to all lines that a line feed
-/// ended are written. By `Output` where the sink failed, or took no byte of some: then a beginning of the answers is
-/// written. By `Memory` where there was no room for a line or its answer: then the answers to some first lines are
-/// written, each whole.
+/// Refused by `Input` where the source failed or 2^64 - 1 bytes were read: then the answers to all
+/// lines that a line feed ended are written. By `Output` where the sink failed, or took no byte of
+/// some: then the answers to some first lines are written, each whole, and a beginning of the
+/// answer to the next line, but nothing of a line after it; what no line feed ends is such a line
+/// only where the source was at its end. By `Memory` where there was no room for a line or its
+/// answer: then the answers to some first lines are written, each whole.
 pub fn answer_lines<A: Answers, S: ByteSource, W: ByteSink>(
     alloc: Global,
     answers: &A,
@@ -141,7 +144,10 @@ pub fn answer_lines<A: Answers, S: ByteSource, W: ByteSink>(
     ensures no_fault { OnOk result (S.faults source.new ≡ S.faults source.old) }
     ensures ended { result ≡ Err error.Input → OfRead (S.to_come source.old) (S.to_come source.new) (λ bytes. TakesA (IsReportOnEnded (A.gives answers.now) bytes) (W.taken sink.old) (W.taken sink.new)) }
     ensures cause { result ≡ Err error.Input → (S.faults source.new ≡ S.faults source.old + 1) ⊎ OfRead (S.to_come source.old) (S.to_come source.new) (λ bytes. length bytes ≡ most_bytes) }
-    ensures beginning { result ≡ Err error.Output → HasOneAnswer (A.gives answers.now) → OfRead (S.to_come source.old) (S.to_come source.new) (λ bytes. TakesBeginning (A.gives answers.now) bytes (W.taken sink.old) (W.taken sink.new)) }
+    ensures beginning { result ≡ Err error.Output →
+        OfRead (S.to_come source.old) (S.to_come source.new) (λ bytes.
+        TakesA (IsBeginning (A.gives answers.now) (S.to_come source.new) bytes)
+        (W.taken sink.old) (W.taken sink.new)) }
     ensures first { result ≡ Err error.Memory → OfRead (S.to_come source.old) (S.to_come source.new) (λ bytes. TakesA (IsReportOnFirst (A.gives answers.now) bytes) (W.taken sink.old) (W.taken sink.new)) }
     ensures no_fault_without_memory { result ≡ Err error.Memory → S.faults source.new ≡ S.faults source.old }
     ensures sink_faults { W.faults sink.new ≡ W.faults sink.old + sink_faults_of result }

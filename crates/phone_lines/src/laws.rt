@@ -1,7 +1,9 @@
 //! What holds of the definitions of this crate. These functions do nothing; their contracts are the statements.
-ghost use Rattle.std.specs.Prelude.{◌≡◌, ℕ, List};
+ghost use Rattle.std.specs.Prelude.{◌≡◌, ℕ, List, Option};
 ghost use Rattle.phone_lines.specs.Lines.{AreLines};
-ghost use Rattle.phone_lines.specs.Reports.{HasAnAnswer, HasOneAnswer, IsReport};
+ghost use Rattle.phone_lines.specs.Reports.{HasAnAnswer, HasOneAnswer};
+ghost use Rattle.phone_lines.specs.Reports.{IsBeginning, IsReport, TakesBeginning};
+ghost use Rattle.phone_lines.specs.Runs.{TakesA};
 
 use crate::Answers;
 
@@ -19,4 +21,13 @@ pub fn one_report<A: Answers>(answers: &A)
 /// Bytes have a report, where each line has an answer.
 pub fn some_report<A: Answers>(answers: &A)
     ensures { HasAnAnswer (A.gives answers.now) → (bytes : List ℕ) → (report : List ℕ) × IsReport (A.gives answers.now) bytes report }
+{}
+
+/// What was written where a sink failed begins each report on what was read, where a line has at
+/// most one answer.
+pub fn begins_each_report<A: Answers>(answers: &A)
+    ensures { HasOneAnswer (A.gives answers.now) →
+        (to_come : Option (List ℕ)) (bytes : List ℕ) (before after : Option (List ℕ)) →
+        TakesA (IsBeginning (A.gives answers.now) to_come bytes) before after →
+        TakesBeginning (A.gives answers.now) bytes before after }
 {}

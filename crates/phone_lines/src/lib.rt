@@ -6,5 +6,5 @@ mod blocks;
 mod desk;
 pub mod laws;
 
-pub use answers::Answers;
+pub use answers::{Answers, without_return};
 pub use blocks::{RunError, answer_lines};
