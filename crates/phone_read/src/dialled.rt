@@ -1,5 +1,5 @@
 //! How a number was dialled: by a plus sign, an international prefix, or neither.
-ghost use Rattle.std.specs.Prelude.{◌≡◌, ◌==◌, ℕ, Bool, true, List, Option, drop, IsCharBoundary, IfOk, IsOk, IfSome, None, option_map, chars};
+ghost use Rattle.std.specs.Prelude.{◌≡◌, ◌==◌, ℕ, Bool, true, List, Option, drop, IsCharBoundary, IfOk, IsOk, IfSome, None, option_map, chars, if◌then◌else◌};
 ghost use Rattle.std.specs.Cow.{cow_str_bytes, IsBorrowedStr};
 ghost use Rattle.std.specs.List.{list_all};
 ghost use Rattle.std.specs.Option.{option_map_or};
@@ -7,11 +7,13 @@ ghost use Rattle.regex.specs.Strings.{match_span};
 ghost use Rattle.phone_chars.specs.Characters.{is_digit, is_plus};
 ghost use Rattle.phone_chars.specs.Cuts.{after_front};
 ghost use Rattle.phone_chars.specs.Norm.{norm};
+ghost use Rattle.phone_core.specs.declared.country.Source.TheVariants.{Plus};
 ghost use Rattle.phone_meta.specs.First.{IsCut};
 ghost use Rattle.phone_parts.specs.Parts.{parts_of};
 ghost use Rattle.phone_parts.specs.Texts.{begins};
 ghost use Rattle.phone_read.specs.Codes.{IsLentDigits, after_match, dialled, found_by, is_bare, is_plain, unsigned};
 
+use crate::together::{beside, both};
 use crate::trims::trim;
 use phone_chars::chars::{is_plus, normalize};
 use phone_chars::cuts::{CharSet, after_run};
@@ -150,17 +152,46 @@ pub(crate) fn dialled<'a, F: Finder>(
         carrier,
         ..
     } = number;
-    let (country, national) = match &prefix {
-        Some(_) => (Source::Plus, unsigned(alloc, national)?),
-        None => dialled_alone(alloc, finder, national)?,
-    };
+    let start = dialled_beside(alloc, finder, &prefix, national);
+    let rest = both(
+        digits_if_any(alloc, prefix),
+        digits_if_any(alloc, extension),
+    );
+    let ((start, rest), carrier) = beside(both(start, rest), carrier)?;
     Ok(Number {
-        country,
-        national,
-        prefix: digits_if_any(alloc, prefix)?,
-        extension: digits_if_any(alloc, extension)?,
+        country: start.0,
+        national: start.1,
+        prefix: rest.0,
+        extension: rest.1,
         carrier,
     })
+}
+
+/// The source of a national part, and its digits: those after plus signs where the reader gave a
+/// prefix, else those that [`dialled_alone`] finds.
+fn dialled_beside<'a, F: Finder>(
+    alloc: Global,
+    finder: &F,
+    prefix: &Option<CowStr<'a>>,
+    national: CowStr<'a>,
+) -> Result<(Source, CowStr<'a>), AllocError>
+    ensures source { IfOk result (λ r. r.0 ≡ (dialled (F.found finder.now)
+        (chars (cow_str_bytes national.entry))
+        (option_map (λ p. chars (cow_str_bytes p)) prefix.now)).source) }
+    ensures digits { IfOk result (λ r. cow_str_bytes r.1 ≡ (dialled (F.found finder.now)
+        (chars (cow_str_bytes national.entry))
+        (option_map (λ p. chars (cow_str_bytes p)) prefix.now)).digits) }
+    ensures no_memory { F.is_idle finder.now ≡ true →
+        list_all is_digit (after_front is_plus (chars (cow_str_bytes national.entry))) ≡ true →
+        IsOk result }
+    ensures borrowed { IfOk result (λ r. IsBorrowedStr national.entry →
+        list_all is_digit (after_front is_plus (chars (cow_str_bytes national.entry))) ≡ true →
+        IsBorrowedStr r.1) }
+{
+    match prefix {
+        Some(_) => Ok((Source::Plus, unsigned(alloc, national)?)),
+        None => dialled_alone(alloc, finder, national),
+    }
 }
 
 /// The source of a national part that the reader gave no prefix for, and its digits after plus signs and
@@ -177,20 +208,19 @@ fn dialled_alone<'a, F: Finder>(
 {
     let has_plus = begins_with_plus(national.as_str());
     let digits = unsigned(alloc, national)?;
-    match place_after(finder, digits.as_str())? {
-        Some(at) => Ok((
-            if has_plus { Source::Plus } else { Source::Idd },
-            trim(digits, at),
-        )),
-        None => Ok((
-            if has_plus {
-                Source::Plus
-            } else {
-                Source::Default
-            },
-            digits,
-        )),
-    }
+    let after = place_after(finder, digits.as_str());
+    let (after, digits) = beside(after, digits)?;
+    Ok(match after {
+        Some(at) => (unless_plus(has_plus, Source::Idd), trim(digits, at)),
+        None => (unless_plus(has_plus, Source::Default), digits),
+    })
+}
+
+/// `Plus` where the digits have a plus sign, else the source that they have without one.
+fn unless_plus(has_plus: bool, source: Source) -> Source
+    ensures { result ≡ (if has_plus then Plus else source) }
+{
+    if has_plus { Source::Plus } else { source }
 }
 
 /// The digits of a national part, whose leading plus signs are dropped first. Where digits alone follow them, that takes

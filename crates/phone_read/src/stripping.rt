@@ -184,7 +184,11 @@ fn anew_in_kind(
     let anew = pattern.replaced(rule, digits)?;
     let leaves = leaves_general(m, digits, anew.as_str());
     let (leaves, anew) = beside(leaves, anew)?;
-    if leaves { Ok(None) } else { Ok(Some(anew)) }
+    if leaves {
+        Ok(instead(anew, None))
+    } else {
+        Ok(Some(anew))
+    }
 }
 
 /// Whether the digits are of the territory's general kind, and no longer are as they are written anew.
