@@ -3,6 +3,7 @@ pub mod First
 pub mod Index
 pub mod Kinds
 pub mod Layouts
+pub mod Prefixes
 pub mod Records
 pub mod Refusals
 pub mod Texts
