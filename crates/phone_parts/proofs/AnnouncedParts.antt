@@ -1,4 +1,5 @@
--- What the readers find in a printed international text whose number ends in a digit, before any announcement of letters.
+-- What the readers find in a printed international text whose number ends in a digit, before any
+-- announcement by a word.
 use Rattle.std.proofs.Common.{◌≡◌, ℕ, ◌≤◌, ◌==◌, Bool, true, false, not, ◌&&◌, ◌||◌, zero, suc, List, [], ◌∷◌, ◌++◌, length, drop, eqb-true, Some, None, Ok, refl, ap, sym, subst, ◌∙◌, true≢false, arith, append-nil, append_assoc}
 use Rattle.std.proofs.lemmas.Bool.{and_parts, and_from, false_from_ne_true, not-true, or_left, or_right, or_parts}
 use Rattle.std.proofs.lemmas.List.Folds.{list_all-append}
@@ -36,30 +37,37 @@ digit_ends_marks : (c : ℕ) → is_digit c ≡ true → ends_marks c ≡ true
 digit_ends_marks = digit_passes ends_marks refl
 
 -- spaces and an x don't begin before such a character, if no x stands there
-no_x_within : (c : ℕ) (cs text : List ℕ) → list_any (λ d. d == 120) (c ∷ cs) ≡ false → ends ends_marks (c ∷ cs) ≡ true →
+no_x_within : (c : ℕ) (cs text : List ℕ) → list_any (λ d. d == 120) (c ∷ cs) ≡ false →
+    ends ends_marks (c ∷ cs) ≡ true →
     begins (λ d. d == 120) (after_front (λ d. d == 32) ((c ∷ cs) ++ text)) ≡ false
 no_x_within c [] text none last =
     let parts = or_parts (c == 120) false none in
     let other = not-true (c == 32) (and_parts (not (c == 32)) (not (is_slash c)) last).0 in
     rw other parts.0
 no_x_within c (d ∷ cs) text none last =
-    let parts = or_parts (c == 120) (list_any (λ x. x == 120) (d ∷ cs)) none in at (c == 32) refl parts.0 (no_x_within d cs text parts.1 last)
+    let parts = or_parts (c == 120) (list_any (λ x. x == 120) (d ∷ cs)) none in
+    at (c == 32) refl parts.0 (no_x_within d cs text parts.1 last)
   where
-    at : (b : Bool) → (c == 32) ≡ b → (c == 120) ≡ false → begins (λ x. x == 120) (after_front (λ x. x == 32) ((d ∷ cs) ++ text)) ≡ false →
+    at : (b : Bool) → (c == 32) ≡ b → (c == 120) ≡ false →
+        begins (λ x. x == 120) (after_front (λ x. x == 32) ((d ∷ cs) ++ text)) ≡ false →
         begins (λ x. x == 120) (after_front (λ x. x == 32) (c ∷ ((d ∷ cs) ++ text))) ≡ false
     at true e no_x later = rw e later
     at false e no_x later = rw e no_x
 
-unmarked_within : (c : ℕ) (cs text : List ℕ) → list_any (λ d. d == 120) (c ∷ cs) ≡ false → ends ends_marks (c ∷ cs) ≡ true → IsUnmarked text →
+unmarked_within : (c : ℕ) (cs text : List ℕ) → list_any (λ d. d == 120) (c ∷ cs) ≡ false →
+    ends ends_marks (c ∷ cs) ≡ true → IsUnmarked text →
     IsUnmarked ((c ∷ cs) ++ text)
 unmarked_within c [] text none last later =
     let other = not-true (is_slash c) (and_parts (not (c == 32)) (not (is_slash c)) last).1 in
-    unmarked_more c text (ap (λ b. b && begins (λ d. d == 120) (after_front (λ d. d == 32) text)) other) later
+    unmarked_more c text
+    (ap (λ b. b && begins (λ d. d == 120) (after_front (λ d. d == 32) text)) other) later
 unmarked_within c (d ∷ cs) text none last later =
     let parts = or_parts (c == 120) (list_any (λ x. x == 120) (d ∷ cs)) none in
-    unmarked_more c ((d ∷ cs) ++ text) (no_mark (is_slash c) (no_x_within d cs text parts.1 last)) (unmarked_within d cs text parts.1 last later)
+    unmarked_more c ((d ∷ cs) ++ text) (no_mark (is_slash c) (no_x_within d cs text parts.1 last))
+    (unmarked_within d cs text parts.1 last later)
   where
-    no_mark : (b : Bool) → begins (λ x. x == 120) (after_front (λ x. x == 32) ((d ∷ cs) ++ text)) ≡ false →
+    no_mark : (b : Bool) →
+        begins (λ x. x == 120) (after_front (λ x. x == 32) ((d ∷ cs) ++ text)) ≡ false →
         (b && begins (λ x. x == 120) (after_front (λ x. x == 32) ((d ∷ cs) ++ text))) ≡ false
     no_mark true e = e
     no_mark false e = refl
@@ -79,7 +87,8 @@ unfolding ucd_category
 told_35 = refl
 
 sign_told : AreApart is_sign is_told
-sign_told c e = false_from_ne_true (is_sign c) (λ f. true≢false (sym e ∙ ap is_told (is_35 c f) ∙ told_35))
+sign_told c e = false_from_ne_true (is_sign c)
+    (λ f. true≢false (sym e ∙ ap is_told (is_35 c f) ∙ told_35))
 
 mark_not_last : AreApart is_last is_mark
 unfolding ucd_category
@@ -101,27 +110,37 @@ letter_last c e = ap (λ b. b || is_number c || (c == 35)) e
 -- a run with a character ends in one of its set
 all_ends : (p : ℕ → Bool) (xs : List ℕ) → ¬ (xs ≡ []) → list_all p xs ≡ true → ends p xs ≡ true
 all_ends p [] some all = absurd (some refl)
-all_ends p (x ∷ xs) some all = let parts = and_parts (p x) (list_all p xs) all in ends-append_run p (x ∷ []) xs parts.0 parts.1
+all_ends p (x ∷ xs) some all =
+    let parts = and_parts (p x) (list_all p xs) all in
+    ends-append_run p (x ∷ []) xs parts.0 parts.1
 
 -- ---- the reading
 
 -- an indicator behind the number, and what is cut off behind it
-read_behind : (cd q tail trailing d : List ℕ) → list_all is_digit cd ≡ true → list_all is_printed q ≡ true → ends is_digit q ≡ true → IsIndicated tail d →
+read_behind : (cd q tail trailing d : List ℕ) → list_all is_digit cd ≡ true →
+    list_all is_printed q ≡ true → ends is_digit q ≡ true → IsIndicated tail d →
     list_all is_told tail ≡ true → ends is_last tail ≡ true → list_any is_last trailing ≡ false →
-    IsNatural (signed cd q ++ (tail ++ trailing)) (Ok (record { national = signed cd q; prefix = None; extension = Some d }))
+    IsNatural (signed cd q ++ (tail ++ trailing))
+    (Ok (record { national = signed cd q; prefix = None; extension = Some d }))
 read_behind cd q tail trailing d code printed digit indicated told last none =
     let s = signed cd q in
     let all : list_all is_signed s ≡ true = all_signed cd q code printed in
     let s_last : ends is_digit s ≡ true = ends_signed is_digit cd q digit in
     let unmarked : IsUnmarked (s ++ tail) =
-    unmarked_within 43 (cd ++ 32 ∷ q) tail (none_apart (λ x. x == 120) is_signed x_signed s all) (ends_wider is_digit ends_marks digit_ends_marks s s_last)
+    unmarked_within 43 (cd ++ 32 ∷ q) tail (none_apart (λ x. x == 120) is_signed x_signed s all)
+    (ends_wider is_digit ends_marks digit_ends_marks s s_last)
     (unslashed tail (none_apart is_slash is_told slash_told tail told)) in
     let core : IsCore ((s ++ tail) ++ trailing) (s ++ tail) =
-    signed_core ((cd ++ 32 ∷ q) ++ tail) trailing none (ends-append is_last s tail (some_text is_last tail last) ∙ last) unmarked in
+    signed_core ((cd ++ 32 ∷ q) ++ tail) trailing none
+    (ends-append is_last s tail (some_text is_last tail last) ∙ last) unmarked in
     let longest : HasLongestSuffix (s ++ tail) s d =
-    longest_behind (s ++ tail) s tail Indicated d refl (none_apart is_opening is_signed opening_signed s all) (ends_wider is_digit (λ x. not (is_lead x)) digit_no_lead s s_last)
-    (none_append is_sign s tail (none_apart is_sign is_signed sign_signed s all) (none_apart is_sign is_told sign_told tail told)) indicated in
-    subst (λ t. IsNatural t (Ok (record { national = s; prefix = None; extension = Some d }))) (append_assoc s tail trailing)
+    longest_behind (s ++ tail) s tail Indicated d refl
+    (none_apart is_opening is_signed opening_signed s all)
+    (ends_wider is_digit (λ x. not (is_lead x)) digit_no_lead s s_last)
+    (none_append is_sign s tail (none_apart is_sign is_signed sign_signed s all)
+    (none_apart is_sign is_told sign_told tail told)) indicated in
+    subst (λ t. IsNatural t (Ok (record { national = s; prefix = None; extension = Some d })))
+    (append_assoc s tail trailing)
     (Naturals.extended (s ++ tail) s d core longest)
 
 module _ (a : List ℕ) (h : IsAnnouncement a) where
@@ -135,17 +154,27 @@ module _ (a : List ℕ) (h : IsAnnouncement a) where
     rest = h.word ++ ending;
     whole = refl;
     leads = all_wider is_space is_lead space_lead h.lead h.leads;
-    announced = record { word = h.word; ending = ending; whole = refl; announces = h.announces; ends = is_ending };
+    announced = record {
+      word = h.word;
+      ending = ending;
+      whole = refl;
+      announces = h.announces;
+      ends = is_ending;
+    };
   }
 
-  told : (ending : List ℕ) → list_all is_told ending ≡ true → list_all is_told (h.lead ++ (h.word ++ ending)) ≡ true
+  told : (ending : List ℕ) → list_all is_told ending ≡ true →
+      list_all is_told (h.lead ++ (h.word ++ ending)) ≡ true
   told ending all =
       list_all-append is_told h.lead (h.word ++ ending)
       ∙ and_from _ _ (all_wider is_space is_told (λ c e. or_left _ _ e) h.lead h.leads)
-      (list_all-append is_told h.word ending ∙ and_from _ _ (all_wider is_letter is_told (λ c e. or_right (is_space c) _ (or_left _ _ e)) h.word h.letters) all)
+      (list_all-append is_told h.word ending
+      ∙ and_from _ _ (all_wider is_letter is_told
+      (λ c e. or_right (is_space c) _ (or_left _ _ e)) h.word h.letters) all)
 
   -- the mark and the gap, before digits
-  ending_of : (d : List ℕ) → list_all is_digit d ≡ true → length d ≤ 7 → IsEnding (h.mark ++ (h.gap ++ d)) d
+  ending_of : (d : List ℕ) → list_all is_digit d ≡ true → length d ≤ 7 →
+      IsEnding (h.mark ++ (h.gap ++ d)) d
   ending_of d digits few = record {
     mark = h.mark;
     gap = h.gap;
@@ -157,49 +186,76 @@ module _ (a : List ℕ) (h : IsAnnouncement a) where
     signs = record { only = refl; few = omega arith };
   }
 
-  told_ending : (d : List ℕ) → list_all is_digit d ≡ true → list_all is_told (h.mark ++ (h.gap ++ d)) ≡ true
+  told_ending : (d : List ℕ) → list_all is_digit d ≡ true →
+      list_all is_told (h.mark ++ (h.gap ++ d)) ≡ true
   told_ending d digits =
       list_all-append is_told h.mark (h.gap ++ d)
-      ∙ and_from _ _ (all_wider is_mark is_told (λ c e. or_right (is_space c) _ (or_right (is_letter c) _ (or_left _ _ e))) h.mark h.marks.only)
+      ∙ and_from _ _ (all_wider is_mark is_told
+      (λ c e. or_right (is_space c) _ (or_right (is_letter c) _ (or_left _ _ e))) h.mark
+      h.marks.only)
       (list_all-append is_told h.gap d
       ∙ and_from _ _ (all_wider is_space is_told (λ c e. or_left _ _ e) h.gap h.gaps)
-      (all_wider is_digit is_told (λ c e. or_right (is_space c) _ (or_right (is_letter c) _ (or_right (is_mark c) _ e))) d digits))
+      (all_wider is_digit is_told
+      (λ c e. or_right (is_space c) _ (or_right (is_letter c) _ (or_right (is_mark c) _ e))) d
+      digits))
 
   trailing_not_last : list_any is_last (h.mark ++ h.gap) ≡ false
   trailing_not_last =
-      none_append is_last h.mark h.gap (none_apart is_last is_mark mark_not_last h.mark h.marks.only) (none_apart is_last is_space space_not_last h.gap h.gaps)
+      none_append is_last h.mark h.gap
+      (none_apart is_last is_mark mark_not_last h.mark h.marks.only)
+      (none_apart is_last is_space space_not_last h.gap h.gaps)
 
   parted : (d : List ℕ) → a ++ d ≡ h.lead ++ (h.word ++ (h.mark ++ (h.gap ++ d)))
   parted d =
       ap (λ t. t ++ d) h.whole ∙ append_assoc h.lead (h.word ++ (h.mark ++ h.gap)) d
-      ∙ ap (λ t. h.lead ++ t) (append_assoc h.word (h.mark ++ h.gap) d ∙ ap (λ t. h.word ++ t) (append_assoc h.mark h.gap d))
+      ∙ ap (λ t. h.lead ++ t)
+      (append_assoc h.word (h.mark ++ h.gap) d
+      ∙ ap (λ t. h.word ++ t) (append_assoc h.mark h.gap d))
 
   -- an extension without digits, and one with digits
-  read : (cd q d : List ℕ) → list_all is_digit cd ≡ true → list_all is_printed q ≡ true → ends is_digit q ≡ true → list_all is_digit d ≡ true → length d ≤ 7 →
-      IsNatural (signed cd q ++ (a ++ d)) (Ok (record { national = signed cd q; prefix = None; extension = Some d }))
+  read : (cd q d : List ℕ) → list_all is_digit cd ≡ true → list_all is_printed q ≡ true →
+      ends is_digit q ≡ true → list_all is_digit d ≡ true → length d ≤ 7 →
+      IsNatural (signed cd q ++ (a ++ d))
+      (Ok (record { national = signed cd q; prefix = None; extension = Some d }))
   read cd q [] code printed digit digits few =
       let tail = h.lead ++ (h.word ++ []) in
       let word_last : ends is_last (h.word ++ []) ≡ true =
-      ap (ends is_last) (append-nil h.word) ∙ all_ends is_last h.word word_not_empty (all_wider is_letter is_last letter_last h.word h.letters) in
+      ap (ends is_last) (append-nil h.word)
+      ∙ all_ends is_last h.word word_not_empty
+      (all_wider is_letter is_last letter_last h.word h.letters) in
       let whole : a ++ [] ≡ tail ++ (h.mark ++ h.gap) =
-      append-nil a ∙ h.whole ∙ ap (λ t. h.lead ++ (t ++ (h.mark ++ h.gap))) (sym (append-nil h.word))
+      append-nil a ∙ h.whole
+      ∙ ap (λ t. h.lead ++ (t ++ (h.mark ++ h.gap))) (sym (append-nil h.word))
       ∙ sym (append_assoc h.lead (h.word ++ []) (h.mark ++ h.gap)) in
-      subst (λ t. IsNatural (signed cd q ++ t) (Ok (record { national = signed cd q; prefix = None; extension = Some [] }))) (sym whole)
-      (read_behind cd q tail (h.mark ++ h.gap) [] code printed digit (indicated [] [] no_ending) (told [] refl)
-      (ends-append is_last h.lead (h.word ++ []) (some_text is_last (h.word ++ []) word_last) ∙ word_last) trailing_not_last)
+      subst (λ t. IsNatural (signed cd q ++ t)
+      (Ok (record { national = signed cd q; prefix = None; extension = Some [] }))) (sym whole)
+      (read_behind cd q tail (h.mark ++ h.gap) [] code printed digit (indicated [] [] no_ending)
+      (told [] refl)
+      (ends-append is_last h.lead (h.word ++ []) (some_text is_last (h.word ++ []) word_last)
+      ∙ word_last) trailing_not_last)
   read cd q (x ∷ xs) code printed digit digits few =
       let d = x ∷ xs in
       let tail = h.lead ++ (h.word ++ (h.mark ++ (h.gap ++ d))) in
-      let d_last : ends is_last d ≡ true = all_ends is_last d (λ e. cc) (all_wider is_digit is_last digit_last d digits) in
-      let last : ends is_last tail ≡ true = ap (ends is_last) (sym (parted d)) ∙ ends-append is_last a d (λ e. cc) ∙ d_last in
-      subst (λ t. IsNatural (signed cd q ++ t) (Ok (record { national = signed cd q; prefix = None; extension = Some d }))) (append-nil tail ∙ sym (parted d))
-      (read_behind cd q tail [] d code printed digit (indicated (h.mark ++ (h.gap ++ d)) d (ending_of d digits few)) (told (h.mark ++ (h.gap ++ d)) (told_ending d digits))
+      let d_last : ends is_last d ≡ true =
+      all_ends is_last d (λ e. cc) (all_wider is_digit is_last digit_last d digits) in
+      let last : ends is_last tail ≡ true = ap (ends is_last) (sym (parted d))
+      ∙ ends-append is_last a d (λ e. cc) ∙ d_last in
+      subst (λ t. IsNatural (signed cd q ++ t)
+      (Ok (record { national = signed cd q; prefix = None; extension = Some d })))
+      (append-nil tail ∙ sym (parted d))
+      (read_behind cd q tail [] d code printed digit
+      (indicated (h.mark ++ (h.gap ++ d)) d (ending_of d digits few))
+      (told (h.mark ++ (h.gap ++ d)) (told_ending d digits))
       last refl)
 
-pub announced_parts : (cd q a e : List ℕ) → list_all is_digit cd ≡ true → list_all (λ c. is_digit c || is_punctuation c) q ≡ true →
-    list_any (is_one_of announcing) q ≡ false → ends is_digit q ≡ true → IsAnnouncement a → list_all is_digit e ≡ true → length e ≤ 7 →
-    HasParts (43 ∷ (cd ++ 32 ∷ (q ++ (a ++ e)))) (Some (record { national = 43 ∷ (cd ++ 32 ∷ q); prefix = None; extension = Some e }))
+pub announced_parts : (cd q a e : List ℕ) → list_all is_digit cd ≡ true →
+    list_all (λ c. is_digit c || is_punctuation c) q ≡ true →
+    list_any (is_one_of announcing) q ≡ false → ends is_digit q ≡ true → IsAnnouncement a →
+    list_all is_digit e ≡ true → length e ≤ 7 →
+    HasParts (43 ∷ (cd ++ 32 ∷ (q ++ (a ++ e))))
+    (Some (record { national = 43 ∷ (cd ++ 32 ∷ q); prefix = None; extension = Some e }))
 announced_parts cd q a e code printed none digit h digits few =
     let parts : Parts = record { national = signed cd q; prefix = None; extension = Some e } in
     Readers.as_natural parts (spaced (signed cd (q ++ (a ++ e))) (has_space cd (q ++ (a ++ e))))
-    (subst (λ t. IsNatural t (Ok parts)) (sym (signed-append cd q (a ++ e))) (read a h cd q e code (all_printed q printed none) digit digits few))
+    (subst (λ t. IsNatural t (Ok parts)) (sym (signed-append cd q (a ++ e)))
+    (read a h cd q e code (all_printed q printed none) digit digits few))

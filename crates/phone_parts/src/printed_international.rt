@@ -21,9 +21,9 @@ pub fn international_parts()
         (Some (record { national = 43 ∷ (code ++ 32 ∷ kept); prefix = None; extension = extension })) }
 {}
 
-/// The same text with any announcement by a word in the place of ` ext. `, where the number ends in a
-/// digit. The extension begins right behind that digit, as neither a lead nor a word has one: so the
-/// number is kept whole, and only the announcement is told apart.
+/// The same text with any announcement by a word in the place of ` ext. `, where the number ends in
+/// a digit. The extension begins right behind that digit, as neither a lead nor a word has one: so
+/// the number is kept whole.
 pub fn announced_parts()
     ensures { (code number announcement extension : List ℕ) → list_all is_digit code ≡ true →
         list_all (λ c. is_digit c || is_punctuation c) number ≡ true →

@@ -36,6 +36,9 @@ IsAscii-low [] h i = omega arith
 IsAscii-low (c ∷ cs) h zero = ltb-true c 128 (and_parts (is_low c) (list_all is_low cs) h).0
 IsAscii-low (c ∷ cs) h (suc i) = IsAscii-low cs (and_parts (is_low c) (list_all is_low cs) h).1 i
 
+pub IsUtf8-low : (t : List ℕ) → list_all is_low t ≡ true → IsUtf8 t
+IsUtf8-low t h = IsUtf8-from_ascii t (IsAscii-low t h)
+
 pub chars-low : (t : List ℕ) → list_all is_low t ≡ true → chars t ≡ t
 chars-low t h = chars-IsAscii t (IsAscii-low t h)
 
@@ -49,7 +52,7 @@ low_digits t h = all_wider is_digit is_low low_digit t h
 abbrev pub announced : List ℕ → Option (List ℕ) → List ℕ
 announced words e = option_map_or (λ d. words ++ d) e []
 
-low_announced : (words : List ℕ) (e : Option (List ℕ)) → list_all is_low words ≡ true → has_digits e ≡ true → list_all is_low (announced words e) ≡ true
+pub low_announced : (words : List ℕ) (e : Option (List ℕ)) → list_all is_low words ≡ true → has_digits e ≡ true → list_all is_low (announced words e) ≡ true
 low_announced words None w h = refl
 low_announced words (Some e) w h = low_append words e w (low_digits e h)
 
@@ -137,22 +140,22 @@ module _ (n : Reading) (fits : n.code.value < 2 ^ 64) where
       parameter None = refl
       parameter (Some e) = refl
 
-  -- where the text is UTF-8, and an extension is announced by ` ext. `
-  pub chars-international_text : (m : Metadata) → has_digits n.extension ≡ true → extension_part m n.extension ≡ announced (codes " ext. ") n.extension →
+  -- where the text is UTF-8, and so is what stands for the extension
+  pub chars-international_text : (m : Metadata) → IsUtf8 (extension_part m n.extension) →
       IsUtf8 (international_text m None n) →
-      chars (international_text m None n) ≡ 43 ∷ (digits ++ 32 ∷ (chars (laid_out m International None n) ++ announced (codes " ext. ") n.extension))
-  chars-international_text m extension part utf8 =
+      chars (international_text m None n)
+      ≡ 43 ∷ (digits ++ 32 ∷
+      (chars (laid_out m International None n) ++ chars (extension_part m n.extension)))
+  chars-international_text m e_utf8 utf8 =
       let q = laid_out m International None n in
-      let e = announced (codes " ext. ") n.extension in
+      let e = extension_part m n.extension in
       let front = 43 ∷ (digits ++ 32 ∷ []) in
       let low_front : list_all is_low front ≡ true = low_append digits (32 ∷ []) low_code refl in
-      let front_utf8 : IsUtf8 front = IsUtf8-from_ascii front (IsAscii-low front low_front) in
+      let front_utf8 : IsUtf8 front = IsUtf8-low front low_front in
       let parted : (rest : List ℕ) → 43 ∷ (digits ++ 32 ∷ rest) ≡ front ++ rest = λ rest. ap (λ t. 43 ∷ t) (sym (append_assoc digits (32 ∷ []) rest)) in
-      let whole : international_text m None n ≡ front ++ (q ++ e) = ap (λ x. 43 ∷ (digits ++ 32 ∷ (q ++ x))) part ∙ parted (q ++ e) in
-      let rest_utf8 : IsUtf8 (q ++ e) = IsUtf8-after front (q ++ e) (subst IsUtf8 whole utf8) front_utf8 in
-      let low_e : list_all is_low e ≡ true = low_announced (codes " ext. ") n.extension refl extension in
-      let e_utf8 : IsUtf8 e = IsUtf8-from_ascii e (IsAscii-low e low_e) in
+      let rest_utf8 : IsUtf8 (q ++ e) =
+      IsUtf8-after front (q ++ e) (subst IsUtf8 (parted (q ++ e)) utf8) front_utf8 in
       let q_utf8 : IsUtf8 q = subst IsUtf8 (take-append_seam q e) (IsUtf8-take (q ++ e) (length q) rest_utf8 (IsCharBoundary-at_seam (q ++ e) q e refl e_utf8)) in
-      ap chars whole ∙ chars-append front (q ++ e) front_utf8
-      ∙ ap₂ (λ a b. a ++ b) (chars-low front low_front) (chars-append q e q_utf8 ∙ ap (λ t. chars q ++ t) (chars-low e low_e))
-      ∙ sym (parted (chars q ++ e))
+      ap chars (parted (q ++ e)) ∙ chars-append front (q ++ e) front_utf8
+      ∙ ap₂ (λ a b. a ++ b) (chars-low front low_front) (chars-append q e q_utf8)
+      ∙ sym (parted (chars q ++ chars e))

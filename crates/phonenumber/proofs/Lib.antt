@@ -7,6 +7,7 @@ pub mod SameNumbers
 pub mod BackCodes
 pub mod BackLaws
 pub mod BackNumbers
+pub mod BackPrefixes
 pub mod BackReads
 pub mod BackTexts
 pub mod BackViable

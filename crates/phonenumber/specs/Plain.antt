@@ -1,11 +1,14 @@
 -- Which printed numbers are read back: the premises.
-use Rattle.std.specs.Prelude.{◌≡◌, ◌⊎◌, ℕ, ◌^◌, ◌<◌, ◌≤◌, not, Bool, true, false, List, [], ◌∷◌, filter, length, chars, Option, None, Some}
+use Rattle.std.specs.Prelude.{◌≡◌, ◌⊎◌, ℕ, ◌^◌, ◌<◌, ◌≤◌, not, Bool, true, false, List, [], ◌∷◌, filter, length, chars, IsUtf8, Option, None, Some}
 use Rattle.std.specs.List.{list_all, list_any}
 use Rattle.std.specs.Option.{option_map_or}
 use Rattle.phone_chars.specs.Characters.{is_digit, is_one_of, is_punctuation, is_separator}
 use Rattle.phone_core.specs.Numbers.{IsHeld, text_of}
 use Rattle.phone_core.specs.declared.mode.Mode.TheVariants.{International}
 use Rattle.phone_meta.specs.Codes.{first_of, territories}
+use Rattle.phone_meta.specs.Prefixes.{is_benign_prefix}
+use Rattle.phone_parts.specs.Announcements.{IsAnnouncement}
+use Rattle.phone_parts.specs.Texts.{ends}
 use Rattle.phone_records.specs.declared.loader.Metadata.{Metadata}
 use Rattle.phone_read.specs.Readings.{without_zeros}
 use Rattle.phone_read.specs.Regions.{home}
@@ -49,6 +52,23 @@ pub record IsPlainInternational (db : List Metadata) (n : Reading) : Type 0 wher
   pub few_digits : option_map_or length n.extension 0 ≤ 7
   pub only_parted : filter (λ c. not (is_punctuation c)) (chars (laid_out territory International None n)) ≡ text_of n.national
   pub no_indicator : list_any (is_one_of (120 ∷ 126 ∷ 0xFF5E ∷ [])) (chars (laid_out territory International None n)) ≡ false
+
+-- an extension is announced safely: the territory has no preferred extension prefix, so that
+-- ` ext. ` is printed, or a benign one, and the laid-out text ends in an ASCII digit
+abbrev pub IsBenign : Metadata → Reading → Type 0
+IsBenign m n =
+    (m.preferred_extension_prefix ≡ None)
+    ⊎ ((is_benign_prefix m.preferred_extension_prefix ≡ true)
+    × (ends is_digit (chars (laid_out m International None n)) ≡ true))
+
+-- the territory's preferred extension prefix announces by a word, and the laid-out text ends in an
+-- ASCII digit
+pub record IsAnnouncedByWord (m : Metadata) (n : Reading) : Type 0 where
+  pub prefix : List ℕ
+  pub preferred : m.preferred_extension_prefix ≡ Some prefix
+  pub utf8 : IsUtf8 prefix
+  pub by_word : IsAnnouncement (chars prefix)
+  pub after_digit : ends is_digit (chars (laid_out m International None n)) ≡ true
 
 -- stripping leaves the digits alone: they, without their leading zeros, have no home, or its rules leave them as they are
 abbrev pub IsIdle : List Metadata → ℕ → List ℕ → Type 0

@@ -4,7 +4,8 @@ ghost use Rattle.phone_core.specs.Numbers.{text_of};
 ghost use Rattle.phone_core.specs.declared.mode.Mode.TheVariants as mode;
 ghost use Rattle.phone_meta.specs.Codes.{is_prefix_free};
 ghost use Rattle.phonenumber.specs.Again.{IsAgain, IsReadOfPrinted};
-ghost use Rattle.phonenumber.specs.Plain.{IsIdle, IsPlainE164, IsPlainInternational, IsPlainRfc3966};
+ghost use Rattle.phonenumber.specs.Plain.{IsBenign, IsIdle};
+ghost use Rattle.phonenumber.specs.Plain.{IsPlainE164, IsPlainInternational, IsPlainRfc3966};
 
 use crate::{FormatError, PhoneNumber, format_with, parse_with};
 use phone_core::{Mode, ParseError};
@@ -32,14 +33,16 @@ pub fn rfc3966(database: &Database, number: &PhoneNumber) -> Result<PhoneNumber,
     read_of_printed(database, number, Mode::Rfc3966)
 }
 
-/// What the international text of a number is read as. Where the number is plain, stripping leaves its digits alone, its code
-/// has one to three digits, no listed code begins another, and its extension, if it has one, is announced by ` ext. `, it is
-/// a number of the same code, national number and extension, or `Memory` where memory was refused. `InvalidCountryCode`
-/// where its code isn't listed.
+/// What the international text of a number is read as. Where the number is plain, stripping leaves
+/// its digits alone, its code has one to three digits, no listed code begins another, and its
+/// extension, if it has one, is announced by ` ext. ` or, where the laid-out text ends in an ASCII
+/// digit, by a benign prefix, it is a number of the same code, national number and extension, or
+/// `Memory` where memory was refused. `InvalidCountryCode` where its code isn't listed.
 pub fn international(database: &Database, number: &PhoneNumber) -> Result<PhoneNumber, ParseError>
     ensures back { (plain : IsPlainInternational database.now number.now) → IsIdle database.now number.now.code.value (text_of number.now.national) →
         1 ≤ number.now.code.value → number.now.code.value ≤ 999 → is_prefix_free database.now ≡ true →
-        (number.now.extension ≡ None) ⊎ (plain.territory.preferred_extension_prefix ≡ None) → IsAgain number.now number.now.extension result }
+        (number.now.extension ≡ None) ⊎ IsBenign plain.territory number.now →
+        IsAgain number.now number.now.extension result }
 {
     number.keeps_bounds();
     read_of_printed(database, number, Mode::International)

@@ -15,7 +15,8 @@ ghost use Rattle.phone_read.specs.TransformRules.{rules_have_no_plus};
 ghost use Rattle.phone_read.specs.declared.reading.Reading.{Reading};
 ghost use Rattle.phonenumber.specs.Again.{IsReadAs};
 ghost use Rattle.phonenumber.specs.Layouts.{layout_for};
-ghost use Rattle.phonenumber.specs.Plain.{IsBounded, IsIdle, IsPlainE164, IsPlainInternational, IsPlainRfc3966};
+ghost use Rattle.phonenumber.specs.Plain.{IsAnnouncedByWord, IsBenign, IsBounded, IsIdle};
+ghost use Rattle.phonenumber.specs.Plain.{IsPlainE164, IsPlainInternational, IsPlainRfc3966};
 ghost use Rattle.phonenumber.specs.Texts.{e164_text, hyphenated, printed};
 ghost use Rattle.phonenumber.specs.Thin.{IsThinDatabase, ThinReads, is_thin};
 
@@ -56,13 +57,30 @@ pub fn rfc3966_back()
         printed db mode.Rfc3966 None n ≡ Some text → IsReadAs db (chars text) n n.extension }
 {}
 
-/// The international text of a plain number whose digits stripping leaves alone is read without a hint as its code, its national
-/// number and its extension. The code is found as in the E.164 text; where there is an extension, its territory announces it by ` ext. `.
+/// The international text of a plain number whose digits stripping leaves alone is read without a
+/// hint as its code, its national number and its extension. The code is found as in the E.164 text.
+/// Where there is an extension, the code's first territory has no preferred extension prefix, so
+/// that ` ext. ` announces it; or that prefix is ` ext. `, ` ext `, ` ext: `, ` extn. `, ` anexo `,
+/// ` int ` or ` x`, and the laid-out text ends in an ASCII digit.
 pub fn international_back()
     ensures { (db : List loader.Metadata) (n : Reading) (text : List ℕ) → IsBounded n → IsUtf8 text → (plain : IsPlainInternational db n) →
         IsIdle db n.code.value (text_of n.national) →
         1 ≤ n.code.value → n.code.value ≤ 999 → is_prefix_free db ≡ true →
-        (n.extension ≡ None) ⊎ (plain.territory.preferred_extension_prefix ≡ None) →
+        (n.extension ≡ None) ⊎ IsBenign plain.territory n →
+        printed db mode.International None n ≡ Some text → IsReadAs db (chars text) n n.extension }
+{}
+
+/// The same for each preferred extension prefix that announces by a word, as those seven do, and
+/// ` Anexo ` and ` int. ` besides, where the laid-out text ends in an ASCII digit. Taiwan's `#`
+/// can't be among them: behind `1234`, the ` 5678#` of an extension without digits is an extension
+/// itself, of spaces or hyphens, one to five digits and a number sign. That the prefix is UTF-8
+/// every text of a record keeps.
+pub fn announced_back()
+    ensures { (db : List loader.Metadata) (n : Reading) (text : List ℕ) → IsBounded n →
+        IsUtf8 text → (plain : IsPlainInternational db n) →
+        IsIdle db n.code.value (text_of n.national) →
+        1 ≤ n.code.value → n.code.value ≤ 999 → is_prefix_free db ≡ true →
+        IsAnnouncedByWord plain.territory n →
         printed db mode.International None n ≡ Some text → IsReadAs db (chars text) n n.extension }
 {}
 
@@ -80,7 +98,8 @@ pub fn reach()
     ensures international_exactly { (db : List loader.Metadata) (n : Reading) (text : List ℕ) → IsBounded n → IsUtf8 text →
         (plain : IsPlainInternational db n) →
         rules_have_no_plus db ≡ true → 1 ≤ n.code.value → n.code.value ≤ 999 → is_prefix_free db ≡ true →
-        (n.extension ≡ None) ⊎ (plain.territory.preferred_extension_prefix ≡ None) → printed db mode.International None n ≡ Some text →
+        (n.extension ≡ None) ⊎ IsBenign plain.territory n →
+        printed db mode.International None n ≡ Some text →
         (IsReadAs db (chars text) n n.extension ↔ IsIdle db n.code.value (text_of n.national)) }
     ensures what_is_read { (db : List loader.Metadata) (hint : Option Id) (text : List ℕ) (n : Reading) → rules_have_no_plus db ≡ true →
         Reads db hint text (Ok n) → IsPlainE164 db n }
