@@ -1,6 +1,7 @@
 -- A line has one report line, and a number that was read has a territory.
 use Rattle.std.proofs.Common.{◌≡◌, ℕ, List, Option, None, Some, Result, Ok, Err, chars, refl, sym, ap, ap₂, ◌∙◌, subst, true≢false}
 use Rattle.std.specs.Prelude.{⊤}
+use Rattle.std.specs.Str.{IsUtf8}
 use Rattle.std.proofs.lemmas.Option.{none-some, same_Some}
 use Rattle.std.proofs.lemmas.Result.{IfErr-at_err, IfOk-at_ok, MatchResult-at_err}
 use Rattle.phone_core.specs.declared.country.Id.{Id}
@@ -40,3 +41,18 @@ one_report_line db hint line _ _ (read k m u r f) (read k' m' u' r' f') =
 -- the code of a number that was read is listed, so it has a first territory
 pub has_territory : (db : List Metadata) (hint : Option Id) (text : List ℕ) (n : Reading) → Reads db hint text (Ok n) → first_of (territories n.code.value db) ≡ None → ⊥
 has_territory db hint text n r none = true≢false (sym (number-listed db hint text n r) ∙ listed_none n.code.value db (sym none))
+
+line_of_number : (db : List Metadata) (hint : Option Id) (line : List ℕ) (n : Reading)
+    (o : Option Metadata) → first_of (territories n.code.value db) ≡ o →
+    IsUtf8 line → Reads db hint (chars line) (Ok n) →
+    (answer : List ℕ) × IsReportLine db hint line answer
+line_of_number db hint line n None e u r = absurd (has_territory db hint (chars line) n r e)
+line_of_number db hint line n (Some m) e u r = (number_line db m n, read n m u r e)
+
+-- a text that has a reading has a report line
+pub line_of_reading : (db : List Metadata) (hint : Option Id) (line : List ℕ)
+    (r : Result Reading ParseError) → IsUtf8 line → Reads db hint (chars line) r →
+    (answer : List ℕ) × IsReportLine db hint line answer
+line_of_reading db hint line (Ok n) u r = line_of_number db hint line n
+    (first_of (territories n.code.value db)) refl u r
+line_of_reading db hint line (Err e) u r = (refusal_line e, refused e u r)

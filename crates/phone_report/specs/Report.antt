@@ -17,6 +17,12 @@ IsReportOnEnded db hint bytes report = on_lines.IsReportOnEnded (IsReportLine db
 abbrev pub IsReportOnFirst : List Metadata → Option Id → List ℕ → List ℕ → Type 0
 IsReportOnFirst db hint bytes report = on_lines.IsReportOnFirst (IsReportLine db hint) bytes report
 
+-- a beginning of the report on what was read, where this is still to come: the report lines of some
+-- first lines, each whole, then a beginning of the next one
+abbrev pub IsBeginning : List Metadata → Option Id → Option (List ℕ) → List ℕ → List ℕ → Type 0
+IsBeginning db hint to_come bytes text =
+    on_lines.IsBeginning (IsReportLine db hint) to_come bytes text
+
 -- a sink took a beginning of whatever is the report
 abbrev pub TakesBeginning : List Metadata → Option Id → List ℕ → Option (List ℕ) → Option (List ℕ) → Type 0
 TakesBeginning db hint bytes before after = on_lines.TakesBeginning (IsReportLine db hint) bytes before after

@@ -7,11 +7,13 @@ ghost use Rattle.phone_lines.specs.Runs.{OfRead, TakesA, most_bytes};
 ghost use Rattle.phone_lines.specs.declared.blocks.RunError.TheVariants as error;
 ghost use Rattle.phone_records.specs.declared.loader.Metadata as loader;
 ghost use Rattle.phonenumber.specs.Reports.{IsReportLine};
-ghost use Rattle.phone_report.specs.Report.{IsReport, IsReportOnEnded, IsReportOnFirst, TakesBeginning};
+ghost use Rattle.phone_report.specs.Report.{IsBeginning, IsReport, TakesBeginning};
+ghost use Rattle.phone_report.specs.Report.{IsReportOnEnded, IsReportOnFirst};
 
 use crate::line::Reporter;
 use phone_device::{ByteSink, ByteSource};
 use phone_lines::{RunError, answer_lines};
+use phone_read::laws::some_reading;
 use phonenumber::country::Id;
 use phonenumber::metadata::Database;
 
@@ -23,9 +25,12 @@ use phonenumber::metadata::Database;
 /// `default`), its kind, the id of its region or `-`, and `valid` or `invalid`. A refusal: `error`, its number and its
 /// words. A line that isn't UTF-8: `error`, `0`, `not UTF-8`. Nothing in memory grows with the number of lines.
 ///
-/// Refused by `Input` where the source failed, or 2^64 - 1 bytes were read: then the report on all lines that a line feed
-/// ended is written. By `Output` where the sink failed, or took no byte of some: then a beginning of the report is
-/// written. By `Memory` where memory was refused: then the report lines of some first lines are written, each whole.
+/// Refused by `Input` where the source failed, or 2^64 - 1 bytes were read: then the report on all
+/// lines that a line feed ended is written. By `Output` where the sink failed, or took no byte of
+/// some: then the report lines of some first lines are written, each whole, and a beginning of the
+/// next one, but nothing of a line after it; what no line feed ends is such a line only where the
+/// source was at its end. By `Memory` where memory was refused: then the report lines of some first
+/// lines are written, each whole.
 pub fn run<S: ByteSource, W: ByteSink>(
     database: &Database,
     hint: Option<Id>,
@@ -37,7 +42,10 @@ pub fn run<S: ByteSource, W: ByteSink>(
     ensures no_fault { OnOk result (S.faults source.new ≡ S.faults source.old) }
     ensures ended { result ≡ Err error.Input → OfRead (S.to_come source.old) (S.to_come source.new) (λ bytes. TakesA (IsReportOnEnded database.now hint bytes) (W.taken sink.old) (W.taken sink.new)) }
     ensures cause { result ≡ Err error.Input → (S.faults source.new ≡ S.faults source.old + 1) ⊎ OfRead (S.to_come source.old) (S.to_come source.new) (λ bytes. length bytes ≡ most_bytes) }
-    ensures beginning { result ≡ Err error.Output → OfRead (S.to_come source.old) (S.to_come source.new) (λ bytes. TakesBeginning database.now hint bytes (W.taken sink.old) (W.taken sink.new)) }
+    ensures beginning { result ≡ Err error.Output →
+        OfRead (S.to_come source.old) (S.to_come source.new) (λ bytes.
+        TakesA (IsBeginning database.now hint (S.to_come source.new) bytes)
+        (W.taken sink.old) (W.taken sink.new)) }
     ensures first { result ≡ Err error.Memory → OfRead (S.to_come source.old) (S.to_come source.new) (λ bytes. TakesA (IsReportOnFirst database.now hint bytes) (W.taken sink.old) (W.taken sink.new)) }
     ensures no_fault_without_memory { result ≡ Err error.Memory → S.faults source.new ≡ S.faults source.old }
     ensures sink_faults { W.faults sink.new ≡ W.faults sink.old + sink_faults_of result }
@@ -50,3 +58,22 @@ pub fn run<S: ByteSource, W: ByteSink>(
 pub fn one_report_line()
     ensures { (db : List loader.Metadata) (hint : Option Id) (line a b : List ℕ) → IsReportLine db hint line a → IsReportLine db hint line b → a ≡ b }
 {}
+
+/// What was written where a sink failed begins each report on what was read.
+pub fn begins_each_report()
+    ensures { (db : List loader.Metadata) (hint : Option Id) →
+        (to_come : Option (List ℕ)) (bytes : List ℕ) (before after : Option (List ℕ)) →
+        TakesA (IsBeginning db hint to_come bytes) before after →
+        TakesBeginning db hint bytes before after }
+{}
+
+/// A line has a report line under each database and hint. A text is read, since that it has a
+/// reading is what the readers show.
+pub fn some_report_line(line: &[u8])
+    ensures { (db : List loader.Metadata) (hint : Option Id) →
+        (answer : List ℕ) × IsReportLine db hint line.now answer }
+{
+    if let Ok(text) = std::str::from_utf8(line) {
+        some_reading(text);
+    }
+}
