@@ -20,6 +20,7 @@ pub fn answer(alloc: Global, row: &Row, db: &Database) -> Result<Option<String>>
         "by-id" => record(alloc, db.by_id(row.argument(1)))?,
         "iter" => in_order_of_ids(alloc, db)?,
         "descriptors" => descriptors(alloc, territory(db, row)?)?,
+        "has-benign-prefix" => truth(alloc, territory(db, row)?.has_benign_prefix())?,
         "is-match" => is_match(alloc, db, row, row.argument(3))?,
         "is-match-repeated" => {
             let times = row.argument(4).parse::<usize>()?;

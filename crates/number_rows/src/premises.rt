@@ -23,13 +23,15 @@ const MOST_OF_AN_EXTENSION: usize = 7;
 /// The greatest calling code that is found at the front of digits.
 const GREATEST_CODE: u16 = 999;
 
-/// Whether a line's number is plain for a mode, whether stripping leaves its digits alone, or
-/// whether it keeps all premises of the mode; none for any other call. An error where a line names
-/// a mode that isn't there or gives a number that is none.
+/// Whether a line's number is plain for a mode, whether an extension of it is announced in a way
+/// that free text knows, whether stripping leaves its digits alone, or whether it keeps all
+/// premises of the mode; none for any other call. An error where a line names a mode that isn't
+/// there or gives a number that is none.
 pub fn answer(alloc: Global, row: &Row, db: &Database) -> Result<Option<String>> {
     let holds = match row.call() {
         "plain" => Premises::under(db).is_plain(mode(row.argument(5))?, &extended(alloc, row)?)?,
         "premises" => Premises::under(db).hold(mode(row.argument(5))?, &extended(alloc, row)?)?,
+        "benign" => Premises::under(db).is_benign(&extended(alloc, row)?)?,
         "idle" => Premises::under(db).are_idle(&extended(alloc, row)?)?,
         _ => return Ok(None),
     };
@@ -65,7 +67,7 @@ impl<'a> Premises<'a> {
         let is_told = match mode {
             Mode::E164 => self.is_found(number),
             Mode::Rfc3966 => true,
-            Mode::International => self.is_found(number) && self.is_announced(number),
+            Mode::International => self.is_found(number) && self.is_announced(number)?,
             Mode::National => false,
         };
         Ok(is_told && self.is_plain(mode, number)? && self.are_idle(number)?)
@@ -139,14 +141,27 @@ impl<'a> Premises<'a> {
         1 <= code && code <= GREATEST_CODE && self.is_prefix_free
     }
 
-    /// Whether the extension, if there is one, is announced by no prefix of the territory's own.
-    fn is_announced(&self, number: &PhoneNumber) -> bool {
-        match self.database.first_by_code(&number.code().value()) {
-            Some(territory) => {
-                number.extension().is_none() || territory.preferred_extension_prefix().is_none()
-            }
-            None => false,
+    /// Whether the extension, if there is one, is announced in a way that free text knows. An error
+    /// where memory is refused.
+    fn is_announced(&self, number: &PhoneNumber) -> Result<bool> {
+        if number.extension().is_none() {
+            return Ok(true);
         }
+        self.is_benign(number)
+    }
+
+    /// Whether free text knows how an extension of the number is announced: its territory has no
+    /// prefix of its own for that, or one of the benign prefixes, right behind an ASCII digit. An
+    /// error where memory is refused.
+    pub fn is_benign(&self, number: &PhoneNumber) -> Result<bool> {
+        let Some(territory) = self.database.first_by_code(&number.code().value()) else {
+            return Ok(false);
+        };
+        if territory.preferred_extension_prefix().is_none() {
+            return Ok(true);
+        }
+        let laid = self.laid_out(number)?;
+        Ok(territory.has_benign_prefix() && ends_in_digit(laid.as_str()))
     }
 
     /// Whether stripping leaves the digits of the number alone. An error where memory is refused.
@@ -176,6 +191,14 @@ fn is_short(number: &PhoneNumber) -> bool {
     match number.extension() {
         Some(extension) => extension.as_str().len() <= MOST_OF_AN_EXTENSION,
         None => true,
+    }
+}
+
+/// Whether a text ends in an ASCII digit.
+fn ends_in_digit(text: &str) -> bool {
+    match text.chars().next_back() {
+        Some(last) => is_digit(last),
+        None => false,
     }
 }
 

@@ -1,18 +1,20 @@
 -- The premises of a number, by the text that it is laid out as.
-use Rattle.std.proofs.Common.{◌≡◌, ◌≤◌, ◌&&◌, ℕ, Bool, true, false, true≢false, not, nat_le, nat_lt}
+use Rattle.std.proofs.Common.{◌≡◌, ◌⊎◌, inl, inr, ◌≤◌, ◌&&◌, ℕ, Bool, true, false, true≢false, not, nat_le, nat_lt}
 use Rattle.std.proofs.Common.{List, [], ◌∷◌, filter, length, chars, None, Some}
 use Rattle.std.proofs.Common.{sym, ap, ◌∙◌, leb-true, ltb-true}
 use Rattle.std.proofs.lemmas.Bool.{and_parts}
 use Rattle.std.proofs.lemmas.Option.{same_Some}
 use Rattle.std.specs.List.{list_any}
 use Rattle.std.specs.Option.{option_map_or}
-use Rattle.phone_chars.specs.Characters.{is_one_of, is_punctuation, is_separator}
+use Rattle.phone_chars.specs.Characters.{is_digit, is_one_of, is_punctuation, is_separator}
 use Rattle.phone_core.specs.Numbers.{text_of}
 use Rattle.phone_core.specs.declared.mode.Mode.TheVariants.{International}
 use Rattle.phone_meta.specs.Codes.{first_of, territories}
+use Rattle.phone_meta.specs.Prefixes.{is_benign_prefix}
+use Rattle.phone_parts.specs.Texts.{ends}
 use Rattle.phone_records.specs.declared.loader.Metadata.{Metadata}
 use Rattle.phone_read.specs.declared.reading.Reading.{Reading}
-use Rattle.phonenumber.specs.Plain.{has_digits, IsPlain, IsPlainInternational, IsPlainRfc3966}
+use Rattle.phonenumber.specs.Plain.{has_digits, IsBenign, IsPlain, IsPlainInternational, IsPlainRfc3966}
 use Rattle.phonenumber.specs.Texts.{laid_out}
 
 -- the value isn't 0, and there are so many digits
@@ -63,6 +65,30 @@ international m out plain extension few parted quiet = record {
   only_parted = ap (without is_punctuation) out ∙ parted;
   no_indicator = ap announces out ∙ quiet;
 }
+
+-- a text ends in an ASCII digit
+abbrev pub ends_in_digit : List ℕ → Bool
+ends_in_digit t = ends is_digit (chars t)
+
+pub benign : (m : Metadata) (n : Reading) {text : List ℕ} →
+    laid_out m International None n ≡ text → is_benign_prefix m.preferred_extension_prefix ≡ true →
+    ends_in_digit text ≡ true → IsBenign m n
+benign m n out known digit = inr (known, ap ends_in_digit out ∙ digit)
+
+-- a prefix that is none of the benign ones
+pub not_known : (m : Metadata) (n : Reading) →
+    is_benign_prefix m.preferred_extension_prefix ≡ false → ¬ (IsBenign m n)
+not_known m n other (inl none) = true≢false (sym (ap is_benign_prefix none) ∙ other)
+not_known m n other (inr (known, digit)) = true≢false (sym known ∙ other)
+
+-- a prefix behind a text that doesn't end in a digit
+pub not_behind_digit : (m : Metadata) (n : Reading) {text p : List ℕ} →
+    m.preferred_extension_prefix ≡ Some p → laid_out m International None n ≡ text →
+    ends_in_digit text ≡ false → ¬ (IsBenign m n)
+not_behind_digit m n some out other (inl none) =
+    true≢false (ap (λ o. option_map_or (λ _. true) o false) (sym some ∙ none))
+not_behind_digit m n some out other (inr (known, digit)) =
+    true≢false (sym digit ∙ ap ends_in_digit out ∙ other)
 
 -- a number that the first territory of its code lays out as this text
 module _ (db : List Metadata) (n : Reading) (m : Metadata)

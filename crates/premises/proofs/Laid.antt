@@ -14,7 +14,8 @@ use Rattle.phonenumber.specs.Layouts.{laid}
 use Rattle.phonenumber.specs.Texts.{laid_out}
 use Rattle.premises.proofs.Digits.{digit, groups, nd_ranges, read_groups-groups, run, runs}
 use Rattle.premises.proofs.Searches.{searching, first_match-as_read}
-use Rattle.premises.specs.Samples.{ad, am, at, number, nz, nz_layout, us}
+use Rattle.premises.specs.Samples.{ad, ad_by_x, al_by_e, am, am_by_anexo, at, at_by_x, number}
+use Rattle.premises.specs.Samples.{nz, nz_layout, us}
 
 -- a pattern's text is read as a tree with so many groups, none of which has a name
 record IsTree (pattern : List ℕ) (re : Re) (count : ℕ) : Type 0 where
@@ -99,3 +100,25 @@ at_laid = replaced-as_read halves (codes "${1}x$2") (codes "123456") (codes "123
 pub am_laid : laid_out am International None (number 374 0 12345678 None) ≡ codes "number"
 unfolding searching nd_ranges digits
 am_laid = replaced-as_read am_tree (codes "number") (codes "12345678") (codes "number") refl refl
+
+pub ad_by_x_laid : (e : Option (List ℕ)) →
+    laid_out ad_by_x International None (number 376 0 123456 e) ≡ codes "123 456"
+unfolding searching nd_ranges digits
+ad_by_x_laid e = replaced-as_read halves (codes "$1 $2") (codes "123456") (codes "123 456") refl refl
+
+pub am_by_anexo_laid : (e : Option (List ℕ)) →
+    laid_out am_by_anexo International None (number 374 0 123456 e) ≡ codes "123 456"
+unfolding searching nd_ranges digits
+am_by_anexo_laid e =
+    replaced-as_read halves (codes "$1 $2") (codes "123456") (codes "123 456") refl refl
+
+pub al_by_e_laid : (e : Option (List ℕ)) →
+    laid_out al_by_e International None (number 355 0 123456 e) ≡ codes "123 456"
+unfolding searching nd_ranges digits
+al_by_e_laid e = replaced-as_read halves (codes "$1 $2") (codes "123456") (codes "123 456") refl refl
+
+pub at_by_x_laid : (e : Option (List ℕ)) →
+    laid_out at_by_x International None (number 43 0 123456 e) ≡ codes "123/456/"
+unfolding searching nd_ranges digits
+at_by_x_laid e =
+    replaced-as_read halves (codes "$1/$2/") (codes "123456") (codes "123/456/") refl refl

@@ -1,4 +1,4 @@
--- The databases B, C and D of the replayed tables, territory by territory, and numbers.
+-- The databases B, C, D and E of the replayed tables, territory by territory, and numbers.
 use Rattle.std.specs.Prelude.{ℕ, true, List, [], ◌∷◌, codes, Option, None, Some}
 use Rattle.phone_core.specs.declared.country.Source.TheVariants.{Default}
 use Rattle.phone_records.specs.Empty.{no_descriptor, no_format, no_metadata}
@@ -126,6 +126,31 @@ at = in_halves (codes "AT") 43 (codes "${1}x$2")
 -- the database C
 abbrev pub db_c : List Metadata
 db_c = br ∷ al ∷ ac ∷ am ∷ satellite (codes "001") ∷ satellite (codes "QQ") ∷ ad ∷ at ∷ []
+
+-- a territory of six digits in halves, which announces extensions by a prefix of its own
+abbrev pub announcing : List ℕ → ℕ → List ℕ → List ℕ → Metadata
+announcing id code template prefix =
+    record (in_halves id code template) { preferred_extension_prefix = Some prefix }
+
+-- Andorra, which announces by an `x`
+abbrev pub ad_by_x : Metadata
+ad_by_x = announcing (codes "AD") 376 (codes "$1 $2") (codes " x")
+
+-- Armenia, which announces by a word
+abbrev pub am_by_anexo : Metadata
+am_by_anexo = announcing (codes "AM") 374 (codes "$1 $2") (codes " anexo ")
+
+-- Albania, which announces by a letter that no reader takes for an indicator
+abbrev pub al_by_e : Metadata
+al_by_e = announcing (codes "AL") 355 (codes "$1 $2") (codes " e ")
+
+-- Austria, whose layout ends in a slash
+abbrev pub at_by_x : Metadata
+at_by_x = announcing (codes "AT") 43 (codes "$1/$2/") (codes " x")
+
+-- the database E
+abbrev pub db_e : List Metadata
+db_e = ad_by_x ∷ am_by_anexo ∷ al_by_e ∷ at_by_x ∷ []
 
 -- Anguilla, with a code that begins another
 abbrev pub ai : Metadata

@@ -1,4 +1,4 @@
-//! What the premises of reading back take, and why each is there, on the databases B, C and D of
+//! What the premises of reading back take, and why each is there, on the databases B, C, D and E of
 //! the replayed tables. These functions do nothing; their contracts say it.
 #![tactic(auto)]
 
@@ -6,7 +6,9 @@ mod needed;
 mod plain;
 
 pub use needed::{
-    announced_by_layout, codes_apart, digits_dropped, extensions, plus_in_rule, prefix_stripped,
-    two_digits, value_zero, wrong_length,
+    announced_by_layout, announced_otherwise, codes_apart, digits_dropped, extensions,
+    plus_in_rule, prefix_stripped, two_digits, value_zero, wrong_length,
 };
-pub use plain::{with_empty_extension, with_extension, without_extension};
+pub use plain::{
+    announced_by_anexo, announced_by_x, with_empty_extension, with_extension, without_extension,
+};

@@ -2,9 +2,9 @@
 ghost use Rattle.std.specs.Prelude.{◌≡◌, codes, None, Some, false};
 ghost use Rattle.phone_meta.specs.Codes.{is_prefix_free, shortest};
 ghost use Rattle.phone_read.specs.TransformRules.{rules_have_no_plus};
-ghost use Rattle.phonenumber.specs.Plain.{IsIdle, IsPlainE164};
+ghost use Rattle.phonenumber.specs.Plain.{IsBenign, IsIdle, IsPlainE164};
 ghost use Rattle.phonenumber.specs.Plain.{IsPlainInternational, IsPlainRfc3966};
-ghost use Rattle.premises.specs.Samples.{db_b, db_c, db_d, number};
+ghost use Rattle.premises.specs.Samples.{al_by_e, at_by_x, db_b, db_c, db_d, db_e, number};
 
 /// A code that isn't listed, and national texts of one digit and of eighteen.
 pub fn wrong_length()
@@ -52,6 +52,17 @@ pub fn extensions()
     ensures eight_rfc3966 { IsPlainRfc3966 db_b (number 64 0 33316005 (Some (codes "12345678"))) }
     ensures other { ¬ (IsPlainInternational db_b (number 64 0 33316005 (Some (codes "5#")))) }
     ensures other_rfc3966 { ¬ (IsPlainRfc3966 db_b (number 64 0 33316005 (Some (codes "5#")))) }
+{}
+
+/// A letter announces the extension, which is no indicator: `+355 123 456 e 5` has another number's
+/// digits. And an `x` does, but behind a slash: `/ x` marks a second number.
+pub fn announced_otherwise()
+    ensures by_a_letter { ¬ (IsBenign al_by_e (number 355 0 123456 (Some (codes "5")))) }
+    ensures by_a_letter_plain { IsPlainInternational db_e (number 355 0 123456 (Some (codes "5"))) }
+    ensures by_a_letter_idle { IsIdle db_e 355 (codes "123456") }
+    ensures behind_a_slash { ¬ (IsBenign at_by_x (number 43 0 123456 (Some (codes "5")))) }
+    ensures behind_a_slash_plain { IsPlainInternational db_e (number 43 0 123456 (Some (codes "5"))) }
+    ensures behind_a_slash_idle { IsIdle db_e 43 (codes "123456") }
 {}
 
 /// Codes of which one begins another, and a code of four digits: in front of the digits stands

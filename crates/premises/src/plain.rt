@@ -1,8 +1,8 @@
 //! Numbers that the premises take.
 ghost use Rattle.std.specs.Prelude.{[], codes, None, Some};
-ghost use Rattle.phonenumber.specs.Plain.{IsIdle, IsPlainE164};
+ghost use Rattle.phonenumber.specs.Plain.{IsBenign, IsIdle, IsPlainE164};
 ghost use Rattle.phonenumber.specs.Plain.{IsPlainInternational, IsPlainRfc3966};
-ghost use Rattle.premises.specs.Samples.{db_b, db_c, number};
+ghost use Rattle.premises.specs.Samples.{ad, ad_by_x, am_by_anexo, db_b, db_c, db_e, number, us};
 
 /// A number of New Zealand without an extension.
 pub fn without_extension()
@@ -17,6 +17,7 @@ pub fn with_empty_extension()
     ensures e164 { IsPlainE164 db_b (number 1 0 6502530000 (Some [])) }
     ensures rfc3966 { IsPlainRfc3966 db_b (number 1 0 6502530000 (Some [])) }
     ensures international { IsPlainInternational db_b (number 1 0 6502530000 (Some [])) }
+    ensures benign { IsBenign us (number 1 0 6502530000 (Some [])) }
     ensures idle { IsIdle db_b 1 (codes "6502530000") }
 {}
 
@@ -25,5 +26,24 @@ pub fn with_extension()
     ensures e164 { IsPlainE164 db_c (number 376 0 123456 (Some (codes "5"))) }
     ensures rfc3966 { IsPlainRfc3966 db_c (number 376 0 123456 (Some (codes "5"))) }
     ensures international { IsPlainInternational db_c (number 376 0 123456 (Some (codes "5"))) }
+    ensures benign { IsBenign ad (number 376 0 123456 (Some (codes "5"))) }
     ensures idle { IsIdle db_c 376 (codes "123456") }
+{}
+
+/// A number of Andorra whose extension is announced by an `x`, which is there or empty.
+pub fn announced_by_x()
+    ensures international { IsPlainInternational db_e (number 376 0 123456 (Some (codes "5"))) }
+    ensures benign { IsBenign ad_by_x (number 376 0 123456 (Some (codes "5"))) }
+    ensures empty { IsPlainInternational db_e (number 376 0 123456 (Some [])) }
+    ensures empty_benign { IsBenign ad_by_x (number 376 0 123456 (Some [])) }
+    ensures idle { IsIdle db_e 376 (codes "123456") }
+{}
+
+/// A number of Armenia whose extension is announced by `anexo`, which is there or empty.
+pub fn announced_by_anexo()
+    ensures international { IsPlainInternational db_e (number 374 0 123456 (Some (codes "12"))) }
+    ensures benign { IsBenign am_by_anexo (number 374 0 123456 (Some (codes "12"))) }
+    ensures empty { IsPlainInternational db_e (number 374 0 123456 (Some [])) }
+    ensures empty_benign { IsBenign am_by_anexo (number 374 0 123456 (Some [])) }
+    ensures idle { IsIdle db_e 374 (codes "123456") }
 {}

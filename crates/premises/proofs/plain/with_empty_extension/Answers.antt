@@ -1,4 +1,4 @@
-use Rattle.std.proofs.Common.{refl, arith, inr}
+use Rattle.std.proofs.Common.{refl, arith, inl, inr}
 use Rattle.std.specs.Fmt.{digits}
 use Rattle.std.specs.Str.{chars}
 use Rattle.phone_core.specs.Ids.{id_of}
@@ -13,5 +13,6 @@ returns c = record {
   e164 = (us, is_plain refl refl);
   rfc3966 = rfc3966 us us_laid (is_plain refl refl) refl refl;
   international = international us us_laid (is_plain refl refl) refl (omega arith) refl refl;
+  benign = inl refl;
   idle = inr (us, refl, refl);
 }
