@@ -25,6 +25,7 @@ use std::alloc::{AllocError, Global};
 use std::marker::Model;
 
 /// Territories in the order in which their records were handed in. Contracts see these records.
+#[derive(Drop)]
 pub struct Database {
     alloc: Global,
     territories: Vec<Metadata>,
@@ -35,20 +36,6 @@ pub struct Database {
     /// The calling codes that have a territory, by digits.
     codes: Trie,
     first_group: FirstGroup,
-}
-
-/// Drops the parts: as a function it is proved once.
-impl Drop for Database {
-    fn drop(self) {
-        let Database {
-            alloc: _,
-            territories: _,
-            by_id: _,
-            by_code: _,
-            codes: _,
-            first_group: _,
-        } = self;
-    }
 }
 
 impl Model for Database {

@@ -17,23 +17,12 @@ use std::marker::Model;
 use std::rc::Rc;
 
 /// The numbers of one kind in a territory: their lengths and their pattern.
+#[derive(Drop)]
 pub struct Descriptor {
     national_number: Rc<Pattern>,
     possible_length: Vec<u16>,
     possible_local_length: Vec<u16>,
     example: Option<Text>,
-}
-
-/// Drops the parts: as a function it is proved once.
-impl Drop for Descriptor {
-    fn drop(self) {
-        let Descriptor {
-            national_number: _,
-            possible_length: _,
-            possible_local_length: _,
-            example: _,
-        } = self;
-    }
 }
 
 impl Model for Descriptor {

@@ -14,6 +14,7 @@ use phone_records::LoadMetadata;
 use std::marker::Model;
 
 /// What the numbers of each kind look like in a territory.
+#[derive(Drop)]
 pub struct Descriptors {
     general: Descriptor,
     fixed_line: Option<Descriptor>,
@@ -31,30 +32,6 @@ pub struct Descriptors {
     standard_rate: Option<Descriptor>,
     carrier: Option<Descriptor>,
     no_international: Option<Descriptor>,
-}
-
-/// Drops the parts: as a function it is proved once.
-impl Drop for Descriptors {
-    fn drop(self) {
-        let Descriptors {
-            general: _,
-            fixed_line: _,
-            mobile: _,
-            toll_free: _,
-            premium_rate: _,
-            shared_cost: _,
-            personal_number: _,
-            voip: _,
-            pager: _,
-            uan: _,
-            emergency: _,
-            voicemail: _,
-            short_code: _,
-            standard_rate: _,
-            carrier: _,
-            no_international: _,
-        } = self;
-    }
 }
 
 impl Model for Descriptors {

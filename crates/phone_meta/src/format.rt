@@ -20,6 +20,7 @@ use std::marker::Model;
 use std::rc::Rc;
 
 /// How the digits of a national number are grouped when it is printed.
+#[derive(Drop)]
 pub struct Format {
     pattern: Rc<Pattern>,
     text: Text,
@@ -27,20 +28,6 @@ pub struct Format {
     national_prefix_rule: Option<Text>,
     is_national_prefix_optional: bool,
     domestic_carrier: Option<Text>,
-}
-
-/// Drops the parts: as a function it is proved once.
-impl Drop for Format {
-    fn drop(self) {
-        let Format {
-            pattern: _,
-            text: _,
-            leading_digits: _,
-            national_prefix_rule: _,
-            is_national_prefix_optional: _,
-            domestic_carrier: _,
-        } = self;
-    }
 }
 
 impl Model for Format {

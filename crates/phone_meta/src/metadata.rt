@@ -21,6 +21,7 @@ use std::alloc::Global;
 use std::marker::Model;
 
 /// All that is known of a territory.
+#[derive(Drop)]
 pub struct Metadata {
     alloc: Global,
     descriptors: Descriptors,
@@ -28,19 +29,8 @@ pub struct Metadata {
     kept: Kept,
 }
 
-/// Drops the parts: as a function it is proved once.
-impl Drop for Metadata {
-    fn drop(self) {
-        let Metadata {
-            alloc: _,
-            descriptors: _,
-            patterns: _,
-            kept: _,
-        } = self;
-    }
-}
-
 /// What is kept of a record as it is.
+#[derive(Drop)]
 struct Kept {
     id: Text,
     country_code: u16,
@@ -51,23 +41,6 @@ struct Kept {
     main_country_for_code: bool,
     mobile_number_portable: bool,
     defaults: loader::Defaults,
-}
-
-/// Drops the parts: as a function it is proved once.
-impl Drop for Kept {
-    fn drop(self) {
-        let Kept {
-            id: _,
-            country_code: _,
-            preferred_international_prefix: _,
-            national_prefix: _,
-            preferred_extension_prefix: _,
-            national_prefix_transform_rule: _,
-            main_country_for_code: _,
-            mobile_number_portable: _,
-            defaults: _,
-        } = self;
-    }
 }
 
 impl Model for Metadata {

@@ -12,25 +12,13 @@ use phone_records::LoadMetadata;
 use std::rc::Rc;
 
 /// The patterns of what is dialled in front and of leading digits, and the layouts.
+#[derive(Drop)]
 pub struct Patterns {
     pub(crate) international_prefix: Option<Rc<Pattern>>,
     pub(crate) national_prefix_for_parsing: Option<Rc<Pattern>>,
     pub(crate) leading_digits: Option<Rc<Pattern>>,
     pub(crate) formats: Vec<Format>,
     pub(crate) international_formats: Vec<Format>,
-}
-
-/// Drops the parts: as a function it is proved once.
-impl Drop for Patterns {
-    fn drop(self) {
-        let Patterns {
-            international_prefix: _,
-            national_prefix_for_parsing: _,
-            leading_digits: _,
-            formats: _,
-            international_formats: _,
-        } = self;
-    }
 }
 
 fn compile_text(pool: &Pool, text: Option<Text>) -> Result<Option<Rc<Pattern>>, LoadMetadata>
