@@ -1,2 +1,3 @@
 pub mod NumberLines
 pub mod OneLine
+pub mod SomeReports

@@ -8,5 +8,5 @@ mod words;
 
 pub use line::Reporter;
 pub use phone_lines::RunError;
-pub use report::{begins_each_report, one_report_line, run, some_report_line};
+pub use report::{begins_each_report, one_report_line, run, some_report, some_report_line};
 pub use tool::program;

@@ -12,7 +12,7 @@ ghost use Rattle.phone_report.specs.Report.{IsReportOnEnded, IsReportOnFirst};
 
 use crate::line::Reporter;
 use phone_device::{ByteSink, ByteSource};
-use phone_lines::{RunError, answer_lines};
+use phone_lines::{RunError, answer_lines, without_return};
 use phone_read::laws::some_reading;
 use phonenumber::country::Id;
 use phonenumber::metadata::Database;
@@ -75,5 +75,22 @@ pub fn some_report_line(line: &[u8])
 {
     if let Ok(text) = std::str::from_utf8(line) {
         some_reading(text);
+    }
+}
+
+/// Bytes have a report under each database and hint: each line of them has a report line.
+pub fn some_report(bytes: &[u8])
+    ensures { (db : List loader.Metadata) (hint : Option Id) →
+        (report : List ℕ) × IsReport db hint bytes.now report }
+{
+    let mut start = 0;
+    for end in 0..bytes.len() {
+        if bytes[end] == b'\n' {
+            some_report_line(without_return(&bytes[start..end]));
+            start = end + 1;
+        }
+    }
+    if start < bytes.len() {
+        some_report_line(without_return(&bytes[start..]));
     }
 }
