@@ -15,6 +15,7 @@ mod patterns;
 mod placed;
 mod prefixes;
 mod rules;
+mod territory_id;
 mod together;
 
 pub use database::Database;

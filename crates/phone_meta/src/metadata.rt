@@ -1,7 +1,9 @@
 //! A territory, with its patterns compiled.
 ghost use Rattle.std.specs.Prelude.{◌≡◌, None, Some, IfOk, IfErr, option_map};
 ghost use Rattle.std.specs.List.{AllByRecursion, flat_map};
-ghost use Rattle.std.specs.Option.{option_copied};
+ghost use Rattle.std.specs.Option.{option_and_then, option_copied};
+ghost use Rattle.phone_core.specs.Ids.{id_of};
+ghost use Rattle.phone_meta.specs.Records.{id_of as id_text};
 ghost use Rattle.phone_meta.specs.Refusals.{IsPatternRefusal, patterns_in};
 ghost use Rattle.phone_meta.specs.First.{IsPattern, IsLentPattern};
 ghost use Rattle.phone_meta.specs.Kinds.{kinds_of};
@@ -13,7 +15,9 @@ use crate::format::Format;
 use crate::loader::{self, Text};
 use crate::patterns::Patterns;
 use crate::prefixes;
+use crate::territory_id::TerritoryId;
 use crate::together::both_read;
+use phone_core::country::Id;
 use phone_pattern::{Pattern, Pool};
 use phone_records::LoadMetadata;
 use regex::Regex;
@@ -32,7 +36,7 @@ pub struct Metadata {
 /// What is kept of a record as it is.
 #[derive(Drop)]
 struct Kept {
-    id: Text,
+    id: TerritoryId,
     country_code: u16,
     preferred_international_prefix: Option<Text>,
     national_prefix: Option<Text>,
@@ -61,7 +65,7 @@ impl Metadata {
         ensures refused { IfErr result (IsPatternRefusal (patterns_in given)) }
     {
         let kept = Kept {
-            id: given.id.unwrap(),
+            id: TerritoryId::of(given.id.unwrap()),
             country_code: given.country_code.unwrap(),
             preferred_international_prefix: given.preferred_international_prefix,
             national_prefix: given.national_prefix,
@@ -132,6 +136,14 @@ impl Metadata {
         ensures { self.now.id ≡ Some result.now }
     {
         self.kept.id.as_str()
+    }
+
+    /// The region that the territory's id is that of; none where it is no region's. Takes no memory.
+    pub fn region(&self) -> Option<Id>
+        ensures region { result ≡ option_and_then id_of self.now.id }
+        ensures by_text { result ≡ id_of (id_text self.now) }
+    {
+        self.kept.id.region()
     }
 
     /// The calling code.

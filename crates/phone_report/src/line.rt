@@ -1,6 +1,6 @@
 //! What the report says of one line.
 ghost use Rattle.std.specs.Prelude.{◌≡◌, [], ◌∷◌, ◌++◌, None, Some, Ok, Err};
-ghost use Rattle.std.specs.Prelude.{IfOk, MatchResult, OnOk, codes, string_bytes};
+ghost use Rattle.std.specs.Prelude.{IfOk, MatchResult, codes, string_bytes};
 ghost use Rattle.phone_meta.specs.Codes.{first_of, territories};
 ghost use Rattle.phone_records.specs.declared.loader.Metadata.{Metadata};
 ghost use Rattle.phone_report.specs.Lines.{line_of_texts};
@@ -63,9 +63,8 @@ fn line_of_texts(
     let kind = kind_word(queried.kind);
     let region = region_word(queried.region);
     let validity = validity_word(queried.is_valid);
-    let mut line = texts_in_front(alloc, texts)?;
-    add_words(&mut line, source, kind, region, validity)?;
-    Ok(line)
+    let front = texts_in_front(alloc, texts)?;
+    with_words(front, source, kind, region, validity)
 }
 
 /// How many bytes a report line has room for at first: more than most take.
@@ -88,18 +87,20 @@ fn texts_in_front(alloc: Global, texts: &Texts) -> Result<String, AllocError>
     Ok(line)
 }
 
-/// Adds four more fields to a line, parted by tabs. Refused only for memory.
-fn add_words(
-    line: &mut String,
+/// A front of a line and four more fields, parted by tabs. Refused only for memory.
+fn with_words(
+    front: String,
     source: &str,
     kind: &str,
     region: &str,
     validity: &str,
-) -> Result<(), AllocError>
-    ensures { OnOk result (string_bytes line.new ≡ string_bytes line.old ++
+) -> Result<String, AllocError>
+    ensures { IfOk result (λ line. string_bytes line ≡ string_bytes front ++
         9 ∷ tabbed (source.now ∷ kind.now ∷ region.now ∷ validity.now ∷ [])) }
 {
-    write!(line, "\t{source}\t{kind}\t{region}\t{validity}")
+    let mut line = front;
+    write!(line, "\t{source}\t{kind}\t{region}\t{validity}")?;
+    Ok(line)
 }
 
 impl<'d> Answers for Reporter<'d> {

@@ -56,7 +56,7 @@ impl<'a> Country<'a> {
         ensures { IfOk result (λ id. id ≡ region_of_number database.now self.now) }
     {
         match self.number.metadata(database)? {
-            Some(territory) => Ok(territory.id().parse::<Id>().ok()),
+            Some(territory) => Ok(territory.region()),
             None => Ok(None),
         }
     }
@@ -157,7 +157,7 @@ fn region_and_kind_of(
     match validator::home(database, code, digits)? {
         Some(territory) => {
             let kind = validator::number_type(territory, digits)?;
-            Ok((territory.id().parse::<Id>().ok(), kind))
+            Ok((territory.region(), kind))
         }
         None => Ok((None, Type::Unknown)),
     }
