@@ -1,5 +1,5 @@
 //! Look-ups by calling code.
-ghost use Rattle.std.specs.Prelude.{◌≡◌, ◌≤◌, ◌+◌, ℕ, List, map, filter, reverse, IfOk, option_map};
+ghost use Rattle.std.specs.Prelude.{◌≡◌, ◌≤◌, ◌+◌, ◌++◌, ℕ, List, map, filter, reverse, IfOk, option_map};
 ghost use Rattle.std.specs.Borrow.{Bor};
 ghost use Rattle.std.specs.List.{find};
 ghost use Rattle.std.specs.Option.{option_copied};
@@ -9,6 +9,7 @@ ghost use Rattle.phone_records.specs.declared.loader.Metadata as loader;
 
 use crate::database::Database;
 use crate::metadata::Metadata;
+use crate::together::both;
 use phone_trie::Steps;
 use std::alloc::{AllocError, Global};
 
@@ -18,13 +19,8 @@ impl Database {
     pub fn by_code(&self, code: &u16) -> Result<Option<Vec<&Metadata>>, AllocError>
         ensures { IfOk result (λ found. option_map (λ v. map (λ (t : Bor loader.Metadata). t.now) v.items) found ≡ if_any (territories code.now self.now)) }
     {
-        let mut found = self.mains(*code)?;
-        found.reverse();
-        found.append(&mut self.others(*code)?)?;
-        if found.is_empty() {
-            return Ok(None);
-        }
-        Ok(Some(found))
+        let (mains, others) = both(self.mains(*code), self.others(*code))?;
+        backwards_before(mains, others)
     }
 
     /// The ids of the territories of a calling code, in the order of `by_code`. Refused only for memory.
@@ -83,6 +79,21 @@ impl Database {
     {
         !self.places_of(*code).is_empty()
     }
+}
+
+/// The first items backwards, and after them the others, where there is any. Refused only for memory.
+fn backwards_before<T: Drop>(first: Vec<T>, others: Vec<T>) -> Result<Option<Vec<T>>, AllocError>
+    ensures { IfOk result (λ all.
+        option_map (λ v. v.items) all ≡ if_any (reverse first.items ++ others.items)) }
+{
+    let mut all = first;
+    let mut others = others;
+    all.reverse();
+    all.append(&mut others)?;
+    if all.is_empty() {
+        return Ok(None);
+    }
+    Ok(Some(all))
 }
 
 fn ids<'a>(alloc: Global, found: &[&'a Metadata]) -> Result<Vec<&'a str>, AllocError>

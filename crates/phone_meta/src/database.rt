@@ -1,5 +1,5 @@
 //! A database: territories by id and by calling code.
-ghost use Rattle.std.specs.Prelude.{◌≡◌, ◌<◌, ◌≤◌, ◌+◌, ◌^◌, ℕ, None, IfOk, IfErr, map};
+ghost use Rattle.std.specs.Prelude.{◌≡◌, ◌⊎◌, ◌<◌, ◌≤◌, ◌+◌, ◌^◌, ℕ, None, IfOk, IfErr, map};
 ghost use Rattle.std.specs.List.{AllByRecursion};
 ghost use Rattle.std.specs.Result.{IsOk};
 ghost use Rattle.std.specs.Option.{option_copied};
@@ -8,20 +8,22 @@ ghost use Rattle.phone_meta.specs.Index.{count_of_ids};
 ghost use Rattle.phone_meta.specs.Records.{last_with, places_where, has_code, first_group_pattern};
 ghost use Rattle.phone_meta.specs.First.{IsPattern, IsPatternOf};
 ghost use Rattle.phone_records.specs.Missing.{first_missing};
+ghost use Rattle.phone_texts.specs.declared.error.LoadMetadata.TheVariants as error;
 ghost use Rattle.phone_meta.specs.Refusals.{patterns, IsRefusalOf, TellsMissing};
 ghost use Rattle.phone_trie.specs.Codes.{is_in};
 
+use crate::index::Index;
+use crate::loader;
 use crate::metadata::{self, Metadata};
 use crate::rules::FirstGroup;
-use crate::together::both;
-use crate::{index, loader};
+use crate::together::{both, both_read};
 use phone_core::MetadataError;
 use phone_records::LoadMetadata;
 use phone_records::missing::{self, Missing};
-use phone_sorted::{Coded, Grouped, Sorted};
+use phone_sorted::Coded;
 use phone_trie::{Steps, Trie};
 use regex::Regex;
-use std::alloc::{AllocError, Global};
+use std::alloc::Global;
 use std::marker::Model;
 
 /// Territories in the order in which their records were handed in. Contracts see these records.
@@ -29,12 +31,7 @@ use std::marker::Model;
 pub struct Database {
     alloc: Global,
     territories: Vec<Metadata>,
-    /// For each id the place of its last territory.
-    by_id: Sorted,
-    /// The places of all territories, by calling code.
-    by_code: Grouped,
-    /// The calling codes that have a territory, by digits.
-    codes: Trie,
+    index: Index,
     first_group: FirstGroup,
 }
 
@@ -51,7 +48,7 @@ impl Model for Database {
 
     ghost view = { λ d. d.territories.items };
 
-    ghost invariant = { λ d. ((id : List ℕ) → placed.place_of id d.by_id ≡ last_place (has_id id) d.territories.items) × (length d.by_id ≡ count_of_ids d.territories.items) × ((code : ℕ) → map (λ e. e.place) (filter (placed.has_code code) d.by_code) ≡ places_where (has_code code) d.territories.items) × ((code : ℕ) → is_in code d.codes ≡ is_listed code d.territories.items) };
+    ghost invariant = { λ d. ((id : List ℕ) → placed.place_of id d.index.by_id ≡ last_place (has_id id) d.territories.items) × (length d.index.by_id ≡ count_of_ids d.territories.items) × ((code : ℕ) → map (λ e. e.place) (filter (placed.has_code code) d.index.by_code) ≡ places_where (has_code code) d.territories.items) × ((code : ℕ) → is_in code d.index.codes ≡ is_listed code d.territories.items) };
 }
 
 impl Database {
@@ -66,19 +63,16 @@ impl Database {
         ensures refused { IfErr result (IsRefusalOf records.items) }
     {
         if let Some(missing) = missing::first_missing(records.as_slice()) {
-            return Err(missing_value(alloc, missing)?);
+            return Err(missing_value(alloc, missing));
         }
         let territories = metadata::compile_all(alloc, records)?;
-        let by_id = index::by_id(alloc, territories.as_slice())?;
-        let by_code = index::by_code(alloc, territories.as_slice())?;
-        let codes = index::codes(alloc, territories.as_slice())?;
-        let first_group = FirstGroup::compile(alloc)?;
+        let index = Index::of(alloc, territories.as_slice());
+        let others = both_read(index, FirstGroup::compile(alloc));
+        let (territories, (index, first_group)) = both_read(Ok(territories), others)?;
         Ok(Database {
             alloc,
             territories,
-            by_id,
-            by_code,
-            codes,
+            index,
             first_group,
         })
     }
@@ -120,7 +114,7 @@ impl Database {
         ensures territory { option_copied result ≡ last_with id.now self.now }
         ensures bound { (k : ℕ) → count_of_ids self.now < 2 ^ k → steps.new ≤ steps.old + k }
     {
-        let place = self.by_id.find_in(id, steps)?;
+        let place = self.index.by_id.find_in(id, steps)?;
         self.territories.get(place)
     }
 
@@ -128,22 +122,27 @@ impl Database {
     pub(crate) fn places_of(&self, code: u16) -> &[Coded]
         ensures { map (λ e. e.place) result.now ≡ places_where (has_code code) self.now }
     {
-        self.by_code.of_code(code)
+        self.index.by_code.of_code(code)
     }
 
     /// The listed calling codes, by their digits.
     pub(crate) fn codes(&self) -> &Trie
         ensures { (code : ℕ) → is_in code result.now ≡ is_listed code self.now }
     {
-        &self.codes
+        &self.index.codes
     }
 }
 
-fn missing_value(alloc: Global, missing: Missing) -> Result<LoadMetadata, AllocError>
-    ensures { IfOk result (TellsMissing missing) }
+/// The refusal that tells of a missing value, or of memory for its text.
+fn missing_value(alloc: Global, missing: Missing) -> LoadMetadata
+    ensures { TellsMissing missing result ⊎ (result ≡ error.Memory) }
 {
     let phase = String::from_str(alloc, missing.phase());
     let name = String::from_str(alloc, missing.name());
-    let (phase, name) = both(phase, name)?;
-    Ok(LoadMetadata::Metadata(MetadataError::MissingValue { phase, name }))
+    match both(phase, name) {
+        Ok((phase, name)) => {
+            LoadMetadata::Metadata(MetadataError::MissingValue { phase, name })
+        },
+        Err(_) => LoadMetadata::Memory,
+    }
 }

@@ -7,6 +7,7 @@ ghost use Rattle.phone_records.specs.Missing.{missing_in_descriptor};
 ghost use Rattle.phone_meta.specs.Refusals.{IsPatternRefusal, patterns_in_descriptor};
 ghost use Rattle.phone_meta.specs.Records.{allows_length, matches, pattern_of};
 
+use crate::lent;
 use crate::loader::{self, Text};
 use crate::together::both;
 use phone_pattern::{Pattern, Pool};
@@ -98,10 +99,7 @@ impl Descriptor {
     pub fn example(&self) -> Option<&str>
         ensures { option_copied result ≡ self.now.example }
     {
-        match &self.example {
-            Some(text) => Some(text.as_str()),
-            None => None,
-        }
+        lent::text(&self.example)
     }
 
     /// Whether a text is such a number: the list of possible lengths is empty or has the text's length in bytes, and

@@ -1,14 +1,13 @@
 //! A layout of national numbers, with its patterns compiled.
-ghost use Rattle.std.specs.Prelude.{◌≡◌, ℕ, List, [], true, None, Some, Ok, map, option_map, IfOk, IfErr, string_bytes};
+ghost use Rattle.std.specs.Prelude.{◌≡◌, ℕ, List, [], true, Some, Ok, option_map, IfOk, string_bytes};
 ghost use Rattle.std.specs.Borrow.{Bor};
-ghost use Rattle.std.specs.List.{AllByRecursion, flat_map};
 ghost use Rattle.std.specs.Option.{option_copied};
-ghost use Rattle.phone_meta.specs.First.{ArePatternsOf, IsPattern, IsLentPattern};
+ghost use Rattle.phone_meta.specs.First.{ArePatternsOf, IsLentPattern};
 ghost use Rattle.phone_meta.specs.Layouts.{laid_by, layout_template, national_template, rule_for, suits};
-ghost use Rattle.phone_records.specs.Missing.{first_given, missing_in_format};
 ghost use Rattle.phone_meta.specs.Records.{is_led};
-ghost use Rattle.phone_meta.specs.Refusals.{IsPatternRefusal, patterns_in_format};
 
+use crate::each::Compile;
+use crate::lent;
 use crate::loader::{self, Text};
 use crate::rules::FirstGroup;
 use crate::together::both_read;
@@ -39,14 +38,20 @@ impl Model for Format {
     ghost view = { λ f. record { pattern = Some f.pattern.value; format = Some f.text; leading_digits = f.leading_digits.value; national_prefix_formatting_rule = f.national_prefix_rule; national_prefix_optional_when_formatting = f.is_national_prefix_optional; domestic_carrier = f.domestic_carrier } };
 }
 
-impl Format {
+impl Compile for Format {
+    ghost use Rattle.phone_meta.specs.Refusals.{patterns_in_format};
+    ghost use Rattle.phone_records.specs.Missing.{missing_in_format};
+
+    type Record = loader::Format;
+
+    ghost missing = { missing_in_format };
+
+    ghost patterns = { patterns_in_format };
+
+    ghost record_of = { λ f. f };
+
     /// Compiles a record, whose pattern and template must be there.
-    pub(crate) fn compile(pool: &Pool, given: loader::Format) -> Result<Format, LoadMetadata>
-        requires { missing_in_format given ≡ None }
-        ensures compiled { IfOk result (λ f. f ≡ given) }
-        ensures read { IfOk result (λ f. AllByRecursion IsPattern (patterns_in_format given)) }
-        ensures refused { IfErr result (IsPatternRefusal (patterns_in_format given)) }
-    {
+    fn compile(pool: &Pool, given: loader::Format) -> Result<Format, LoadMetadata> {
         let pattern = pool.pattern(given.pattern.unwrap());
         let leading = pool.leading(given.leading_digits.into_vec());
         let others = (
@@ -66,7 +71,9 @@ impl Format {
             domestic_carrier,
         })
     }
+}
 
+impl Format {
     /// The pattern that parts the digits into groups.
     pub fn pattern(&self) -> &Regex
         ensures { IsLentPattern self.now.pattern (Some result) }
@@ -166,10 +173,7 @@ impl Format {
     pub fn national_prefix(&self) -> Option<&str>
         ensures { option_copied result ≡ self.now.national_prefix_formatting_rule }
     {
-        match &self.national_prefix_rule {
-            Some(text) => Some(text.as_str()),
-            None => None,
-        }
+        lent::text(&self.national_prefix_rule)
     }
 
     /// Whether the national prefix may be left out.
@@ -183,23 +187,6 @@ impl Format {
     pub fn domestic_carrier(&self) -> Option<&str>
         ensures { option_copied result ≡ self.now.domestic_carrier }
     {
-        match &self.domestic_carrier {
-            Some(text) => Some(text.as_str()),
-            None => None,
-        }
+        lent::text(&self.domestic_carrier)
     }
-}
-
-/// Compiles each of these records, which lack nothing.
-pub fn compile_all(pool: &Pool, given: Vec<loader::Format>) -> Result<Vec<Format>, LoadMetadata>
-    requires { first_given (map missing_in_format given.items) ≡ None }
-    ensures compiled { IfOk result (λ formats. formats.items ≡ given.items) }
-    ensures read { IfOk result (λ formats. AllByRecursion IsPattern (flat_map patterns_in_format given.items)) }
-    ensures refused { IfErr result (IsPatternRefusal (flat_map patterns_in_format given.items)) }
-{
-    let mut formats = Vec::new(pool.allocator());
-    for format in given {
-        formats.push(Format::compile(pool, format)?)?;
-    }
-    Ok(formats)
 }

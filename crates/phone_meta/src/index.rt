@@ -1,19 +1,59 @@
 //! What territories are looked up by: their places by id and by calling code, and their codes by digits.
-ghost use Rattle.std.specs.Prelude.{◌≡◌, ℕ, List, IfOk, filter, length, map, reverse};
+ghost use Rattle.std.specs.Prelude.{◌≡◌, ℕ, List, [], IfOk, filter, length, map, reverse};
 ghost use Rattle.phone_meta.specs.Codes.{is_listed};
 ghost use Rattle.phone_meta.specs.Index.{count_of_ids};
+ghost use Rattle.phone_meta.specs.Refusals.{AreRead};
 ghost use Rattle.phone_meta.specs.Records.{has_code, has_id, id_of, last_place, places_where};
 ghost use Rattle.phone_sorted.specs.Orders.{place_of, text_of};
 ghost use Rattle.phone_sorted.specs.Orders as placed;
 ghost use Rattle.phone_trie.specs.Codes.{is_in};
 
 use crate::metadata::Metadata;
+use crate::together::both;
+use phone_records::LoadMetadata;
 use phone_sorted::{Coded, Grouped, Named, Sorted};
 use phone_trie::Trie;
 use std::alloc::{AllocError, Global};
 
+/// What a database looks its territories up by.
+#[derive(Drop)]
+pub(crate) struct Index {
+    /// For each id the place of its last territory.
+    pub(crate) by_id: Sorted,
+    /// The places of all territories, by calling code.
+    pub(crate) by_code: Grouped,
+    /// The calling codes that have a territory, by digits.
+    pub(crate) codes: Trie,
+}
+
+impl Index {
+    /// The index of these territories. Refused only for memory.
+    pub(crate) fn of(alloc: Global, territories: &[Metadata]) -> Result<Index, LoadMetadata>
+        ensures last { IfOk result (λ index. (id : List ℕ) →
+            place_of id index.by_id ≡ last_place (has_id id) territories.now) }
+        ensures once { IfOk result (λ index.
+            length index.by_id ≡ count_of_ids territories.now) }
+        ensures coded { IfOk result (λ index. (code : ℕ) →
+            map (λ e. e.place) (filter (placed.has_code code) index.by_code)
+            ≡ places_where (has_code code) territories.now) }
+        ensures listed { IfOk result (λ index. (code : ℕ) →
+            is_in code index.codes ≡ is_listed code territories.now) }
+        ensures read { AreRead [] result }
+    {
+        let by_id = by_id(alloc, territories);
+        let by_code = by_code(alloc, territories);
+        let others = both(by_code, codes(alloc, territories));
+        let (by_id, (by_code, codes)) = both(by_id, others)?;
+        Ok(Index {
+            by_id,
+            by_code,
+            codes,
+        })
+    }
+}
+
 /// For each id the place of the last territory with it, sorted by id. Refused only for memory.
-pub(crate) fn by_id(alloc: Global, territories: &[Metadata]) -> Result<Sorted, AllocError>
+fn by_id(alloc: Global, territories: &[Metadata]) -> Result<Sorted, AllocError>
     ensures last { IfOk result (λ s. (id : List ℕ) → place_of id s ≡ last_place (has_id id) territories.now) }
     ensures once { IfOk result (λ s. length s ≡ count_of_ids territories.now) }
 {
@@ -36,7 +76,7 @@ fn named(alloc: Global, territories: &[Metadata]) -> Result<Vec<Named>, AllocErr
 }
 
 /// The places of the territories, sorted by calling code. Refused only for memory.
-pub(crate) fn by_code(alloc: Global, territories: &[Metadata]) -> Result<Grouped, AllocError>
+fn by_code(alloc: Global, territories: &[Metadata]) -> Result<Grouped, AllocError>
     ensures { IfOk result (λ g. (code : ℕ) → map (λ e. e.place) (filter (placed.has_code code) g) ≡ places_where (has_code code) territories.now) }
 {
     Grouped::of(coded(alloc, territories)?)
@@ -57,7 +97,7 @@ fn coded(alloc: Global, territories: &[Metadata]) -> Result<Vec<Coded>, AllocErr
 }
 
 /// The calling codes of the territories, by their digits. Refused only for memory.
-pub(crate) fn codes(alloc: Global, territories: &[Metadata]) -> Result<Trie, AllocError>
+fn codes(alloc: Global, territories: &[Metadata]) -> Result<Trie, AllocError>
     ensures { IfOk result (λ t. (code : ℕ) → is_in code t ≡ is_listed code territories.now) }
 {
     let mut codes = Trie::new(alloc)?;

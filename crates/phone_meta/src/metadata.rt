@@ -1,19 +1,24 @@
 //! A territory, with its patterns compiled.
 ghost use Rattle.std.specs.Prelude.{◌≡◌, None, Some, IfOk, IfErr, option_map};
 ghost use Rattle.std.specs.List.{AllByRecursion, flat_map};
-ghost use Rattle.std.specs.Option.{option_copied};
+ghost use Rattle.std.specs.Option.{option_and_then, option_copied};
+ghost use Rattle.phone_core.specs.Ids.{id_of};
+ghost use Rattle.phone_meta.specs.Records.{id_of as id_text};
 ghost use Rattle.phone_meta.specs.Refusals.{IsPatternRefusal, patterns_in};
 ghost use Rattle.phone_meta.specs.First.{IsPattern, IsLentPattern};
 ghost use Rattle.phone_meta.specs.Kinds.{kinds_of};
 ghost use Rattle.phone_meta.specs.Prefixes.{is_benign_prefix};
-ghost use Rattle.phone_records.specs.Missing.{first_missing, missing_in};
+ghost use Rattle.phone_records.specs.Missing.{first_missing};
 
 use crate::descriptors::Descriptors;
+use crate::each::{self, Compile};
 use crate::format::Format;
 use crate::loader::{self, Text};
 use crate::patterns::Patterns;
-use crate::prefixes;
+use crate::territory_id::TerritoryId;
 use crate::together::both_read;
+use crate::{lent, prefixes};
+use phone_core::country::Id;
 use phone_pattern::{Pattern, Pool};
 use phone_records::LoadMetadata;
 use regex::Regex;
@@ -32,7 +37,7 @@ pub struct Metadata {
 /// What is kept of a record as it is.
 #[derive(Drop)]
 struct Kept {
-    id: Text,
+    id: TerritoryId,
     country_code: u16,
     preferred_international_prefix: Option<Text>,
     national_prefix: Option<Text>,
@@ -52,16 +57,22 @@ impl Model for Metadata {
     ghost view = { λ m. record { general = m.descriptors.general; fixed_line = m.descriptors.fixed_line; mobile = m.descriptors.mobile; toll_free = m.descriptors.toll_free; premium_rate = m.descriptors.premium_rate; shared_cost = m.descriptors.shared_cost; personal_number = m.descriptors.personal_number; voip = m.descriptors.voip; pager = m.descriptors.pager; uan = m.descriptors.uan; emergency = m.descriptors.emergency; voicemail = m.descriptors.voicemail; short_code = m.descriptors.short_code; standard_rate = m.descriptors.standard_rate; carrier = m.descriptors.carrier; no_international = m.descriptors.no_international; id = Some m.kept.id; country_code = Some m.kept.country_code; international_prefix = option_map (λ p. p.value) m.patterns.international_prefix; preferred_international_prefix = m.kept.preferred_international_prefix; national_prefix = m.kept.national_prefix; preferred_extension_prefix = m.kept.preferred_extension_prefix; national_prefix_for_parsing = option_map (λ p. p.value) m.patterns.national_prefix_for_parsing; national_prefix_transform_rule = m.kept.national_prefix_transform_rule; formats = m.patterns.formats.items; international_formats = m.patterns.international_formats.items; main_country_for_code = m.kept.main_country_for_code; leading_digits = option_map (λ p. p.value) m.patterns.leading_digits; mobile_number_portable = m.kept.mobile_number_portable; defaults = m.kept.defaults } };
 }
 
-impl Metadata {
+impl Compile for Metadata {
+    ghost use Rattle.phone_meta.specs.Refusals.{patterns_in};
+    ghost use Rattle.phone_records.specs.Missing.{missing_in};
+
+    type Record = loader::Metadata;
+
+    ghost missing = { missing_in };
+
+    ghost patterns = { patterns_in };
+
+    ghost record_of = { λ m. m };
+
     /// Compiles a record that lacks nothing.
-    pub(crate) fn compile(pool: &Pool, given: loader::Metadata) -> Result<Metadata, LoadMetadata>
-        requires { missing_in given ≡ None }
-        ensures compiled { IfOk result (λ m. m ≡ given) }
-        ensures read { IfOk result (λ m. AllByRecursion IsPattern (patterns_in given)) }
-        ensures refused { IfErr result (IsPatternRefusal (patterns_in given)) }
-    {
+    fn compile(pool: &Pool, given: loader::Metadata) -> Result<Metadata, LoadMetadata> {
         let kept = Kept {
-            id: given.id.unwrap(),
+            id: TerritoryId::of(given.id.unwrap()),
             country_code: given.country_code.unwrap(),
             preferred_international_prefix: given.preferred_international_prefix,
             national_prefix: given.national_prefix,
@@ -114,7 +125,9 @@ impl Metadata {
             kept,
         })
     }
+}
 
+impl Metadata {
     /// The allocator that the territory keeps, for calls on it and its parts.
     pub fn allocator(&self) -> Global {
         self.alloc
@@ -134,6 +147,14 @@ impl Metadata {
         self.kept.id.as_str()
     }
 
+    /// The region that the territory's id is that of; none where it is no region's. Takes no memory.
+    pub fn region(&self) -> Option<Id>
+        ensures region { result ≡ option_and_then id_of self.now.id }
+        ensures by_text { result ≡ id_of (id_text self.now) }
+    {
+        self.kept.id.region()
+    }
+
     /// The calling code.
     pub fn country_code(&self) -> u16
         ensures { self.now.country_code ≡ Some result }
@@ -145,50 +166,35 @@ impl Metadata {
     pub fn international_prefix(&self) -> Option<&Regex>
         ensures { IsLentPattern self.now.international_prefix result }
     {
-        match &self.patterns.international_prefix {
-            Some(pattern) => Some(pattern.regex()),
-            None => None,
-        }
+        lent::regex(&self.patterns.international_prefix)
     }
 
     /// The same, as a pattern that searches.
     pub fn international_prefix_pattern(&self) -> Option<&Pattern>
         ensures { option_copied result ≡ self.now.international_prefix }
     {
-        match &self.patterns.international_prefix {
-            Some(pattern) => Some(pattern.as_ref()),
-            None => None,
-        }
+        lent::pattern(&self.patterns.international_prefix)
     }
 
     /// Which of these is preferred.
     pub fn preferred_international_prefix(&self) -> Option<&str>
         ensures { option_copied result ≡ self.now.preferred_international_prefix }
     {
-        match &self.kept.preferred_international_prefix {
-            Some(text) => Some(text.as_str()),
-            None => None,
-        }
+        lent::text(&self.kept.preferred_international_prefix)
     }
 
     /// The trunk prefix, dialled before a national number inside the territory.
     pub fn national_prefix(&self) -> Option<&str>
         ensures { option_copied result ≡ self.now.national_prefix }
     {
-        match &self.kept.national_prefix {
-            Some(text) => Some(text.as_str()),
-            None => None,
-        }
+        lent::text(&self.kept.national_prefix)
     }
 
     /// What is written before an extension.
     pub fn preferred_extension_prefix(&self) -> Option<&str>
         ensures { option_copied result ≡ self.now.preferred_extension_prefix }
     {
-        match &self.kept.preferred_extension_prefix {
-            Some(text) => Some(text.as_str()),
-            None => None,
-        }
+        lent::text(&self.kept.preferred_extension_prefix)
     }
 
     /// Whether that prefix is known to announce an extension: there is none, or it is one of seven
@@ -203,30 +209,21 @@ impl Metadata {
     pub fn national_prefix_for_parsing(&self) -> Option<&Regex>
         ensures { IsLentPattern self.now.national_prefix_for_parsing result }
     {
-        match &self.patterns.national_prefix_for_parsing {
-            Some(pattern) => Some(pattern.regex()),
-            None => None,
-        }
+        lent::regex(&self.patterns.national_prefix_for_parsing)
     }
 
     /// The same, as a pattern that searches.
     pub fn national_prefix_for_parsing_pattern(&self) -> Option<&Pattern>
         ensures { option_copied result ≡ self.now.national_prefix_for_parsing }
     {
-        match &self.patterns.national_prefix_for_parsing {
-            Some(pattern) => Some(pattern.as_ref()),
-            None => None,
-        }
+        lent::pattern(&self.patterns.national_prefix_for_parsing)
     }
 
     /// The template that takes its place, with `$1` for the first group of that pattern.
     pub fn national_prefix_transform_rule(&self) -> Option<&str>
         ensures { option_copied result ≡ self.now.national_prefix_transform_rule }
     {
-        match &self.kept.national_prefix_transform_rule {
-            Some(text) => Some(text.as_str()),
-            None => None,
-        }
+        lent::text(&self.kept.national_prefix_transform_rule)
     }
 
     /// The layouts of national text.
@@ -254,20 +251,14 @@ impl Metadata {
     pub fn leading_digits(&self) -> Option<&Regex>
         ensures { IsLentPattern self.now.leading_digits result }
     {
-        match &self.patterns.leading_digits {
-            Some(pattern) => Some(pattern.regex()),
-            None => None,
-        }
+        lent::regex(&self.patterns.leading_digits)
     }
 
     /// The same, as a pattern that searches.
     pub fn leading_digits_pattern(&self) -> Option<&Pattern>
         ensures { option_copied result ≡ self.now.leading_digits }
     {
-        match &self.patterns.leading_digits {
-            Some(pattern) => Some(pattern.as_ref()),
-            None => None,
-        }
+        lent::pattern(&self.patterns.leading_digits)
     }
 
     /// Whether a mobile number can be kept when the carrier changes.
@@ -289,19 +280,5 @@ pub fn compile_all(
     ensures refused { IfErr result (IsPatternRefusal (flat_map patterns_in given.items)) }
 {
     let pool = Pool::new(alloc);
-    compile_each(&pool, given)
-}
-
-/// The same, with one pattern for each text in a pool.
-fn compile_each(pool: &Pool, given: Vec<loader::Metadata>) -> Result<Vec<Metadata>, LoadMetadata>
-    requires { first_missing given.items ≡ None }
-    ensures compiled { IfOk result (λ territories. territories.items ≡ given.items) }
-    ensures read { IfOk result (λ territories. AllByRecursion IsPattern (flat_map patterns_in given.items)) }
-    ensures refused { IfErr result (IsPatternRefusal (flat_map patterns_in given.items)) }
-{
-    let mut territories = Vec::new(pool.allocator());
-    for territory in given {
-        territories.push(Metadata::compile(pool, territory)?)?;
-    }
-    Ok(territories)
+    each::compile_each(&pool, given)
 }

@@ -4,7 +4,8 @@ ghost use Rattle.std.specs.Option.{option_to_list};
 ghost use Rattle.phone_meta.specs.Refusals.{AreRead, patterns_besides};
 ghost use Rattle.phone_records.specs.Missing.{first_given, missing_in_format};
 
-use crate::format::{self, Format};
+use crate::each;
+use crate::format::Format;
 use crate::loader::{self, Text};
 use crate::together::both_read;
 use phone_pattern::{Pattern, Pool};
@@ -59,8 +60,8 @@ impl Patterns {
         let dialled = compile_text(pool, dialled);
         let parsing = compile_text(pool, parsing);
         let leading = compile_text(pool, leading);
-        let national = format::compile_all(pool, national);
-        let layouts = both_read(national, format::compile_all(pool, international));
+        let national = each::compile_each(pool, national);
+        let layouts = both_read(national, each::compile_each(pool, international));
         let texts = both_read(parsing, both_read(leading, layouts));
         let (international_prefix, (national_prefix_for_parsing, others)) = both_read(
             dialled, texts,

@@ -1,8 +1,9 @@
 -- The code of a number, by the way it was dialled.
-use Rattle.std.proofs.Common.{◌≡◌, ℕ, nat_le, if◌then◌else◌, List, length, drop, Option, Some, None, option_map, Result, Ok, Err, IfOk, IfErr, MatchResult, refl, ap, sym, subst, ◌∙◌}
-use Rattle.std.proofs.lemmas.Bool.{cond_both}
+use Rattle.std.proofs.Common.{◌≡◌, ℕ, nat_le, if◌then◌else◌, List, length, drop, unwrap_or, Option, Some, None, option_map, Result, Ok, Err, IfOk, IfErr, IsSome, MatchResult, refl, ap, sym, subst, ◌∙◌}
+use Rattle.std.proofs.lemmas.Bool.{cond_both, false≢true}
 use Rattle.std.specs.Fmt.{decimal}
 use Rattle.std.specs.Option.{option_map_or}
+use Rattle.std.specs.Result.{result_map_both}
 use Rattle.phone_chars.specs.Norm.{norm}
 use Rattle.phone_core.specs.Numbers.{number_in}
 use Rattle.phone_core.specs.declared.country.Id.{Id}
@@ -30,18 +31,22 @@ code_of-dialled db hint m pattern n p q source digits of_hint of_territory of_re
     ∙ ap (code_by db m q source) (sym d)
 
 -- a prefix from the reader tells as a plus sign does
-pub plus_by_prefix : (found : List ℕ → Option (ℕ × ℕ)) (n : List ℕ) (p : Option (List ℕ)) (x : List ℕ) → option_map norm p ≡ Some x → (dialled found n p).source ≡ Plus
-plus_by_prefix found n None x e = cc
-plus_by_prefix found n (Some p) x e = refl
+pub plus_by_prefix : {X : Type 0} (text : X → List ℕ) (x : Option X) (found : List ℕ → Option (ℕ × ℕ)) (n : List ℕ) (p : Option (List ℕ)) →
+    option_map text x ≡ option_map norm p → IsSome x → (dialled found n p).source ≡ Plus
+plus_by_prefix text None found n p e some = absurd (false≢true some)
+plus_by_prefix text (Some x) found n None e some = cc
+plus_by_prefix text (Some x) found n (Some p) e some = refl
 
--- a prefix that was normalised
-pub prefix_some : (p : Option (List ℕ)) (x : List ℕ) (code : ℕ) → option_map norm p ≡ Some x → option_map norm p ≡ Some (prefix_of p code)
-prefix_some None x code e = cc
-prefix_some (Some p) x code e = refl
+-- where the reader gave no prefix there is none
+pub none_before : {X : Type 0} (text : X → List ℕ) (x : Option X) (p : Option (List ℕ)) → option_map text x ≡ option_map norm p → p ≡ None → x ≡ None
+none_before text None p e none = refl
+none_before text (Some x) None e none = cc
+none_before text (Some x) (Some p) e none = cc
 
-pub prefix_none : (p : Option (List ℕ)) (code : ℕ) → option_map norm p ≡ None → decimal code ≡ prefix_of p code
-prefix_none None code e = refl
-prefix_none (Some p) code e = cc
+-- the prefix of a number by its normalised one
+pub prefix_of-read : (p : Option (List ℕ)) (code : ℕ) → unwrap_or (option_map norm p) (decimal code) ≡ prefix_of p code
+prefix_of-read None code = refl
+prefix_of-read (Some p) code = refl
 
 -- without a prefix, and from another source than the hint, the front of the digits tells
 pub code_by-front : (db : List Metadata) (m : Option Metadata) (source : Source) (digits : List ℕ) → ¬ (source ≡ Default) →
@@ -106,3 +111,21 @@ code_of-told db hint n p none =
 -- two answers that are refused alike
 pub refused_as : {S T E : Type 0} (a : Result S E) (b : Result T E) (e : E) → a ≡ Err e → b ≡ Err e → IfErr b (λ e. a ≡ Err e)
 refused_as a b e ae be = subst (λ r. IfErr r (λ e. a ≡ Err e)) (sym be) ae
+
+-- two answers that one step gave: what is found is found by both, and refused by both
+pub ok_both : {S T E : Type 0} (a : Result S E) (b : Result T E) (r : Result ℕ E) (f : ℕ → S) (g : ℕ → T) (P Q : T → S → Type 0) →
+    a ≡ result_map_both f (λ e. e) r → b ≡ result_map_both g (λ e. e) r → ((n : ℕ) → P (g n) (f n)) → ((n : ℕ) → Q (g n) (f n)) →
+    IfOk a (λ x. (y : T) × (b ≡ Ok y) × P y x × Q y x)
+ok_both {S} {T} a b (Ok n) f g P Q ea eb p q = subst (λ a. IfOk a (λ x. (y : T) × (b ≡ Ok y) × P y x × Q y x)) (sym ea) (g n, eb, p n, q n)
+ok_both {S} {T} a b (Err e) f g P Q ea eb p q = subst (λ a. IfOk a (λ x. (y : T) × (b ≡ Ok y) × P y x × Q y x)) (sym ea) tt
+
+pub err_both : {S T E : Type 0} (a : Result S E) (b : Result T E) (r : Result ℕ E) (f : ℕ → S) (g : ℕ → T) →
+    a ≡ result_map_both f (λ e. e) r → b ≡ result_map_both g (λ e. e) r → IfErr a (λ e. b ≡ Err e)
+err_both a b (Ok n) f g ea eb = subst (λ a. IfErr a (λ e. b ≡ Err e)) (sym ea) tt
+err_both a b (Err e) f g ea eb = subst (λ a. IfErr a (λ e. b ≡ Err e)) (sym ea) eb
+
+-- what holds of all that a step makes
+pub ok_made : {S E : Type 0} (a : Result S E) (r : Result ℕ E) (f : ℕ → S) (P : S → Type 0) →
+    a ≡ result_map_both f (λ e. e) r → ((n : ℕ) → P (f n)) → IfOk a P
+ok_made a (Ok n) f P ea h = subst (λ a. IfOk a P) (sym ea) (h n)
+ok_made a (Err e) f P ea h = subst (λ a. IfOk a P) (sym ea) tt

@@ -9,7 +9,7 @@ ghost use Rattle.phone_core.specs.declared.country.Source.{Source};
 ghost use Rattle.phone_core.specs.declared.country.Source.TheVariants.{Plus, Default};
 ghost use Rattle.phone_parts.specs.Parts.{parts_of};
 ghost use Rattle.phone_parts.specs.Texts.{is_front};
-ghost use Rattle.phone_read.specs.Codes.{HasCode, IsCoded, IsLentDigits, code_by_front, code_by_prefix, code_of, international_prefix_of, is_bare, is_plain, prefix_of, with_three};
+ghost use Rattle.phone_read.specs.Codes.{HasCode, IsCoded, IsLentDigits, code_by, code_by_front, code_by_prefix, code_of, international_prefix_of, is_bare, is_plain, prefix_of, with_three};
 ghost use Rattle.phone_read.specs.Hints.{Coded, code_by_hint, hinted, looks_national};
 
 use crate::dialled::{OfTerritory, dialled};
@@ -119,15 +119,47 @@ pub(crate) fn coded<'a>(
         pattern: prefix_pattern(territory),
     };
     let number = dialled(db.allocator(), &finder, number)?;
+    with_code(db, territory, number)
+}
+
+/// A number of which is known how it was dialled, with its code: by its prefix where it has one, by the hint's territory
+/// where nothing else tells it, and else by the front of its digits.
+fn with_code<'a>(
+    db: &Database,
+    territory: Option<&Metadata>,
+    number: Number<'a>,
+) -> Result<CodedNumber<'a>, ParseError>
+    requires { IsSome number.prefix → number.country ≡ Plus }
+    ensures coded { IfOk result (λ r. (c : Coded) × (code_by db.now (option_copied territory.entry) (option_map cow_str_bytes number.entry.prefix) number.entry.country (cow_str_bytes number.entry.national) ≡ Ok c) ×
+        (r.code ≡ c.value) × IsCoded c (unwrap_or (option_map cow_str_bytes number.entry.prefix) (decimal c.value)) (option_map cow_str_bytes number.entry.extension) number.entry r.number) }
+    ensures refused { IfErr result (λ e. (e ≡ ParseError.Memory) ⊎
+        (code_by db.now (option_copied territory.entry) (option_map cow_str_bytes number.entry.prefix) number.entry.country (cow_str_bytes number.entry.national) ≡ Err e)) }
+    ensures at_once { IfErr (code_by db.now (option_copied territory.entry) (option_map cow_str_bytes number.entry.prefix) number.entry.country (cow_str_bytes number.entry.national)) (λ e. result ≡ Err e) }
+    ensures told { option_copied territory.entry ≡ None →
+        IfErr result (λ e. code_by db.now (option_copied territory.entry) (option_map cow_str_bytes number.entry.prefix) number.entry.country (cow_str_bytes number.entry.national) ≡ Err e) }
+    ensures borrowed { IfOk result (λ r. IsBorrowedStr number.entry.national → IsBorrowedStr r.number.national) }
+    ensures lent_prefix { IfOk result (λ r. number.entry.prefix ≡ None → IfSome r.number.prefix (λ p. IsBorrowedStr p)) }
+    ensures has_prefix { IfOk result (λ r. IsBorrowedStr number.entry.national → ¬ (r.number.country ≡ Default) → IsSome r.number.prefix) }
+{
     if let Some(prefix) = &number.prefix {
         let code = code_by_prefix(db, prefix.as_str(), number.national.as_str());
-        let (code, number) = beside(code, number)?;
-        return Ok(CodedNumber { code, number });
+        return by_prefix(code, number);
     }
     match number.country {
         Source::Default => by_hint(territory, number),
         _ => by_front(db, number),
     }
+}
+
+/// A number with the code of its prefix.
+fn by_prefix<'a>(
+    code: Result<u16, ParseError>,
+    number: Number<'a>,
+) -> Result<CodedNumber<'a>, ParseError>
+    ensures { result ≡ result_map_both (λ code. record { code = code; number = number.entry }) (λ e. e) code }
+{
+    let (code, number) = beside(code, number)?;
+    Ok(CodedNumber { code, number })
 }
 
 /// The international prefix of a territory.

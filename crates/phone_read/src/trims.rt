@@ -31,9 +31,10 @@ fn drop_front(text: String, at: usize) -> String
     ensures { string_bytes result ≡ drop at (string_bytes text) }
 {
     let mut bytes = text.into_bytes();
-    let len = bytes.len();
-    bytes.rotate_left(at);
-    bytes.truncate(len - at);
+    let left = bytes.len() - at;
+    bytes.reverse();
+    bytes.truncate(left);
+    bytes.reverse();
     // SAFETY: what follows a place between two characters is text.
     unsafe { String::from_utf8_unchecked(bytes) }
 }

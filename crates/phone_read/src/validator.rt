@@ -1,5 +1,6 @@
 //! What the length of a number says of it, what kind it is of, and which region it belongs to.
-ghost use Rattle.std.specs.Prelude.{◌≡◌, ◌==◌, ◌&&◌, not, Some, IfOk, if◌then◌else◌, codes, filter, length, map, reverse};
+ghost use Rattle.std.specs.Prelude.{◌≡◌, ◌==◌, ◌&&◌, not, Some, IfOk, if◌then◌else◌, codes};
+ghost use Rattle.std.specs.Prelude.{filter, length, map, option_map, reverse};
 ghost use Rattle.std.specs.Cow.{cow_str_bytes};
 ghost use Rattle.std.specs.List.{find, list_any};
 ghost use Rattle.std.specs.Option.{option_and_then, option_copied};
@@ -191,7 +192,7 @@ pub fn source_for(
     };
     match territories.next() {
         Some(_) => region_of_several(db, code, text),
-        None => Ok(sole(code, first.id())),
+        None => Ok(sole(code, first)),
     }
 }
 
@@ -204,39 +205,45 @@ fn region_of_several(
     ensures { IfOk result (λ r. r ≡ option_and_then region_named (find (is_of_region db.now text.now) (regions code db.now))) }
 {
     match first_region(db, code, text)? {
-        Some(id) => Ok(region_named(id)),
+        Some(territory) => Ok(region_named(territory)),
         None => Ok(None),
     }
 }
 
-/// The region by the sole id of a code.
-fn sole(code: u16, id: &str) -> Option<Either<Id, u16>>
-    ensures { result ≡ (if bytes_eq id.now (codes "001") then Some (either.Right code) else region_named id.now) }
+/// The region by the sole territory of a code.
+fn sole(code: u16, territory: &Metadata) -> Option<Either<Id, u16>>
+    ensures { result ≡ (if bytes_eq (id_of territory.now) (codes "001")
+        then Some (either.Right code) else region_named (id_of territory.now)) }
 {
-    if id == REGION_CODE_FOR_NON_GEO_ENTITY {
+    if territory.id() == REGION_CODE_FOR_NON_GEO_ENTITY {
         Some(Right(code))
     } else {
-        region_named(id)
+        region_named(territory)
     }
 }
 
-/// The region of this id; none where it is no region's.
-fn region_named(id: &str) -> Option<Either<Id, u16>>
-    ensures { result ≡ region_named id.now }
+/// The region of a territory's id; none where it is no region's.
+fn region_named(territory: &Metadata) -> Option<Either<Id, u16>>
+    ensures { result ≡ region_named (id_of territory.now) }
 {
-    match id.parse::<Id>() {
-        Ok(id) => Some(Left(id)),
-        Err(_) => None,
+    match territory.region() {
+        Some(id) => Some(Left(id)),
+        None => None,
     }
 }
 
-/// Of the ids of a code the first whose territory the number belongs to: the latest main one, or else the earliest of the
-/// others.
-fn first_region<'a>(db: &'a Database, code: u16, text: &str) -> Result<Option<&'a str>, AllocError>
-    ensures { IfOk result (λ r. option_copied r ≡ find (is_of_region db.entry.now text.now) (regions code db.entry.now)) }
+/// Of the territories of a code the first to whose id's territory the number belongs: the latest
+/// main one, or else the earliest of the others.
+fn first_region<'a>(
+    db: &'a Database,
+    code: u16,
+    text: &str,
+) -> Result<Option<&'a Metadata>, AllocError>
+    ensures { IfOk result (λ r. option_map id_of (option_copied r) ≡
+        find (is_of_region db.entry.now text.now) (regions code db.entry.now)) }
 {
     match last_main_region(db, code, text)? {
-        Some(id) => Ok(Some(id)),
+        Some(territory) => Ok(Some(territory)),
         None => first_other_region(db, code, text),
     }
 }
@@ -246,13 +253,15 @@ fn last_main_region<'a>(
     db: &'a Database,
     code: u16,
     text: &str,
-) -> Result<Option<&'a str>, AllocError>
-    ensures { IfOk result (λ r. option_copied r ≡ find (is_of_region db.entry.now text.now) (map id_of (reverse (filter (is_main_of code) db.entry.now)))) }
+) -> Result<Option<&'a Metadata>, AllocError>
+    ensures { IfOk result (λ r. option_map id_of (option_copied r) ≡
+        find (is_of_region db.entry.now text.now)
+        (map id_of (reverse (filter (is_main_of code) db.entry.now)))) }
 {
     let mut found = None;
     for territory in db.of_code(code) {
         if is_main_region(db, text, territory)? {
-            found = Some(territory.id());
+            found = Some(territory);
         }
     }
     Ok(found)
@@ -263,12 +272,14 @@ fn first_other_region<'a>(
     db: &'a Database,
     code: u16,
     text: &str,
-) -> Result<Option<&'a str>, AllocError>
-    ensures { IfOk result (λ r. option_copied r ≡ find (is_of_region db.entry.now text.now) (map id_of (filter (is_other_of code) db.entry.now))) }
+) -> Result<Option<&'a Metadata>, AllocError>
+    ensures { IfOk result (λ r. option_map id_of (option_copied r) ≡
+        find (is_of_region db.entry.now text.now)
+        (map id_of (filter (is_other_of code) db.entry.now))) }
 {
     for territory in db.of_code(code) {
         if is_other_region(db, text, territory)? {
-            return Ok(Some(territory.id()));
+            return Ok(Some(territory));
         }
     }
     Ok(None)

@@ -59,37 +59,48 @@ fn line_of_texts(
         (string_bytes texts.now.national) (string_bytes texts.now.rfc3966)) }
 {
     let queried = number.queried(database)?;
-    let front = texts_in_front(alloc, texts)?;
     let source = source_word(number.code().source());
     let kind = kind_word(queried.kind);
     let region = region_word(queried.region);
     let validity = validity_word(queried.is_valid);
-    with_words(alloc, front.as_str(), source, kind, region, validity)
+    let front = texts_in_front(alloc, texts)?;
+    with_words(front, source, kind, region, validity)
 }
 
-/// `ok` and the four texts of a number, parted by tabs. Refused only for memory.
+/// How many bytes a report line has room for at first: more than most take.
+const ROOM: usize = 160;
+
+/// `ok` and the four texts of a number, parted by tabs, with room for what follows them. Refused
+/// only for memory.
 fn texts_in_front(alloc: Global, texts: &Texts) -> Result<String, AllocError>
-    ensures { IfOk result (λ line. string_bytes line ≡ tabbed (codes "ok" ∷ string_bytes texts.now.e164 ∷ string_bytes texts.now.international ∷ string_bytes texts.now.national ∷ string_bytes texts.now.rfc3966 ∷ [])) }
+    ensures { IfOk result (λ line. string_bytes line ≡
+        tabbed (codes "ok" ∷ string_bytes texts.now.e164 ∷
+        string_bytes texts.now.international ∷ string_bytes texts.now.national ∷
+        string_bytes texts.now.rfc3966 ∷ [])) }
 {
     let e164 = texts.e164.as_str();
     let international = texts.international.as_str();
     let national = texts.national.as_str();
     let rfc3966 = texts.rfc3966.as_str();
-    format!(in alloc; "ok\t{e164}\t{international}\t{national}\t{rfc3966}")
+    let mut line = String::with_capacity(alloc, ROOM)?;
+    write!(line, "ok\t{e164}\t{international}\t{national}\t{rfc3966}")?;
+    Ok(line)
 }
 
 /// A front of a line and four more fields, parted by tabs. Refused only for memory.
 fn with_words(
-    alloc: Global,
-    front: &str,
+    front: String,
     source: &str,
     kind: &str,
     region: &str,
     validity: &str,
 ) -> Result<String, AllocError>
-    ensures { IfOk result (λ line. string_bytes line ≡ front.now ++ 9 ∷ tabbed (source.now ∷ kind.now ∷ region.now ∷ validity.now ∷ [])) }
+    ensures { IfOk result (λ line. string_bytes line ≡ string_bytes front ++
+        9 ∷ tabbed (source.now ∷ kind.now ∷ region.now ∷ validity.now ∷ [])) }
 {
-    format!(in alloc; "{front}\t{source}\t{kind}\t{region}\t{validity}")
+    let mut line = front;
+    write!(line, "\t{source}\t{kind}\t{region}\t{validity}")?;
+    Ok(line)
 }
 
 impl<'d> Answers for Reporter<'d> {

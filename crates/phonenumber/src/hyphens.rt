@@ -23,7 +23,7 @@ fn begins_apart(text: &str) -> bool
 pub(crate) fn hyphenated(alloc: Global, text: &str) -> Result<String, AllocError>
     ensures { IfOk result (λ s. string_bytes s ≡ encode_utf8_all (hyphenated (chars text.now))) }
 {
-    let mut out = String::new(alloc);
+    let mut out = String::with_capacity(alloc, text.len())?;
     let mut rest = text;
     while let Some((c, after)) = split_first(rest) {
         if !is_separator(c) {

@@ -11,6 +11,7 @@ mod phone_number;
 mod printing;
 mod queries;
 pub mod rows;
+mod written;
 
 pub use formatter::{FormatError, Formatter, format_with};
 pub use metadata::Metadata;

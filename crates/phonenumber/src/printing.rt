@@ -12,6 +12,7 @@ ghost use Rattle.phonenumber.specs.Texts.{hyphenated, laid_out, text_by};
 
 use crate::PhoneNumber;
 use crate::hyphens::hyphenated;
+use crate::written::written;
 use phone_core::Mode;
 use phone_core::consts::{DEFAULT_EXTN_PREFIX, RFC3966_EXTN_PREFIX, RFC3966_PREFIX};
 use phone_meta::{FirstGroup, Format, Metadata};
@@ -29,7 +30,7 @@ pub(crate) fn text_by(
     ensures { IfOk result (λ t. string_bytes t ≡ text_by m.now mode (option_copied own.entry) number.now) }
 {
     if let Mode::E164 = mode {
-        return format!(in alloc; "{number}");
+        return written(alloc, format_args!("{number}"));
     }
     let laid = laid_out(alloc, finder, m, mode, own, number)?;
     match mode {
@@ -66,7 +67,7 @@ pub(crate) fn texts_by(
     ensures rfc3966 { IfOk result (λ t. string_bytes t.rfc3966 ≡ text_by m.now mode.Rfc3966 (option_copied own.entry) number.now) }
 {
     let national = number.national();
-    let digits = format!(in alloc; "{national}")?;
+    let digits = written(alloc, format_args!("{national}"))?;
     texts_of(alloc, finder, m, own, number, digits.as_str())
 }
 
@@ -134,7 +135,7 @@ fn texts_laid(
 {
     let ((e164, international), (national, rfc3966)) = both(
         both(
-            format!(in alloc; "{number}"),
+            written(alloc, format_args!("{number}")),
             international(alloc, abroad, m, number),
         ),
         both(
@@ -160,7 +161,7 @@ fn international(
     ensures { IfOk result (λ t. string_bytes t ≡ 43 ∷ (decimal number.now.code.value ++ 32 ∷ (laid.now ++ extension_part m.now number.now.extension))) }
 {
     let code = number.code().value();
-    with_extension(format!(in alloc; "+{code} {laid}")?, m, number)
+    with_extension(written(alloc, format_args!("+{code} {laid}"))?, m, number)
 }
 
 /// The text of RFC 3966 of a number that is laid out so.
@@ -178,7 +179,7 @@ fn rfc3966_of(alloc: Global, hyphens: &str, number: &PhoneNumber) -> Result<Stri
         45 ∷ (hyphens.now ++ extension_parameter number.now.extension))) }
 {
     let code = number.code().value();
-    let text = format!(in alloc; "{RFC3966_PREFIX}+{code}-{hyphens}")?;
+    let text = written(alloc, format_args!("{RFC3966_PREFIX}+{code}-{hyphens}"))?;
     match number.extension() {
         Some(extension) => announced(text, RFC3966_EXTN_PREFIX, extension.as_str()),
         None => Ok(text),
@@ -222,7 +223,7 @@ fn laid_out(
     ensures { IfOk result (λ t. string_bytes t ≡ laid_out m.now mode (option_copied own.entry) number.now) }
 {
     let national = number.national();
-    let digits = format!(in alloc; "{national}")?;
+    let digits = written(alloc, format_args!("{national}"))?;
     laid_in_mode(alloc, finder, m, mode, own, number, digits.as_str())
 }
 

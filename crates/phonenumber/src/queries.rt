@@ -9,6 +9,7 @@ ghost use Rattle.phone_records.specs.declared.loader.Metadata as loader;
 ghost use Rattle.phonenumber.specs.Queries.{is_valid, kind_of_number, region_of_number, territory_of_number};
 
 use crate::PhoneNumber;
+use crate::written::written;
 use phone_core::Type;
 use phone_core::country::{Code, Id};
 use phone_meta::{Database, Metadata};
@@ -55,7 +56,7 @@ impl<'a> Country<'a> {
         ensures { IfOk result (λ id. id ≡ region_of_number database.now self.now) }
     {
         match self.number.metadata(database)? {
-            Some(territory) => Ok(territory.id().parse::<Id>().ok()),
+            Some(territory) => Ok(territory.region()),
             None => Ok(None),
         }
     }
@@ -81,7 +82,7 @@ impl PhoneNumber {
         ensures { IfOk result (λ text. string_bytes text ≡ decimal self.now.national.value) }
     {
         let value = self.national().value();
-        format!(in alloc; "{value}")
+        written(alloc, format_args!("{value}"))
     }
 
     /// The territory that the number belongs to, by its value in decimal without leading zeros; none where it belongs to
@@ -135,7 +136,7 @@ impl PhoneNumber {
         ensures { IfOk result (λ valid. valid ≡ is_valid database.now self.now) }
     {
         let national = self.national();
-        let digits = format!(in database.allocator(); "{national}")?;
+        let digits = written(database.allocator(), format_args!("{national}"))?;
         is_known_in(database, self.code().value(), digits.as_str())
     }
 }
@@ -156,7 +157,7 @@ fn region_and_kind_of(
     match validator::home(database, code, digits)? {
         Some(territory) => {
             let kind = validator::number_type(territory, digits)?;
-            Ok((territory.id().parse::<Id>().ok(), kind))
+            Ok((territory.region(), kind))
         }
         None => Ok((None, Type::Unknown)),
     }

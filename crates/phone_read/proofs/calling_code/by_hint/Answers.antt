@@ -1,4 +1,4 @@
-use Rattle.std.proofs.Common.{◌≡◌, ℕ, Bool, List, ◌&&◌, not, None, Result, Ok, Err, IfOk, option_map, drop, length, refl, ap, sym, subst, ◌∙◌}
+use Rattle.std.proofs.Common.{◌≡◌, ℕ, Bool, List, ◌&&◌, not, None, Result, Ok, Err, IfOk, IfErr, option_map, drop, length, refl, ap, sym, subst, ◌∙◌}
 use Rattle.std.specs.Cow.{cow_str_bytes}
 use Rattle.std.specs.Fmt.{decimal}
 use Rattle.std.specs.Option.{option_copied, option_map_or}
@@ -60,3 +60,15 @@ returns-clause-coded c =
         carrier = refl;
       },
     )
+
+pub returns-in_err-is_apart-clause-at_once : goal.returns-in_err-is_apart-clause-at_once
+returns-in_err-is_apart-clause-at_once c =
+    let digits = cow_str_bytes c.args.number.national in
+    subst (λ o. IfErr (option_map_or (λ m. Ok (code_by_hint m digits)) (option_copied o) (Err InvalidCountryCode)) (λ e. c.from_residual.result ≡ Err e))
+    (sym c.in-Some.is) tt
+
+pub returns-then-is_apart-clause-at_once : goal.returns-then-is_apart-clause-at_once
+returns-then-is_apart-clause-at_once c =
+    let digits = cow_str_bytes c.args.number.national in
+    subst (λ o. IfErr (option_map_or (λ m. Ok (code_by_hint m digits)) (option_copied o) (Err InvalidCountryCode)) (λ e. Ok c.cut_off.result ≡ Err e))
+    (sym c.in-Some.is) tt

@@ -1,4 +1,4 @@
-use Rattle.std.proofs.Common.{◌≡◌, filter, map, reverse}
+use Rattle.std.proofs.Common.{◌≡◌, filter, map, option_map, reverse}
 use Rattle.std.specs.List.{find}
 use Rattle.std.specs.Option.{option_copied}
 use Rattle.phone_meta.specs.Codes.{is_main_of}
@@ -8,4 +8,4 @@ use Rattle.phone_read.proofs.Regional.{last_main}
 use Rattle.phone_read.proofs.validator.last_main_region.Given as goal
 
 abbrev pub invariant-loop-territory : goal.invariant-loop-territory
-invariant-loop-territory l = find (is_of_region l.db l.text) (map id_of (reverse (filter (is_main_of l.code) l.db))) ≡ last_main (is_of_region l.db l.text) l.territory-iterator (option_copied l.found)
+invariant-loop-territory l = find (is_of_region l.db l.text) (map id_of (reverse (filter (is_main_of l.code) l.db))) ≡ last_main (is_of_region l.db l.text) l.territory-iterator (option_map id_of (option_copied l.found))

@@ -1,5 +1,4 @@
-use Rattle.std.proofs.Common.{ℕ, List, [], ◌∷◌, Option, unwrap_or, ap, sym, subst, IfOk, ◌≡◌, ◌∙◌}
-use Rattle.phone_read.specs.Regions.{region_among}
+use Rattle.std.proofs.Common.{◌∷◌, ap, sym, subst, IfOk, ◌≡◌, ◌∙◌}
 use Rattle.phone_read.proofs.Regional.{no_region, sole_region, first_region}
 use Rattle.phone_read.proofs.validator.source_for.Goals as goal
 
@@ -16,5 +15,4 @@ pub returns-in-None : goal.returns-in-None
 returns-in-None c =
     let one = sym c.of_code-territories.ensures ∙ c.in-Some.ensures.steps ∙ ap (λ ms. c.in-Some.first.now ∷ ms) c.in-None.ensures.steps.0 in
     c.sole.ensures
-    ∙ ap (λ (o : Option (List ℕ)). region_among c.args.db.now c.args.code c.args.text.now (unwrap_or o [] ∷ [])) (sym c.id.ensures)
     ∙ sym (sole_region c.args.db.now c.args.code c.args.text.now _ one)

@@ -31,6 +31,6 @@ returns c =
     (c.region_word-region.ensures ∙ ap region_word queried.region)
     (c.validity_word-validity.ensures ∙ ap validity_word queried.is_valid)
     (is ∙ ap (λ x. x ++ 9 ∷ (source ++ 9 ∷ (kind ++ 9 ∷ (region ++ 9 ∷ validity))))
-    (c.as_str.ensures.value ∙ c.in_ok-front.ensures)
+    c.in_ok-front.ensures
     ∙ fields-parted e164 international national rfc3966 source kind region validity))
     c.with_words.ensures

@@ -11,7 +11,7 @@ returns c =
     let laid = c.args.laid.now in
     let ext = extension_part c.args.m.now number.extension in
     let shown : decimal c.value-code.result ≡ decimal number.code.value = ap decimal (c.value-code.ensures ∙ ap (λ (k : Code). k.value) c.code.ensures) in
-    let text : string_bytes c.in_ok-format.field-0 ≡ 43 ∷ (decimal number.code.value ++ 32 ∷ laid) = c.in_ok-format.ensures.ok ∙ ap (λ d. 43 ∷ (d ++ 32 ∷ laid)) shown in
+    let text : string_bytes c.in_ok-written.field-0 ≡ 43 ∷ (decimal number.code.value ++ 32 ∷ laid) = c.in_ok-written.ensures ∙ ap (λ d. 43 ∷ (d ++ 32 ∷ laid)) shown in
     ok_again c.with_extension.result _ _
     (λ t h. h ∙ ap (λ s. s ++ ext) text ∙ ap (λ s. 43 ∷ s) (append_assoc (decimal number.code.value) (32 ∷ laid) ext))
     c.with_extension.ensures

@@ -1,11 +1,36 @@
-use Rattle.std.proofs.Common.{◌≡◌, None, [], ◌∷◌, rules}
+use Rattle.std.proofs.Common.{◌≡◌, ℕ, List, Option, None, Some, Result, Ok, Err, IfOk, [], ◌∷◌, filter, length, map, refl, rules, subst}
 use Rattle.std.specs.List.{flat_map}
 use Rattle.phone_records.specs.Missing.{first_missing}
-use Rattle.phone_meta.specs.Records.{first_group_pattern}
+use Rattle.phone_records.specs.declared.loader.Metadata.{Metadata}
+use Rattle.phone_meta.specs.Codes.{is_listed}
+use Rattle.phone_meta.specs.Index.{count_of_ids}
+use Rattle.phone_meta.specs.Records.{first_group_pattern, has_code, has_id, last_place, places_where}
 use Rattle.phone_meta.specs.Refusals.{patterns_in}
-use Rattle.phone_meta.proofs.Refused.{refused-first_group, refused-territories}
+use Rattle.phone_meta.specs.declared.index.Index.{Index}
+use Rattle.phone_sorted.specs.Orders.{place_of}
+use Rattle.phone_sorted.specs.Orders as placed
+use Rattle.phone_trie.specs.Codes.{is_in}
+use Rattle.phone_texts.specs.declared.error.LoadMetadata.{LoadMetadata}
+use Rattle.phone_meta.proofs.Refused.{one-read, refused-first_group, refused-territories}
 use Rattle.phone_pattern.proofs.Refused.{both-patterns}
 use Rattle.phone_meta.proofs.database.Database.from.Goals as goal
+
+-- what an index finds in these territories
+abbrev IsIndexOf : Index → List Metadata → Type 0
+IsIndexOf index db =
+    ((id : List ℕ) → place_of id index.by_id ≡ last_place (has_id id) db) ×
+    (length index.by_id ≡ count_of_ids db) ×
+    ((code : ℕ) → map (λ e. e.place) (filter (placed.has_code code) index.by_code) ≡ places_where (has_code code) db) ×
+    ((code : ℕ) → is_in code index.codes ≡ is_listed code db)
+
+all-of : (made : Result Index LoadMetadata) (db : List Metadata) →
+    IfOk made (λ i. (id : List ℕ) → place_of id i.by_id ≡ last_place (has_id id) db) →
+    IfOk made (λ i. length i.by_id ≡ count_of_ids db) →
+    IfOk made (λ i. (code : ℕ) → map (λ e. e.place) (filter (placed.has_code code) i.by_code) ≡ places_where (has_code code) db) →
+    IfOk made (λ i. (code : ℕ) → is_in code i.codes ≡ is_listed code db) →
+    IfOk made (λ i. IsIndexOf i db)
+all-of (Ok i) db last once coded listed = (last, once, coded, listed)
+all-of (Err e) db last once coded listed = tt
 
 pub returns-in_err-territories-clause-refused : goal.returns-in_err-territories-clause-refused
 returns-in_err-territories-clause-refused c =
@@ -14,14 +39,29 @@ returns-in_err-territories-clause-refused c =
     let h = refused-territories c.args.records.items e none c.in_err-territories.ensures.refused in
     search (rules, h)
 
-pub returns-in_err-first_group-clause-refused : goal.returns-in_err-first_group-clause-refused
-returns-in_err-first_group-clause-refused c =
-    let e = c.in_err-first_group.field-0.0 in
+pub returns-in_err-territories-2-clause-refused : goal.returns-in_err-territories-2-clause-refused
+returns-in_err-territories-2-clause-refused c =
+    let e = c.in_err-territories-2.field-0.0 in
     let none : first_missing c.args.records.items ≡ None = search rules in
-    let own = c.in_ok-territories.ensures.read in
-    let h = refused-first_group c.args.records.items e none own c.in_err-first_group.ensures.refused in
+    let group = one-read (Some first_group_pattern) first_group_pattern c.compile.result refl c.compile.ensures.read c.compile.ensures.refused in
+    let others = c.both_read-others.ensures.read [] _ c.of-index.ensures.read group in
+    let all = c.in_err-territories-2.ensures.read [] _ (tt, tt) others in
+    let h = refused-first_group c.args.records.items e none c.in_ok-territories.ensures.read all.1 in
     search (rules, h)
+
+pub invariant_of-result : goal.invariant_of-result
+invariant_of-result c =
+    let index = c.in_ok-territories-2.index in
+    let both : c.both_read-others.result ≡ Ok (index, c.in_ok-territories-2.first_group) = c.in_ok-territories-2.ensures.made.1 in
+    let made : c.of-index.result ≡ Ok index = (subst (λ r. IfOk r (λ all. (c.of-index.result ≡ Ok all.0) × (c.compile.result ≡ Ok all.1))) both c.both_read-others.ensures.made).0 in
+    let same : c.as_slice-2.result.now ≡ c.in_ok-territories-2.territories.items = search rules in
+    let of : IsIndexOf index c.as_slice-2.result.now =
+    subst (λ r. IfOk r (λ i. IsIndexOf i c.as_slice-2.result.now)) made (all-of c.of-index.result c.as_slice-2.result.now c.of-index.ensures.last c.of-index.ensures.once c.of-index.ensures.coded c.of-index.ensures.listed) in
+    subst (IsIndexOf index) same of
 
 pub returns-clause-read : goal.returns-clause-read
 returns-clause-read c = λ _.
-    both-patterns (flat_map patterns_in c.args.records.items) (first_group_pattern ∷ []) c.in_ok-territories.ensures.read (c.in_ok-first_group.ensures.read, tt)
+    let group = one-read (Some first_group_pattern) first_group_pattern c.compile.result refl c.compile.ensures.read c.compile.ensures.refused in
+    let others = c.both_read-others.ensures.read [] _ c.of-index.ensures.read group in
+    let all = c.in_ok-territories-2.ensures.read [] _ (tt, tt) others in
+    both-patterns (flat_map patterns_in c.args.records.items) (first_group_pattern ∷ []) c.in_ok-territories.ensures.read all.0

@@ -4,7 +4,7 @@ use Rattle.phone_meta.proofs.Complete.{has_all, whole_kinds}
 use Rattle.phone_meta.specs.Refusals.{IsPatternRefusal}
 use Rattle.phone_meta.proofs.Refused.{besides-read, in_order}
 use Rattle.phone_pattern.proofs.Refused.{ArePatterns}
-use Rattle.phone_meta.proofs.metadata.Metadata.compile.Goals as goal
+use Rattle.phone_meta.proofs.metadata.MetadataCompile.compile.Goals as goal
 
 pub unwrap-requires : goal.unwrap-requires
 unwrap-requires c = (has_all c.args.given c.requires).id
@@ -24,16 +24,15 @@ compile-patterns-requires-clause-national c = subst (λ xs. first_given (map mis
 pub compile-patterns-requires-clause-international : goal.compile-patterns-requires-clause-international
 compile-patterns-requires-clause-international c = subst (λ xs. first_given (map missing_in_format xs) ≡ None) (sym c.into_vec-2.ensures) (has_all c.args.given c.requires).international_formats
 
-pub returns-in_err-kept-clause-refused : goal.returns-in_err-kept-clause-refused
-returns-in_err-kept-clause-refused c =
-    let e = c.in_err-kept.field-0.0 in
+pub returns-in_err-kept-clause-read : goal.returns-in_err-kept-clause-read
+returns-in_err-kept-clause-read c =
     let besides = besides-read c.args.given c.compile-patterns.result _ _ c.into_vec.ensures c.into_vec-2.ensures c.compile-patterns.ensures.read in
     let all = c.in_err-kept.ensures.read [] _ (tt, tt) (c.both_read.ensures.read _ _ c.compile-descriptors.ensures.read besides) in
-    let h = subst (λ ps. IsPatternRefusal ps e) (in_order c.args.given) all.1 in
+    let h = subst (λ ps. IsPatternRefusal ps c.in_err-kept.field-0.0) (in_order c.args.given) all.1 in
     search (rules, h)
 
 pub returns-clause-read : goal.returns-clause-read
 returns-clause-read c =
     let besides = besides-read c.args.given c.compile-patterns.result _ _ c.into_vec.ensures c.into_vec-2.ensures c.compile-patterns.ensures.read in
     let all = c.in_ok-kept.ensures.read [] _ (tt, tt) (c.both_read.ensures.read _ _ c.compile-descriptors.ensures.read besides) in
-    subst ArePatterns (in_order c.args.given) all.0
+    (subst ArePatterns (in_order c.args.given) all.0, tt)
