@@ -1,9 +1,11 @@
-//! The program `book DATABASE [REGION]`: of the lines of standard input it writes, in their order, each whose number is the
-//! first of its calling code and national number, read under the region as a hint where one is given: the number's E.164
-//! text, a tab, and the line as it came. A line ends in a line feed, of which one carriage return in front is dropped.
+//! The program `book DATABASE [REGION]`: of the lines of standard input it writes, in their order,
+//! each whose number is the first of its calling code and national number, read under the region as
+//! a hint where one is given: the number's E.164 text, a tab, and the line as it came. A line ends
+//! in a line feed, of which one carriage return in front is dropped.
 //!
-//! How many lines had a new number, how many one that was there, and how many none is told on standard error. Status 0:
-//! all lines were read. 1: input, output or memory failed. 2: wrong words. 3: the database was refused.
+//! How many lines had a new number, how many one that was there, and how many none is told on
+//! standard error. Status 0: all lines were read. 1: input, output or memory failed. 2: wrong
+//! words. 3: the database was refused.
 //!
 //! A function that may leave early proves anew the drop of each value that it holds, so those that
 //! hold a database or a book lend it to others, and leave in one way.
@@ -38,7 +40,8 @@ fn run(rt: &HostRuntime, book: &mut Book, hint: Option<Id>) -> Result<Counts> {
     add_lines(alloc, input, &mut output, book, hint)
 }
 
-/// The region that a word names, or none where there is no word; none at all where the word is no region's id.
+/// The region that a word names, or none where there is no word; none at all where the word is no
+/// region's id.
 fn hint(word: Option<&str>) -> Option<Option<Id>> {
     match word {
         Some(word) => match word.parse::<Id>() {

@@ -19,7 +19,8 @@ Entry = String Global × Reading
 
 -- the key is the number's E.164 text, and the number's calling code is listed
 abbrev pub IsKept : List Metadata → Entry → Type 0
-IsKept db p = (string_bytes p.0 ≡ e164_text p.1) × (is_listed p.1.code.value db ≡ true) × IsHeld p.1.national
+IsKept db p = (string_bytes p.0 ≡ e164_text p.1) × (is_listed p.1.code.value db ≡ true) ×
+    IsHeld p.1.national
 
 -- so each entry of a book
 abbrev pub AreKept : List Metadata → List Entry → Type 0

@@ -8,7 +8,8 @@ use Rattle.phone_read.specs.declared.reading.Reading.{Reading}
 abbrev pub is_same_national : National → National → Bool
 is_same_national a b = (a.zeros == b.zeros) && (a.value == b.value)
 
--- two numbers are of one calling code and one national number; source, extension and carrier may differ
+-- two numbers are of one calling code and one national number; source, extension and carrier may
+-- differ
 abbrev pub is_same_number : Reading → Reading → Bool
 is_same_number a b = (a.code.value == b.code.value) && is_same_national a.national b.national
 

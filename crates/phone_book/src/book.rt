@@ -1,10 +1,12 @@
 //! A contact list without repeated numbers.
-ghost use Rattle.std.specs.Prelude.{◌≡◌, ◌↔◌, ◌++◌, [], List, false, true, length, map, slice_get, string_bytes, IfErr, IfOk, IsErr, OnErr};
+ghost use Rattle.std.specs.Prelude.{◌≡◌, ◌↔◌, ◌++◌, [], List, false, true, length, map, slice_get};
+ghost use Rattle.std.specs.Prelude.{string_bytes, IfErr, IfOk, IsErr, OnErr};
 ghost use Rattle.std.specs.Option.{option_copied};
 ghost use Rattle.phone_meta.specs.Codes.{is_listed, is_prefix_free};
 ghost use Rattle.phone_read.specs.declared.reading.Reading.{Reading};
 ghost use Rattle.phonenumber.specs.Texts.{e164_text};
-ghost use Rattle.phone_book.specs.Answers.{AreAnswered, HasNumbers, HaveNumbers, IsAnswered, IsPlaced, line_of};
+ghost use Rattle.phone_book.specs.Answers.{AreAnswered, HasNumbers, HaveNumbers, IsAnswered};
+ghost use Rattle.phone_book.specs.Answers.{IsPlaced, line_of};
 ghost use Rattle.phone_book.specs.Firsts.{firsts};
 ghost use Rattle.phone_book.specs.declared.answers.BookNewError.TheVariants as new_error;
 
@@ -19,8 +21,9 @@ use phonenumber::{PhoneNumber, laws, parse_with};
 use std::alloc::AllocError;
 use std::marker::Model;
 
-/// Numbers under one database, in order of arrival, of which no two have one calling code and one national number: each stays
-/// as it was first written. Contracts see the records of the database and the numbers.
+/// Numbers under one database, in order of arrival, of which no two have one calling code and one
+/// national number: each stays as it was first written. Contracts see the records of the database
+/// and the numbers.
 #[derive(Drop)]
 pub struct Book {
     database: Database,
@@ -38,14 +41,15 @@ impl Model for Book {
 
     ghost view = { λ b. record { database = b.database; entries = values b.entries } };
 
-    ghost invariant = { λ b. (is_prefix_free b.database ≡ true) × (firsts (values b.entries) ≡ values b.entries) × AreKept b.database b.entries.entries };
+    ghost invariant = { λ b. (is_prefix_free b.database ≡ true) ×
+        (firsts (values b.entries) ≡ values b.entries) × AreKept b.database b.entries.entries };
 }
 
 impl Book {
     /// An empty book over a database, whose allocator it uses. Takes no memory.
     ///
-    /// Refused by `Ambiguous`, with the database given back, exactly where a listed calling code begins another: two numbers may have
-    /// one E.164 text then.
+    /// Refused by `Ambiguous`, with the database given back, exactly where a listed calling code
+    /// begins another: two numbers may have one E.164 text then.
     pub fn new(database: Database) -> Result<Book, (BookNewError, Database)>
         ensures accepted { IfOk result (λ b. b ≡ record { database = database; entries = [] }) }
         ensures refused { IfErr result (λ e. e ≡ (new_error.Ambiguous, database)) }
@@ -90,8 +94,8 @@ impl Book {
         number.to_string(self.database.allocator())
     }
 
-    /// The place of a number: that of the one of the same calling code and national number, or a new one at the end. Refused only
-    /// for memory.
+    /// The place of a number: that of the one of the same calling code and national number, or a
+    /// new one at the end. Refused only for memory.
     fn place(&mut self, number: PhoneNumber) -> Result<Place, AllocError>
         requires { is_listed number.code.value self.old.database ≡ true }
         ensures placed { IfOk result (λ p. IsPlaced self.old.entries number p self.new.entries) }
@@ -111,16 +115,19 @@ impl Book {
         }
     }
 
-    /// Reads a line under a hint, as `parse_with` does, and adds its number, unless one of the same calling code and national number is
-    /// there: source, extension and carrier don't count, and the first one stays as it was written.
+    /// Reads a line under a hint, as `parse_with` does, and adds its number, unless one of the same
+    /// calling code and national number is there: source, extension and carrier don't count, and
+    /// the first one stays as it was written.
     ///
-    /// `Added` with the place of the new number, which is the count of those before it; `Present` with the place of the one that is
-    /// there. `Refused` where the line is read as no number, with the reason, and `Memory` where memory was refused: both leave the
-    /// book as it was.
+    /// `Added` with the place of the new number, which is the count of those before it; `Present`
+    /// with the place of the one that is there. `Refused` where the line is read as no number, with
+    /// the reason, and `Memory` where memory was refused: both leave the book as it was.
     pub fn add(&mut self, hint: Option<Id>, line: &str) -> Result<Place, BookError>
-        ensures entries { (ns : List Reading) × (HasNumbers self.old.database (hint, line.now) result ns) ×
+        ensures entries { (ns : List Reading) ×
+            (HasNumbers self.old.database (hint, line.now) result ns) ×
             (self.new.entries ≡ firsts (self.old.entries ++ ns)) }
-        ensures answer { IsAnswered self.old.database self.old.entries (hint, line.now) result self.new.entries }
+        ensures answer { IsAnswered self.old.database self.old.entries (hint, line.now) result
+            self.new.entries }
         ensures database { self.new.database ≡ self.old.database }
         ensures kept { OnErr result (self.new ≡ self.old) }
     {
@@ -135,10 +142,11 @@ impl Book {
         }
     }
 
-    /// Adds each line in order, as `add` does, whatever the answers to the lines before it were. One answer a line, in order; an answer of
-    /// `Memory` is that line's alone.
+    /// Adds each line in order, as `add` does, whatever the answers to the lines before it were.
+    /// One answer a line, in order; an answer of `Memory` is that line's alone.
     ///
-    /// Room for the answers is made first: where memory for it is refused, the book stays as it was.
+    /// Room for the answers is made first: where memory for it is refused, the book stays as it
+    /// was.
     pub fn add_all(
         &mut self,
         lines: &[(Option<Id>, &str)],
@@ -146,7 +154,9 @@ impl Book {
         ensures entries { IfOk result (λ answers. (ns : List Reading) ×
             (HaveNumbers self.old.database (map line_of lines.now) answers.items ns) ×
             (self.new.entries ≡ firsts (self.old.entries ++ ns))) }
-        ensures answers { IfOk result (λ answers. AreAnswered self.old.database self.old.entries (map line_of lines.now) answers.items self.new.entries) }
+        ensures answers { IfOk result (λ answers.
+            AreAnswered self.old.database self.old.entries (map line_of lines.now) answers.items
+            self.new.entries) }
         ensures database { self.new.database ≡ self.old.database }
         ensures kept { OnErr result (self.new ≡ self.old) }
     {

@@ -1,4 +1,5 @@
-//! A contact list without repeated numbers: of the numbers of one calling code and one national number it keeps the first.
+//! A contact list without repeated numbers: of the numbers of one calling code and one national
+//! number it keeps the first.
 #![tactic(auto)]
 
 mod answers;

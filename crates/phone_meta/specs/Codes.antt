@@ -1,5 +1,7 @@
--- Territories by calling code, after the original's `metadata/database`, and codes in front of digits, after its `parser/helper`.
-use Rattle.std.specs.Prelude.{ℕ, ◌&&◌, not, Bool, if◌then◌else◌, List, [], ◌∷◌, ◌++◌, take, map, filter, reverse, Option, None, Some, codes}
+-- Territories by calling code, after the original's `metadata/database`, and codes in front of
+-- digits, after its `parser/helper`.
+use Rattle.std.specs.Prelude.{ℕ, ◌&&◌, not, Bool, if◌then◌else◌, List, [], ◌∷◌, ◌++◌, take, map}
+use Rattle.std.specs.Prelude.{filter, reverse, Option, None, Some, codes}
 use Rattle.std.specs.List.{list_all, list_any}
 use Rattle.std.specs.Str.{bytes_eq}
 use Rattle.phone_records.specs.Missing.{first_given}
@@ -50,7 +52,8 @@ listed_front db text k = listed_if_some (front_number k text) db
 
 -- the shortest front of one to three digits that is listed; none where the text begins with `0`
 abbrev pub shortest : List Metadata → List ℕ → Option ℕ
-shortest db text = if bytes_eq (take 1 text) (codes "0") then None else first_given (map (listed_front db text) (1 ∷ 2 ∷ 3 ∷ []))
+shortest db text = if bytes_eq (take 1 text) (codes "0") then None
+    else first_given (map (listed_front db text) (1 ∷ 2 ∷ 3 ∷ []))
 
 -- no listed code's decimal text begins another listed code's
 abbrev pub is_prefix_free : List Metadata → Bool

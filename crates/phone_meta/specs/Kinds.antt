@@ -28,18 +28,54 @@ pub record Kinds : Type 0 where
 
 -- the sixteen descriptors of a territory's record
 abbrev pub kinds_of : Metadata → Kinds
-kinds_of m = record { general = m.general; fixed_line = m.fixed_line; mobile = m.mobile; toll_free = m.toll_free; premium_rate = m.premium_rate; shared_cost = m.shared_cost; personal_number = m.personal_number; voip = m.voip; pager = m.pager; uan = m.uan; emergency = m.emergency; voicemail = m.voicemail; short_code = m.short_code; standard_rate = m.standard_rate; carrier = m.carrier; no_international = m.no_international }
+kinds_of m = record {
+  general = m.general;
+  fixed_line = m.fixed_line;
+  mobile = m.mobile;
+  toll_free = m.toll_free;
+  premium_rate = m.premium_rate;
+  shared_cost = m.shared_cost;
+  personal_number = m.personal_number;
+  voip = m.voip;
+  pager = m.pager;
+  uan = m.uan;
+  emergency = m.emergency;
+  voicemail = m.voicemail;
+  short_code = m.short_code;
+  standard_rate = m.standard_rate;
+  carrier = m.carrier;
+  no_international = m.no_international;
+}
 
 -- the same of descriptors four at a time, in their order
 abbrev pub kinds_in : Four × Four × Four × Four → Kinds
-kinds_in k = record { general = k.0.0; fixed_line = k.0.1; mobile = k.0.2; toll_free = k.0.3; premium_rate = k.1.0; shared_cost = k.1.1; personal_number = k.1.2; voip = k.1.3; pager = k.2.0; uan = k.2.1; emergency = k.2.2; voicemail = k.2.3; short_code = k.3.0; standard_rate = k.3.1; carrier = k.3.2; no_international = k.3.3 }
+kinds_in k = record {
+  general = k.0.0;
+  fixed_line = k.0.1;
+  mobile = k.0.2;
+  toll_free = k.0.3;
+  premium_rate = k.1.0;
+  shared_cost = k.1.1;
+  personal_number = k.1.2;
+  voip = k.1.3;
+  pager = k.2.0;
+  uan = k.2.1;
+  emergency = k.2.2;
+  voicemail = k.2.3;
+  short_code = k.3.0;
+  standard_rate = k.3.1;
+  carrier = k.3.2;
+  no_international = k.3.3;
+}
 
 -- none of four descriptors lacks its pattern
 abbrev pub AreWhole : Four → Type 0
 AreWhole d =
-    (missing_in_descriptor d.0 ≡ None) × (missing_in_descriptor d.1 ≡ None) × (missing_in_descriptor d.2 ≡ None) × (missing_in_descriptor d.3 ≡ None)
+    (missing_in_descriptor d.0 ≡ None) × (missing_in_descriptor d.1 ≡ None) ×
+    (missing_in_descriptor d.2 ≡ None) × (missing_in_descriptor d.3 ≡ None)
 
--- the descriptor of a kind: the general one where the kind is unknown, fixed line's where it may also be mobile
+-- the descriptor of a kind: the general one where the kind is unknown, fixed line's where it may
+-- also be mobile
 abbrev pub descriptor_for : «Type» → Kinds → Option Descriptor
 descriptor_for kind.Unknown k = k.general
 descriptor_for kind.FixedLineOrMobile k = k.fixed_line

@@ -1,5 +1,8 @@
--- What contracts see of a database: its records, in the order in which they were handed in. After the original's `metadata`.
-use Rattle.std.specs.Prelude.{ℕ, suc, ◌==◌, ◌&&◌, ◌||◌, Bool, true, if◌then◌else◌, List, [], ◌∷◌, ◌++◌, map, length, reverse, Option, None, Some, option_map, unwrap_or, codes}
+-- What contracts see of a database: its records, in the order in which they were handed in. After
+-- the original's `metadata`.
+use Rattle.std.specs.Prelude.{ℕ, suc, ◌==◌, ◌&&◌, ◌||◌, Bool, true, if◌then◌else◌, List, [], ◌∷◌}
+use Rattle.std.specs.Prelude.{◌++◌, map, length, reverse, Option, None, Some, option_map, unwrap_or}
+use Rattle.std.specs.Prelude.{codes}
 use Rattle.std.specs.List.{list_any}
 use Rattle.std.specs.Option.{option_or}
 use Rattle.std.specs.Str.{bytes_eq}
@@ -16,7 +19,8 @@ pattern_of d = unwrap_or d.national_number []
 abbrev pub allows_length : Descriptor → ℕ → Bool
 allows_length d n = (length d.possible_length == 0) || list_any (λ k. k == n) d.possible_length
 
--- a text is such a number: its length in bytes is allowed, and the pattern's first match begins at its first byte
+-- a text is such a number: its length in bytes is allowed, and the pattern's first match begins at
+-- its first byte
 abbrev pub matches : Descriptor → List ℕ → Bool
 matches d text = allows_length d (length text) && at_start (pattern_of d) text
 
@@ -32,7 +36,8 @@ last_where passes (x ∷ xs) = option_or (last_where passes xs) (if passes x the
 -- the place of the last that passes
 abbrev pub last_place : {X : Type 0} → (X → Bool) → List X → Option ℕ
 last_place passes [] = None
-last_place passes (x ∷ xs) = option_or (option_map suc (last_place passes xs)) (if passes x then Some 0 else None)
+last_place passes (x ∷ xs) = option_or (option_map suc (last_place passes xs))
+    (if passes x then Some 0 else None)
 
 -- the places of those that pass, in their order
 abbrev pub places_where : {X : Type 0} → (X → Bool) → List X → List ℕ

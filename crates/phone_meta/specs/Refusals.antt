@@ -1,5 +1,6 @@
 -- Why a list of records is no database.
-use Rattle.std.specs.Prelude.{◌≡◌, ◌⊎◌, ℕ, List, [], ◌∷◌, ◌++◌, Option, MatchOption, Result, IfOk, IfErr}
+use Rattle.std.specs.Prelude.{◌≡◌, ◌⊎◌, ℕ, List, [], ◌∷◌, ◌++◌, Option, MatchOption, Result, IfOk}
+use Rattle.std.specs.Prelude.{IfErr}
 use Rattle.std.specs.List.{AllByRecursion, flat_map}
 use Rattle.std.specs.Option.{option_and_then, option_to_list}
 -- one of a list of patterns is refused, and all before it are patterns
@@ -18,14 +19,17 @@ use Rattle.phone_records.specs.declared.missing.Missing.{Missing}
 
 -- the pattern of a descriptor
 abbrev pub patterns_in_descriptor : Option Descriptor → List (List ℕ)
-patterns_in_descriptor d = option_to_list (option_and_then (λ (d : Descriptor). d.national_number) d)
+patterns_in_descriptor d = option_to_list
+    (option_and_then (λ (d : Descriptor). d.national_number) d)
 
 -- the patterns of four descriptors, and these after them
 abbrev pub with_four : Four → List (List ℕ) → List (List ℕ)
 with_four d after =
-    patterns_in_descriptor d.0 ++ (patterns_in_descriptor d.1 ++ (patterns_in_descriptor d.2 ++ (patterns_in_descriptor d.3 ++ after)))
+    patterns_in_descriptor d.0 ++ (patterns_in_descriptor d.1 ++
+    (patterns_in_descriptor d.2 ++ (patterns_in_descriptor d.3 ++ after)))
 
--- what was compiled of these patterns, in their order: where it is there all are patterns, else it is refused as they are
+-- what was compiled of these patterns, in their order: where it is there all are patterns, else it
+-- is refused as they are
 abbrev pub AreRead : {X : Type 0} → List (List ℕ) → Result X LoadMetadata → Type 0
 AreRead ps made = IfOk made (λ _. AllByRecursion IsPattern ps) × IfErr made (IsPatternRefusal ps)
 
@@ -34,21 +38,24 @@ abbrev pub patterns_in_format : Format → List (List ℕ)
 patterns_in_format f = option_to_list f.pattern ++ f.leading_digits
 
 -- the patterns of what is dialled in front, of leading digits, and of layouts
-abbrev pub patterns_besides : Option (List ℕ) → Option (List ℕ) → Option (List ℕ) → List Format → List Format → List (List ℕ)
+abbrev pub patterns_besides : Option (List ℕ) → Option (List ℕ) → Option (List ℕ) → List Format →
+    List Format → List (List ℕ)
 patterns_besides dialled parsing leading national international =
     option_to_list dialled
     ++ (option_to_list parsing
     ++ (option_to_list leading
     ++ (flat_map patterns_in_format national ++ flat_map patterns_in_format international)))
 
--- the patterns of a territory: of its descriptors, of what is dialled in front, of its leading digits, and of its layouts
+-- the patterns of a territory: of its descriptors, of what is dialled in front, of its leading
+-- digits, and of its layouts
 unfoldable pub patterns_in : Metadata → List (List ℕ)
 patterns_in m =
     flat_map patterns_in_descriptor (descriptors_of m)
     ++ (option_to_list m.international_prefix
     ++ (option_to_list m.national_prefix_for_parsing
     ++ (option_to_list m.leading_digits
-    ++ (flat_map patterns_in_format m.formats ++ flat_map patterns_in_format m.international_formats))))
+    ++ (flat_map patterns_in_format m.formats ++
+    flat_map patterns_in_format m.international_formats))))
 
 -- the patterns of a database: those of its territories, and that of the first group of a template
 abbrev pub patterns : List Metadata → List (List ℕ)
@@ -58,7 +65,8 @@ patterns db = flat_map patterns_in db ++ first_group_pattern ∷ []
 abbrev pub TellsMissing : Missing → LoadMetadata → Type 0
 TellsMissing missing e = told e ≡ (1, phase_of missing ∷ name_of missing ∷ [])
 
--- records are refused for the first value that is missing; only where nothing is missing, for one of the database's
--- patterns; or memory was refused
+-- records are refused for the first value that is missing; only where nothing is missing, for one
+-- of the database's patterns; or memory was refused
 abbrev pub IsRefusalOf : List Metadata → LoadMetadata → Type 0
-IsRefusalOf db e = MatchOption (first_missing db) (IsPatternRefusal (patterns db) e) (λ missing. TellsMissing missing e) ⊎ (e ≡ error.Memory)
+IsRefusalOf db e = MatchOption (first_missing db) (IsPatternRefusal (patterns db) e)
+    (λ missing. TellsMissing missing e) ⊎ (e ≡ error.Memory)

@@ -48,14 +48,20 @@ impl Model for Database {
 
     ghost view = { λ d. d.territories.items };
 
-    ghost invariant = { λ d. ((id : List ℕ) → placed.place_of id d.index.by_id ≡ last_place (has_id id) d.territories.items) × (length d.index.by_id ≡ count_of_ids d.territories.items) × ((code : ℕ) → map (λ e. e.place) (filter (placed.has_code code) d.index.by_code) ≡ places_where (has_code code) d.territories.items) × ((code : ℕ) → is_in code d.index.codes ≡ is_listed code d.territories.items) };
+    ghost invariant = { λ d. ((id : List ℕ) →
+        placed.place_of id d.index.by_id ≡ last_place (has_id id) d.territories.items) ×
+        (length d.index.by_id ≡ count_of_ids d.territories.items) ×
+        ((code : ℕ) → map (λ e. e.place) (filter (placed.has_code code) d.index.by_code) ≡
+        places_where (has_code code) d.territories.items) ×
+        ((code : ℕ) → is_in code d.index.codes ≡ is_listed code d.territories.items) };
 }
 
 impl Database {
-    /// A database of these records, in their order. First every record is looked through for a value that it must
-    /// have: refused by `Metadata(MissingValue)` with the first that is missing. Then each pattern is compiled once, in
-    /// their order: refused by `Regex` with the first text that is no pattern, or compiles to more than 10 MiB. Refused
-    /// by `Memory` where memory is refused.
+    /// A database of these records, in their order. First every record is looked through for a
+    /// value that it must have: refused by `Metadata(MissingValue)` with the first that is missing.
+    /// Then each pattern is compiled once, in their order: refused by `Regex` with the first text
+    /// that is no pattern, or compiles to more than 10 MiB. Refused by `Memory` where memory is
+    /// refused.
     pub fn from(alloc: Global, records: Vec<loader::Metadata>) -> Result<Database, LoadMetadata>
         ensures accepted { IfOk result (λ d. d ≡ records.items) }
         ensures complete { IsOk result → first_missing records.items ≡ None }
@@ -108,8 +114,8 @@ impl Database {
         self.by_id_in(id, &mut Steps::new())
     }
 
-    /// The same, with its steps counted: each comparison of ids is one, of which it takes at most as many as the number
-    /// of different ids has binary digits.
+    /// The same, with its steps counted: each comparison of ids is one, of which it takes at most
+    /// as many as the number of different ids has binary digits.
     pub fn by_id_in(&self, id: &str, steps: &mut Steps) -> Option<&Metadata>
         ensures territory { option_copied result ≡ last_with id.now self.now }
         ensures bound { (k : ℕ) → count_of_ids self.now < 2 ^ k → steps.new ≤ steps.old + k }

@@ -32,7 +32,12 @@ impl Model for Descriptor {
 
     ghost Value = { loader.Descriptor };
 
-    ghost view = { λ d. record { national_number = Some d.national_number.value; possible_length = d.possible_length.items; possible_local_length = d.possible_local_length.items; example = d.example } };
+    ghost view = { λ d. record {
+      national_number = Some d.national_number.value;
+      possible_length = d.possible_length.items;
+      possible_local_length = d.possible_local_length.items;
+      example = d.example;
+    } };
 }
 
 impl Descriptor {
@@ -43,7 +48,8 @@ impl Descriptor {
     ) -> Result<Descriptor, LoadMetadata>
         requires { missing_in_descriptor (Some given) ≡ None }
         ensures compiled { IfOk result (λ d. d ≡ given) }
-        ensures read { IfOk result (λ d. AllByRecursion IsPattern (patterns_in_descriptor (Some given))) }
+        ensures read { IfOk result (λ d.
+            AllByRecursion IsPattern (patterns_in_descriptor (Some given))) }
         ensures refused { IfErr result (IsPatternRefusal (patterns_in_descriptor (Some given))) }
     {
         let lengths = given.possible_length.into_vec();
@@ -80,8 +86,8 @@ impl Descriptor {
         self.national_number.as_str()
     }
 
-    /// How many digits the numbers may have. An empty list sets `is_match` no limit, but gives each length the verdict
-    /// `InvalidLength`.
+    /// How many digits the numbers may have. An empty list sets `is_match` no limit, but gives each
+    /// length the verdict `InvalidLength`.
     pub fn possible_length(&self) -> &[u16]
         ensures { result.now ≡ self.now.possible_length }
     {
@@ -102,9 +108,10 @@ impl Descriptor {
         lent::text(&self.example)
     }
 
-    /// Whether a text is such a number: the list of possible lengths is empty or has the text's length in bytes, and
-    /// the pattern's first match begins at the first byte. It need not reach the end. The length is asked first, so
-    /// where it decides nothing is searched, and nothing refused. Else refused only for memory.
+    /// Whether a text is such a number: the list of possible lengths is empty or has the text's
+    /// length in bytes, and the pattern's first match begins at the first byte. It need not reach
+    /// the end. The length is asked first, so where it decides nothing is searched, and nothing
+    /// refused. Else refused only for memory.
     pub fn is_match(&self, text: &str) -> Result<bool, AllocError>
         ensures matched { IfOk result (λ b. b ≡ matches self.now text.now) }
         ensures unsearched { allows_length self.now (length text.now) ≡ false → result ≡ Ok false }

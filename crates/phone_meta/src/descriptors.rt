@@ -40,7 +40,24 @@ impl Model for Descriptors {
 
     ghost Value = { Kinds };
 
-    ghost view = { λ d. record { general = Some d.general; fixed_line = d.fixed_line; mobile = d.mobile; toll_free = d.toll_free; premium_rate = d.premium_rate; shared_cost = d.shared_cost; personal_number = d.personal_number; voip = d.voip; pager = d.pager; uan = d.uan; emergency = d.emergency; voicemail = d.voicemail; short_code = d.short_code; standard_rate = d.standard_rate; carrier = d.carrier; no_international = d.no_international } };
+    ghost view = { λ d. record {
+      general = Some d.general;
+      fixed_line = d.fixed_line;
+      mobile = d.mobile;
+      toll_free = d.toll_free;
+      premium_rate = d.premium_rate;
+      shared_cost = d.shared_cost;
+      personal_number = d.personal_number;
+      voip = d.voip;
+      pager = d.pager;
+      uan = d.uan;
+      emergency = d.emergency;
+      voicemail = d.voicemail;
+      short_code = d.short_code;
+      standard_rate = d.standard_rate;
+      carrier = d.carrier;
+      no_international = d.no_international;
+    } };
 }
 
 /// Four descriptors of a record, each where it is given.
@@ -145,7 +162,8 @@ impl Descriptors {
 }
 
 impl Descriptors {
-    /// The descriptor of a kind. `Unknown` is the general one; fixed lines stand for `FixedLineOrMobile`.
+    /// The descriptor of a kind. `Unknown` is the general one; fixed lines stand for
+    /// `FixedLineOrMobile`.
     pub fn get(&self, kind: Type) -> Option<&Descriptor>
         ensures { option_copied result ≡ descriptor_for kind self.now }
     {

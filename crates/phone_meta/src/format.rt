@@ -1,9 +1,11 @@
 //! A layout of national numbers, with its patterns compiled.
-ghost use Rattle.std.specs.Prelude.{◌≡◌, ℕ, List, [], true, Some, Ok, option_map, IfOk, string_bytes};
+ghost use Rattle.std.specs.Prelude.{◌≡◌, ℕ, List, [], true, Some, Ok, option_map, IfOk};
+ghost use Rattle.std.specs.Prelude.{string_bytes};
 ghost use Rattle.std.specs.Borrow.{Bor};
 ghost use Rattle.std.specs.Option.{option_copied};
 ghost use Rattle.phone_meta.specs.First.{ArePatternsOf, IsLentPattern};
-ghost use Rattle.phone_meta.specs.Layouts.{laid_by, layout_template, national_template, rule_for, suits};
+ghost use Rattle.phone_meta.specs.Layouts.{laid_by, layout_template, national_template, rule_for};
+ghost use Rattle.phone_meta.specs.Layouts.{suits};
 ghost use Rattle.phone_meta.specs.Records.{is_led};
 
 use crate::each::Compile;
@@ -35,7 +37,14 @@ impl Model for Format {
 
     ghost Value = { loader.Format };
 
-    ghost view = { λ f. record { pattern = Some f.pattern.value; format = Some f.text; leading_digits = f.leading_digits.value; national_prefix_formatting_rule = f.national_prefix_rule; national_prefix_optional_when_formatting = f.is_national_prefix_optional; domestic_carrier = f.domestic_carrier } };
+    ghost view = { λ f. record {
+      pattern = Some f.pattern.value;
+      format = Some f.text;
+      leading_digits = f.leading_digits.value;
+      national_prefix_formatting_rule = f.national_prefix_rule;
+      national_prefix_optional_when_formatting = f.is_national_prefix_optional;
+      domestic_carrier = f.domestic_carrier;
+    } };
 }
 
 impl Compile for Format {
@@ -95,16 +104,17 @@ impl Format {
         self.text.as_str()
     }
 
-    /// Patterns of the digits in front for which the layout is meant; the last of them decides (`is_led`).
+    /// Patterns of the digits in front for which the layout is meant; the last of them decides
+    /// (`is_led`).
     pub fn leading_digits(&self) -> &[Regex]
         ensures { ArePatternsOf self.now.leading_digits result.now }
     {
         self.leading_digits.as_slice()
     }
 
-    /// Whether the layout is meant for these digits: it has no leading digits, or the first match of the last of these
-    /// patterns begins at the first byte. Where it has none nothing is searched, and nothing refused. Else refused only
-    /// for memory.
+    /// Whether the layout is meant for these digits: it has no leading digits, or the first match
+    /// of the last of these patterns begins at the first byte. Where it has none nothing is
+    /// searched, and nothing refused. Else refused only for memory.
     pub fn is_led(&self, digits: &str) -> Result<bool, AllocError>
         ensures led { IfOk result (λ b. b ≡ is_led digits.now self.now) }
         ensures unsearched { self.now.leading_digits ≡ [] → result ≡ Ok true }
@@ -112,9 +122,10 @@ impl Format {
         self.leading_digits.lead(digits)
     }
 
-    /// Whether the layout suits digits: it names no leading digits, or the first match of the last of these patterns
-    /// begins at the first byte and the pattern's first match is the whole text. The pattern is asked only where the
-    /// leading one matches. Where it names none nothing is searched, and nothing refused. Else refused only for memory.
+    /// Whether the layout suits digits: it names no leading digits, or the first match of the last
+    /// of these patterns begins at the first byte and the pattern's first match is the whole text.
+    /// The pattern is asked only where the leading one matches. Where it names none nothing is
+    /// searched, and nothing refused. Else refused only for memory.
     pub fn suits(&self, digits: &str) -> Result<bool, AllocError>
         ensures suited { IfOk result (λ b. b ≡ suits digits.now self.now) }
         ensures unsearched { self.now.leading_digits ≡ [] → result ≡ Ok true }
@@ -128,17 +139,19 @@ impl Format {
         self.pattern.is_whole_match(digits)
     }
 
-    /// The digits laid out: the first match of the pattern replaced by the template as it stands. Digits without a
-    /// match stay as they are. Refused only for memory.
+    /// The digits laid out: the first match of the pattern replaced by the template as it stands.
+    /// Digits without a match stay as they are. Refused only for memory.
     pub fn lay_out(&self, digits: &str) -> Result<String, AllocError>
-        ensures { IfOk result (λ t. string_bytes t ≡ laid_by self.now (layout_template self.now) digits.now) }
+        ensures { IfOk result (λ t. string_bytes t ≡
+            laid_by self.now (layout_template self.now) digits.now) }
     {
         self.pattern.replaced(self.text.as_str(), digits)
     }
 
-    /// The digits laid out for callers inside the country, by the template with its first group written by a rule: the
-    /// carrier's rule where there are a carrier and such a rule, else the national prefix's, where there is one. Takes
-    /// the territory's national prefix and the number's carrier. Refused only for memory.
+    /// The digits laid out for callers inside the country, by the template with its first group
+    /// written by a rule: the carrier's rule where there are a carrier and such a rule, else the
+    /// national prefix's, where there is one. Takes the territory's national prefix and the
+    /// number's carrier. Refused only for memory.
     pub fn lay_out_nationally(
         &self,
         first_group: &FirstGroup,
@@ -146,7 +159,9 @@ impl Format {
         carrier: Option<&str>,
         digits: &str,
     ) -> Result<String, AllocError>
-        ensures { IfOk result (λ t. string_bytes t ≡ laid_by self.now (national_template self.now (option_copied prefix.entry) (option_copied carrier.entry)) digits.now) }
+        ensures { IfOk result (λ t. string_bytes t ≡
+            laid_by self.now (national_template self.now (option_copied prefix.entry)
+            (option_copied carrier.entry)) digits.now) }
     {
         let Some((rule, carrier)) = self.rule_for(carrier) else {
             return self.lay_out(digits);
@@ -158,7 +173,8 @@ impl Format {
 
     /// The rule of national text, and what its `$CC` stands for.
     fn rule_for<'a>(&'a self, carrier: Option<&'a str>) -> Option<(&'a str, &'a str)>
-        ensures { option_map (λ (r : Bor (List ℕ) × Bor (List ℕ)). (r.0.now, r.1.now)) result ≡ rule_for self.now (option_copied carrier.entry) }
+        ensures { option_map (λ (r : Bor (List ℕ) × Bor (List ℕ)). (r.0.now, r.1.now)) result ≡
+            rule_for self.now (option_copied carrier.entry) }
     {
         match (carrier, self.domestic_carrier()) {
             (Some(carrier), Some(rule)) => Some((rule, carrier)),

@@ -1,4 +1,5 @@
-//! What territories are looked up by: their places by id and by calling code, and their codes by digits.
+//! What territories are looked up by: their places by id and by calling code, and their codes by
+//! digits.
 ghost use Rattle.std.specs.Prelude.{◌≡◌, ℕ, List, [], IfOk, filter, length, map, reverse};
 ghost use Rattle.phone_meta.specs.Codes.{is_listed};
 ghost use Rattle.phone_meta.specs.Index.{count_of_ids};
@@ -54,7 +55,8 @@ impl Index {
 
 /// For each id the place of the last territory with it, sorted by id. Refused only for memory.
 fn by_id(alloc: Global, territories: &[Metadata]) -> Result<Sorted, AllocError>
-    ensures last { IfOk result (λ s. (id : List ℕ) → place_of id s ≡ last_place (has_id id) territories.now) }
+    ensures last { IfOk result (λ s. (id : List ℕ) →
+        place_of id s ≡ last_place (has_id id) territories.now) }
     ensures once { IfOk result (λ s. length s ≡ count_of_ids territories.now) }
 {
     Sorted::of(named(alloc, territories)?)
@@ -63,7 +65,8 @@ fn by_id(alloc: Global, territories: &[Metadata]) -> Result<Sorted, AllocError>
 /// The place of each territory, with its id.
 fn named(alloc: Global, territories: &[Metadata]) -> Result<Vec<Named>, AllocError>
     ensures ids { IfOk result (λ v. map text_of v.items ≡ map id_of territories.now) }
-    ensures last { IfOk result (λ v. (id : List ℕ) → place_of id (reverse v.items) ≡ last_place (has_id id) territories.now) }
+    ensures last { IfOk result (λ v. (id : List ℕ) →
+        place_of id (reverse v.items) ≡ last_place (has_id id) territories.now) }
 {
     let mut named = Vec::new(alloc);
     for (place, territory) in territories.iter().enumerate() {
@@ -77,14 +80,17 @@ fn named(alloc: Global, territories: &[Metadata]) -> Result<Vec<Named>, AllocErr
 
 /// The places of the territories, sorted by calling code. Refused only for memory.
 fn by_code(alloc: Global, territories: &[Metadata]) -> Result<Grouped, AllocError>
-    ensures { IfOk result (λ g. (code : ℕ) → map (λ e. e.place) (filter (placed.has_code code) g) ≡ places_where (has_code code) territories.now) }
+    ensures { IfOk result (λ g. (code : ℕ) → map (λ e. e.place) (filter (placed.has_code code) g) ≡
+        places_where (has_code code) territories.now) }
 {
     Grouped::of(coded(alloc, territories)?)
 }
 
 /// The place of each territory, with its calling code.
 fn coded(alloc: Global, territories: &[Metadata]) -> Result<Vec<Coded>, AllocError>
-    ensures { IfOk result (λ v. (code : ℕ) → map (λ e. e.place) (filter (placed.has_code code) v.items) ≡ places_where (has_code code) territories.now) }
+    ensures { IfOk result (λ v. (code : ℕ) →
+        map (λ e. e.place) (filter (placed.has_code code) v.items) ≡
+        places_where (has_code code) territories.now) }
 {
     let mut coded = Vec::new(alloc);
     for (place, territory) in territories.iter().enumerate() {

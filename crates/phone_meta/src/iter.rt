@@ -53,8 +53,10 @@ fn lists(territories: &[Metadata], id: &str) -> bool
 impl Database {
     /// For each id its last territory, each once, in no order that is promised. Takes no memory.
     pub fn iter(&self) -> Iter<'_>
-        ensures last_of_its_id { (m : loader.Metadata) → Contains result m → last_with (id_of m) self.now ≡ Some m }
-        ensures each_id { (id : List ℕ) (m : loader.Metadata) → last_with id self.now ≡ Some m → Contains result m }
+        ensures last_of_its_id { (m : loader.Metadata) → Contains result m →
+            last_with (id_of m) self.now ≡ Some m }
+        ensures each_id { (id : List ℕ) (m : loader.Metadata) → last_with id self.now ≡ Some m →
+            Contains result m }
         ensures each_once { IsDistinct bytes_eq (map id_of result) }
     {
         Iter {

@@ -1,4 +1,5 @@
-//! Territories: the records of a database, their patterns compiled once, and the look-ups by id and calling code.
+//! Territories: the records of a database, their patterns compiled once, and the look-ups by id and
+//! calling code.
 #![tactic(auto)]
 
 mod codes;

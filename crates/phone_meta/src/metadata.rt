@@ -54,7 +54,39 @@ impl Model for Metadata {
 
     ghost Value = { loader.Metadata };
 
-    ghost view = { λ m. record { general = m.descriptors.general; fixed_line = m.descriptors.fixed_line; mobile = m.descriptors.mobile; toll_free = m.descriptors.toll_free; premium_rate = m.descriptors.premium_rate; shared_cost = m.descriptors.shared_cost; personal_number = m.descriptors.personal_number; voip = m.descriptors.voip; pager = m.descriptors.pager; uan = m.descriptors.uan; emergency = m.descriptors.emergency; voicemail = m.descriptors.voicemail; short_code = m.descriptors.short_code; standard_rate = m.descriptors.standard_rate; carrier = m.descriptors.carrier; no_international = m.descriptors.no_international; id = Some m.kept.id; country_code = Some m.kept.country_code; international_prefix = option_map (λ p. p.value) m.patterns.international_prefix; preferred_international_prefix = m.kept.preferred_international_prefix; national_prefix = m.kept.national_prefix; preferred_extension_prefix = m.kept.preferred_extension_prefix; national_prefix_for_parsing = option_map (λ p. p.value) m.patterns.national_prefix_for_parsing; national_prefix_transform_rule = m.kept.national_prefix_transform_rule; formats = m.patterns.formats.items; international_formats = m.patterns.international_formats.items; main_country_for_code = m.kept.main_country_for_code; leading_digits = option_map (λ p. p.value) m.patterns.leading_digits; mobile_number_portable = m.kept.mobile_number_portable; defaults = m.kept.defaults } };
+    ghost view = { λ m. record {
+      general = m.descriptors.general;
+      fixed_line = m.descriptors.fixed_line;
+      mobile = m.descriptors.mobile;
+      toll_free = m.descriptors.toll_free;
+      premium_rate = m.descriptors.premium_rate;
+      shared_cost = m.descriptors.shared_cost;
+      personal_number = m.descriptors.personal_number;
+      voip = m.descriptors.voip;
+      pager = m.descriptors.pager;
+      uan = m.descriptors.uan;
+      emergency = m.descriptors.emergency;
+      voicemail = m.descriptors.voicemail;
+      short_code = m.descriptors.short_code;
+      standard_rate = m.descriptors.standard_rate;
+      carrier = m.descriptors.carrier;
+      no_international = m.descriptors.no_international;
+      id = Some m.kept.id;
+      country_code = Some m.kept.country_code;
+      international_prefix = option_map (λ p. p.value) m.patterns.international_prefix;
+      preferred_international_prefix = m.kept.preferred_international_prefix;
+      national_prefix = m.kept.national_prefix;
+      preferred_extension_prefix = m.kept.preferred_extension_prefix;
+      national_prefix_for_parsing = option_map
+          (λ p. p.value) m.patterns.national_prefix_for_parsing;
+      national_prefix_transform_rule = m.kept.national_prefix_transform_rule;
+      formats = m.patterns.formats.items;
+      international_formats = m.patterns.international_formats.items;
+      main_country_for_code = m.kept.main_country_for_code;
+      leading_digits = option_map (λ p. p.value) m.patterns.leading_digits;
+      mobile_number_portable = m.kept.mobile_number_portable;
+      defaults = m.kept.defaults;
+    } };
 }
 
 impl Compile for Metadata {
@@ -147,7 +179,8 @@ impl Metadata {
         self.kept.id.as_str()
     }
 
-    /// The region that the territory's id is that of; none where it is no region's. Takes no memory.
+    /// The region that the territory's id is that of; none where it is no region's. Takes no
+    /// memory.
     pub fn region(&self) -> Option<Id>
         ensures region { result ≡ option_and_then id_of self.now.id }
         ensures by_text { result ≡ id_of (id_text self.now) }
@@ -276,7 +309,8 @@ pub fn compile_all(
 ) -> Result<Vec<Metadata>, LoadMetadata>
     requires { first_missing given.items ≡ None }
     ensures compiled { IfOk result (λ territories. territories.items ≡ given.items) }
-    ensures read { IfOk result (λ territories. AllByRecursion IsPattern (flat_map patterns_in given.items)) }
+    ensures read { IfOk result (λ territories.
+        AllByRecursion IsPattern (flat_map patterns_in given.items)) }
     ensures refused { IfErr result (IsPatternRefusal (flat_map patterns_in given.items)) }
 {
     let pool = Pool::new(alloc);

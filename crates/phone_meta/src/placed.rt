@@ -22,7 +22,8 @@ impl<'a> Model for Placed<'a> {
 
     ghost Value = { List loader.Metadata };
 
-    ghost view = { λ p. filter_map (slice_get p.territories.now) (map (λ e. e.place) p.places.now) };
+    ghost view = { λ p. filter_map (slice_get p.territories.now)
+        (map (λ e. e.place) p.places.now) };
 }
 
 impl<'a> Iterator for Placed<'a> {

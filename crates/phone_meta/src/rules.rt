@@ -1,5 +1,5 @@
-//! How a formatting rule changes a layout's template: the rule, its marks filled, is written in the place of the first
-//! group.
+//! How a formatting rule changes a layout's template: the rule, its marks filled, is written in the
+//! place of the first group.
 ghost use Rattle.std.specs.Prelude.{◌≡◌, [], ◌∷◌, IfOk, IfErr, string_bytes};
 ghost use Rattle.phone_meta.specs.First.{IsPattern, IsPatternOf};
 ghost use Rattle.phone_meta.specs.Layouts.{filled_rule, ruled_template};
@@ -53,8 +53,9 @@ impl FirstGroup {
         self.pattern.regex()
     }
 
-    /// A template with its first group written by a rule, in which `$NP` stands for the national prefix, `$FG` for the
-    /// group as it is named, and `$CC` for the carrier; a template that names no group as it is. Refused only for memory.
+    /// A template with its first group written by a rule, in which `$NP` stands for the national
+    /// prefix, `$FG` for the group as it is named, and `$CC` for the carrier; a template that names
+    /// no group as it is. Refused only for memory.
     pub(crate) fn ruled(
         &self,
         template: &str,
@@ -62,7 +63,8 @@ impl FirstGroup {
         prefix: &str,
         carrier: &str,
     ) -> Result<String, AllocError>
-        ensures { IfOk result (λ t. string_bytes t ≡ ruled_template template.now rule.now prefix.now carrier.now) }
+        ensures { IfOk result (λ t. string_bytes t ≡
+            ruled_template template.now rule.now prefix.now carrier.now) }
     {
         let alloc = self.pattern.allocator();
         let Some((start, end)) = self.pattern.first_span(template)? else {
@@ -73,8 +75,8 @@ impl FirstGroup {
     }
 }
 
-/// A rule with its marks filled: each `$NP` by the national prefix, then each `$FG` by the group with one more `$`
-/// before it, then each `$CC` by the carrier.
+/// A rule with its marks filled: each `$NP` by the national prefix, then each `$FG` by the group
+/// with one more `$` before it, then each `$CC` by the carrier.
 fn filled(
     alloc: Global,
     rule: &str,
@@ -82,7 +84,8 @@ fn filled(
     group: &str,
     carrier: &str,
 ) -> Result<String, AllocError>
-    ensures { IfOk result (λ t. string_bytes t ≡ filled_rule rule.now prefix.now group.now carrier.now) }
+    ensures { IfOk result (λ t. string_bytes t ≡
+        filled_rule rule.now prefix.now group.now carrier.now) }
 {
     let mut literal = String::from_str(alloc, "$")?;
     literal.push_str(group)?;

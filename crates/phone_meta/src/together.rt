@@ -1,6 +1,6 @@
-//! Results of several steps, handed on as one. A function that may leave while it holds values takes
-//! long to prove, since it then drops each of them. These hold values of any type, and their drops
-//! are opaque.
+//! Results of several steps, handed on as one. A function that may leave while it holds values
+//! takes long to prove, since it then drops each of them. These hold values of any type, and their
+//! drops are opaque.
 ghost use Rattle.std.specs.Prelude.{◌≡◌, ◌⊎◌, ◌++◌, ℕ, List, Ok, Err, IfOk, IfErr};
 ghost use Rattle.std.specs.Result.{IsOk};
 ghost use Rattle.phone_meta.specs.Refusals.{AreRead};

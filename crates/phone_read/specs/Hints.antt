@@ -1,5 +1,7 @@
--- The hint: its territory, and the calling code that it gives, after the original's `parser/helper`. Texts are digits here, whose characters are their bytes.
-use Rattle.std.specs.Prelude.{ℕ, ◌&&◌, not, Bool, false, if◌then◌else◌, List, length, drop, Option, None, Some}
+-- The hint: its territory, and the calling code that it gives, after the original's
+-- `parser/helper`. Texts are digits here, whose characters are their bytes.
+use Rattle.std.specs.Prelude.{ℕ, ◌&&◌, not, Bool, false, if◌then◌else◌, List, length, drop, Option}
+use Rattle.std.specs.Prelude.{None, Some}
 use Rattle.std.specs.Option.{option_and_then}
 use Rattle.std.specs.Fmt.{decimal}
 use Rattle.phone_core.specs.Ids.{name}
@@ -28,12 +30,13 @@ abbrev pub is_of : Option Descriptor → List ℕ → Bool
 is_of None digits = false
 is_of (Some d) digits = matches d digits
 
--- digits look like a number of the territory: they are of its general kind, and their count is possible
+-- digits look like a number of the territory: they are of its general kind, and their count is
+-- possible
 abbrev pub looks_national : Metadata → List ℕ → Bool
 looks_national m digits = is_of m.general digits && is_possible (verdict m (length digits))
 
--- by the hint: its code; where the digits begin with that code, and as they stand do not look like a number of the
--- territory, the code is cut off
+-- by the hint: its code; where the digits begin with that code, and as they stand do not look like
+-- a number of the territory, the code is cut off
 abbrev pub code_by_hint : Metadata → List ℕ → Coded
 code_by_hint m digits =
     let code = code_of m in

@@ -6,4 +6,6 @@ use Rattle.phone_records.specs.declared.loader.Metadata.{Metadata}
 
 -- no transform rule of the database has a plus sign
 abbrev pub rules_have_no_plus : List Metadata → Bool
-rules_have_no_plus db = list_all (λ (m : Metadata). option_map_or (list_all (λ b. not (b == 43))) m.national_prefix_transform_rule true) db
+rules_have_no_plus db = list_all
+    (λ (m : Metadata). option_map_or (list_all (λ b. not (b == 43)))
+    m.national_prefix_transform_rule true) db

@@ -1,11 +1,16 @@
--- What the length of a national number says of it, by the possible lengths: after the original's `validator`.
-use Rattle.std.specs.Prelude.{ℕ, ◌==◌, nat_lt, nat_eq, length, Bool, true, false, if◌then◌else◌, List, [], ◌∷◌, Option, None, Some}
+-- What the length of a national number says of it, by the possible lengths: after the original's
+-- `validator`.
+use Rattle.std.specs.Prelude.{ℕ, ◌==◌, nat_lt, nat_eq, length, Bool, true, false, if◌then◌else◌}
+use Rattle.std.specs.Prelude.{List, [], ◌∷◌, Option, None, Some}
 use Rattle.std.specs.List.{list_any}
 use Rattle.std.specs.Option.{option_map_or}
 use Rattle.phone_core.specs.declared.kind.«Type».{«Type»}
 use Rattle.phone_core.specs.declared.kind.«Type».TheVariants.{Unknown}
 use Rattle.phone_core.specs.declared.validator.Validation.{Validation}
-use Rattle.phone_core.specs.declared.validator.Validation.TheVariants.{IsPossible, IsPossibleLocalOnly, TooShort, InvalidLength, TooLong}
+use Rattle.phone_core.specs.declared.validator.Validation.TheVariants.{IsPossible}
+use Rattle.phone_core.specs.declared.validator.Validation.TheVariants.{IsPossibleLocalOnly}
+use Rattle.phone_core.specs.declared.validator.Validation.TheVariants.{TooShort, InvalidLength}
+use Rattle.phone_core.specs.declared.validator.Validation.TheVariants.{TooLong}
 use Rattle.phone_meta.specs.Kinds.{descriptor_for, kinds_of}
 use Rattle.phone_records.specs.declared.loader.Descriptor.{Descriptor}
 use Rattle.phone_records.specs.declared.loader.Metadata.{Metadata}
@@ -15,8 +20,8 @@ abbrev pub last_of : ℕ → List ℕ → ℕ
 last_of least [] = least
 last_of least (n ∷ more) = last_of n more
 
--- the verdict on a length n by the general lengths and the local ones: the first and the last general length count as
--- least and greatest, whatever stands between them
+-- the verdict on a length n by the general lengths and the local ones: the first and the last
+-- general length count as least and greatest, whatever stands between them
 abbrev pub verdict_by : List ℕ → List ℕ → ℕ → Validation
 verdict_by [] local n = InvalidLength
 verdict_by (least ∷ more) local n =
@@ -30,7 +35,8 @@ verdict_by (least ∷ more) local n =
 -- no verdict but `InvalidLength` without a descriptor, or by one that lists no length
 abbrev pub verdict_of : List ℕ → Option Descriptor → ℕ → Validation
 verdict_of general None n = InvalidLength
-verdict_of general (Some d) n = if nat_eq (length d.possible_length) 0 then InvalidLength else verdict_by general d.possible_local_length n
+verdict_of general (Some d) n = if nat_eq (length d.possible_length) 0 then InvalidLength
+    else verdict_by general d.possible_local_length n
 
 -- the lengths of a territory's numbers of any kind
 abbrev pub general_lengths : Metadata → List ℕ

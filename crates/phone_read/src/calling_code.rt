@@ -1,5 +1,7 @@
 //! The calling code of a number, and the digits that follow it.
-ghost use Rattle.std.specs.Prelude.{◌≡◌, ◌⊎◌, ◌&&◌, ℕ, Bool, List, not, true, Ok, Err, drop, length, IfOk, IfErr, IfSome, IsSome, None, Some, option_map, unwrap_or, string_bytes};
+ghost use Rattle.std.specs.Prelude.{◌≡◌, ◌⊎◌, ◌&&◌, ℕ, Bool, List, not, true, Ok, Err, drop};
+ghost use Rattle.std.specs.Prelude.{length, IfOk, IfErr, IfSome, IsSome, None, Some, option_map};
+ghost use Rattle.std.specs.Prelude.{unwrap_or, string_bytes};
 ghost use Rattle.std.specs.Cow.{cow_str_bytes, IsBorrowedStr};
 ghost use Rattle.std.specs.Fmt.{decimal};
 ghost use Rattle.std.specs.Option.{option_and_then, option_copied, option_map_or};
@@ -9,7 +11,9 @@ ghost use Rattle.phone_core.specs.declared.country.Source.{Source};
 ghost use Rattle.phone_core.specs.declared.country.Source.TheVariants.{Plus, Default};
 ghost use Rattle.phone_parts.specs.Parts.{parts_of};
 ghost use Rattle.phone_parts.specs.Texts.{is_front};
-ghost use Rattle.phone_read.specs.Codes.{HasCode, IsCoded, IsLentDigits, code_by, code_by_front, code_by_prefix, code_of, international_prefix_of, is_bare, is_plain, prefix_of, with_three};
+ghost use Rattle.phone_read.specs.Codes.{HasCode, IsCoded, IsLentDigits, code_by, code_by_front};
+ghost use Rattle.phone_read.specs.Codes.{code_by_prefix, code_of, international_prefix_of, is_bare};
+ghost use Rattle.phone_read.specs.Codes.{is_plain, prefix_of, with_three};
 ghost use Rattle.phone_read.specs.Hints.{Coded, code_by_hint, hinted, looks_national};
 
 use crate::dialled::{OfTerritory, dialled};
@@ -30,41 +34,53 @@ pub(crate) struct CodedNumber<'a> {
     /// The calling code.
     pub(crate) code: u16,
 
-    /// Its source, the digits that follow it, and as prefix the reader's one, or the code where it was cut off borrowed
-    /// digits.
+    /// Its source, the digits that follow it, and as prefix the reader's one, or the code where it
+    /// was cut off borrowed digits.
     pub(crate) number: Number<'a>,
 }
 
-/// A number with its calling code: its source, what is left of its digits, and as prefix the reader's one or the code in
-/// decimal, after [`international_prefix`](crate::helper::international_prefix) with the pattern of the hint's
-/// territory. After a plus sign or an international prefix the code is the number of the reader's prefix, else the
-/// shortest listed code at the front of the digits, which is cut off. Otherwise it is the code of the hint's territory;
-/// where the digits begin with it and, as they stand, don't look like a number of the territory or have no possible
-/// length, it is cut off and the source is `Number`.
+/// A number with its calling code: its source, what is left of its digits, and as prefix the
+/// reader's one or the code in decimal, after
+/// [`international_prefix`](crate::helper::international_prefix) with the pattern of the hint's
+/// territory. After a plus sign or an international prefix the code is the number of the reader's
+/// prefix, else the shortest listed code at the front of the digits, which is cut off. Otherwise it
+/// is the code of the hint's territory; where the digits begin with it and, as they stand, don't
+/// look like a number of the territory or have no possible length, it is cut off and the source is
+/// `Number`.
 ///
-/// `TooShortNsn` where at most two digits follow a sign or an international prefix, or stand beside the reader's prefix;
-/// then `MalformedInteger` for a prefix that is no number below 65536; `InvalidCountryCode` where the code isn't listed,
-/// none is at the front, or there is no hint or no record of it; `Memory` where memory was refused. Where the hint has no
-/// international prefix, and the parts are ASCII digits after the leading plus signs, each of the other refusals is told
+/// `TooShortNsn` where at most two digits follow a sign or an international prefix, or stand beside
+/// the reader's prefix; then `MalformedInteger` for a prefix that is no number below 65536;
+/// `InvalidCountryCode` where the code isn't listed, none is at the front, or there is no hint or
+/// no record of it; `Memory` where memory was refused. Where the hint has no international prefix,
+/// and the parts are ASCII digits after the leading plus signs, each of the other refusals is told
 /// without asking for memory.
 ///
-/// A borrowed national part of ASCII digits, leading plus signs aside, stays borrowed, and a code that is cut off it is
-/// borrowed from it too. So where the prefix and the extension are ASCII digits as well, and there is no hint or no record
-/// of it, the answer is never `Memory`.
+/// A borrowed national part of ASCII digits, leading plus signs aside, stays borrowed, and a code
+/// that is cut off it is borrowed from it too. So where the prefix and the extension are ASCII
+/// digits as well, and there is no hint or no record of it, the answer is never `Memory`.
 pub fn country_code<'a>(
     db: &Database,
     hint: Option<Id>,
     number: Number<'a>,
 ) -> Result<Number<'a>, ParseError>
-    ensures coded { IfOk result (λ n. (c : Coded) × (code_of db.now hint (parts_of number.entry).national (parts_of number.entry).prefix ≡ Ok c) ×
-        HasCode c (prefix_of (parts_of number.entry).prefix c.value) (option_map norm (parts_of number.entry).extension) number.entry n) }
-    ensures refused { IfErr result (λ e. (e ≡ ParseError.Memory) ⊎ (code_of db.now hint (parts_of number.entry).national (parts_of number.entry).prefix ≡ Err e)) }
-    ensures no_memory { international_prefix_of (hinted db.now hint) ≡ None → is_bare (parts_of number.entry).national (parts_of number.entry).prefix (parts_of number.entry).extension ≡ true →
-        IfErr (code_of db.now hint (parts_of number.entry).national (parts_of number.entry).prefix) (λ e. result ≡ Err e) }
+    ensures coded { IfOk result (λ n. (c : Coded) ×
+        (code_of db.now hint (parts_of number.entry).national (parts_of number.entry).prefix ≡
+        Ok c) × HasCode c (prefix_of (parts_of number.entry).prefix c.value)
+        (option_map norm (parts_of number.entry).extension) number.entry n) }
+    ensures refused { IfErr result (λ e. (e ≡ ParseError.Memory) ⊎
+        (code_of db.now hint (parts_of number.entry).national (parts_of number.entry).prefix ≡
+        Err e)) }
+    ensures no_memory { international_prefix_of (hinted db.now hint) ≡ None →
+        is_bare (parts_of number.entry).national (parts_of number.entry).prefix
+        (parts_of number.entry).extension ≡ true →
+        IfErr (code_of db.now hint (parts_of number.entry).national (parts_of number.entry).prefix)
+        (λ e. result ≡ Err e) }
     ensures borrowed { IfOk result (λ n. IsLentDigits number.entry → IsBorrowedStr n.national) }
-    ensures lent_prefix { IfOk result (λ n. IsLentDigits number.entry → number.entry.prefix ≡ None → ¬ (n.country ≡ Default) → IfSome n.prefix (λ p. IsBorrowedStr p)) }
-    ensures never_memory { hinted db.now hint ≡ None → IsBorrowedStr number.entry.national → is_plain (parts_of number.entry).national (parts_of number.entry).prefix (parts_of number.entry).extension ≡ true →
-        ¬ (result ≡ Err ParseError.Memory) }
+    ensures lent_prefix { IfOk result (λ n. IsLentDigits number.entry → number.entry.prefix ≡ None →
+        ¬ (n.country ≡ Default) → IfSome n.prefix (λ p. IsBorrowedStr p)) }
+    ensures never_memory { hinted db.now hint ≡ None → IsBorrowedStr number.entry.national →
+        is_plain (parts_of number.entry).national (parts_of number.entry).prefix
+        (parts_of number.entry).extension ≡ true → ¬ (result ≡ Err ParseError.Memory) }
 {
     let coded = coded(db, hint, number)?;
     Ok(prefixed(db.allocator(), coded)?)
@@ -73,7 +89,9 @@ pub fn country_code<'a>(
 /// A number whose code was found; its prefix, where it has none, is the code in decimal.
 fn prefixed<'a>(alloc: Global, coded: CodedNumber<'a>) -> Result<Number<'a>, AllocError>
     ensures kept { IsSome coded.entry.number.prefix → result ≡ Ok coded.entry.number }
-    ensures prefix { IfOk result (λ n. option_map cow_str_bytes n.prefix ≡ Some (unwrap_or (option_map cow_str_bytes coded.entry.number.prefix) (decimal coded.entry.code))) }
+    ensures prefix { IfOk result (λ n. option_map cow_str_bytes n.prefix ≡
+        Some (unwrap_or (option_map cow_str_bytes coded.entry.number.prefix)
+        (decimal coded.entry.code))) }
     ensures country { IfOk result (λ n. n.country ≡ coded.entry.number.country) }
     ensures national { IfOk result (λ n. n.national ≡ coded.entry.number.national) }
     ensures extension { IfOk result (λ n. n.extension ≡ coded.entry.number.extension) }
@@ -97,22 +115,36 @@ fn in_decimal(alloc: Global, code: u16) -> Result<String, AllocError>
     format!(in alloc; "{code}")
 }
 
-/// A number with its calling code, as [`country_code`] has it but for a prefix that would be a copy, and the code itself.
+/// A number with its calling code, as [`country_code`] has it but for a prefix that would be a
+/// copy, and the code itself.
 pub(crate) fn coded<'a>(
     db: &Database,
     hint: Option<Id>,
     number: Number<'a>,
 ) -> Result<CodedNumber<'a>, ParseError>
-    ensures coded { IfOk result (λ r. (c : Coded) × (code_of db.now hint (parts_of number.entry).national (parts_of number.entry).prefix ≡ Ok c) × (r.code ≡ c.value) ×
-        IsCoded c (prefix_of (parts_of number.entry).prefix c.value) (option_map norm (parts_of number.entry).extension) number.entry r.number) }
-    ensures refused { IfErr result (λ e. (e ≡ ParseError.Memory) ⊎ (code_of db.now hint (parts_of number.entry).national (parts_of number.entry).prefix ≡ Err e)) }
-    ensures no_memory { international_prefix_of (hinted db.now hint) ≡ None → is_bare (parts_of number.entry).national (parts_of number.entry).prefix (parts_of number.entry).extension ≡ true →
-        IfErr (code_of db.now hint (parts_of number.entry).national (parts_of number.entry).prefix) (λ e. result ≡ Err e) }
-    ensures told { hinted db.now hint ≡ None → is_plain (parts_of number.entry).national (parts_of number.entry).prefix (parts_of number.entry).extension ≡ true →
-        IfErr result (λ e. code_of db.now hint (parts_of number.entry).national (parts_of number.entry).prefix ≡ Err e) }
-    ensures borrowed { IfOk result (λ r. IsLentDigits number.entry → IsBorrowedStr r.number.national) }
-    ensures lent_prefix { IfOk result (λ r. number.entry.prefix ≡ None → IfSome r.number.prefix (λ p. IsBorrowedStr p)) }
-    ensures has_prefix { IfOk result (λ r. IsLentDigits number.entry → ¬ (r.number.country ≡ Default) → IsSome r.number.prefix) }
+    ensures coded { IfOk result (λ r. (c : Coded) ×
+        (code_of db.now hint (parts_of number.entry).national (parts_of number.entry).prefix ≡
+        Ok c) × (r.code ≡ c.value) × IsCoded c (prefix_of (parts_of number.entry).prefix c.value)
+        (option_map norm (parts_of number.entry).extension) number.entry r.number) }
+    ensures refused { IfErr result (λ e. (e ≡ ParseError.Memory) ⊎
+        (code_of db.now hint (parts_of number.entry).national (parts_of number.entry).prefix ≡
+        Err e)) }
+    ensures no_memory { international_prefix_of (hinted db.now hint) ≡ None →
+        is_bare (parts_of number.entry).national (parts_of number.entry).prefix
+        (parts_of number.entry).extension ≡ true →
+        IfErr (code_of db.now hint (parts_of number.entry).national (parts_of number.entry).prefix)
+        (λ e. result ≡ Err e) }
+    ensures told { hinted db.now hint ≡ None →
+        is_plain (parts_of number.entry).national (parts_of number.entry).prefix
+        (parts_of number.entry).extension ≡ true →
+        IfErr result (λ e. code_of db.now hint (parts_of number.entry).national
+        (parts_of number.entry).prefix ≡ Err e) }
+    ensures borrowed { IfOk result (λ r. IsLentDigits number.entry →
+        IsBorrowedStr r.number.national) }
+    ensures lent_prefix { IfOk result
+        (λ r. number.entry.prefix ≡ None → IfSome r.number.prefix (λ p. IsBorrowedStr p)) }
+    ensures has_prefix { IfOk result
+        (λ r. IsLentDigits number.entry → ¬ (r.number.country ≡ Default) → IsSome r.number.prefix) }
 {
     let territory = hinted(db, hint);
     let finder = OfTerritory {
@@ -122,24 +154,37 @@ pub(crate) fn coded<'a>(
     with_code(db, territory, number)
 }
 
-/// A number of which is known how it was dialled, with its code: by its prefix where it has one, by the hint's territory
-/// where nothing else tells it, and else by the front of its digits.
+/// A number of which is known how it was dialled, with its code: by its prefix where it has one, by
+/// the hint's territory where nothing else tells it, and else by the front of its digits.
 fn with_code<'a>(
     db: &Database,
     territory: Option<&Metadata>,
     number: Number<'a>,
 ) -> Result<CodedNumber<'a>, ParseError>
     requires { IsSome number.prefix → number.country ≡ Plus }
-    ensures coded { IfOk result (λ r. (c : Coded) × (code_by db.now (option_copied territory.entry) (option_map cow_str_bytes number.entry.prefix) number.entry.country (cow_str_bytes number.entry.national) ≡ Ok c) ×
-        (r.code ≡ c.value) × IsCoded c (unwrap_or (option_map cow_str_bytes number.entry.prefix) (decimal c.value)) (option_map cow_str_bytes number.entry.extension) number.entry r.number) }
+    ensures coded { IfOk result (λ r. (c : Coded) ×
+        (code_by db.now (option_copied territory.entry)
+        (option_map cow_str_bytes number.entry.prefix) number.entry.country
+        (cow_str_bytes number.entry.national) ≡ Ok c) × (r.code ≡ c.value) ×
+        IsCoded c (unwrap_or (option_map cow_str_bytes number.entry.prefix) (decimal c.value))
+        (option_map cow_str_bytes number.entry.extension) number.entry r.number) }
     ensures refused { IfErr result (λ e. (e ≡ ParseError.Memory) ⊎
-        (code_by db.now (option_copied territory.entry) (option_map cow_str_bytes number.entry.prefix) number.entry.country (cow_str_bytes number.entry.national) ≡ Err e)) }
-    ensures at_once { IfErr (code_by db.now (option_copied territory.entry) (option_map cow_str_bytes number.entry.prefix) number.entry.country (cow_str_bytes number.entry.national)) (λ e. result ≡ Err e) }
+        (code_by db.now (option_copied territory.entry)
+        (option_map cow_str_bytes number.entry.prefix) number.entry.country
+        (cow_str_bytes number.entry.national) ≡ Err e)) }
+    ensures at_once { IfErr (code_by db.now (option_copied territory.entry)
+        (option_map cow_str_bytes number.entry.prefix) number.entry.country
+        (cow_str_bytes number.entry.national)) (λ e. result ≡ Err e) }
     ensures told { option_copied territory.entry ≡ None →
-        IfErr result (λ e. code_by db.now (option_copied territory.entry) (option_map cow_str_bytes number.entry.prefix) number.entry.country (cow_str_bytes number.entry.national) ≡ Err e) }
-    ensures borrowed { IfOk result (λ r. IsBorrowedStr number.entry.national → IsBorrowedStr r.number.national) }
-    ensures lent_prefix { IfOk result (λ r. number.entry.prefix ≡ None → IfSome r.number.prefix (λ p. IsBorrowedStr p)) }
-    ensures has_prefix { IfOk result (λ r. IsBorrowedStr number.entry.national → ¬ (r.number.country ≡ Default) → IsSome r.number.prefix) }
+        IfErr result (λ e. code_by db.now (option_copied territory.entry)
+        (option_map cow_str_bytes number.entry.prefix) number.entry.country
+        (cow_str_bytes number.entry.national) ≡ Err e) }
+    ensures borrowed { IfOk result (λ r. IsBorrowedStr number.entry.national →
+        IsBorrowedStr r.number.national) }
+    ensures lent_prefix { IfOk result
+        (λ r. number.entry.prefix ≡ None → IfSome r.number.prefix (λ p. IsBorrowedStr p)) }
+    ensures has_prefix { IfOk result (λ r. IsBorrowedStr number.entry.national →
+        ¬ (r.number.country ≡ Default) → IsSome r.number.prefix) }
 {
     if let Some(prefix) = &number.prefix {
         let code = code_by_prefix(db, prefix.as_str(), number.national.as_str());
@@ -156,7 +201,8 @@ fn by_prefix<'a>(
     code: Result<u16, ParseError>,
     number: Number<'a>,
 ) -> Result<CodedNumber<'a>, ParseError>
-    ensures { result ≡ result_map_both (λ code. record { code = code; number = number.entry }) (λ e. e) code }
+    ensures { result ≡ result_map_both (λ code. record { code = code; number = number.entry })
+        (λ e. e) code }
 {
     let (code, number) = beside(code, number)?;
     Ok(CodedNumber { code, number })
@@ -172,16 +218,21 @@ fn prefix_pattern(territory: Option<&Metadata>) -> Option<&Pattern>
     }
 }
 
-/// The number of a reader's prefix before more than two digits, which is to be listed. No memory is taken.
+/// The number of a reader's prefix before more than two digits, which is to be listed. No memory is
+/// taken.
 fn code_by_prefix(db: &Database, prefix: &str, digits: &str) -> Result<u16, ParseError>
-    ensures { with_three digits.now (code_by_prefix db.now prefix.now digits.now) ≡ result_map_both (λ code. record { source = Plus; value = code; rest = digits.now }) (λ e. e) result }
+    ensures { with_three digits.now (code_by_prefix db.now prefix.now digits.now) ≡
+        result_map_both (λ code. record { source = Plus; value = code; rest = digits.now })
+        (λ e. e) result }
 {
     counted(digits, listed_number(db, prefix))
 }
 
 /// The number of a reader's prefix, which is to be listed.
 fn listed_number(db: &Database, prefix: &str) -> Result<u16, ParseError>
-    ensures { (digits : List ℕ) → code_by_prefix db.now prefix.now digits ≡ result_map_both (λ code. record { source = Plus; value = code; rest = digits }) (λ e. e) result }
+    ensures { (digits : List ℕ) → code_by_prefix db.now prefix.now digits ≡
+        result_map_both (λ code. record { source = Plus; value = code; rest = digits })
+        (λ e. e) result }
 {
     let Ok(code) = prefix.parse::<u16>() else {
         return Err(ParseError::MalformedInteger);
@@ -195,7 +246,13 @@ fn listed_number(db: &Database, prefix: &str) -> Result<u16, ParseError>
 
 /// The shortest listed code at the front of more than two digits. No memory is taken.
 fn code_by_front(db: &Database, digits: &str) -> Result<u16, ParseError>
-    ensures code { (source : Source) → with_three digits.now (code_by_front db.now source digits.now) ≡ result_map_both (λ code. record { source = source; value = code; rest = drop (length (decimal code)) digits.now }) (λ e. e) result }
+    ensures code { (source : Source) →
+        with_three digits.now (code_by_front db.now source digits.now) ≡
+        result_map_both (λ code. record {
+          source = source;
+          value = code;
+          rest = drop (length (decimal code)) digits.now;
+        }) (λ e. e) result }
     ensures front { IfOk result (λ code. is_front (decimal code) digits.now ≡ true) }
 {
     counted(digits, shortest_code(db, digits))
@@ -203,7 +260,13 @@ fn code_by_front(db: &Database, digits: &str) -> Result<u16, ParseError>
 
 /// The shortest listed code at the front of digits.
 fn shortest_code(db: &Database, digits: &str) -> Result<u16, ParseError>
-    ensures code { (source : Source) → code_by_front db.now source digits.now ≡ result_map_both (λ code. record { source = source; value = code; rest = drop (length (decimal code)) digits.now }) (λ e. e) result }
+    ensures code { (source : Source) →
+        code_by_front db.now source digits.now ≡
+        result_map_both (λ code. record {
+          source = source;
+          value = code;
+          rest = drop (length (decimal code)) digits.now;
+        }) (λ e. e) result }
     ensures front { IfOk result (λ code. is_front (decimal code) digits.now ≡ true) }
 {
     match db.shortest(digits) {
@@ -214,8 +277,10 @@ fn shortest_code(db: &Database, digits: &str) -> Result<u16, ParseError>
 
 /// What was found for digits, where they are more than two.
 fn counted(digits: &str, found: Result<u16, ParseError>) -> Result<u16, ParseError>
-    ensures found { (f : ℕ → Coded) → with_three digits.now (result_map_both f (λ e. e) found) ≡ result_map_both f (λ e. e) result }
-    ensures kept { (p : ℕ → Bool) → IfOk found (λ code. p code ≡ true) → IfOk result (λ code. p code ≡ true) }
+    ensures found { (f : ℕ → Coded) → with_three digits.now (result_map_both f (λ e. e) found) ≡
+        result_map_both f (λ e. e) result }
+    ensures kept { (p : ℕ → Bool) → IfOk found (λ code. p code ≡ true) →
+        IfOk result (λ code. p code ≡ true) }
 {
     if digits.len() <= MIN_LENGTH_FOR_NSN {
         return Err(ParseError::TooShortNsn);
@@ -223,15 +288,24 @@ fn counted(digits: &str, found: Result<u16, ParseError>) -> Result<u16, ParseErr
     found
 }
 
-/// An international number with the code at the front of its digits, which is cut off. No memory is taken.
+/// An international number with the code at the front of its digits, which is cut off. No memory is
+/// taken.
 fn by_front<'a>(db: &Database, number: Number<'a>) -> Result<CodedNumber<'a>, ParseError>
-    ensures coded { IfOk result (λ r. (c : Coded) × (with_three (cow_str_bytes number.entry.national) (code_by_front db.now number.entry.country (cow_str_bytes number.entry.national)) ≡ Ok c) ×
-        (r.code ≡ c.value) × IsCoded c (decimal c.value) (option_map cow_str_bytes number.entry.extension) number.entry r.number) }
-    ensures refused { IfErr result (λ e. with_three (cow_str_bytes number.entry.national) (code_by_front db.now number.entry.country (cow_str_bytes number.entry.national)) ≡ Err e) }
-    ensures at_once { IfErr (with_three (cow_str_bytes number.entry.national) (code_by_front db.now number.entry.country (cow_str_bytes number.entry.national))) (λ e. result ≡ Err e) }
-    ensures borrowed { IfOk result (λ r. IsBorrowedStr number.entry.national → IsBorrowedStr r.number.national) }
+    ensures coded { IfOk result (λ r. (c : Coded) ×
+        (with_three (cow_str_bytes number.entry.national)
+        (code_by_front db.now number.entry.country (cow_str_bytes number.entry.national)) ≡ Ok c) ×
+        (r.code ≡ c.value) × IsCoded c (decimal c.value)
+        (option_map cow_str_bytes number.entry.extension) number.entry r.number) }
+    ensures refused { IfErr result (λ e. with_three (cow_str_bytes number.entry.national)
+        (code_by_front db.now number.entry.country (cow_str_bytes number.entry.national)) ≡ Err e) }
+    ensures at_once { IfErr (with_three (cow_str_bytes number.entry.national)
+        (code_by_front db.now number.entry.country (cow_str_bytes number.entry.national)))
+        (λ e. result ≡ Err e) }
+    ensures borrowed { IfOk result (λ r. IsBorrowedStr number.entry.national →
+        IsBorrowedStr r.number.national) }
     ensures lent_prefix { IfOk result (λ r. IfSome r.number.prefix (λ p. IsBorrowedStr p)) }
-    ensures has_prefix { IfOk result (λ r. IsBorrowedStr number.entry.national → IsSome r.number.prefix) }
+    ensures has_prefix { IfOk result (λ r. IsBorrowedStr number.entry.national →
+        IsSome r.number.prefix) }
 {
     let code = code_by_front(db, number.national.as_str());
     let (code, number) = beside(code, number)?;
@@ -239,12 +313,17 @@ fn by_front<'a>(db: &Database, number: Number<'a>) -> Result<CodedNumber<'a>, Pa
     Ok(cut_off(code, country, number))
 }
 
-/// A number whose digits begin with its code in decimal, which is cut off. Of borrowed digits it becomes the prefix.
+/// A number whose digits begin with its code in decimal, which is cut off. Of borrowed digits it
+/// becomes the prefix.
 fn cut_off<'a>(code: u16, country: Source, number: Number<'a>) -> CodedNumber<'a>
     requires { is_front (decimal code) (cow_str_bytes number.national) ≡ true }
     ensures code { result.code ≡ code }
-    ensures coded { IsCoded (record { source = country; value = code; rest = drop (length (decimal code)) (cow_str_bytes number.entry.national) })
-        (decimal code) (option_map cow_str_bytes number.entry.extension) number.entry result.number }
+    ensures coded { IsCoded (record {
+      source = country;
+      value = code;
+      rest = drop (length (decimal code)) (cow_str_bytes number.entry.national);
+    }) (decimal code)
+        (option_map cow_str_bytes number.entry.extension) number.entry result.number }
     ensures borrowed { IsBorrowedStr number.entry.national → IsBorrowedStr result.number.national }
     ensures lent_prefix { IfSome result.number.prefix (λ p. IsBorrowedStr p) }
     ensures has_prefix { IsBorrowedStr number.entry.national → IsSome result.number.prefix }
@@ -268,14 +347,22 @@ fn by_hint<'a>(
     territory: Option<&Metadata>,
     number: Number<'a>,
 ) -> Result<CodedNumber<'a>, ParseError>
-    ensures coded { IfOk result (λ r. (c : Coded) × (option_map_or (λ m. Ok (code_by_hint m (cow_str_bytes number.entry.national))) (option_copied territory.entry) (Err ParseError.InvalidCountryCode) ≡ Ok c) ×
-        (r.code ≡ c.value) × IsCoded c (decimal c.value) (option_map cow_str_bytes number.entry.extension) number.entry r.number) }
+    ensures coded { IfOk result (λ r. (c : Coded) ×
+        (option_map_or (λ m. Ok (code_by_hint m (cow_str_bytes number.entry.national)))
+        (option_copied territory.entry) (Err ParseError.InvalidCountryCode) ≡ Ok c) ×
+        (r.code ≡ c.value) × IsCoded c (decimal c.value)
+        (option_map cow_str_bytes number.entry.extension) number.entry r.number) }
     ensures refused { IfErr result (λ e. (e ≡ ParseError.Memory) ⊎
-        (option_map_or (λ m. Ok (code_by_hint m (cow_str_bytes number.entry.national))) (option_copied territory.entry) (Err ParseError.InvalidCountryCode) ≡ Err e)) }
-    ensures at_once { IfErr (option_map_or (λ m. Ok (code_by_hint m (cow_str_bytes number.entry.national))) (option_copied territory.entry) (Err ParseError.InvalidCountryCode)) (λ e. result ≡ Err e) }
-    ensures borrowed { IfOk result (λ r. IsBorrowedStr number.entry.national → IsBorrowedStr r.number.national) }
+        (option_map_or (λ m. Ok (code_by_hint m (cow_str_bytes number.entry.national)))
+        (option_copied territory.entry) (Err ParseError.InvalidCountryCode) ≡ Err e)) }
+    ensures at_once { IfErr (option_map_or
+        (λ m. Ok (code_by_hint m (cow_str_bytes number.entry.national)))
+        (option_copied territory.entry) (Err ParseError.InvalidCountryCode)) (λ e. result ≡ Err e) }
+    ensures borrowed { IfOk result (λ r. IsBorrowedStr number.entry.national →
+        IsBorrowedStr r.number.national) }
     ensures lent_prefix { IfOk result (λ r. IfSome r.number.prefix (λ p. IsBorrowedStr p)) }
-    ensures has_prefix { IfOk result (λ r. IsBorrowedStr number.entry.national → ¬ (r.number.country ≡ Default) → IsSome r.number.prefix) }
+    ensures has_prefix { IfOk result (λ r. IsBorrowedStr number.entry.national →
+        ¬ (r.number.country ≡ Default) → IsSome r.number.prefix) }
 {
     let Some(territory) = territory else {
         return Err(ParseError::InvalidCountryCode);
@@ -296,9 +383,11 @@ fn by_hint<'a>(
     })
 }
 
-/// Whether digits begin with the territory's code in decimal, and the code is no part of a national number.
+/// Whether digits begin with the territory's code in decimal, and the code is no part of a national
+/// number.
 fn is_code_apart(territory: &Metadata, code: u16, digits: &str) -> Result<bool, AllocError>
-    ensures { IfOk result (λ b. b ≡ (is_front (decimal code) digits.now && not (looks_national territory.now digits.now))) }
+    ensures { IfOk result (λ b. b ≡
+        (is_front (decimal code) digits.now && not (looks_national territory.now digits.now))) }
 {
     if !begins_with_number(digits, code) {
         return Ok(false);

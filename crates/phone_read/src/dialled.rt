@@ -1,5 +1,6 @@
 //! How a number was dialled: by a plus sign, an international prefix, or neither.
-ghost use Rattle.std.specs.Prelude.{◌≡◌, ◌==◌, ℕ, Bool, true, List, Option, drop, IsCharBoundary, IfOk, IsOk, IfSome, None, option_map, chars, if◌then◌else◌};
+ghost use Rattle.std.specs.Prelude.{◌≡◌, ◌==◌, ℕ, Bool, true, List, Option, drop, IsCharBoundary};
+ghost use Rattle.std.specs.Prelude.{IfOk, IsOk, IfSome, None, option_map, chars, if◌then◌else◌};
 ghost use Rattle.std.specs.Cow.{cow_str_bytes, IsBorrowedStr};
 ghost use Rattle.std.specs.List.{list_all};
 ghost use Rattle.std.specs.Option.{option_map_or};
@@ -11,7 +12,8 @@ ghost use Rattle.phone_core.specs.declared.country.Source.TheVariants.{Plus};
 ghost use Rattle.phone_meta.specs.First.{IsCut};
 ghost use Rattle.phone_parts.specs.Parts.{parts_of};
 ghost use Rattle.phone_parts.specs.Texts.{begins};
-ghost use Rattle.phone_read.specs.Codes.{IsLentDigits, after_match, dialled, found_by, is_bare, is_plain, unsigned};
+ghost use Rattle.phone_read.specs.Codes.{IsLentDigits, after_match, dialled, found_by, is_bare};
+ghost use Rattle.phone_read.specs.Codes.{is_plain, unsigned};
 
 use crate::together::{beside, both};
 use crate::trims::trim;
@@ -24,8 +26,8 @@ use regex::{Match, Regex};
 use std::alloc::{AllocError, Global};
 use std::borrow::CowStr;
 
-/// What finds an international prefix in digits. Contracts see the span that it finds in each text, and whether it is
-/// idle: it has nothing to find, and asks for no memory.
+/// What finds an international prefix in digits. Contracts see the span that it finds in each text,
+/// and whether it is idle: it has nothing to find, and asks for no memory.
 pub(crate) trait Finder {
     ghost found: { Self → List ℕ → Option (ℕ × ℕ) };
 
@@ -109,23 +111,33 @@ impl CharSet for PlusSigns {
     }
 }
 
-/// A number whose parts are digits, as `normalize` gives them, and how its calling code is told. With a prefix from
-/// the reader the source is `Plus`. Without one, leading plus signs are dropped and give `Plus`, none give `Default`;
-/// and where the pattern's first match is at the front of the digits and no `0` follows it, the match is dropped, and
-/// the source becomes `Idd` unless it is `Plus`. The carrier stays as it is. Refused only for memory, which is asked for
-/// only where there is a pattern, or a part has other characters than ASCII digits, leading plus signs aside. A borrowed
-/// national part of ASCII digits, leading plus signs aside, stays borrowed.
+/// A number whose parts are digits, as `normalize` gives them, and how its calling code is told.
+/// With a prefix from the reader the source is `Plus`. Without one, leading plus signs are dropped
+/// and give `Plus`, none give `Default`; and where the pattern's first match is at the front of the
+/// digits and no `0` follows it, the match is dropped, and the source becomes `Idd` unless it is
+/// `Plus`. The carrier stays as it is. Refused only for memory, which is asked for only where there
+/// is a pattern, or a part has other characters than ASCII digits, leading plus signs aside. A
+/// borrowed national part of ASCII digits, leading plus signs aside, stays borrowed.
 pub fn international_prefix<'a>(
     alloc: Global,
     pattern: Option<&Regex>,
     number: Number<'a>,
 ) -> Result<Number<'a>, AllocError>
-    ensures source { IfOk result (λ n. n.country ≡ (dialled (found_by pattern.entry) (parts_of number.entry).national (parts_of number.entry).prefix).source) }
-    ensures national { IfOk result (λ n. cow_str_bytes n.national ≡ (dialled (found_by pattern.entry) (parts_of number.entry).national (parts_of number.entry).prefix).digits) }
-    ensures prefix { IfOk result (λ n. option_map cow_str_bytes n.prefix ≡ option_map norm (parts_of number.entry).prefix) }
-    ensures extension { IfOk result (λ n. option_map cow_str_bytes n.extension ≡ option_map norm (parts_of number.entry).extension) }
+    ensures source { IfOk result (λ n. n.country ≡
+        (dialled (found_by pattern.entry) (parts_of number.entry).national
+        (parts_of number.entry).prefix).source) }
+    ensures national { IfOk result (λ n. cow_str_bytes n.national ≡
+        (dialled (found_by pattern.entry) (parts_of number.entry).national
+        (parts_of number.entry).prefix).digits) }
+    ensures prefix { IfOk result (λ n. option_map cow_str_bytes n.prefix ≡
+        option_map norm (parts_of number.entry).prefix) }
+    ensures extension { IfOk result
+        (λ n. option_map cow_str_bytes n.extension ≡
+        option_map norm (parts_of number.entry).extension) }
     ensures carrier { IfOk result (λ n. n.carrier ≡ number.entry.carrier) }
-    ensures no_memory { pattern.entry ≡ None → is_bare (parts_of number.entry).national (parts_of number.entry).prefix (parts_of number.entry).extension ≡ true → IsOk result }
+    ensures no_memory { pattern.entry ≡ None →
+        is_bare (parts_of number.entry).national (parts_of number.entry).prefix
+        (parts_of number.entry).extension ≡ true → IsOk result }
     ensures borrowed { IfOk result (λ n. IsLentDigits number.entry → IsBorrowedStr n.national) }
 {
     dialled(alloc, &Handed { alloc, pattern }, number)
@@ -137,12 +149,21 @@ pub(crate) fn dialled<'a, F: Finder>(
     finder: &F,
     number: Number<'a>,
 ) -> Result<Number<'a>, AllocError>
-    ensures source { IfOk result (λ n. n.country ≡ (dialled (F.found finder.now) (parts_of number.entry).national (parts_of number.entry).prefix).source) }
-    ensures national { IfOk result (λ n. cow_str_bytes n.national ≡ (dialled (F.found finder.now) (parts_of number.entry).national (parts_of number.entry).prefix).digits) }
-    ensures prefix { IfOk result (λ n. option_map cow_str_bytes n.prefix ≡ option_map norm (parts_of number.entry).prefix) }
-    ensures extension { IfOk result (λ n. option_map cow_str_bytes n.extension ≡ option_map norm (parts_of number.entry).extension) }
+    ensures source { IfOk result (λ n. n.country ≡
+        (dialled (F.found finder.now) (parts_of number.entry).national
+        (parts_of number.entry).prefix).source) }
+    ensures national { IfOk result (λ n. cow_str_bytes n.national ≡
+        (dialled (F.found finder.now) (parts_of number.entry).national
+        (parts_of number.entry).prefix).digits) }
+    ensures prefix { IfOk result (λ n. option_map cow_str_bytes n.prefix ≡
+        option_map norm (parts_of number.entry).prefix) }
+    ensures extension { IfOk result
+        (λ n. option_map cow_str_bytes n.extension ≡
+        option_map norm (parts_of number.entry).extension) }
     ensures carrier { IfOk result (λ n. n.carrier ≡ number.entry.carrier) }
-    ensures no_memory { F.is_idle finder.now ≡ true → is_plain (parts_of number.entry).national (parts_of number.entry).prefix (parts_of number.entry).extension ≡ true → IsOk result }
+    ensures no_memory { F.is_idle finder.now ≡ true →
+        is_plain (parts_of number.entry).national (parts_of number.entry).prefix
+        (parts_of number.entry).extension ≡ true → IsOk result }
     ensures borrowed { IfOk result (λ n. IsLentDigits number.entry → IsBorrowedStr n.national) }
 {
     let Number {
@@ -194,17 +215,23 @@ fn dialled_beside<'a, F: Finder>(
     }
 }
 
-/// The source of a national part that the reader gave no prefix for, and its digits after plus signs and
-/// international prefix.
+/// The source of a national part that the reader gave no prefix for, and its digits after plus
+/// signs and international prefix.
 fn dialled_alone<'a, F: Finder>(
     alloc: Global,
     finder: &F,
     national: CowStr<'a>,
 ) -> Result<(Source, CowStr<'a>), AllocError>
-    ensures source { IfOk result (λ r. r.0 ≡ (dialled (F.found finder.now) (chars (cow_str_bytes national.entry)) None).source) }
-    ensures digits { IfOk result (λ r. cow_str_bytes r.1 ≡ (dialled (F.found finder.now) (chars (cow_str_bytes national.entry)) None).digits) }
-    ensures no_memory { F.is_idle finder.now ≡ true → list_all is_digit (after_front is_plus (chars (cow_str_bytes national.entry))) ≡ true → IsOk result }
-    ensures borrowed { IfOk result (λ r. IsBorrowedStr national.entry → list_all is_digit (after_front is_plus (chars (cow_str_bytes national.entry))) ≡ true → IsBorrowedStr r.1) }
+    ensures source { IfOk result (λ r.
+        r.0 ≡ (dialled (F.found finder.now) (chars (cow_str_bytes national.entry)) None).source) }
+    ensures digits { IfOk result (λ r. cow_str_bytes r.1 ≡
+        (dialled (F.found finder.now) (chars (cow_str_bytes national.entry)) None).digits) }
+    ensures no_memory { F.is_idle finder.now ≡ true →
+        list_all is_digit (after_front is_plus (chars (cow_str_bytes national.entry))) ≡ true →
+        IsOk result }
+    ensures borrowed { IfOk result (λ r. IsBorrowedStr national.entry →
+        list_all is_digit (after_front is_plus (chars (cow_str_bytes national.entry))) ≡ true →
+        IsBorrowedStr r.1) }
 {
     let has_plus = begins_with_plus(national.as_str());
     let digits = unsigned(alloc, national)?;
@@ -223,13 +250,18 @@ fn unless_plus(has_plus: bool, source: Source) -> Source
     if has_plus { Source::Plus } else { source }
 }
 
-/// The digits of a national part, whose leading plus signs are dropped first. Where digits alone follow them, that takes
-/// no memory.
+/// The digits of a national part, whose leading plus signs are dropped first. Where digits alone
+/// follow them, that takes no memory.
 fn unsigned(alloc: Global, national: CowStr<'_>) -> Result<CowStr<'_>, AllocError>
-    ensures digits { IfOk result (λ d. cow_str_bytes d ≡ unsigned (chars (cow_str_bytes national.entry))) }
-    ensures same { IfOk result (λ d. cow_str_bytes d ≡ norm (chars (cow_str_bytes national.entry))) }
-    ensures no_memory { list_all is_digit (after_front is_plus (chars (cow_str_bytes national.entry))) ≡ true → IsOk result }
-    ensures borrowed { IfOk result (λ d. IsBorrowedStr national.entry → list_all is_digit (after_front is_plus (chars (cow_str_bytes national.entry))) ≡ true → IsBorrowedStr d) }
+    ensures digits { IfOk result (λ d. cow_str_bytes d ≡
+        unsigned (chars (cow_str_bytes national.entry))) }
+    ensures same { IfOk result (λ d. cow_str_bytes d ≡
+        norm (chars (cow_str_bytes national.entry))) }
+    ensures no_memory { list_all is_digit
+        (after_front is_plus (chars (cow_str_bytes national.entry))) ≡ true → IsOk result }
+    ensures borrowed { IfOk result (λ d. IsBorrowedStr national.entry →
+        list_all is_digit (after_front is_plus (chars (cow_str_bytes national.entry))) ≡ true →
+        IsBorrowedStr d) }
 {
     digits(alloc, without_plus_signs(national))
 }
@@ -238,7 +270,8 @@ fn unsigned(alloc: Global, national: CowStr<'_>) -> Result<CowStr<'_>, AllocErro
 fn digits(alloc: Global, part: CowStr<'_>) -> Result<CowStr<'_>, AllocError>
     ensures digits { IfOk result (λ d. cow_str_bytes d ≡ norm (chars (cow_str_bytes part.entry))) }
     ensures no_memory { list_all is_digit (chars (cow_str_bytes part.entry)) ≡ true → IsOk result }
-    ensures borrowed { IfOk result (λ d. IsBorrowedStr part.entry → list_all is_digit (chars (cow_str_bytes part.entry)) ≡ true → IsBorrowedStr d) }
+    ensures borrowed { IfOk result (λ d. IsBorrowedStr part.entry →
+        list_all is_digit (chars (cow_str_bytes part.entry)) ≡ true → IsBorrowedStr d) }
 {
     normalize(alloc, part)
 }
@@ -248,8 +281,10 @@ fn digits_if_any<'a>(
     alloc: Global,
     part: Option<CowStr<'a>>,
 ) -> Result<Option<CowStr<'a>>, AllocError>
-    ensures digits { IfOk result (λ d. option_map cow_str_bytes d ≡ option_map norm (option_map (λ p. chars (cow_str_bytes p)) part.entry)) }
-    ensures no_memory { option_map_or (list_all is_digit) (option_map (λ p. chars (cow_str_bytes p)) part.entry) true ≡ true → IsOk result }
+    ensures digits { IfOk result (λ d. option_map cow_str_bytes d ≡
+        option_map norm (option_map (λ p. chars (cow_str_bytes p)) part.entry)) }
+    ensures no_memory { option_map_or (list_all is_digit)
+        (option_map (λ p. chars (cow_str_bytes p)) part.entry) true ≡ true → IsOk result }
 {
     match part {
         Some(part) => Ok(Some(digits(alloc, part)?)),
@@ -266,7 +301,8 @@ fn begins_with_plus(text: &str) -> bool
 
 /// The text without its leading plus signs.
 fn without_plus_signs(text: CowStr<'_>) -> CowStr<'_>
-    ensures text { chars (cow_str_bytes result) ≡ after_front is_plus (chars (cow_str_bytes text.entry)) }
+    ensures text { chars (cow_str_bytes result) ≡
+        after_front is_plus (chars (cow_str_bytes text.entry)) }
     ensures borrowed { IsBorrowedStr text.entry → IsBorrowedStr result }
 {
     let at = text.as_str().len() - after_run(text.as_str(), &PlusSigns).len();
@@ -275,7 +311,8 @@ fn without_plus_signs(text: CowStr<'_>) -> CowStr<'_>
 
 /// Where digits go on after an international prefix at their front that no `0` follows.
 fn place_after<F: Finder>(finder: &F, digits: &str) -> Result<Option<usize>, AllocError>
-    ensures place { IfOk result (λ at. option_map (λ n. drop n digits.now) at ≡ after_match digits.now (F.found finder.now digits.now)) }
+    ensures place { IfOk result (λ at. option_map (λ n. drop n digits.now) at ≡
+        after_match digits.now (F.found finder.now digits.now)) }
     ensures border { IfOk result (λ at. IfSome at (λ n. IsCharBoundary digits.now n)) }
     ensures no_memory { F.is_idle finder.now ≡ true → IsOk result }
 {

@@ -19,7 +19,8 @@ pub(crate) fn hinted(db: &Database, hint: Option<Id>) -> Option<&Metadata>
     }
 }
 
-/// Whether the digits as they stand look like a number of the territory, and have a possible length.
+/// Whether the digits as they stand look like a number of the territory, and have a possible
+/// length.
 pub(crate) fn looks_national(territory: &Metadata, digits: &str) -> Result<bool, AllocError>
     ensures { IfOk result (λ b. b ≡ looks_national territory.now digits.now) }
 {

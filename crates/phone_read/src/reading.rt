@@ -1,5 +1,6 @@
 //! The reading of a text: the way from its characters to a number.
-ghost use Rattle.std.specs.Prelude.{◌≡◌, ◌⊎◌, ◌==◌, ℕ, List, Ok, Err, IfOk, IfErr, chars, option_map, string_bytes};
+ghost use Rattle.std.specs.Prelude.{◌≡◌, ◌⊎◌, ◌==◌, ℕ, List, Ok, Err, IfOk, IfErr, chars};
+ghost use Rattle.std.specs.Prelude.{option_map, string_bytes};
 ghost use Rattle.std.specs.Cow.{cow_str_bytes};
 ghost use Rattle.std.specs.Option.{option_copied};
 ghost use Rattle.phone_core.specs.Nsn.{nsn};
@@ -37,14 +38,16 @@ pub struct Reading {
     pub carrier: Option<Carrier>,
 }
 
-/// Reads a text as a number under a database. The hint is the region whose international prefix counts, whose calling code
-/// counts where the text doesn't tell one, and by whose rules the national number is stripped, whatever its code is;
-/// without a hint it is stripped by those of the territory that its digits without leading zeros belong to.
+/// Reads a text as a number under a database. The hint is the region whose international prefix
+/// counts, whose calling code counts where the text doesn't tell one, and by whose rules the
+/// national number is stripped, whatever its code is; without a hint it is stripped by those of the
+/// territory that its digits without leading zeros belong to.
 ///
-/// `NoNumber` for a text that neither reader takes, or whose national part isn't viable; then the refusals of
-/// [`country_code`](crate::helper::country_code); then `TooShortNsn` for a national text of fewer than 2 bytes, `TooLong`
-/// for one of more than 17 and for a value from 2^56 on, `MalformedInteger` for one that is no number, as that of zeros
-/// alone. `Memory` where memory was refused, and nowhere else.
+/// `NoNumber` for a text that neither reader takes, or whose national part isn't viable; then the
+/// refusals of [`country_code`](crate::helper::country_code); then `TooShortNsn` for a national
+/// text of fewer than 2 bytes, `TooLong` for one of more than 17 and for a value from 2^56 on,
+/// `MalformedInteger` for one that is no number, as that of zeros alone. `Memory` where memory was
+/// refused, and nowhere else.
 pub fn read(db: &Database, hint: Option<Id>, text: &str) -> Result<Reading, ParseError>
     ensures { (result ≡ Err ParseError.Memory) ⊎ Reads db.now hint (chars text.now) result }
 {
@@ -59,14 +62,20 @@ pub fn read(db: &Database, hint: Option<Id>, text: &str) -> Result<Reading, Pars
     numbered(db.allocator(), territory, coded)
 }
 
-/// The territory whose rules strip the digits: the hint's, or without a hint the one that the digits without their leading
-/// zeros belong to.
+/// The territory whose rules strip the digits: the hint's, or without a hint the one that the
+/// digits without their leading zeros belong to.
 fn stripping_territory<'a>(
     db: &'a Database,
     hint: Option<Id>,
     coded: &CodedNumber<'_>,
 ) -> Result<Option<&'a Metadata>, AllocError>
-    ensures { (source : Source) → IfOk result (λ m. option_copied m ≡ stripping_territory db.entry.now hint (record { source = source; value = coded.now.code; rest = cow_str_bytes coded.now.number.national })) }
+    ensures { (source : Source) → IfOk result
+        (λ m. option_copied m ≡ stripping_territory db.entry.now hint
+        (record {
+          source = source;
+          value = coded.now.code;
+          rest = cow_str_bytes coded.now.number.national;
+        })) }
 {
     if hint.is_some() {
         return Ok(hinted(db, hint));
@@ -84,8 +93,12 @@ fn numbered(
     territory: Option<&Metadata>,
     coded: CodedNumber<'_>,
 ) -> Result<Reading, ParseError>
-    ensures { (result ≡ Err ParseError.Memory) ⊎ (result ≡ reading_of
-        (record { source = coded.entry.number.country; value = coded.entry.code; rest = cow_str_bytes coded.entry.number.national })
+    ensures { (result ≡ Err ParseError.Memory) ⊎
+        (result ≡ reading_of (record {
+          source = coded.entry.number.country;
+          value = coded.entry.code;
+          rest = cow_str_bytes coded.entry.number.national;
+        })
         (option_map cow_str_bytes coded.entry.number.extension)
         (stripped (option_copied territory.entry) (cow_str_bytes coded.entry.number.national))) }
 {
@@ -114,9 +127,11 @@ fn left_of(
     territory: Option<&Metadata>,
     digits: &str,
 ) -> Result<(NationalNumber, Option<Carrier>), ParseError>
-    ensures left { IfOk result (λ left. (nsn (stripped (option_copied territory.entry) digits.now).national ≡ Ok left.0)
-        × (left.1 ≡ (stripped (option_copied territory.entry) digits.now).carrier)) }
-    ensures refused { IfErr result (λ e. (e ≡ ParseError.Memory) ⊎ (nsn (stripped (option_copied territory.entry) digits.now).national ≡ Err e)) }
+    ensures left { IfOk result (λ left.
+        (nsn (stripped (option_copied territory.entry) digits.now).national ≡ Ok left.0) ×
+        (left.1 ≡ (stripped (option_copied territory.entry) digits.now).carrier)) }
+    ensures refused { IfErr result (λ e. (e ≡ ParseError.Memory) ⊎
+        (nsn (stripped (option_copied territory.entry) digits.now).national ≡ Err e)) }
 {
     let Number {
         country: _,

@@ -1,12 +1,15 @@
 //! What is cut off the digits after the calling code: national prefix and carrier code.
-ghost use Rattle.std.specs.Prelude.{◌≡◌, ◌⊎◌, ◌==◌, ◌&&◌, not, ℕ, List, IfOk, IfSome, IsOk, None, Some, drop, option_map, true, false, string_bytes, MatchOption};
+ghost use Rattle.std.specs.Prelude.{◌≡◌, ◌⊎◌, ◌==◌, ◌&&◌, not, ℕ, List, IfOk, IfSome, IsOk, None};
+ghost use Rattle.std.specs.Prelude.{Some, drop, option_map, true, false, string_bytes, MatchOption};
 ghost use Rattle.std.specs.Cow.{cow_str_bytes, IsBorrowedStr};
 ghost use Rattle.std.specs.Option.{option_copied};
 ghost use Rattle.phone_meta.specs.First.{AreCuts, IsCut, captured, replaced};
 ghost use Rattle.phone_records.specs.declared.loader.Metadata as loader;
 ghost use Rattle.phone_read.specs.Hints.{is_of};
 ghost use Rattle.phone_read.specs.Readings.{stripped};
-ghost use Rattle.phone_read.specs.Strips.{Stripped, by_match, by_rule, held, is_anew, is_anew_by_match, is_anew_by_rule, is_left_by_rule, once_more, step, strip, transformed};
+ghost use Rattle.phone_read.specs.Strips.{Stripped, by_match, by_rule, held, is_anew};
+ghost use Rattle.phone_read.specs.Strips.{is_anew_by_match, is_anew_by_rule, is_left_by_rule};
+ghost use Rattle.phone_read.specs.Strips.{once_more, step, strip, transformed};
 
 use crate::together::{beside, instead};
 use crate::trims::{part, trim, without_front};
@@ -17,24 +20,32 @@ use phone_parts::Number;
 use std::alloc::{AllocError, Global};
 use std::borrow::CowStr;
 
-/// A number without what is dialled before its national number inside a territory, its carrier as it is named there.
-/// Without a parsing pattern the territory's national prefix is cut off, where the digits begin with it. With one its
-/// first match counts, where that is at the first byte: it is cut off, and the last group names the carrier (the whole
-/// match where the pattern has no group, none where the group took no part); but where the territory has a transform
-/// rule and that group took part, the rule writes the digits anew, and group 1 names the carrier. Where the digits were
-/// of the territory's general kind and would no longer be, nothing changes.
+/// A number without what is dialled before its national number inside a territory, its carrier as
+/// it is named there. Without a parsing pattern the territory's national prefix is cut off, where
+/// the digits begin with it. With one its first match counts, where that is at the first byte: it
+/// is cut off, and the last group names the carrier (the whole match where the pattern has no
+/// group, none where the group took no part); but where the territory has a transform rule and that
+/// group took part, the rule writes the digits anew, and group 1 names the carrier. Where the
+/// digits were of the territory's general kind and would no longer be, nothing changes.
 ///
-/// A borrowed national part stays borrowed unless the rule wrote it anew, and a carrier that a match names is then
-/// borrowed too. Refused only for memory, and never under a territory without a parsing pattern.
+/// A borrowed national part stays borrowed unless the rule wrote it anew, and a carrier that a
+/// match names is then borrowed too. Refused only for memory, and never under a territory without a
+/// parsing pattern.
 pub fn national_number<'a>(m: &Metadata, number: Number<'a>) -> Result<Number<'a>, AllocError>
-    ensures national { IfOk result (λ n. cow_str_bytes n.national ≡ (step m.now (cow_str_bytes number.entry.national) (option_map cow_str_bytes number.entry.carrier)).national) }
-    ensures carrier { IfOk result (λ n. option_map cow_str_bytes n.carrier ≡ (step m.now (cow_str_bytes number.entry.national) (option_map cow_str_bytes number.entry.carrier)).carrier) }
+    ensures national { IfOk result (λ n. cow_str_bytes n.national ≡
+        (step m.now (cow_str_bytes number.entry.national)
+        (option_map cow_str_bytes number.entry.carrier)).national) }
+    ensures carrier { IfOk result (λ n. option_map cow_str_bytes n.carrier ≡
+        (step m.now (cow_str_bytes number.entry.national)
+        (option_map cow_str_bytes number.entry.carrier)).carrier) }
     ensures country { IfOk result (λ n. n.country ≡ number.entry.country) }
     ensures prefix { IfOk result (λ n. n.prefix ≡ number.entry.prefix) }
     ensures extension { IfOk result (λ n. n.extension ≡ number.entry.extension) }
     ensures no_pattern { m.now.national_prefix_for_parsing ≡ None → IsOk result }
-    ensures borrowed { IfOk result (λ n. IsBorrowedStr number.entry.national → is_anew m.now (cow_str_bytes number.entry.national) ≡ false → IsBorrowedStr n.national) }
-    ensures lent_carrier { IfOk result (λ n. IsBorrowedStr number.entry.national → (n.carrier ≡ number.entry.carrier) ⊎ IfSome n.carrier (λ c. IsBorrowedStr c)) }
+    ensures borrowed { IfOk result (λ n. IsBorrowedStr number.entry.national →
+        is_anew m.now (cow_str_bytes number.entry.national) ≡ false → IsBorrowedStr n.national) }
+    ensures lent_carrier { IfOk result (λ n. IsBorrowedStr number.entry.national →
+        (n.carrier ≡ number.entry.carrier) ⊎ IfSome n.carrier (λ c. IsBorrowedStr c)) }
 {
     let Some(pattern) = m.national_prefix_for_parsing_pattern() else {
         let national = without_front(m.national_prefix(), number.national);
@@ -56,13 +67,20 @@ fn at_match<'a>(
     number: Number<'a>,
 ) -> Result<Number<'a>, AllocError>
     requires { AreCuts (cow_str_bytes number.national) found }
-    ensures national { IfOk result (λ n. cow_str_bytes n.national ≡ (by_match m.now pattern.now (cow_str_bytes number.entry.national) (option_map cow_str_bytes number.entry.carrier) (Some found)).national) }
-    ensures carrier { IfOk result (λ n. option_map cow_str_bytes n.carrier ≡ (by_match m.now pattern.now (cow_str_bytes number.entry.national) (option_map cow_str_bytes number.entry.carrier) (Some found)).carrier) }
+    ensures national { IfOk result (λ n. cow_str_bytes n.national ≡
+        (by_match m.now pattern.now (cow_str_bytes number.entry.national)
+        (option_map cow_str_bytes number.entry.carrier) (Some found)).national) }
+    ensures carrier { IfOk result (λ n. option_map cow_str_bytes n.carrier ≡
+        (by_match m.now pattern.now (cow_str_bytes number.entry.national)
+        (option_map cow_str_bytes number.entry.carrier) (Some found)).carrier) }
     ensures country { IfOk result (λ n. n.country ≡ number.entry.country) }
     ensures prefix { IfOk result (λ n. n.prefix ≡ number.entry.prefix) }
     ensures extension { IfOk result (λ n. n.extension ≡ number.entry.extension) }
-    ensures borrowed { IfOk result (λ n. IsBorrowedStr number.entry.national → is_anew_by_match m.now pattern.now (cow_str_bytes number.entry.national) (Some found) ≡ false → IsBorrowedStr n.national) }
-    ensures lent_carrier { IfOk result (λ n. IsBorrowedStr number.entry.national → (n.carrier ≡ number.entry.carrier) ⊎ IfSome n.carrier (λ c. IsBorrowedStr c)) }
+    ensures borrowed { IfOk result (λ n. IsBorrowedStr number.entry.national →
+        is_anew_by_match m.now pattern.now (cow_str_bytes number.entry.national) (Some found) ≡
+        false → IsBorrowedStr n.national) }
+    ensures lent_carrier { IfOk result (λ n. IsBorrowedStr number.entry.national →
+        (n.carrier ≡ number.entry.carrier) ⊎ IfSome n.carrier (λ c. IsBorrowedStr c)) }
 {
     if found.span.0 != 0 {
         return Ok(number);
@@ -82,13 +100,17 @@ fn cut<'a>(
 ) -> Result<Number<'a>, AllocError>
     requires found { AreCuts (cow_str_bytes number.national) found }
     requires last { IfSome last (IsCut (cow_str_bytes number.national)) }
-    ensures national { IfOk result (λ n. cow_str_bytes n.national ≡ drop found.span.1 (cow_str_bytes number.entry.national)) }
-    ensures carrier { IfOk result (λ n. option_map cow_str_bytes n.carrier ≡ held (cow_str_bytes number.entry.national) last) }
+    ensures national { IfOk result (λ n. cow_str_bytes n.national ≡
+        drop found.span.1 (cow_str_bytes number.entry.national)) }
+    ensures carrier { IfOk result (λ n. option_map cow_str_bytes n.carrier ≡
+        held (cow_str_bytes number.entry.national) last) }
     ensures country { IfOk result (λ n. n.country ≡ number.entry.country) }
     ensures prefix { IfOk result (λ n. n.prefix ≡ number.entry.prefix) }
     ensures extension { IfOk result (λ n. n.extension ≡ number.entry.extension) }
-    ensures borrowed { IfOk result (λ n. IsBorrowedStr number.entry.national → IsBorrowedStr n.national) }
-    ensures lent_carrier { IfOk result (λ n. IsBorrowedStr number.entry.national → IfSome n.carrier (λ c. IsBorrowedStr c)) }
+    ensures borrowed { IfOk result (λ n. IsBorrowedStr number.entry.national →
+        IsBorrowedStr n.national) }
+    ensures lent_carrier { IfOk result (λ n. IsBorrowedStr number.entry.national →
+        IfSome n.carrier (λ c. IsBorrowedStr c)) }
 {
     let carrier = part_if_any(m.allocator(), &number.national, last);
     let (carrier, number) = beside(carrier, number)?;
@@ -106,7 +128,8 @@ fn part_if_any<'a>(
     group: Option<(usize, usize)>,
 ) -> Result<Option<CowStr<'a>>, AllocError>
     requires { IfSome group (IsCut (cow_str_bytes text.now)) }
-    ensures text { IfOk result (λ p. option_map cow_str_bytes p ≡ held (cow_str_bytes text.now) group) }
+    ensures text { IfOk result (λ p. option_map cow_str_bytes p ≡
+        held (cow_str_bytes text.now) group) }
     ensures borrowed { IfOk result (λ p. IsBorrowedStr text.now → IfSome p (λ c. IsBorrowedStr c)) }
 {
     match group {
@@ -115,7 +138,8 @@ fn part_if_any<'a>(
     }
 }
 
-/// A number that the transform rule writes anew, unless it would leave the territory's general kind.
+/// A number that the transform rule writes anew, unless it would leave the territory's general
+/// kind.
 fn transformed<'a>(
     m: &Metadata,
     pattern: &Pattern,
@@ -124,13 +148,21 @@ fn transformed<'a>(
     number: Number<'a>,
 ) -> Result<Number<'a>, AllocError>
     requires { AreCuts (cow_str_bytes number.national) found }
-    ensures national { IfOk result (λ n. cow_str_bytes n.national ≡ (transformed m.now pattern.now rule.now (cow_str_bytes number.entry.national) (option_map cow_str_bytes number.entry.carrier) found).national) }
-    ensures carrier { IfOk result (λ n. option_map cow_str_bytes n.carrier ≡ (transformed m.now pattern.now rule.now (cow_str_bytes number.entry.national) (option_map cow_str_bytes number.entry.carrier) found).carrier) }
+    ensures national { IfOk result (λ n. cow_str_bytes n.national ≡
+        (transformed m.now pattern.now rule.now (cow_str_bytes number.entry.national)
+        (option_map cow_str_bytes number.entry.carrier) found).national) }
+    ensures carrier { IfOk result (λ n. option_map cow_str_bytes n.carrier ≡
+        (transformed m.now pattern.now rule.now (cow_str_bytes number.entry.national)
+        (option_map cow_str_bytes number.entry.carrier) found).carrier) }
     ensures country { IfOk result (λ n. n.country ≡ number.entry.country) }
     ensures prefix { IfOk result (λ n. n.prefix ≡ number.entry.prefix) }
     ensures extension { IfOk result (λ n. n.extension ≡ number.entry.extension) }
-    ensures borrowed { (last : ℕ × ℕ) → IfOk result (λ n. IsBorrowedStr number.entry.national → is_anew_by_rule m.now pattern.now (Some rule.now) (cow_str_bytes number.entry.national) (Some last) ≡ false → IsBorrowedStr n.national) }
-    ensures lent_carrier { IfOk result (λ n. IsBorrowedStr number.entry.national → (n.carrier ≡ number.entry.carrier) ⊎ IfSome n.carrier (λ c. IsBorrowedStr c)) }
+    ensures borrowed { (last : ℕ × ℕ) →
+        IfOk result (λ n. IsBorrowedStr number.entry.national →
+        is_anew_by_rule m.now pattern.now (Some rule.now) (cow_str_bytes number.entry.national)
+        (Some last) ≡ false → IsBorrowedStr n.national) }
+    ensures lent_carrier { IfOk result (λ n. IsBorrowedStr number.entry.national →
+        (n.carrier ≡ number.entry.carrier) ⊎ IfSome n.carrier (λ c. IsBorrowedStr c)) }
 {
     let made = written_anew(m, pattern, rule, found, &number.national);
     let (made, number) = beside(made, number)?;
@@ -144,8 +176,8 @@ fn transformed<'a>(
     }
 }
 
-/// The digits as the transform rule writes them anew, and the carrier; none where they would leave the territory's general
-/// kind.
+/// The digits as the transform rule writes them anew, and the carrier; none where they would leave
+/// the territory's general kind.
 fn written_anew<'a>(
     m: &Metadata,
     pattern: &Pattern,
@@ -169,7 +201,8 @@ fn written_anew<'a>(
     Ok(Some((anew, carrier)))
 }
 
-/// The digits as the transform rule writes them anew; none where they would leave the territory's general kind.
+/// The digits as the transform rule writes them anew; none where they would leave the territory's
+/// general kind.
 fn anew_in_kind(
     m: &Metadata,
     pattern: &Pattern,
@@ -191,21 +224,27 @@ fn anew_in_kind(
     }
 }
 
-/// Whether the digits are of the territory's general kind, and no longer are as they are written anew.
+/// Whether the digits are of the territory's general kind, and no longer are as they are written
+/// anew.
 fn leaves_general(m: &Metadata, digits: &str, anew: &str) -> Result<bool, AllocError>
-    ensures { IfOk result (λ b. b ≡ (is_of m.now.general digits.now && not (is_of m.now.general anew.now))) }
+    ensures { IfOk result (λ b. b ≡
+        (is_of m.now.general digits.now && not (is_of m.now.general anew.now))) }
 {
     let was = is_general(m, digits)?;
     let is = is_general(m, anew)?;
     Ok(was && !is)
 }
 
-/// The digits that stripping by a territory leaves, with the carrier that was named: [`national_number`], then the
-/// national prefix once more; but the digits as they are where too few would be left. They are lent where they can be.
+/// The digits that stripping by a territory leaves, with the carrier that was named:
+/// [`national_number`], then the national prefix once more; but the digits as they are where too
+/// few would be left. They are lent where they can be.
 pub(crate) fn strip<'b>(m: &Metadata, digits: &'b str) -> Result<Number<'b>, AllocError>
-    ensures national { IfOk result (λ n. cow_str_bytes n.national ≡ (strip m.now digits.entry.now).national) }
-    ensures carrier { IfOk result (λ n. option_map cow_str_bytes n.carrier ≡ (strip m.now digits.entry.now).carrier) }
-    ensures borrowed { IfOk result (λ n. is_anew m.now digits.entry.now ≡ false → IsBorrowedStr n.national) }
+    ensures national { IfOk result (λ n. cow_str_bytes n.national ≡
+        (strip m.now digits.entry.now).national) }
+    ensures carrier { IfOk result (λ n. option_map cow_str_bytes n.carrier ≡
+        (strip m.now digits.entry.now).carrier) }
+    ensures borrowed { IfOk result (λ n. is_anew m.now digits.entry.now ≡ false →
+        IsBorrowedStr n.national) }
 {
     let stepped = national_number(m, Number::of(digits))?;
     let national = without_front(m.national_prefix(), stepped.national);
@@ -223,8 +262,10 @@ pub(crate) fn strip<'b>(m: &Metadata, digits: &'b str) -> Result<Number<'b>, All
 
 /// The digits that stripping leaves; all of them without a territory.
 pub(crate) fn stripped<'b>(m: Option<&Metadata>, digits: &'b str) -> Result<Number<'b>, AllocError>
-    ensures national { IfOk result (λ n. cow_str_bytes n.national ≡ (stripped (option_copied m.entry) digits.entry.now).national) }
-    ensures carrier { IfOk result (λ n. option_map cow_str_bytes n.carrier ≡ (stripped (option_copied m.entry) digits.entry.now).carrier) }
+    ensures national { IfOk result (λ n. cow_str_bytes n.national ≡
+        (stripped (option_copied m.entry) digits.entry.now).national) }
+    ensures carrier { IfOk result (λ n. option_map cow_str_bytes n.carrier ≡
+        (stripped (option_copied m.entry) digits.entry.now).carrier) }
 {
     match m {
         Some(m) => strip(m, digits),

@@ -1,5 +1,6 @@
-//! Values that go on together: what steps made, unless one was refused, and a value in the place of another. Where a
-//! function may leave while it holds a value, it has to be shown to drop it; these hold any value.
+//! Values that go on together: what steps made, unless one was refused, and a value in the place of
+//! another. Where a function may leave while it holds a value, it has to be shown to drop it; these
+//! hold any value.
 ghost use Rattle.std.specs.Prelude.{◌≡◌, ◌⊎◌, Ok, Err, IfOk, IfErr, IsOk};
 
 /// What two steps made; where one was refused, its refusal, the first one's first.

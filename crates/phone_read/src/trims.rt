@@ -1,5 +1,6 @@
 //! Fronts that are cut off a text, and parts that are taken out of it.
-ghost use Rattle.std.specs.Prelude.{◌≡◌, ◌==◌, take, drop, length, string_bytes, IsCharBoundary, IfOk, IsOk, IfSome, IsSome, Some, true};
+ghost use Rattle.std.specs.Prelude.{◌≡◌, ◌==◌, take, drop, length, string_bytes, IsCharBoundary};
+ghost use Rattle.std.specs.Prelude.{IfOk, IsOk, IfSome, IsSome, Some, true};
 ghost use Rattle.std.specs.Cow.{cow_str_bytes, IsBorrowedStr};
 ghost use Rattle.std.specs.Fmt.{decimal};
 ghost use Rattle.std.specs.Option.{option_copied};
@@ -12,8 +13,8 @@ ghost use Rattle.phone_parts.specs.Texts.{is_front, without_front};
 use std::alloc::{AllocError, Global};
 use std::borrow::CowStr;
 
-/// The text from byte `at` on, which must lie between two of its characters, at the front or at the end. A borrowed
-/// text stays borrowed, an owned one is cut in place; no memory is taken.
+/// The text from byte `at` on, which must lie between two of its characters, at the front or at the
+/// end. A borrowed text stays borrowed, an owned one is cut in place; no memory is taken.
 pub fn trim(text: CowStr<'_>, at: usize) -> CowStr<'_>
     requires { IsCharBoundary (cow_str_bytes text) at }
     ensures text { cow_str_bytes result ≡ drop at (cow_str_bytes text.entry) }
@@ -48,7 +49,8 @@ pub(crate) fn has_front(text: &str, front: &str) -> bool
 
 /// The text without a front, where there is one and the text begins with it; no memory is taken.
 pub(crate) fn without_front<'a>(front: Option<&str>, text: CowStr<'a>) -> CowStr<'a>
-    ensures text { cow_str_bytes result ≡ without_front (option_copied front.entry) (cow_str_bytes text.entry) }
+    ensures text { cow_str_bytes result ≡ without_front (option_copied front.entry)
+        (cow_str_bytes text.entry) }
     ensures borrowed { IsBorrowedStr text.entry → IsBorrowedStr result }
 {
     match front {
@@ -59,7 +61,8 @@ pub(crate) fn without_front<'a>(front: Option<&str>, text: CowStr<'a>) -> CowStr
 
 /// The text without a front, where it begins with it; no memory is taken.
 pub(crate) fn past_front<'a>(front: &str, text: CowStr<'a>) -> CowStr<'a>
-    ensures text { cow_str_bytes result ≡ without_front (Some front.now) (cow_str_bytes text.entry) }
+    ensures text { cow_str_bytes result ≡
+        without_front (Some front.now) (cow_str_bytes text.entry) }
     ensures borrowed { IsBorrowedStr text.entry → IsBorrowedStr result }
 {
     if has_front(text.as_str(), front) {
@@ -118,7 +121,8 @@ pub(crate) fn behind_number(text: &str, number: u16) -> usize
     decimal_len(number)
 }
 
-/// The front of a borrowed text, up to a place between two of its characters; none of an owned text.
+/// The front of a borrowed text, up to a place between two of its characters; none of an owned
+/// text.
 pub(crate) fn lent_front<'a>(text: &CowStr<'a>, at: usize) -> Option<CowStr<'a>>
     requires { IsCharBoundary (cow_str_bytes text.now) at }
     ensures text { IfSome result (λ front. cow_str_bytes front ≡ take at (cow_str_bytes text.now)) }
@@ -149,7 +153,8 @@ pub(crate) fn part<'a>(
     span: (usize, usize),
 ) -> Result<CowStr<'a>, AllocError>
     requires { IsCut (cow_str_bytes text.now) span }
-    ensures text { IfOk result (λ part. cow_str_bytes part ≡ bytes_of (cow_str_bytes text.now) (Some span)) }
+    ensures text { IfOk result (λ part. cow_str_bytes part ≡
+        bytes_of (cow_str_bytes text.now) (Some span)) }
     ensures borrowed { IfOk result (λ part. IsBorrowedStr text.now → IsBorrowedStr part) }
     ensures no_memory { IsBorrowedStr text.now → IsOk result }
 {

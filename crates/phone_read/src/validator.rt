@@ -10,7 +10,9 @@ ghost use Rattle.phone_meta.specs.Codes.{is_main_of, is_other_of, regions};
 ghost use Rattle.phone_meta.specs.Kinds.{descriptor_for};
 ghost use Rattle.phone_meta.specs.Records.{id_of};
 ghost use Rattle.phone_read.specs.Hints.{is_of};
-ghost use Rattle.phone_read.specs.Regions.{belongs_to, home, is_known, is_of_region, is_one_pattern, line_or_mobile, region_named, region_of, type_of};
+ghost use Rattle.phone_read.specs.Regions.{belongs_to, home, is_known, is_of_region};
+ghost use Rattle.phone_read.specs.Regions.{is_one_pattern, line_or_mobile, region_named, region_of};
+ghost use Rattle.phone_read.specs.Regions.{type_of};
 ghost use Rattle.phone_read.specs.Verdicts.{verdict_for, verdict_by, last_of};
 
 use either::{Either, Left, Right};
@@ -35,10 +37,11 @@ const TRIED: [Type; 10] = [
     Type::Mobile,
 ];
 
-/// What the length of a number's national part says of it as a number of this kind; `Unknown` is any kind, and
-/// `FixedLineOrMobile` counts as a fixed line. The length is in bytes of the part as it stands, and it is weighed by the
-/// lengths of numbers of any kind and by the local lengths of the kind. `InvalidLength` where the territory has no
-/// lengths, or none of the kind. No memory is taken.
+/// What the length of a number's national part says of it as a number of this kind; `Unknown` is
+/// any kind, and `FixedLineOrMobile` counts as a fixed line. The length is in bytes of the part as
+/// it stands, and it is weighed by the lengths of numbers of any kind and by the local lengths of
+/// the kind. `InvalidLength` where the territory has no lengths, or none of the kind. No memory is
+/// taken.
 pub fn length(m: &Metadata, number: &Number<'_>, kind: Type) -> Validation
     ensures { result ≡ verdict_for m.now kind (length (cow_str_bytes number.now.national)) }
 {
@@ -104,10 +107,11 @@ fn has_length(lengths: &[u16], bytes: usize) -> bool
     lengths.iter().any(|l| usize::from(*l) == bytes)
 }
 
-/// What kind of number a text of digits is in a territory: the first kind whose descriptor matches, in the order premium
-/// rate, toll free, shared cost, voip, personal number, pager, uan, voicemail, fixed line, mobile. A fixed line is
-/// `FixedLineOrMobile` where both have one pattern or the mobile descriptor matches too. `Unknown` where no kind
-/// matches, or the general descriptor doesn't. Refused only for memory.
+/// What kind of number a text of digits is in a territory: the first kind whose descriptor matches,
+/// in the order premium rate, toll free, shared cost, voip, personal number, pager, uan, voicemail,
+/// fixed line, mobile. A fixed line is `FixedLineOrMobile` where both have one pattern or the
+/// mobile descriptor matches too. `Unknown` where no kind matches, or the general descriptor
+/// doesn't. Refused only for memory.
 pub fn number_type(m: &Metadata, text: &str) -> Result<Type, AllocError>
     ensures { IfOk result (λ k. k ≡ type_of m.now text.now) }
 {
@@ -123,7 +127,8 @@ pub fn number_type(m: &Metadata, text: &str) -> Result<Type, AllocError>
 
 /// The first of these kinds whose descriptor is there and matches.
 fn first_kind(kinds: &Descriptors, tried: &[Type], text: &str) -> Result<Option<Type>, AllocError>
-    ensures { IfOk result (λ k. k ≡ find (λ k. is_of (descriptor_for k kinds.now) text.now) tried.now) }
+    ensures { IfOk result (λ k. k ≡
+        find (λ k. is_of (descriptor_for k kinds.now) text.now) tried.now) }
 {
     for kind in tried {
         if is_of(kinds.get(*kind), text)? {
@@ -174,11 +179,12 @@ fn is_one_pattern(line: Option<&Descriptor>, mobile: Option<&Descriptor>) -> boo
     }
 }
 
-/// The region of a number with this calling code and these digits: of the ids of the code the first whose territory it
-/// belongs to, by the territory's leading digits where it has some, else by being of a known kind there. A sole id is
-/// the region whatever the digits are, and the sole id `001` stands for the code itself. None where the code isn't
-/// listed, where it has several ids and the number belongs to none of them, and where the id that was found is no
-/// region's. Refused only for memory.
+/// The region of a number with this calling code and these digits: of the ids of the code the first
+/// whose territory it belongs to, by the territory's leading digits where it has some, else by
+/// being of a known kind there. A sole id is the region whatever the digits are, and the sole id
+/// `001` stands for the code itself. None where the code isn't listed, where it has several ids and
+/// the number belongs to none of them, and where the id that was found is no region's. Refused only
+/// for memory.
 pub fn source_for(
     db: &Database,
     code: u16,
@@ -202,7 +208,8 @@ fn region_of_several(
     code: u16,
     text: &str,
 ) -> Result<Option<Either<Id, u16>>, AllocError>
-    ensures { IfOk result (λ r. r ≡ option_and_then region_named (find (is_of_region db.now text.now) (regions code db.now))) }
+    ensures { IfOk result (λ r. r ≡
+        option_and_then region_named (find (is_of_region db.now text.now) (regions code db.now))) }
 {
     match first_region(db, code, text)? {
         Some(territory) => Ok(region_named(territory)),
@@ -287,7 +294,9 @@ fn first_other_region<'a>(
 
 /// Whether a territory is a main one, and the number belongs to its id's.
 fn is_main_region(db: &Database, text: &str, territory: &Metadata) -> Result<bool, AllocError>
-    ensures { IfOk result (λ b. b ≡ (territory.now.main_country_for_code && is_of_region db.now text.now (id_of territory.now))) }
+    ensures { IfOk result (λ b. b ≡
+        (territory.now.main_country_for_code &&
+        is_of_region db.now text.now (id_of territory.now))) }
 {
     if territory.is_main_country_for_code() {
         is_of_region(db, text, territory.id())
@@ -298,7 +307,9 @@ fn is_main_region(db: &Database, text: &str, territory: &Metadata) -> Result<boo
 
 /// Whether a territory isn't a main one, and the number belongs to its id's.
 fn is_other_region(db: &Database, text: &str, territory: &Metadata) -> Result<bool, AllocError>
-    ensures { IfOk result (λ b. b ≡ (not territory.now.main_country_for_code && is_of_region db.now text.now (id_of territory.now))) }
+    ensures { IfOk result (λ b. b ≡
+        (not territory.now.main_country_for_code &&
+        is_of_region db.now text.now (id_of territory.now))) }
 {
     if territory.is_main_country_for_code() {
         Ok(false)
@@ -333,8 +344,9 @@ fn is_known(kind: Type) -> bool
     !matches!(kind, Type::Unknown)
 }
 
-/// The territory that a number of a calling code belongs to: the last record of its region, or the first territory of
-/// the code where `001` is its sole id; none where it belongs to none. Refused only for memory.
+/// The territory that a number of a calling code belongs to: the last record of its region, or the
+/// first territory of the code where `001` is its sole id; none where it belongs to none. Refused
+/// only for memory.
 pub fn home<'a>(db: &'a Database, code: u16, text: &str) -> Result<Option<&'a Metadata>, AllocError>
     ensures { IfOk result (λ m. option_copied m ≡ home db.entry.now code text.now) }
 {

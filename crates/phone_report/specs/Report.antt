@@ -24,5 +24,7 @@ IsBeginning db hint to_come bytes text =
     on_lines.IsBeginning (IsReportLine db hint) to_come bytes text
 
 -- a sink took a beginning of whatever is the report
-abbrev pub TakesBeginning : List Metadata → Option Id → List ℕ → Option (List ℕ) → Option (List ℕ) → Type 0
-TakesBeginning db hint bytes before after = on_lines.TakesBeginning (IsReportLine db hint) bytes before after
+abbrev pub TakesBeginning : List Metadata → Option Id → List ℕ → Option (List ℕ) → Option (List ℕ) →
+    Type 0
+TakesBeginning db hint bytes before after = on_lines.TakesBeginning (IsReportLine db hint) bytes
+    before after

@@ -1,4 +1,5 @@
-//! The report on lines of phone numbers: what is said of each line, the run over a source of bytes, and the program.
+//! The report on lines of phone numbers: what is said of each line, the run over a source of bytes,
+//! and the program.
 #![tactic(auto)]
 
 mod line;

@@ -23,14 +23,18 @@ pub struct Reporter<'d> {
     pub hint: Option<Id>,
 }
 
-/// The report line of a number. Refused by `UnknownCode` where no territory has its code, and by `Memory`.
+/// The report line of a number. Refused by `UnknownCode` where no territory has its code, and by
+/// `Memory`.
 fn number_line(
     alloc: Global,
     database: &Database,
     number: &PhoneNumber,
 ) -> Result<String, FormatError>
-    ensures line { IfOk result (λ line. (m : Metadata) × (first_of (territories number.now.code.value database.now) ≡ Some m) × (string_bytes line ≡ number_line database.now m number.now)) }
-    ensures unknown { result ≡ Err FormatError.UnknownCode → first_of (territories number.now.code.value database.now) ≡ None }
+    ensures line { IfOk result (λ line. (m : Metadata) ×
+        (first_of (territories number.now.code.value database.now) ≡ Some m) ×
+        (string_bytes line ≡ number_line database.now m number.now)) }
+    ensures unknown { result ≡ Err FormatError.UnknownCode →
+        first_of (territories number.now.code.value database.now) ≡ None }
 {
     let texts = format_with(database, number).to_texts(alloc)?;
     or_memory(line_of_texts(alloc, database, number, &texts))

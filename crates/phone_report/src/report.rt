@@ -19,11 +19,13 @@ use phonenumber::metadata::Database;
 
 /// Reads lines from a source and writes the report on them to a sink.
 ///
-/// The input is cut at each line feed; what stands after the last one is a line where it has a byte; one carriage return at
-/// a line's end is dropped. Each line gives one report line, ended by a line feed, its fields parted by one tab. A number:
-/// `ok`, its E.164, international, national and RFC 3966 text, how its calling code was found (`plus`, `idd`, `number`,
-/// `default`), its kind, the id of its region or `-`, and `valid` or `invalid`. A refusal: `error`, its number and its
-/// words. A line that isn't UTF-8: `error`, `0`, `not UTF-8`. Nothing in memory grows with the number of lines.
+/// The input is cut at each line feed; what stands after the last one is a line where it has a
+/// byte; one carriage return at a line's end is dropped. Each line gives one report line, ended by
+/// a line feed, its fields parted by one tab. A number: `ok`, its E.164, international, national
+/// and RFC 3966 text, how its calling code was found (`plus`, `idd`, `number`, `default`), its
+/// kind, the id of its region or `-`, and `valid` or `invalid`. A refusal: `error`, its number and
+/// its words. A line that isn't UTF-8: `error`, `0`, `not UTF-8`. Nothing in memory grows with the
+/// number of lines.
 ///
 /// Refused by `Input` where the source failed, or 2^64 - 1 bytes were read: then the report on all
 /// lines that a line feed ended is written. By `Output` where the sink failed, or took no byte of
@@ -38,16 +40,26 @@ pub fn run<S: ByteSource, W: ByteSink>(
     sink: &mut W,
 ) -> Result<(), RunError>
     ensures end { OnOk result (IsAtEnd (S.to_come source.new)) }
-    ensures report { OnOk result (OfRead (S.to_come source.old) (S.to_come source.new) (λ bytes. TakesA (IsReport database.now hint bytes) (W.taken sink.old) (W.taken sink.new))) }
+    ensures report { OnOk result (OfRead (S.to_come source.old) (S.to_come source.new)
+        (λ bytes. TakesA (IsReport database.now hint bytes) (W.taken sink.old)
+        (W.taken sink.new))) }
     ensures no_fault { OnOk result (S.faults source.new ≡ S.faults source.old) }
-    ensures ended { result ≡ Err error.Input → OfRead (S.to_come source.old) (S.to_come source.new) (λ bytes. TakesA (IsReportOnEnded database.now hint bytes) (W.taken sink.old) (W.taken sink.new)) }
-    ensures cause { result ≡ Err error.Input → (S.faults source.new ≡ S.faults source.old + 1) ⊎ OfRead (S.to_come source.old) (S.to_come source.new) (λ bytes. length bytes ≡ most_bytes) }
+    ensures ended { result ≡ Err error.Input →
+        OfRead (S.to_come source.old) (S.to_come source.new)
+        (λ bytes. TakesA (IsReportOnEnded database.now hint bytes) (W.taken sink.old)
+        (W.taken sink.new)) }
+    ensures cause { result ≡ Err error.Input → (S.faults source.new ≡ S.faults source.old + 1) ⊎
+        OfRead (S.to_come source.old) (S.to_come source.new) (λ bytes. length bytes ≡ most_bytes) }
     ensures beginning { result ≡ Err error.Output →
         OfRead (S.to_come source.old) (S.to_come source.new) (λ bytes.
         TakesA (IsBeginning database.now hint (S.to_come source.new) bytes)
         (W.taken sink.old) (W.taken sink.new)) }
-    ensures first { result ≡ Err error.Memory → OfRead (S.to_come source.old) (S.to_come source.new) (λ bytes. TakesA (IsReportOnFirst database.now hint bytes) (W.taken sink.old) (W.taken sink.new)) }
-    ensures no_fault_without_memory { result ≡ Err error.Memory → S.faults source.new ≡ S.faults source.old }
+    ensures first { result ≡ Err error.Memory →
+        OfRead (S.to_come source.old) (S.to_come source.new)
+        (λ bytes. TakesA (IsReportOnFirst database.now hint bytes) (W.taken sink.old)
+        (W.taken sink.new)) }
+    ensures no_fault_without_memory { result ≡ Err error.Memory →
+        S.faults source.new ≡ S.faults source.old }
     ensures sink_faults { W.faults sink.new ≡ W.faults sink.old + sink_faults_of result }
 {
     let reporter = Reporter { database, hint };
@@ -56,7 +68,8 @@ pub fn run<S: ByteSource, W: ByteSink>(
 
 /// A line has one report line at most, under each database and hint.
 pub fn one_report_line()
-    ensures { (db : List loader.Metadata) (hint : Option Id) (line a b : List ℕ) → IsReportLine db hint line a → IsReportLine db hint line b → a ≡ b }
+    ensures { (db : List loader.Metadata) (hint : Option Id) (line a b : List ℕ) →
+        IsReportLine db hint line a → IsReportLine db hint line b → a ≡ b }
 {}
 
 /// What was written where a sink failed begins each report on what was read.

@@ -12,13 +12,15 @@ use std::fs::Files;
 /// How the program is called.
 const USAGE: &str = "usage: phone_tool DATABASE [REGION]\n";
 
-/// The program `phone_tool DATABASE [REGION]`: it loads the database of a file by `Database::load`, and writes the report on
-/// the lines of the source to the sink, under the region as a hint where one is given. It gives the status to end with, and
-/// for each but 0 writes one line to `errors`; that this fails changes no status.
+/// The program `phone_tool DATABASE [REGION]`: it loads the database of a file by `Database::load`,
+/// and writes the report on the lines of the source to the sink, under the region as a hint where
+/// one is given. It gives the status to end with, and for each but 0 writes one line to `errors`;
+/// that this fails changes no status.
 ///
-/// The words are those after the program's own name. Status 0: the report was written. 1: `input failed`, `output failed`
-/// or `out of memory`, as `run` refused. 2: the usage, for no word or more than two, or `unknown region` where the second
-/// is no region's id; both before the file is opened. 3: `database refused: N`, by the number of its refusal.
+/// The words are those after the program's own name. Status 0: the report was written. 1: `input
+/// failed`, `output failed` or `out of memory`, as `run` refused. 2: the usage, for no word or more
+/// than two, or `unknown region` where the second is no region's id; both before the file is
+/// opened. 3: `database refused: N`, by the number of its refusal.
 pub fn program<R: Files + AllocGlobal, S: ByteSource, W: ByteSink, E: ByteSink>(
     rt: &R,
     words: &[&str],

@@ -1,5 +1,6 @@
-//! The program `phone_tool DATABASE [REGION]`: the report on the lines of standard input, written to standard output, under
-//! the database in a file. What it writes, and the status that it ends with, is told at `phone_report::program`.
+//! The program `phone_tool DATABASE [REGION]`: the report on the lines of standard input, written
+//! to standard output, under the database in a file. What it writes, and the status that it ends
+//! with, is told at `phone_report::program`.
 #![tactic(auto)]
 
 use phone_device::Std;

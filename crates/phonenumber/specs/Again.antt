@@ -23,7 +23,10 @@ abbrev pub IsAgain : Reading → Option (List ℕ) → Result Reading ParseError
 IsAgain n e (Ok m) = IsSame n e m
 IsAgain n e (Err x) = x ≡ Memory
 
--- the answer is what the printed text is read as without a hint, where there is one, or want of memory
+-- the answer is what the printed text is read as without a hint, where there is one, or want of
+-- memory
 abbrev pub IsReadOfPrinted : List Metadata → Mode → Reading → Result Reading ParseError → Type 0
 IsReadOfPrinted db mode n r =
-    (r ≡ Err Memory) ⊎ ((printed db mode None n ≡ None) ⊎ ((text : List ℕ) × (IsUtf8 text) × (printed db mode None n ≡ Some text) × Reads db None (chars text) r))
+    (r ≡ Err Memory) ⊎ ((printed db mode None n ≡ None) ⊎
+    ((text : List ℕ) × (IsUtf8 text) × (printed db mode None n ≡ Some text) ×
+    Reads db None (chars text) r))

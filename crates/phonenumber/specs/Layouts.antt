@@ -1,4 +1,5 @@
--- Which layout counts for a national number, and how it lays the digits out: after the original's `formatter`.
+-- Which layout counts for a national number, and how it lays the digits out: after the original's
+-- `formatter`.
 use Rattle.std.specs.Prelude.{ℕ, List, [], ◌∷◌, Option, None, Some}
 use Rattle.std.specs.List.{find}
 use Rattle.std.specs.Option.{option_or}
@@ -13,7 +14,8 @@ abbrev pub or_else : List Format → List Format → List Format
 or_else [] others = others
 or_else (f ∷ fs) others = f ∷ fs
 
--- national text takes the territory's national layouts; other text the international ones, where it has any, else the national ones
+-- national text takes the territory's national layouts; other text the international ones, where it
+-- has any, else the national ones
 abbrev pub layouts_for : Metadata → Mode → List Format
 layouts_for m National = m.formats
 layouts_for m E164 = or_else m.international_formats m.formats

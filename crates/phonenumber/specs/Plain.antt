@@ -1,5 +1,6 @@
 -- Which printed numbers are read back: the premises.
-use Rattle.std.specs.Prelude.{◌≡◌, ◌⊎◌, ℕ, ◌^◌, ◌<◌, ◌≤◌, not, Bool, true, false, List, [], ◌∷◌, filter, length, chars, IsUtf8, Option, None, Some}
+use Rattle.std.specs.Prelude.{◌≡◌, ◌⊎◌, ℕ, ◌^◌, ◌<◌, ◌≤◌, not, Bool, true, false, List, [], ◌∷◌}
+use Rattle.std.specs.Prelude.{filter, length, chars, IsUtf8, Option, None, Some}
 use Rattle.std.specs.List.{list_all, list_any}
 use Rattle.std.specs.Option.{option_map_or}
 use Rattle.phone_chars.specs.Characters.{is_digit, is_one_of, is_punctuation, is_separator}
@@ -16,12 +17,14 @@ use Rattle.phone_read.specs.Strips.{strip}
 use Rattle.phone_read.specs.declared.reading.Reading.{Reading}
 use Rattle.phonenumber.specs.Texts.{laid_out}
 
--- what every number keeps that a `PhoneNumber` holds: value and zeros have room in their word, and the code has 16 bits
+-- what every number keeps that a `PhoneNumber` holds: value and zeros have room in their word, and
+-- the code has 16 bits
 pub record IsBounded (n : Reading) : Type 0 where
   pub national : IsHeld n.national
   pub code : n.code.value < 2 ^ 16
 
--- the code is listed, with m as its first territory, the value is not 0, and the national text has `least` to 17 digits
+-- the code is listed, with m as its first territory, the value is not 0, and the national text has
+-- `least` to 17 digits
 pub record IsPlain (db : List Metadata) (n : Reading) (least : ℕ) (m : Metadata) : Type 0 where
   pub listed : first_of (territories n.code.value db) ≡ Some m
   pub not_zero : 0 < n.national.value
@@ -36,22 +39,26 @@ has_digits e = option_map_or (list_all is_digit) e true
 abbrev pub IsPlainE164 : List Metadata → Reading → Type 0
 IsPlainE164 db n = (m : Metadata) × IsPlain db n 2 m
 
--- for the text of RFC 3966: three digits at least, an extension of digits if any, and the laid-out text is the digits and separators
+-- for the text of RFC 3966: three digits at least, an extension of digits if any, and the laid-out
+-- text is the digits and separators
 pub record IsPlainRfc3966 (db : List Metadata) (n : Reading) : Type 0 where
   pub territory : Metadata
   pub plain : IsPlain db n 3 territory
   pub extension : has_digits n.extension ≡ true
-  pub only_parted : filter (λ c. not (is_separator c)) (chars (laid_out territory International None n)) ≡ text_of n.national
+  pub only_parted : filter (λ c. not (is_separator c))
+      (chars (laid_out territory International None n)) ≡ text_of n.national
 
--- for the international text: at most seven digits of extension, and the laid-out text is the digits and punctuation that announces
--- no extension
+-- for the international text: at most seven digits of extension, and the laid-out text is the
+-- digits and punctuation that announces no extension
 pub record IsPlainInternational (db : List Metadata) (n : Reading) : Type 0 where
   pub territory : Metadata
   pub plain : IsPlain db n 2 territory
   pub extension : has_digits n.extension ≡ true
   pub few_digits : option_map_or length n.extension 0 ≤ 7
-  pub only_parted : filter (λ c. not (is_punctuation c)) (chars (laid_out territory International None n)) ≡ text_of n.national
-  pub no_indicator : list_any (is_one_of (120 ∷ 126 ∷ 0xFF5E ∷ [])) (chars (laid_out territory International None n)) ≡ false
+  pub only_parted : filter (λ c. not (is_punctuation c))
+      (chars (laid_out territory International None n)) ≡ text_of n.national
+  pub no_indicator : list_any (is_one_of (120 ∷ 126 ∷ 0xFF5E ∷ []))
+      (chars (laid_out territory International None n)) ≡ false
 
 -- an extension is announced safely: the territory has no preferred extension prefix, so that
 -- ` ext. ` is printed, or a benign one, and the laid-out text ends in an ASCII digit
@@ -70,6 +77,9 @@ pub record IsAnnouncedByWord (m : Metadata) (n : Reading) : Type 0 where
   pub by_word : IsAnnouncement (chars prefix)
   pub after_digit : ends is_digit (chars (laid_out m International None n)) ≡ true
 
--- stripping leaves the digits alone: they, without their leading zeros, have no home, or its rules leave them as they are
+-- stripping leaves the digits alone: they, without their leading zeros, have no home, or its rules
+-- leave them as they are
 abbrev pub IsIdle : List Metadata → ℕ → List ℕ → Type 0
-IsIdle db code digits = (home db code (without_zeros digits) ≡ None) ⊎ ((m : Metadata) × (home db code (without_zeros digits) ≡ Some m) × ((strip m digits).national ≡ digits))
+IsIdle db code digits = (home db code (without_zeros digits) ≡ None) ⊎
+    ((m : Metadata) × (home db code (without_zeros digits) ≡ Some m) ×
+    ((strip m digits).national ≡ digits))

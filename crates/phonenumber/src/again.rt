@@ -11,22 +11,26 @@ use crate::{FormatError, PhoneNumber, format_with, parse_with};
 use phone_core::{Mode, ParseError};
 use phone_meta::Database;
 
-/// What the E.164 text of a number is read as. Where the number is plain, stripping leaves its digits alone, its code has one to
-/// three digits and no listed code begins another, it is a number of the same code and national number, without an
-/// extension, or `Memory` where memory was refused. `InvalidCountryCode` where its code isn't listed.
+/// What the E.164 text of a number is read as. Where the number is plain, stripping leaves its
+/// digits alone, its code has one to three digits and no listed code begins another, it is a number
+/// of the same code and national number, without an extension, or `Memory` where memory was
+/// refused. `InvalidCountryCode` where its code isn't listed.
 pub fn e164(database: &Database, number: &PhoneNumber) -> Result<PhoneNumber, ParseError>
-    ensures back { IsPlainE164 database.now number.now → IsIdle database.now number.now.code.value (text_of number.now.national) →
-        1 ≤ number.now.code.value → number.now.code.value ≤ 999 → is_prefix_free database.now ≡ true → IsAgain number.now None result }
+    ensures back { IsPlainE164 database.now number.now →
+        IsIdle database.now number.now.code.value (text_of number.now.national) →
+        1 ≤ number.now.code.value → number.now.code.value ≤ 999 →
+        is_prefix_free database.now ≡ true → IsAgain number.now None result }
 {
     number.keeps_bounds();
     read_of_printed(database, number, Mode::E164)
 }
 
-/// What the RFC 3966 text of a number is read as. Where the number is plain and stripping leaves its digits alone, it is a
-/// number of the same code, national number and extension, or `Memory` where memory was refused. `InvalidCountryCode` where its
-/// code isn't listed.
+/// What the RFC 3966 text of a number is read as. Where the number is plain and stripping leaves
+/// its digits alone, it is a number of the same code, national number and extension, or `Memory`
+/// where memory was refused. `InvalidCountryCode` where its code isn't listed.
 pub fn rfc3966(database: &Database, number: &PhoneNumber) -> Result<PhoneNumber, ParseError>
-    ensures back { IsPlainRfc3966 database.now number.now → IsIdle database.now number.now.code.value (text_of number.now.national) →
+    ensures back { IsPlainRfc3966 database.now number.now →
+        IsIdle database.now number.now.code.value (text_of number.now.national) →
         IsAgain number.now number.now.extension result }
 {
     number.keeps_bounds();
@@ -39,10 +43,11 @@ pub fn rfc3966(database: &Database, number: &PhoneNumber) -> Result<PhoneNumber,
 /// digit, by a benign prefix, it is a number of the same code, national number and extension, or
 /// `Memory` where memory was refused. `InvalidCountryCode` where its code isn't listed.
 pub fn international(database: &Database, number: &PhoneNumber) -> Result<PhoneNumber, ParseError>
-    ensures back { (plain : IsPlainInternational database.now number.now) → IsIdle database.now number.now.code.value (text_of number.now.national) →
-        1 ≤ number.now.code.value → number.now.code.value ≤ 999 → is_prefix_free database.now ≡ true →
-        (number.now.extension ≡ None) ⊎ IsBenign plain.territory number.now →
-        IsAgain number.now number.now.extension result }
+    ensures back { (plain : IsPlainInternational database.now number.now) →
+        IsIdle database.now number.now.code.value (text_of number.now.national) →
+        1 ≤ number.now.code.value → number.now.code.value ≤ 999 →
+        is_prefix_free database.now ≡ true → (number.now.extension ≡ None) ⊎
+        IsBenign plain.territory number.now → IsAgain number.now number.now.extension result }
 {
     number.keeps_bounds();
     read_of_printed(database, number, Mode::International)

@@ -26,7 +26,8 @@ pub enum FormatError {
     Memory,
 }
 
-/// A printer of one number, under one database, in one mode, and perhaps with a layout that was handed in.
+/// A printer of one number, under one database, in one mode, and perhaps with a layout that was
+/// handed in.
 #[derive(Clone, Copy)]
 pub struct Formatter<'n, 'd, 'f> {
     number: &'n PhoneNumber,
@@ -113,10 +114,12 @@ impl<'n, 'd, 'f> Formatter<'n, 'd, 'f> {
 
     /// The printed text, by the first territory of the number's calling code.
     ///
-    /// `E164`: a plus sign, the code, the national number with its zeros. `International`: a plus sign, the code, a space, the
-    /// number laid out, the extension. `National`: the number laid out by its rule, the extension. `Rfc3966`: `tel:+`, the
-    /// code, a hyphen, the number laid out with each longest run of separators made one hyphen, and the extension after
-    /// `;ext=`. `UnknownCode` exactly where the database lists no territory of the code; `Memory` where memory was refused.
+    /// `E164`: a plus sign, the code, the national number with its zeros. `International`: a plus
+    /// sign, the code, a space, the number laid out, the extension. `National`: the number laid out
+    /// by its rule, the extension. `Rfc3966`: `tel:+`, the code, a hyphen, the number laid out with
+    /// each longest run of separators made one hyphen, and the extension after `;ext=`.
+    /// `UnknownCode` exactly where the database lists no territory of the code; `Memory` where
+    /// memory was refused.
     pub fn to_text(&self, alloc: Global) -> Result<String, FormatError>
         ensures text { IfOk result (λ t. text_of self.now ≡ Some (string_bytes t)) }
         ensures unknown { (result ≡ Err FormatError.UnknownCode) ↔ (text_of self.now ≡ None) }
@@ -141,13 +144,22 @@ impl<'n, 'd, 'f> Formatter<'n, 'd, 'f> {
 }
 
 impl Formatter<'_, '_, '_> {
-    /// The texts in the four modes, whatever the printer's own mode is, each as `to_text` would give it. The layout that the
-    /// international text and that of RFC 3966 share is looked for once.
+    /// The texts in the four modes, whatever the printer's own mode is, each as `to_text` would
+    /// give it. The layout that the international text and that of RFC 3966 share is looked for
+    /// once.
     pub fn to_texts(&self, alloc: Global) -> Result<Texts, FormatError>
-        ensures e164 { IfOk result (λ t. printed (database_of self.now) mode.E164 (layout_of self.now) (number_of self.now) ≡ Some (string_bytes t.e164)) }
-        ensures international { IfOk result (λ t. printed (database_of self.now) mode.International (layout_of self.now) (number_of self.now) ≡ Some (string_bytes t.international)) }
-        ensures national { IfOk result (λ t. printed (database_of self.now) mode.National (layout_of self.now) (number_of self.now) ≡ Some (string_bytes t.national)) }
-        ensures rfc3966 { IfOk result (λ t. printed (database_of self.now) mode.Rfc3966 (layout_of self.now) (number_of self.now) ≡ Some (string_bytes t.rfc3966)) }
+        ensures e164 { IfOk result (λ t.
+            printed (database_of self.now) mode.E164 (layout_of self.now) (number_of self.now) ≡
+            Some (string_bytes t.e164)) }
+        ensures international { IfOk result
+            (λ t. printed (database_of self.now) mode.International (layout_of self.now)
+            (number_of self.now) ≡ Some (string_bytes t.international)) }
+        ensures national { IfOk result (λ t.
+            printed (database_of self.now) mode.National (layout_of self.now) (number_of self.now) ≡
+            Some (string_bytes t.national)) }
+        ensures rfc3966 { IfOk result (λ t.
+            printed (database_of self.now) mode.Rfc3966 (layout_of self.now) (number_of self.now) ≡
+            Some (string_bytes t.rfc3966)) }
         ensures unknown { (result ≡ Err FormatError.UnknownCode) ↔ (text_of self.now ≡ None) }
     {
         let code = self.number.code().value();
@@ -168,8 +180,8 @@ impl fmt::Display for Formatter<'_, '_, '_> {
 
     ghost output = { λ f. text_of f };
 
-    /// Writes the printed text, made whole first with the database's allocator; where `to_text` would refuse it
-    /// answers an error and writes nothing.
+    /// Writes the printed text, made whole first with the database's allocator; where `to_text`
+    /// would refuse it answers an error and writes nothing.
     fn fmt<W: fmt::Write>(&self, f: &mut fmt::Formatter<W>) -> fmt::Result
         ensures writes { DisplaysOnOk W.write_str_gives f.old result (text_of self.now) f.new }
         ensures styled { DisplaysStyledOnOk W.write_str_gives f.old result None f.new }

@@ -18,8 +18,8 @@ fn begins_apart(text: &str) -> bool
     }
 }
 
-/// The text with each longest run of separators made one hyphen; all other characters stay in their order. Refused only
-/// for memory.
+/// The text with each longest run of separators made one hyphen; all other characters stay in their
+/// order. Refused only for memory.
 pub(crate) fn hyphenated(alloc: Global, text: &str) -> Result<String, AllocError>
     ensures { IfOk result (λ s. string_bytes s ≡ encode_utf8_all (hyphenated (chars text.now))) }
 {

@@ -8,13 +8,15 @@ use phone_core::country::Id;
 use phone_meta::Database;
 use phone_read::{Reading, read};
 
-/// Reads a text as a phone number under a database. The hint is the region whose international prefix counts, whose
-/// calling code counts where the text tells none, and by whose rules its national number is stripped.
+/// Reads a text as a phone number under a database. The hint is the region whose international
+/// prefix counts, whose calling code counts where the text tells none, and by whose rules its
+/// national number is stripped.
 ///
-/// First the text is read as a `tel:` text, else as free text: `NoNumber` where neither reader takes it, and where the
-/// national part isn't viable. `InvalidCountryCode` where no listed calling code is found; `TooShortNsn`, `TooLong` and
-/// `MalformedInteger` as `phone_read::read` refuses calling codes and national numbers. `Memory` where memory was refused,
-/// and nowhere else; the memory is taken by the database's allocator.
+/// First the text is read as a `tel:` text, else as free text: `NoNumber` where neither reader
+/// takes it, and where the national part isn't viable. `InvalidCountryCode` where no listed calling
+/// code is found; `TooShortNsn`, `TooLong` and `MalformedInteger` as `phone_read::read` refuses
+/// calling codes and national numbers. `Memory` where memory was refused, and nowhere else; the
+/// memory is taken by the database's allocator.
 pub fn parse_with(
     database: &Database,
     hint: Option<Id>,

@@ -11,9 +11,9 @@ use std::alloc::AllocError;
 use std::fmt;
 use std::marker::Model;
 
-/// A phone number: calling code with its source, national number, extension and carrier. Contracts see these four.
-/// Two numbers are equal where all four are, so one number that was written in two ways may be read as two that differ in
-/// their source.
+/// A phone number: calling code with its source, national number, extension and carrier. Contracts
+/// see these four. Two numbers are equal where all four are, so one number that was written in two
+/// ways may be read as two that differ in their source.
 #[derive(PartialEq, Eq, Hash, Debug, Drop, Serialize, Deserialize)]
 pub struct PhoneNumber {
     code: Code,
@@ -27,9 +27,19 @@ impl Model for PhoneNumber {
 
     ghost Value = { Reading };
 
-    ghost view = { λ n. record { code = n.code; national = n.national; extension = n.extension; carrier = n.carrier } };
+    ghost view = { λ n. record {
+      code = n.code;
+      national = n.national;
+      extension = n.extension;
+      carrier = n.carrier;
+    } };
 
-    ghost inverse = { λ n. record { code = n.code; national = n.national; extension = n.extension; carrier = n.carrier } };
+    ghost inverse = { λ n. record {
+      code = n.code;
+      national = n.national;
+      extension = n.extension;
+      carrier = n.carrier;
+    } };
 }
 
 impl PhoneNumber {
@@ -40,7 +50,12 @@ impl PhoneNumber {
         extension: Option<Extension>,
         carrier: Option<Carrier>,
     ) -> PhoneNumber
-        ensures { result ≡ record { code = code; national = national; extension = extension; carrier = carrier } }
+        ensures { result ≡ record {
+          code = code;
+          national = national;
+          extension = extension;
+          carrier = carrier;
+        } }
     {
         PhoneNumber {
             code,
@@ -78,8 +93,8 @@ impl PhoneNumber {
         self.carrier.as_ref()
     }
 
-    /// A law, which does nothing: the national number of every number has at most 255 zeros and a value below 2^56, and its
-    /// calling code is below 2^16.
+    /// A law, which does nothing: the national number of every number has at most 255 zeros and a
+    /// value below 2^56, and its calling code is below 2^16.
     pub fn keeps_bounds(&self)
         ensures { IsBounded self.now }
     {
@@ -122,7 +137,8 @@ impl fmt::Display for PhoneNumber {
 
     ghost output = { λ n. Some (e164_text n) };
 
-    /// The E.164 text, whatever the code: a plus sign, the calling code, the national number with its zeros.
+    /// The E.164 text, whatever the code: a plus sign, the calling code, the national number with
+    /// its zeros.
     fn fmt<W: fmt::Write>(&self, f: &mut fmt::Formatter<W>) -> fmt::Result {
         let code = self.code.value();
         let national = self.national;

@@ -1,5 +1,6 @@
 //! The printed text of a number, by a territory.
-ghost use Rattle.std.specs.Prelude.{◌≡◌, ◌∷◌, ◌++◌, IfOk, Ok, chars, codes, encode_utf8_all, string_bytes};
+ghost use Rattle.std.specs.Prelude.{◌≡◌, ◌∷◌, ◌++◌, IfOk, Ok, chars, codes, encode_utf8_all};
+ghost use Rattle.std.specs.Prelude.{string_bytes};
 ghost use Rattle.std.specs.Fmt.{decimal};
 ghost use Rattle.std.specs.List.{find};
 ghost use Rattle.std.specs.Option.{option_copied};
@@ -27,7 +28,8 @@ pub(crate) fn text_by(
     own: Option<&Format>,
     number: &PhoneNumber,
 ) -> Result<String, AllocError>
-    ensures { IfOk result (λ t. string_bytes t ≡ text_by m.now mode (option_copied own.entry) number.now) }
+    ensures { IfOk result (λ t. string_bytes t ≡
+        text_by m.now mode (option_copied own.entry) number.now) }
 {
     if let Mode::E164 = mode {
         return written(alloc, format_args!("{number}"));
@@ -53,7 +55,8 @@ pub struct Texts {
     pub rfc3966: String,
 }
 
-/// The texts in all modes, by a territory. The digits are written once, and each layout is looked for once.
+/// The texts in all modes, by a territory. The digits are written once, and each layout is looked
+/// for once.
 pub(crate) fn texts_by(
     alloc: Global,
     finder: &FirstGroup,
@@ -61,10 +64,15 @@ pub(crate) fn texts_by(
     own: Option<&Format>,
     number: &PhoneNumber,
 ) -> Result<Texts, AllocError>
-    ensures e164 { IfOk result (λ t. string_bytes t.e164 ≡ text_by m.now mode.E164 (option_copied own.entry) number.now) }
-    ensures international { IfOk result (λ t. string_bytes t.international ≡ text_by m.now mode.International (option_copied own.entry) number.now) }
-    ensures national { IfOk result (λ t. string_bytes t.national ≡ text_by m.now mode.National (option_copied own.entry) number.now) }
-    ensures rfc3966 { IfOk result (λ t. string_bytes t.rfc3966 ≡ text_by m.now mode.Rfc3966 (option_copied own.entry) number.now) }
+    ensures e164 { IfOk result (λ t. string_bytes t.e164 ≡
+        text_by m.now mode.E164 (option_copied own.entry) number.now) }
+    ensures international { IfOk result
+        (λ t. string_bytes t.international ≡
+        text_by m.now mode.International (option_copied own.entry) number.now) }
+    ensures national { IfOk result (λ t. string_bytes t.national ≡
+        text_by m.now mode.National (option_copied own.entry) number.now) }
+    ensures rfc3966 { IfOk result (λ t. string_bytes t.rfc3966 ≡
+        text_by m.now mode.Rfc3966 (option_copied own.entry) number.now) }
 {
     let national = number.national();
     let digits = written(alloc, format_args!("{national}"))?;
@@ -158,7 +166,9 @@ fn international(
     m: &Metadata,
     number: &PhoneNumber,
 ) -> Result<String, AllocError>
-    ensures { IfOk result (λ t. string_bytes t ≡ 43 ∷ (decimal number.now.code.value ++ 32 ∷ (laid.now ++ extension_part m.now number.now.extension))) }
+    ensures { IfOk result (λ t. string_bytes t ≡
+        43 ∷ (decimal number.now.code.value ++ 32 ∷
+        (laid.now ++ extension_part m.now number.now.extension))) }
 {
     let code = number.code().value();
     with_extension(written(alloc, format_args!("+{code} {laid}"))?, m, number)
@@ -166,7 +176,10 @@ fn international(
 
 /// The text of RFC 3966 of a number that is laid out so.
 fn rfc3966(alloc: Global, laid: &str, number: &PhoneNumber) -> Result<String, AllocError>
-    ensures { IfOk result (λ t. string_bytes t ≡ codes "tel:+" ++ (decimal number.now.code.value ++ 45 ∷ (encode_utf8_all (hyphenated (chars laid.now)) ++ extension_parameter number.now.extension))) }
+    ensures { IfOk result (λ t. string_bytes t ≡ codes "tel:+" ++
+        (decimal number.now.code.value ++ 45 ∷
+        (encode_utf8_all (hyphenated (chars laid.now)) ++
+        extension_parameter number.now.extension))) }
 {
     let hyphens = hyphenated(alloc, laid)?;
     rfc3966_of(alloc, hyphens.as_str(), number)
@@ -186,9 +199,11 @@ fn rfc3966_of(alloc: Global, hyphens: &str, number: &PhoneNumber) -> Result<Stri
     }
 }
 
-/// A text and the extension after it, announced by the territory's preferred prefix, else by ` ext. `.
+/// A text and the extension after it, announced by the territory's preferred prefix, else by ` ext.
+/// `.
 fn with_extension(text: String, m: &Metadata, number: &PhoneNumber) -> Result<String, AllocError>
-    ensures { IfOk result (λ t. string_bytes t ≡ string_bytes text ++ extension_part m.now number.now.extension) }
+    ensures { IfOk result (λ t. string_bytes t ≡ string_bytes text ++
+        extension_part m.now number.now.extension) }
 {
     let prefix = m
         .preferred_extension_prefix()
@@ -220,7 +235,8 @@ fn laid_out(
     own: Option<&Format>,
     number: &PhoneNumber,
 ) -> Result<String, AllocError>
-    ensures { IfOk result (λ t. string_bytes t ≡ laid_out m.now mode (option_copied own.entry) number.now) }
+    ensures { IfOk result (λ t. string_bytes t ≡
+        laid_out m.now mode (option_copied own.entry) number.now) }
 {
     let national = number.national();
     let digits = written(alloc, format_args!("{national}"))?;
@@ -255,7 +271,8 @@ fn laid_by(
     number: &PhoneNumber,
     digits: &str,
 ) -> Result<String, AllocError>
-    ensures { IfOk result (λ t. string_bytes t ≡ laid (option_copied layout.entry) m.now mode number.now.carrier digits.now) }
+    ensures { IfOk result (λ t. string_bytes t ≡
+        laid (option_copied layout.entry) m.now mode number.now.carrier digits.now) }
 {
     let Some(layout) = layout else {
         return String::from_str(alloc, digits);
@@ -286,14 +303,17 @@ struct Layouts<'a> {
     at_home: Option<&'a Format>,
 }
 
-/// The layouts that count for digits. They are looked for once where national text and other text have the same ones.
+/// The layouts that count for digits. They are looked for once where national text and other text
+/// have the same ones.
 fn layouts_of<'a>(
     m: &'a Metadata,
     own: Option<&'a Format>,
     digits: &str,
 ) -> Result<Layouts<'a>, AllocError>
-    ensures abroad { IfOk result (λ l. option_copied l.abroad ≡ layout_for m.entry.now mode.International (option_copied own.entry) digits.now) }
-    ensures at_home { IfOk result (λ l. option_copied l.at_home ≡ layout_for m.entry.now mode.National (option_copied own.entry) digits.now) }
+    ensures abroad { IfOk result (λ l. option_copied l.abroad ≡
+        layout_for m.entry.now mode.International (option_copied own.entry) digits.now) }
+    ensures at_home { IfOk result (λ l. option_copied l.at_home ≡
+        layout_for m.entry.now mode.National (option_copied own.entry) digits.now) }
 {
     let abroad = layout_for(m, Mode::International, own, digits)?;
     let at_home = at_home(m, own, digits, abroad)?;
@@ -326,7 +346,8 @@ fn layout_for<'a>(
     own: Option<&'a Format>,
     digits: &str,
 ) -> Result<Option<&'a Format>, AllocError>
-    ensures { IfOk result (λ f. option_copied f ≡ layout_for m.entry.now mode (option_copied own.entry) digits.now) }
+    ensures { IfOk result (λ f. option_copied f ≡
+        layout_for m.entry.now mode (option_copied own.entry) digits.now) }
 {
     match own {
         Some(own) => Ok(Some(own)),

@@ -6,7 +6,8 @@ ghost use Rattle.phone_core.specs.Ids.{id_of};
 ghost use Rattle.phone_core.specs.declared.kind.«Type».TheVariants.{Unknown};
 ghost use Rattle.phone_read.specs.Regions.{home, is_known, type_of};
 ghost use Rattle.phone_records.specs.declared.loader.Metadata as loader;
-ghost use Rattle.phonenumber.specs.Queries.{is_valid, kind_of_number, region_of_number, territory_of_number};
+ghost use Rattle.phonenumber.specs.Queries.{is_valid, kind_of_number, region_of_number};
+ghost use Rattle.phonenumber.specs.Queries.{territory_of_number};
 
 use crate::PhoneNumber;
 use crate::written::written;
@@ -50,8 +51,8 @@ impl<'a> Country<'a> {
         self.number.code().value()
     }
 
-    /// The region's id: that of the number's territory, as `metadata` has it. None where the number has no territory, and
-    /// where the territory's id is no region's. Refused only for memory.
+    /// The region's id: that of the number's territory, as `metadata` has it. None where the number
+    /// has no territory, and where the territory's id is no region's. Refused only for memory.
     pub fn id(&self, database: &Database) -> Result<Option<Id>, AllocError>
         ensures { IfOk result (λ id. id ≡ region_of_number database.now self.now) }
     {
@@ -85,8 +86,8 @@ impl PhoneNumber {
         written(alloc, format_args!("{value}"))
     }
 
-    /// The territory that the number belongs to, by its value in decimal without leading zeros; none where it belongs to
-    /// none. Refused only for memory.
+    /// The territory that the number belongs to, by its value in decimal without leading zeros;
+    /// none where it belongs to none. Refused only for memory.
     pub fn metadata<'a>(&self, database: &'a Database) -> Result<Option<&'a Metadata>, AllocError>
         ensures { IfOk result (λ m. option_copied m ≡ territory_of_number database.now self.now) }
     {
@@ -94,8 +95,8 @@ impl PhoneNumber {
         validator::home(database, self.code().value(), value.as_str())
     }
 
-    /// The kind of number that the value is, without leading zeros, in its territory; `Unknown` where it belongs to none.
-    /// Refused only for memory.
+    /// The kind of number that the value is, without leading zeros, in its territory; `Unknown`
+    /// where it belongs to none. Refused only for memory.
     pub fn number_type(&self, database: &Database) -> Result<Type, AllocError>
         ensures { IfOk result (λ kind. kind ≡ kind_of_number database.now self.now) }
     {
@@ -112,8 +113,9 @@ impl PhoneNumber {
         region_and_kind_of(database, self.code().value(), value.as_str())
     }
 
-    /// The number's region, kind and validity at once, as `country`, `number_type` and `is_valid_with` tell them: its territory
-    /// and its kind are looked for once where the number has no leading zeros. Refused only for memory.
+    /// The number's region, kind and validity at once, as `country`, `number_type` and
+    /// `is_valid_with` tell them: its territory and its kind are looked for once where the number
+    /// has no leading zeros. Refused only for memory.
     pub fn queried(&self, database: &Database) -> Result<Queried, AllocError>
         ensures region { IfOk result (λ q. q.region ≡ region_of_number database.now self.now) }
         ensures kind { IfOk result (λ q. q.kind ≡ kind_of_number database.now self.now) }
@@ -131,7 +133,8 @@ impl PhoneNumber {
         })
     }
 
-    /// Whether the number is of a known kind in a territory, its leading zeros counted as digits. Refused only for memory.
+    /// Whether the number is of a known kind in a territory, its leading zeros counted as digits.
+    /// Refused only for memory.
     pub fn is_valid_with(&self, database: &Database) -> Result<bool, AllocError>
         ensures { IfOk result (λ valid. valid ≡ is_valid database.now self.now) }
     {
@@ -175,7 +178,8 @@ fn is_known_in(database: &Database, code: u16, digits: &str) -> Result<bool, All
     }
 }
 
-/// Whether a number is of a known kind in a territory, its leading zeros counted as digits. Refused only for memory.
+/// Whether a number is of a known kind in a territory, its leading zeros counted as digits. Refused
+/// only for memory.
 pub fn is_valid_with(database: &Database, number: &PhoneNumber) -> Result<bool, AllocError>
     ensures { IfOk result (λ valid. valid ≡ is_valid database.now number.now) }
 {

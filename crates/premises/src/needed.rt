@@ -61,7 +61,8 @@ pub fn announced_otherwise()
     ensures by_a_letter_plain { IsPlainInternational db_e (number 355 0 123456 (Some (codes "5"))) }
     ensures by_a_letter_idle { IsIdle db_e 355 (codes "123456") }
     ensures behind_a_slash { ¬ (IsBenign at_by_x (number 43 0 123456 (Some (codes "5")))) }
-    ensures behind_a_slash_plain { IsPlainInternational db_e (number 43 0 123456 (Some (codes "5"))) }
+    ensures behind_a_slash_plain { IsPlainInternational db_e
+        (number 43 0 123456 (Some (codes "5"))) }
     ensures behind_a_slash_idle { IsIdle db_e 43 (codes "123456") }
 {}
 

@@ -26,7 +26,8 @@ pub fn answer<R: Files + AllocGlobal>(rt: &R, row: &Row) -> Result<Option<String
     }
 }
 
-/// What a book over the database that a line names answers, or that one of its codes begins another.
+/// What a book over the database that a line names answers, or that one of its codes begins
+/// another.
 fn of_book<R: Files + AllocGlobal>(rt: &R, row: &Row) -> Result<String> {
     match Book::new(load(rt, row.argument(0))?) {
         Ok(mut book) => in_book(rt.alloc(), row, &mut book),
@@ -99,8 +100,8 @@ fn is_memory(answer: &Answer) -> bool {
     matches!(answer, Err(BookError::Memory))
 }
 
-/// The answers of a book to lines, and its numbers. There must be as many numbers as were added, also
-/// where a line was answered by want of memory; that is then an error.
+/// The answers of a book to lines, and its numbers. There must be as many numbers as were added,
+/// also where a line was answered by want of memory; that is then an error.
 fn judged(alloc: Global, book: &Book, answers: &[Answer]) -> Result<String> {
     if answers.iter().filter(|answer| is_added(answer)).count() != book.len() {
         return Ok(String::from_str(alloc, "not the numbers that were added")?);
@@ -111,8 +112,8 @@ fn judged(alloc: Global, book: &Book, answers: &[Answer]) -> Result<String> {
     Ok(told(alloc, book, answers)?)
 }
 
-/// Answers, a tab behind each; then an equals sign and the E.164 texts of a book's numbers in order,
-/// parted by spaces.
+/// Answers, a tab behind each; then an equals sign and the E.164 texts of a book's numbers in
+/// order, parted by spaces.
 fn told(alloc: Global, book: &Book, answers: &[Answer]) -> Result<String, AllocError> {
     let (answers, numbers) = (words(alloc, answers)?, numbers(alloc, book)?);
     format!(in alloc; "{answers}={numbers}")
@@ -163,8 +164,8 @@ fn refused(alloc: Global, error: &ParseError) -> Result<String, AllocError> {
     format!(in alloc; "Refused {number}\t")
 }
 
-/// How many numbers a book has that was given all lines, and the number at a place as it was written,
-/// or a hyphen.
+/// How many numbers a book has that was given all lines, and the number at a place as it was
+/// written, or a hyphen.
 fn entry(alloc: Global, row: &Row, book: &mut Book) -> Result<String> {
     let place = row.argument(1).parse::<usize>()?;
     add_all(alloc, row, book)?;

@@ -135,9 +135,9 @@ fn each(alloc: Global, row: &Row) -> Result<String> {
     Ok(format!(in alloc; "{words}\t{are_first}")?)
 }
 
-/// One of these runs, to a sink with so much room: writes how it ends, and says whether the sink has
-/// a beginning of the report. A sink that fails before it is full, or before it has the report, was
-/// handed too little, as memory was refused.
+/// One of these runs, to a sink with so much room: writes how it ends, and says whether the sink
+/// has a beginning of the report. A sink that fails before it is full, or before it has the report,
+/// was handed too little, as memory was refused.
 fn one(alloc: Global, row: &Row, at: Option<At>, room: usize, words: &mut String) -> Result<bool> {
     let mut sink = Limit::new(alloc, room, then(row.argument(0)))?;
     let mut source = Script::new(Vec::from_slice(alloc, row.argument_bytes(1))?, at);

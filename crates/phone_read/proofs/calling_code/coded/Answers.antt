@@ -28,7 +28,7 @@ with_code-requires c =
     let n = chars (cow_str_bytes c.args.number.national) in
     let p = option_map (λ p. chars (cow_str_bytes p)) c.args.number.prefix in
     λ some. c.in_ok-number.ensures.source
-        ∙ plus_by_prefix cow_str_bytes c.in_ok-number.number.prefix (found_in (option_copied c.prefix_pattern.result)) n p c.in_ok-number.ensures.prefix some
+    ∙ plus_by_prefix cow_str_bytes c.in_ok-number.number.prefix (found_in (option_copied c.prefix_pattern.result)) n p c.in_ok-number.ensures.prefix some
 
 pub returns : goal.returns
 returns c =

@@ -32,8 +32,7 @@ returns-in_err-prefixed-clause-no_memory c none bare =
 pub returns-clause-coded : goal.returns-clause-coded
 returns-clause-coded c =
     let found = c.in_ok-coded.ensures.coded in
-    let made = c.in_ok-prefixed.ensures in
-    (
+    let made = c.in_ok-prefixed.ensures in (
       found.0,
       found.1,
       record {
