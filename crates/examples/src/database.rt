@@ -6,8 +6,8 @@ use phonenumber::{format_with, parse_with};
 use std::alloc::{AllocError, AllocGlobal, Global};
 
 /// A company's own numbers, from 100 to 999, under a code that no country has.
-const COMPANY: &str =
-    r#"[{"id": "001", "country_code": 999, "general": {"national_number": "[1-9]\\d\\d", "possible_length": [3]}}]"#;
+const COMPANY: &str = r#"[{"id": "001", "country_code": 999,
+        "general": {"national_number": "[1-9]\\d\\d", "possible_length": [3]}}]"#;
 
 /// The same as a record.
 fn record(alloc: Global) -> Result<Metadata, LoadMetadata> {

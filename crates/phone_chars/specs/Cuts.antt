@@ -1,4 +1,5 @@
--- Where a text is cut: an end of it, its longest front of characters of a set, and what follows that front.
+-- Where a text is cut: an end of it, its longest front of characters of a set, and what follows
+-- that front.
 use Rattle.std.specs.Prelude.{◌≡◌, ℕ, Bool, if◌then◌else◌, List, [], ◌∷◌, ◌++◌}
 
 -- the text is something, and then this end of it

@@ -1,5 +1,7 @@
--- Which texts may be a number at all: after the original's `parser/valid`. Texts are lists of characters.
-use Rattle.std.specs.Prelude.{◌≡◌, ℕ, ◌<◌, ◌≤◌, ◌||◌, ◌⊎◌, Bool, true, List, ◌++◌, length, take, slice_index, count_by}
+-- Which texts may be a number at all: after the original's `parser/valid`. Texts are lists of
+-- characters.
+use Rattle.std.specs.Prelude.{◌≡◌, ℕ, ◌<◌, ◌≤◌, ◌||◌, ◌⊎◌, Bool, true, List, ◌++◌, length, take}
+use Rattle.std.specs.Prelude.{slice_index, count_by}
 use Rattle.std.specs.List.{list_all}
 use Rattle.phone_chars.specs.Characters.{is_digit, is_alpha, is_plus, is_star, is_punctuation}
 
@@ -16,7 +18,8 @@ pub record IsTwoDigits (t : List ℕ) : Type 0 where
   pub two : length t ≡ 2
   pub digits : list_all is_digit t ≡ true
 
--- plus signs, or none, and after them at least three digits among allowed characters, with no letter but the small `x` before the third digit
+-- plus signs, or none, and after them at least three digits among allowed characters, with no
+-- letter but the small `x` before the third digit
 pub record IsSignedDigits (t : List ℕ) : Type 0 where
   pub signs : List ℕ
   pub body : List ℕ
@@ -24,7 +27,8 @@ pub record IsSignedDigits (t : List ℕ) : Type 0 where
   pub only_signs : list_all is_plus signs ≡ true
   pub only_allowed : list_all is_allowed body ≡ true
   pub three_digits : 3 ≤ count_by is_digit body
-  pub no_early_letter : (k : ℕ) → k < length body → count_by is_digit (take k body) < 3 → is_early (slice_index body k) ≡ true
+  pub no_early_letter : (k : ℕ) → k < length body → count_by is_digit (take k body) < 3 →
+      is_early (slice_index body k) ≡ true
 
 -- a viable text
 abbrev pub IsViable : List ℕ → Type 0

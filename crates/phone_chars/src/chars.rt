@@ -1,7 +1,10 @@
 //! The classes of characters that the reading of numbers knows, each as a set.
 ghost use Rattle.std.specs.Prelude.{◌≡◌};
 ghost use Rattle.std.specs.List.{find};
-ghost use Rattle.phone_chars.specs.Characters.{is_digit, is_alpha, is_plus, is_star, is_punctuation, is_separator, is_nd, is_number, is_letter, same_fold, as_dec_digit, keypad, is_in_run};
+ghost use Rattle.phone_chars.specs.Characters.{is_digit, is_alpha, is_plus, is_star};
+ghost use Rattle.phone_chars.specs.Characters.{is_punctuation, is_separator, is_nd, is_number};
+ghost use Rattle.phone_chars.specs.Characters.{is_letter, same_fold, as_dec_digit, keypad};
+ghost use Rattle.phone_chars.specs.Characters.{is_in_run};
 
 pub use crate::norm::normalize;
 pub use crate::viable::is_viable;
@@ -9,8 +12,9 @@ use phone_core::consts::{PLUS_SIGN, STAR_SIGN};
 use unicode::case::simple_fold;
 use unicode::properties::{GeneralCategory, GeneralCategoryGroup};
 
-/// Whether the character may stand between the digits of a number: one of 31 dashes, spaces, brackets, dots,
-/// slashes and tildes, plain and wide, or the small `x`, which is often written for a carrier's place.
+/// Whether the character may stand between the digits of a number: one of 31 dashes, spaces,
+/// brackets, dots, slashes and tildes, plain and wide, or the small `x`, which is often written for
+/// a carrier's place.
 pub fn is_punctuation(c: char) -> bool
     ensures { result ≡ is_punctuation c }
 {
@@ -58,7 +62,8 @@ pub fn is_digit(c: char) -> bool
     c.is_ascii_digit()
 }
 
-/// Whether the character is a plus sign: `+`, or the wide one of Chinese and Japanese texts, U+FF0B.
+/// Whether the character is a plus sign: `+`, or the wide one of Chinese and Japanese texts,
+/// U+FF0B.
 pub fn is_plus(c: char) -> bool
     ensures { result ≡ is_plus c }
 {
@@ -72,15 +77,16 @@ pub fn is_star(c: char) -> bool
     c == STAR_SIGN
 }
 
-/// Whether the character parts the groups of a number's digits: punctuation, or the wide full stop, U+FF0E.
+/// Whether the character parts the groups of a number's digits: punctuation, or the wide full stop,
+/// U+FF0E.
 pub fn is_separator(c: char) -> bool
     ensures { result ≡ is_separator c }
 {
     is_punctuation(c) || c == '\u{FF0E}'
 }
 
-/// Whether the character is a digit from `0` to `9`. It is named for the wide digits that a number in free text may
-/// have, but takes none of them: wide digits are read by `as_dec_digit`.
+/// Whether the character is a digit from `0` to `9`. It is named for the wide digits that a number
+/// in free text may have, but takes none of them: wide digits are read by `as_dec_digit`.
 pub fn is_wide_digit(c: char) -> bool
     ensures { result ≡ is_digit c }
 {
@@ -94,8 +100,8 @@ pub fn is_nd(c: char) -> bool
     GeneralCategory::for_char(c) == GeneralCategory::DecimalNumber
 }
 
-/// Whether the character is a number of some script, as digits, Roman numerals and fractions are: Unicode's general
-/// category N, that is Nd, Nl or No.
+/// Whether the character is a number of some script, as digits, Roman numerals and fractions are:
+/// Unicode's general category N, that is Nd, Nl or No.
 pub fn is_number(c: char) -> bool
     ensures { result ≡ is_number c }
 {
@@ -109,14 +115,16 @@ pub fn is_letter(c: char) -> bool
     GeneralCategoryGroup::Letter.contains(GeneralCategory::for_char(c))
 }
 
-/// Whether two characters are one when case is ignored: whether Unicode's simple case folding makes them the same.
+/// Whether two characters are one when case is ignored: whether Unicode's simple case folding makes
+/// them the same.
 pub fn same_fold(a: char, b: char) -> bool
     ensures { result ≡ same_fold a b }
 {
     simple_fold(a) == simple_fold(b)
 }
 
-/// The zeros of the fifteen runs of ten digits that are read beside ASCII's, in the order of their code points.
+/// The zeros of the fifteen runs of ten digits that are read beside ASCII's, in the order of their
+/// code points.
 const SCRIPT_ZEROS: [u32; 15] = [
     0x660, 0x6F0, 0x7C0, 0x966, 0x9E6, 0xA66, 0xAE6, 0xB66, 0xBE6, 0xC66, 0xCE6, 0xD66, 0xE50,
     0xED0, 0xFF10,
@@ -132,9 +140,9 @@ fn find_zero(zeros: &[u32], c: u32) -> Option<u32>
         .find(|zero| *zero <= c && c - *zero < 10)
 }
 
-/// The digit from `0` to `9` that the character stands for as a digit: an ASCII digit itself, a digit of one of
-/// fifteen other runs (that of the wide digits, U+FF10 to U+FF19, among them) the digit of its place; none for all
-/// others.
+/// The digit from `0` to `9` that the character stands for as a digit: an ASCII digit itself, a
+/// digit of one of fifteen other runs (that of the wide digits, U+FF10 to U+FF19, among them) the
+/// digit of its place; none for all others.
 pub fn as_dec_digit(c: char) -> Option<char>
     ensures { result ≡ as_dec_digit c }
 {
@@ -145,8 +153,9 @@ pub fn as_dec_digit(c: char) -> Option<char>
     char::from_digit(c as u32 - zero, 10)
 }
 
-/// The digit from `0` to `9` on whose key of a telephone the character stands: an ASCII digit itself, a letter from
-/// `a` to `z` or from `A` to `Z` the digit of its key, as `2` for `A`, `B` and `C`; none for all others.
+/// The digit from `0` to `9` on whose key of a telephone the character stands: an ASCII digit
+/// itself, a letter from `a` to `z` or from `A` to `Z` the digit of its key, as `2` for `A`, `B`
+/// and `C`; none for all others.
 pub fn keypad(c: char) -> Option<char>
     ensures { result ≡ keypad c }
 {

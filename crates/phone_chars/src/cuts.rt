@@ -1,6 +1,7 @@
 //! Cuts of a text between two of its characters: what all readers of texts stand on.
 //! No cut copies; each part is lent from the text.
-ghost use Rattle.std.specs.Prelude.{◌≡◌, ℕ, ◌<◌, Bool, List, [], ◌∷◌, ◌++◌, length, IfSome, MatchOption, encode_utf8, chars};
+ghost use Rattle.std.specs.Prelude.{◌≡◌, ℕ, ◌<◌, Bool, List, [], ◌∷◌, ◌++◌, length, IfSome};
+ghost use Rattle.std.specs.Prelude.{MatchOption, encode_utf8, chars};
 ghost use Rattle.phone_chars.specs.Cuts.{IsEnd, front, after_front};
 
 /// The first character of a text, and what follows it; none for the empty text.
@@ -25,9 +26,9 @@ pub fn split_last(text: &str) -> Option<(&str, char)>
     Some((rest.as_str(), c))
 }
 
-/// What stands before an end of the text; the end may be all of it, or empty. Where the other text is no end of this
-/// one, the answer is some front of this one. It is found by the texts' lengths in bytes, so its cost does not grow with
-/// them.
+/// What stands before an end of the text; the end may be all of it, or empty. Where the other text
+/// is no end of this one, the answer is some front of this one. It is found by the texts' lengths
+/// in bytes, so its cost does not grow with them.
 pub fn before<'a>(text: &'a str, rest: &str) -> &'a str
     ensures before { (v : List ℕ) → text.now ≡ v ++ rest.now → result.now ≡ v }
     ensures front { (w : List ℕ) × (text.now ≡ result.now ++ w) }
@@ -47,8 +48,8 @@ pub trait CharSet {
         ensures { result ≡ members self.now c };
 }
 
-/// What follows the longest front of characters of the set. The answer is an end of the text, and empty where all
-/// its characters are in the set.
+/// What follows the longest front of characters of the set. The answer is an end of the text, and
+/// empty where all its characters are in the set.
 pub fn after_run<'a, S: CharSet>(text: &'a str, set: &S) -> &'a str
     ensures end { IsEnd text.now result.now }
     ensures rest { chars result.now ≡ after_front (S.members set.now) (chars text.now) }

@@ -1,5 +1,5 @@
-//! What the characters of a text are: their classes, where a text is cut between them, the digits that they stand for,
-//! and when a text may be a number at all.
+//! What the characters of a text are: their classes, where a text is cut between them, the digits
+//! that they stand for, and when a text may be a number at all.
 #![tactic(auto)]
 
 pub mod chars;

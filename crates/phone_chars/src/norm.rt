@@ -1,4 +1,5 @@
-//! A text's digits: what is left of it once each character is read as a digit or dialled on a keypad.
+//! A text's digits: what is left of it once each character is read as a digit or dialled on a
+//! keypad.
 ghost use Rattle.std.specs.Prelude.{◌≡◌, string_bytes, encode_utf8_all, IfOk, Ok, IsTrue, chars};
 ghost use Rattle.std.specs.Cow.{cow_str_bytes, IsBorrowedStr};
 ghost use Rattle.std.specs.List.{list_all};
@@ -43,14 +44,17 @@ fn is_normal(text: &str) -> bool
     has_digits_alone(text)
 }
 
-/// The digits of a text: for each character the digit that `as_dec_digit` gives it, else the one of its key on a
-/// telephone (`keypad`), else nothing. A text of digits from `0` to `9` alone, also the empty one, is given back as
-/// it is, and takes no memory; so a borrowed one stays borrowed. No other text is its own digits. Refused only for
-/// memory.
+/// The digits of a text: for each character the digit that `as_dec_digit` gives it, else the one of
+/// its key on a telephone (`keypad`), else nothing. A text of digits from `0` to `9` alone, also
+/// the empty one, is given back as it is, and takes no memory; so a borrowed one stays borrowed. No
+/// other text is its own digits. Refused only for memory.
 pub fn normalize(alloc: Global, text: CowStr<'_>) -> Result<CowStr<'_>, AllocError>
-    ensures text { IfOk result (λ out. cow_str_bytes out ≡ encode_utf8_all (norm (chars (cow_str_bytes text.entry)))) }
-    ensures no_memory { IsTrue (list_all is_digit (chars (cow_str_bytes text.entry))) → result ≡ Ok text.entry }
-    ensures own { encode_utf8_all (norm (chars (cow_str_bytes text.entry))) ≡ cow_str_bytes text.entry → result ≡ Ok text.entry }
+    ensures text { IfOk result (λ out. cow_str_bytes out ≡
+        encode_utf8_all (norm (chars (cow_str_bytes text.entry)))) }
+    ensures no_memory { IsTrue (list_all is_digit (chars (cow_str_bytes text.entry))) →
+        result ≡ Ok text.entry }
+    ensures own { encode_utf8_all (norm (chars (cow_str_bytes text.entry))) ≡
+        cow_str_bytes text.entry → result ≡ Ok text.entry }
     ensures borrowed { IfOk result (λ out. IsBorrowedStr text.entry →
         IsTrue (list_all is_digit (chars (cow_str_bytes text.entry))) → IsBorrowedStr out) }
 {

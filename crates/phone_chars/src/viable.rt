@@ -1,6 +1,7 @@
 //! Whether a text may be a number at all.
 ghost use Rattle.std.specs.Prelude.{◌≡◌, ◌↔◌, ◌&&◌, ◌||◌, IsTrue, chars, length};
-ghost use Rattle.phone_chars.specs.Characters.{is_alpha, is_digit, is_plus, is_punctuation, is_star};
+ghost use Rattle.phone_chars.specs.Characters.{is_alpha, is_digit, is_plus, is_punctuation};
+ghost use Rattle.phone_chars.specs.Characters.{is_star};
 ghost use Rattle.phone_chars.specs.Viable.{IsTwoDigits, IsSignedDigits, IsViable};
 
 use crate::chars::{is_alpha, is_digit, is_plus, is_punctuation, is_star};
@@ -56,9 +57,9 @@ fn is_signed_digits(text: &str) -> bool
     missing == 0
 }
 
-/// Whether a text may be a number at all: two digits and nothing else; or, after any plus signs, at least three
-/// digits among punctuation, stars and letters, where up to the third digit the only letter is the small `x`.
-/// It takes no memory. Digits are those from `0` to `9`.
+/// Whether a text may be a number at all: two digits and nothing else; or, after any plus signs, at
+/// least three digits among punctuation, stars and letters, where up to the third digit the only
+/// letter is the small `x`. It takes no memory. Digits are those from `0` to `9`.
 pub fn is_viable(text: &str) -> bool
     ensures { IsTrue result ↔ IsViable (chars text.now) }
 {

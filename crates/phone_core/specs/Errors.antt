@@ -1,7 +1,11 @@
 -- What the error of a territory's record tells: after the original's `error`.
 use Rattle.std.specs.Prelude.{ℕ, List, [], ◌∷◌, string_bytes}
 use Rattle.phone_core.specs.declared.error.MetadataError.{MetadataError}
-use Rattle.phone_core.specs.declared.error.MetadataError.TheVariants.{UnexpectedEof, MismatchedTag, MissingValue, UnhandledElement, UnhandledAttribute, UnhandledEvent}
+use Rattle.phone_core.specs.declared.error.MetadataError.TheVariants.{UnexpectedEof, MismatchedTag}
+use Rattle.phone_core.specs.declared.error.MetadataError.TheVariants.{MissingValue}
+use Rattle.phone_core.specs.declared.error.MetadataError.TheVariants.{UnhandledElement}
+use Rattle.phone_core.specs.declared.error.MetadataError.TheVariants.{UnhandledAttribute}
+use Rattle.phone_core.specs.declared.error.MetadataError.TheVariants.{UnhandledEvent}
 
 -- which of the six kinds of error it is, and the texts that it has
 abbrev pub told : MetadataError → ℕ × List (List ℕ)
@@ -9,5 +13,9 @@ told UnexpectedEof = (1, [])
 told (MismatchedTag tag) = (2, string_bytes tag ∷ [])
 told (MissingValue phase name) = (3, string_bytes phase ∷ string_bytes name ∷ [])
 told (UnhandledElement phase name) = (4, string_bytes phase ∷ string_bytes name ∷ [])
-told (UnhandledAttribute phase name value) = (5, string_bytes phase ∷ string_bytes name ∷ string_bytes value ∷ [])
+told (UnhandledAttribute phase name value) = (
+  5,
+  string_bytes phase ∷ string_bytes name ∷
+      string_bytes value ∷ [],
+)
 told (UnhandledEvent phase event) = (6, string_bytes phase ∷ string_bytes event ∷ [])

@@ -3,7 +3,31 @@ use Rattle.std.specs.Prelude.{ℕ, List, codes, Option}
 use Rattle.std.specs.List.{find}
 use Rattle.std.specs.Str.{bytes_eq}
 use Rattle.phone_core.specs.declared.country.Id.{Id}
-use Rattle.phone_core.specs.declared.country.Id.TheVariants.{AC, AD, AE, AF, AG, AI, AL, AM, AO, AR, AS, AT, AU, AW, AX, AZ, BA, BB, BD, BE, BF, BG, BH, BI, BJ, BL, BM, BN, BO, BQ, BR, BS, BT, BW, BY, BZ, CA, CC, CD, CF, CG, CH, CI, CK, CL, CM, CN, CO, CR, CU, CV, CW, CX, CY, CZ, DE, DJ, DK, DM, DO, DZ, EC, EE, EG, EH, ER, ES, ET, FI, FJ, FK, FM, FO, FR, GA, GB, GD, GE, GF, GG, GH, GI, GL, GM, GN, GP, GQ, GR, GT, GU, GW, GY, HK, HN, HR, HT, HU, ID, IE, IL, IM, IN, IO, IQ, IR, IS, IT, JE, JM, JO, JP, KE, KG, KH, KI, KM, KN, KP, KR, KW, KY, KZ, LA, LB, LC, LI, LK, LR, LS, LT, LU, LV, LY, MA, MC, MD, ME, MF, MG, MH, MK, ML, MM, MN, MO, MP, MQ, MR, MS, MT, MU, MV, MW, MX, MY, MZ, NA, NC, NE, NF, NG, NI, NL, NO, NP, NR, NU, NZ, OM, PA, PE, PF, PG, PH, PK, PL, PM, PR, PS, PT, PW, PY, QA, RE, RO, RS, RU, RW, SA, SB, SC, SD, SE, SG, SH, SI, SJ, SK, SL, SM, SN, SO, SR, SS, ST, SV, SX, SY, SZ, TA, TC, TD, TG, TH, TJ, TK, TL, TM, TN, TO, TR, TT, TV, TW, TZ, UA, UG, US, UY, UZ, VA, VC, VE, VG, VI, VN, VU, WF, WS, XK, YE, YT, ZA, ZM, ZW}
+use Rattle.phone_core.specs.declared.country.Id.TheVariants.{AC, AD, AE, AF, AG, AI, AL, AM, AO, AR}
+use Rattle.phone_core.specs.declared.country.Id.TheVariants.{AS, AT, AU, AW, AX, AZ, BA, BB, BD, BE}
+use Rattle.phone_core.specs.declared.country.Id.TheVariants.{BF, BG, BH, BI, BJ, BL, BM, BN, BO, BQ}
+use Rattle.phone_core.specs.declared.country.Id.TheVariants.{BR, BS, BT, BW, BY, BZ, CA, CC, CD, CF}
+use Rattle.phone_core.specs.declared.country.Id.TheVariants.{CG, CH, CI, CK, CL, CM, CN, CO, CR, CU}
+use Rattle.phone_core.specs.declared.country.Id.TheVariants.{CV, CW, CX, CY, CZ, DE, DJ, DK, DM, DO}
+use Rattle.phone_core.specs.declared.country.Id.TheVariants.{DZ, EC, EE, EG, EH, ER, ES, ET, FI, FJ}
+use Rattle.phone_core.specs.declared.country.Id.TheVariants.{FK, FM, FO, FR, GA, GB, GD, GE, GF, GG}
+use Rattle.phone_core.specs.declared.country.Id.TheVariants.{GH, GI, GL, GM, GN, GP, GQ, GR, GT, GU}
+use Rattle.phone_core.specs.declared.country.Id.TheVariants.{GW, GY, HK, HN, HR, HT, HU, ID, IE, IL}
+use Rattle.phone_core.specs.declared.country.Id.TheVariants.{IM, IN, IO, IQ, IR, IS, IT, JE, JM, JO}
+use Rattle.phone_core.specs.declared.country.Id.TheVariants.{JP, KE, KG, KH, KI, KM, KN, KP, KR, KW}
+use Rattle.phone_core.specs.declared.country.Id.TheVariants.{KY, KZ, LA, LB, LC, LI, LK, LR, LS, LT}
+use Rattle.phone_core.specs.declared.country.Id.TheVariants.{LU, LV, LY, MA, MC, MD, ME, MF, MG, MH}
+use Rattle.phone_core.specs.declared.country.Id.TheVariants.{MK, ML, MM, MN, MO, MP, MQ, MR, MS, MT}
+use Rattle.phone_core.specs.declared.country.Id.TheVariants.{MU, MV, MW, MX, MY, MZ, NA, NC, NE, NF}
+use Rattle.phone_core.specs.declared.country.Id.TheVariants.{NG, NI, NL, NO, NP, NR, NU, NZ, OM, PA}
+use Rattle.phone_core.specs.declared.country.Id.TheVariants.{PE, PF, PG, PH, PK, PL, PM, PR, PS, PT}
+use Rattle.phone_core.specs.declared.country.Id.TheVariants.{PW, PY, QA, RE, RO, RS, RU, RW, SA, SB}
+use Rattle.phone_core.specs.declared.country.Id.TheVariants.{SC, SD, SE, SG, SH, SI, SJ, SK, SL, SM}
+use Rattle.phone_core.specs.declared.country.Id.TheVariants.{SN, SO, SR, SS, ST, SV, SX, SY, SZ, TA}
+use Rattle.phone_core.specs.declared.country.Id.TheVariants.{TC, TD, TG, TH, TJ, TK, TL, TM, TN, TO}
+use Rattle.phone_core.specs.declared.country.Id.TheVariants.{TR, TT, TV, TW, TZ, UA, UG, US, UY, UZ}
+use Rattle.phone_core.specs.declared.country.Id.TheVariants.{VA, VC, VE, VG, VI, VN, VU, WF, WS, XK}
+use Rattle.phone_core.specs.declared.country.Id.TheVariants.{YE, YT, ZA, ZM, ZW}
 use Rattle.phone_core.specs.declared.country.TheConstants.{ALL}
 
 -- an id is written as its name

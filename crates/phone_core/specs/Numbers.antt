@@ -1,5 +1,8 @@
--- National numbers: a value and the zeros before it, their text, and what a text is read as. After the original's `national_number`.
-use Rattle.std.specs.Prelude.{ℕ, ◌+◌, ◌*◌, ◌/◌, ◌%◌, ◌^◌, ◌==◌, ◌<◌, nat_lt, ◌&&◌, if◌then◌else◌, List, [], ◌∷◌, ◌++◌, length, drop, replicate, Option, Some, None, Result, Ok, Err}
+-- National numbers: a value and the zeros before it, their text, and what a text is read as. After
+-- the original's `national_number`.
+use Rattle.std.specs.Prelude.{ℕ, ◌+◌, ◌*◌, ◌/◌, ◌%◌, ◌^◌, ◌==◌, ◌<◌, nat_lt, ◌&&◌, if◌then◌else◌}
+use Rattle.std.specs.Prelude.{List, [], ◌∷◌, ◌++◌, length, drop, replicate, Option, Some, None}
+use Rattle.std.specs.Prelude.{Result, Ok, Err}
 use Rattle.std.specs.Char.{is_digit}
 use Rattle.std.specs.Fmt.{decimal}
 use Rattle.std.specs.List.{list_all}
@@ -37,15 +40,18 @@ leading_zeros (c ∷ cs) = if c == 48 then leading_zeros cs + 1 else 0
 abbrev pub number_in : ℕ → List ℕ → Option ℕ
 number_in k text =
     let digits = without_leading_plus text in
-    if nat_lt 0 (length digits) && list_all (λ c. is_digit c 10) digits && nat_lt (digits_value 10 digits) (2 ^ k)
+    if nat_lt 0 (length digits) && list_all (λ c. is_digit c 10) digits &&
+    nat_lt (digits_value 10 digits) (2 ^ k)
     then Some (digits_value 10 digits) else None
 
 -- without a number the text is malformed; at most 255 zeros and 56 bits of value fit
 abbrev pub national_with : ℕ → Option ℕ → Result National ParseError
 national_with count None = Err MalformedInteger
 national_with count (Some value) =
-    if nat_lt count 256 && nat_lt value (2 ^ 56) then Ok (record { zeros = count; value = value }) else Err TooLong
+    if nat_lt count 256 && nat_lt value (2 ^ 56) then Ok (record { zeros = count; value = value })
+    else Err TooLong
 
 -- what a text is read as: its leading zeros, and the number below 2 ^ 64 that follows them
 abbrev pub national_in : List ℕ → Result National ParseError
-national_in text = national_with (leading_zeros text) (number_in 64 (drop (leading_zeros text) text))
+national_in text = national_with (leading_zeros text)
+    (number_in 64 (drop (leading_zeros text) text))

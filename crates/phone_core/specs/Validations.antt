@@ -1,7 +1,10 @@
 -- What the verdicts on a number's length mean: after the original's `validator`.
 use Rattle.std.specs.Prelude.{Bool, true, false}
 use Rattle.phone_core.specs.declared.validator.Validation.{Validation}
-use Rattle.phone_core.specs.declared.validator.Validation.TheVariants.{IsPossible, IsPossibleLocalOnly, InvalidCountryCode, TooShort, InvalidLength, TooLong}
+use Rattle.phone_core.specs.declared.validator.Validation.TheVariants.{IsPossible}
+use Rattle.phone_core.specs.declared.validator.Validation.TheVariants.{IsPossibleLocalOnly}
+use Rattle.phone_core.specs.declared.validator.Validation.TheVariants.{InvalidCountryCode, TooShort}
+use Rattle.phone_core.specs.declared.validator.Validation.TheVariants.{InvalidLength, TooLong}
 
 -- possible: the number can be dialled, be it only within its area
 abbrev pub is_possible : Validation → Bool

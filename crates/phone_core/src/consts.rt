@@ -3,8 +3,8 @@
 /// The least number of digits of a national number that is read.
 pub const MIN_LENGTH_FOR_NSN: usize = 2;
 
-/// The largest number of digits of a national number that is read: ITU's 15, and two more for longer numbers that are in
-/// use.
+/// The largest number of digits of a national number that is read: ITU's 15, and two more for
+/// longer numbers that are in use.
 pub const MAX_LENGTH_FOR_NSN: usize = 17;
 
 /// The largest number of digits of a calling code that is found in front of digits.

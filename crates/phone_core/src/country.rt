@@ -15,13 +15,15 @@ use thiserror::Error;
 /// How the calling code of a number was found.
 #[derive(Clone, Copy, PartialEq, Eq, Hash, Debug, Default)]
 pub enum Source {
-    /// After a plus sign, as `+64` in `+64 3 331 6005`, or from the `phone-context` of a `tel:` text.
+    /// After a plus sign, as `+64` in `+64 3 331 6005`, or from the `phone-context` of a `tel:`
+    /// text.
     Plus,
 
     /// After an international prefix, as `0064` in `0064 3 331 6005` dialled from New Zealand.
     Idd,
 
-    /// As digits at the front that are the hint's code, as `64` in `64 3 331 6005` under New Zealand.
+    /// As digits at the front that are the hint's code, as `64` in `64 3 331 6005` under New
+    /// Zealand.
     Number,
 
     /// From the hint alone.
@@ -659,7 +661,8 @@ impl FromStr for Id {
 
     ghost from_str_gives = { λ text r. result_ok r ≡ id_of text };
 
-    /// The id with this name, capitals and small letters told apart; `UnknownId` where there is none.
+    /// The id with this name, capitals and small letters told apart; `UnknownId` where there is
+    /// none.
     fn from_str(text: &str) -> Result<Id, UnknownId> {
         find_id(&ALL, text).ok_or(UnknownId)
     }
@@ -684,7 +687,8 @@ impl<'de> Deserialize<'de> for Id {
     ghost use Rattle.serde.specs.Event.{text};
     ghost use Rattle.serde.specs.Steps.{Gives};
 
-    /// Reads a text, all of which is the id's name, into memory of its own. A text that is no id's name is an error.
+    /// Reads a text, all of which is the id's name, into memory of its own. A text that is no id's
+    /// name is an error.
     fn deserialize<F: Format>(
         alloc: Global,
         from: &mut Deserializer<'de, '_, F>,

@@ -1,5 +1,5 @@
-//! Equality of the values is equality of all that they hold: `==` of each type, with a contract that says so. Those that
-//! have a hash have equal ones where they are equal.
+//! Equality of the values is equality of all that they hold: `==` of each type, with a contract
+//! that says so. Those that have a hash have equal ones where they are equal.
 ghost use Rattle.std.specs.Prelude.{◌≡◌, ◌↔◌, IsTrue, fold};
 ghost use Rattle.std.specs.Hash.DefaultHasher as sip;
 ghost use Rattle.phone_core.specs.Errors.{told};
@@ -95,7 +95,8 @@ impl SameValue for UnknownId {
     }
 }
 
-/// Whether two errors of territories' records are equal: whether they are of one kind and have the same texts.
+/// Whether two errors of territories' records are equal: whether they are of one kind and have the
+/// same texts.
 pub fn equal_record_errors(a: &MetadataError, b: &MetadataError) -> bool
     ensures { IsTrue result ↔ (told a.now ≡ told b.now) }
 {

@@ -20,16 +20,18 @@ pub enum ParseError {
     #[error("the number is too short after IDD")]
     TooShortAfterIdd,
 
-    /// At most two digits stand behind a sign or an international prefix, or beside a prefix from the `tel:` form; or
-    /// fewer than two are left for the national number.
+    /// At most two digits stand behind a sign or an international prefix, or beside a prefix from
+    /// the `tel:` form; or fewer than two are left for the national number.
     #[error("the number is too short after the country code")]
     TooShortNsn,
 
-    /// More digits than a national number may have, more than 255 zeros before its value, or a value of more than 56 bits.
+    /// More digits than a national number may have, more than 255 zeros before its value, or a
+    /// value of more than 56 bits.
     #[error("the number is too long")]
     TooLong,
 
-    /// A national text that is no number, as that of zeros alone, or a prefix from the `tel:` form that is none below 65536.
+    /// A national text that is no number, as that of zeros alone, or a prefix from the `tel:` form
+    /// that is none below 65536.
     #[error("malformed integer part in phone number")]
     MalformedInteger,
 
@@ -49,8 +51,8 @@ impl From<AllocError> for ParseError {
     }
 }
 
-/// What is wrong with a territory's record. `MissingValue` and `UnhandledElement` are given; no call gives the others, which keep
-/// the names that the original has for them.
+/// What is wrong with a territory's record. `MissingValue` and `UnhandledElement` are given; no
+/// call gives the others, which keep the names that the original has for them.
 #[derive(PartialEq, Eq, Debug, Drop, Error)]
 pub enum MetadataError {
     /// The database text ended too early.

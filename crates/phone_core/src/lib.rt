@@ -1,5 +1,6 @@
-//! The values that all other crates speak of: national numbers, calling codes with their source, region ids,
-//! extensions and carriers, kinds, verdicts, errors, and the constants of reading and printing.
+//! The values that all other crates speak of: national numbers, calling codes with their source,
+//! region ids, extensions and carriers, kinds, verdicts, errors, and the constants of reading and
+//! printing.
 #![tactic(auto)]
 
 mod carrier;

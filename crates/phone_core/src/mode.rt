@@ -3,7 +3,8 @@
 /// How a number is printed.
 #[derive(Clone, Copy, PartialEq, Eq, Debug)]
 pub enum Mode {
-    /// A plus sign, the calling code and the digits, as `+6433316005`: the form of ITU's recommendation E.164.
+    /// A plus sign, the calling code and the digits, as `+6433316005`: the form of ITU's
+    /// recommendation E.164.
     E164,
 
     /// A plus sign, the calling code, a space and the digits in groups, as `+64 3 331 6005`.

@@ -1,5 +1,6 @@
 //! A national number: its value, and how many zeros stand before it.
-ghost use Rattle.std.specs.Prelude.{◌≡◌, ℕ, ◌+◌, ◌*◌, ◌^◌, ◌<◌, ◌≤◌, ◌↔◌, length, drop, replicate, MatchResult, IfOk, Ok, codes};
+ghost use Rattle.std.specs.Prelude.{◌≡◌, ℕ, ◌+◌, ◌*◌, ◌^◌, ◌<◌, ◌≤◌, ◌↔◌, length, drop, replicate};
+ghost use Rattle.std.specs.Prelude.{MatchResult, IfOk, Ok, codes};
 ghost use Rattle.std.specs.Char.{is_ascii_digit};
 ghost use Rattle.phone_core.specs.Numbers.{National, IsHeld, leading_zeros, text_of, national_in};
 
@@ -31,13 +32,16 @@ impl Model for NationalNumber {
     ghost use Rattle.std.proofs.Common.{ap, arith};
     ghost use Rattle.phone_core.specs.declared.national_number.NationalNumber.TheInside.{Inside};
 
-    ghost inverse_ok = { λ a h. ap (λ w. let i : Inside = record { word = w } in i) (let e : packed (unpacked a.word) ≡ a.word = Prim.omega arith in e) };
+    ghost inverse_ok = { λ a h. ap (λ w. let i : Inside = record { word = w } in i)
+        (let e : packed (unpacked a.word) ≡ a.word = Prim.omega arith in e) };
 }
 
 impl NationalNumber {
-    /// The number of this value after this many zeros; `TooLong` exactly where the value needs more than 56 bits.
+    /// The number of this value after this many zeros; `TooLong` exactly where the value needs more
+    /// than 56 bits.
     pub fn new(value: u64, zeros: u8) -> Result<NationalNumber, ParseError>
-        ensures { MatchResult result (λ n. (value < 2 ^ 56) × (n ≡ record { zeros = zeros; value = value }))
+        ensures { MatchResult result (λ n. (value < 2 ^ 56) ×
+            (n ≡ record { zeros = zeros; value = value }))
             (λ e. (2 ^ 56 ≤ value) × (e ≡ ParseError.TooLong)) }
     {
         if value >= 1 << 56 {
@@ -122,9 +126,9 @@ impl FromStr for NationalNumber {
 
     ghost from_str_gives = { λ text r. r ≡ national_in text };
 
-    /// All zeros at the front are counted; what follows is read as Rust reads a `u64`, so that one plus sign and
-    /// zeros after it are accepted. `MalformedInteger` where that is no number below 2^64 (also the empty text),
-    /// else `TooLong` past 255 zeros or 56 bits of value.
+    /// All zeros at the front are counted; what follows is read as Rust reads a `u64`, so that one
+    /// plus sign and zeros after it are accepted. `MalformedInteger` where that is no number below
+    /// 2^64 (also the empty text), else `TooLong` past 255 zeros or 56 bits of value.
     fn from_str(text: &str) -> Result<NationalNumber, ParseError> {
         let (zeros, rest) = split_zeros(text);
         let Ok(value) = rest.parse::<u64>() else {

@@ -17,7 +17,8 @@ pub enum Validation {
     /// The number is shorter than the first length that the territory lists.
     TooShort,
 
-    /// Neither too short nor too long, and not listed; or no length is listed, be it of the territory or of the kind.
+    /// Neither too short nor too long, and not listed; or no length is listed, be it of the
+    /// territory or of the kind.
     InvalidLength,
 
     /// The number is longer than the last length that the territory lists.
@@ -35,7 +36,8 @@ impl Validation {
         )
     }
 
-    /// Whether the verdict is against the number: an unknown calling code, or a length that is invalid.
+    /// Whether the verdict is against the number: an unknown calling code, or a length that is
+    /// invalid.
     pub fn is_invalid(&self) -> bool
         ensures { result ≡ is_invalid self.now }
     {

@@ -3,7 +3,8 @@ use Rattle.std.specs.Prelude.{ℕ, ◌==◌, Bool, true, false, List}
 use Rattle.phone_device.specs.declared.limit.Then.{Then}
 use Rattle.phone_device.specs.declared.limit.Then.TheVariants.{Fail, FlushFail, Zero}
 
--- what a sink with a limit holds: the bytes taken, how many it still takes, what it does then, and its faults so far
+-- what a sink with a limit holds: the bytes taken, how many it still takes, what it does then, and
+-- its faults so far
 pub record Limited : Type 0 where
   pub taken : List ℕ
   pub left : ℕ

@@ -1,11 +1,13 @@
 -- What passes between a device and its user, where the device tells its bytes.
-use Rattle.std.specs.Prelude.{◌≡◌, ℕ, ◌==◌, ◌&&◌, nat_lt, if◌then◌else◌, List, ◌++◌, length, [], ⊤, Option, Some, None}
+use Rattle.std.specs.Prelude.{◌≡◌, ℕ, ◌==◌, ◌&&◌, nat_lt, if◌then◌else◌, List, ◌++◌, length, [], ⊤}
+use Rattle.std.specs.Prelude.{Option, Some, None}
 
 -- the bytes of a device that doesn't tell them
 abbrev pub untold : Option (List ℕ)
 untold = None
 
--- of the bytes to come, where a source tells them, these passed first, and the others are still to come
+-- of the bytes to come, where a source tells them, these passed first, and the others are still to
+-- come
 abbrev pub Passes : Option (List ℕ) → List ℕ → Option (List ℕ) → Type 0
 Passes None bytes after = after ≡ None
 Passes (Some all) bytes after = (rest : List ℕ) × (all ≡ bytes ++ rest) × (after ≡ Some rest)
@@ -29,7 +31,8 @@ Takes None bytes after = after ≡ None
 Takes (Some taken) bytes after = after ≡ Some (taken ++ bytes)
 
 -- a beginning of these was added to the bytes taken, where a sink tells them
-pub record TakesFront (before : Option (List ℕ)) (bytes : List ℕ) (after : Option (List ℕ)) : Type 0 where
+pub record TakesFront (before : Option (List ℕ)) (bytes : List ℕ)
+    (after : Option (List ℕ)) : Type 0 where
   pub front : List ℕ
   pub rest : List ℕ
   pub whole : bytes ≡ front ++ rest

@@ -43,11 +43,13 @@ impl Block {
         &self.buffer[..self.filled]
     }
 
-    /// Reads once, at most `most` bytes, in place of those that the block held. A block that stays empty where some were
-    /// wanted says that none are to come. After a fault it is empty too. It takes no memory.
+    /// Reads once, at most `most` bytes, in place of those that the block held. A block that stays
+    /// empty where some were wanted says that none are to come. After a fault it is empty too. It
+    /// takes no memory.
     pub fn fill<S: ByteSource>(&mut self, source: &mut S, most: u64) -> Result<(), Fault>
         ensures within { length self.new ≤ min most BLOCK_LENGTH }
-        ensures passes { OnOk result (Passes (S.to_come source.old) self.new (S.to_come source.new)) }
+        ensures passes { OnOk result
+            (Passes (S.to_come source.old) self.new (S.to_come source.new)) }
         ensures end { OnOk result (self.new ≡ [] → 0 < most → IsAtEnd (S.to_come source.old)) }
         ensures no_fault { OnOk result (S.faults source.new ≡ S.faults source.old) }
         ensures fault { OnErr result (S.faults source.new ≡ S.faults source.old + 1) }

@@ -4,7 +4,8 @@ ghost use base.Fml.{ftrue};
 
 use std::marker::Model;
 
-/// How often something happened. Only clauses see the number: at run time a count has no bytes, and its calls do nothing.
+/// How often something happened. Only clauses see the number: at run time a count has no bytes, and
+/// its calls do nothing.
 #[derive(Drop)]
 pub struct Count {
     pub ghost value: { ℕ },

@@ -1,4 +1,5 @@
-//! Sources and sinks of bytes whose faults are counted, over std or in memory, and calls that pass all bytes.
+//! Sources and sinks of bytes whose faults are counted, over std or in memory, and calls that pass
+//! all bytes.
 #![tactic(auto)]
 
 mod block;

@@ -1,5 +1,6 @@
 //! A sink that takes so many bytes and no more, for tests.
-ghost use Rattle.std.specs.Prelude.{◌≡◌, ◌+◌, ◌-◌, ◌≤◌, ◌↔◌, List, [], length, min, take, Some, IsErr, IsTrue, IfOk, OnOk, OnErr};
+ghost use Rattle.std.specs.Prelude.{◌≡◌, ◌+◌, ◌-◌, ◌≤◌, ◌↔◌, List, [], length, min, take, Some};
+ghost use Rattle.std.specs.Prelude.{IsErr, IsTrue, IfOk, OnOk, OnErr};
 ghost use Rattle.std.specs.Result.{result_unwrap_or};
 ghost use Rattle.phone_device.specs.Passing.{Takes, faults_of_write};
 ghost use Rattle.phone_device.specs.Limits.{is_refused, is_flush_refused};
@@ -21,8 +22,9 @@ pub enum Then {
     Zero,
 }
 
-/// A sink in memory that takes so many bytes, each write as many as it can. No call but `new` takes memory. Contracts see
-/// the bytes, the room that is left, what is done then, and the faults so far.
+/// A sink in memory that takes so many bytes, each write as many as it can. No call but `new` takes
+/// memory. Contracts see the bytes, the room that is left, what is done then, and the faults so
+/// far.
 #[derive(Drop)]
 pub struct Limit {
     bytes: Vec<u8>,
@@ -37,14 +39,19 @@ impl Model for Limit {
 
     ghost Value = { Limited };
 
-    ghost view = { λ s. record { taken = s.bytes.items; left = s.left; after = s.after; faults = s.faults.value } };
+    ghost view = { λ s. record {
+      taken = s.bytes.items;
+      left = s.left;
+      after = s.after;
+      faults = s.faults.value;
+    } };
 
     ghost invariant = { λ s. vec_len s.bytes + s.left ≤ vec_capacity s.bytes };
 }
 
 impl Limit {
-    /// A sink that takes n bytes, and then does what `then` says. It makes room for n bytes at once; refused only for
-    /// memory.
+    /// A sink that takes n bytes, and then does what `then` says. It makes room for n bytes at
+    /// once; refused only for memory.
     pub fn new(alloc: Global, n: usize, then: Then) -> Result<Limit, AllocError>
         ensures { IfOk result (λ s. s ≡ record { taken = []; left = n; after = then; faults = 0 }) }
     {
@@ -73,8 +80,10 @@ impl ByteSink for Limit {
 
     fn write(&mut self, bytes: &[u8]) -> Result<usize, Fault>
         ensures within { IfOk result (λ n. n ≤ length bytes.now) }
-        ensures takes { IfOk result (λ n. Takes (Some self.old.taken) (take n bytes.now) (Some self.new.taken)) }
-        ensures stalled { IfOk result (λ n. self.new.faults ≡ self.old.faults + faults_of_write n bytes.now) }
+        ensures takes { IfOk result (λ n. Takes (Some self.old.taken) (take n bytes.now)
+            (Some self.new.taken)) }
+        ensures stalled { IfOk result (λ n. self.new.faults ≡
+            self.old.faults + faults_of_write n bytes.now) }
         ensures fault { OnErr result (self.new.faults ≡ self.old.faults + 1) }
         ensures kept { OnErr result (Some self.new.taken ≡ Some self.old.taken) }
 

@@ -46,8 +46,8 @@ impl<'a> ByteSource for MemorySource<'a> {
     }
 }
 
-/// A sink that keeps its bytes in memory. Each write takes all its bytes, or fails for want of memory. Contracts see the
-/// bytes taken and the faults.
+/// A sink that keeps its bytes in memory. Each write takes all its bytes, or fails for want of
+/// memory. Contracts see the bytes taken and the faults.
 #[derive(Drop)]
 pub struct MemorySink {
     bytes: Vec<u8>,
@@ -90,8 +90,10 @@ impl ByteSink for MemorySink {
 
     fn write(&mut self, bytes: &[u8]) -> Result<usize, Fault>
         ensures within { IfOk result (λ n. n ≤ length bytes.now) }
-        ensures takes { IfOk result (λ n. Takes (Some self.old.taken) (take n bytes.now) (Some self.new.taken)) }
-        ensures stalled { IfOk result (λ n. self.new.faults ≡ self.old.faults + faults_of_write n bytes.now) }
+        ensures takes { IfOk result (λ n. Takes (Some self.old.taken) (take n bytes.now)
+            (Some self.new.taken)) }
+        ensures stalled { IfOk result (λ n. self.new.faults ≡
+            self.old.faults + faults_of_write n bytes.now) }
         ensures fault { OnErr result (self.new.faults ≡ self.old.faults + 1) }
         ensures kept { OnErr result (Some self.new.taken ≡ Some self.old.taken) }
 

@@ -1,5 +1,6 @@
 //! A source that fails where its script says, for tests.
-ghost use Rattle.std.specs.Prelude.{◌≡◌, ℕ, ◌+◌, ◌<◌, ◌≤◌, ◌↔◌, List, length, min, take, Some, IsErr, IsTrue, IfOk, OnOk, OnErr};
+ghost use Rattle.std.specs.Prelude.{◌≡◌, ℕ, ◌+◌, ◌<◌, ◌≤◌, ◌↔◌, List, length, min, take, Some};
+ghost use Rattle.std.specs.Prelude.{IsErr, IsTrue, IfOk, OnOk, OnErr};
 ghost use Rattle.std.specs.Result.{result_unwrap_or};
 ghost use Rattle.phone_device.specs.Passing.{Passes, IsAtEnd};
 ghost use Rattle.phone_device.specs.Scripts.{is_at_fault, before_fault, fault_after};
@@ -13,12 +14,13 @@ pub enum At {
     /// At this call, counted from 0, and at no other.
     Call(usize),
 
-    /// At each read that begins at this byte, counted from 0; a read that begins earlier stops there.
+    /// At each read that begins at this byte, counted from 0; a read that begins earlier stops
+    /// there.
     Byte(usize),
 }
 
-/// A source in memory that gives its bytes as far as it can, and fails at one place. No call takes memory. Contracts see
-/// what is left of it.
+/// A source in memory that gives its bytes as far as it can, and fails at one place. No call takes
+/// memory. Contracts see what is left of it.
 #[derive(Drop)]
 pub struct Script {
     bytes: Vec<u8>,
@@ -33,7 +35,11 @@ impl Model for Script {
 
     ghost Value = { Scripted };
 
-    ghost view = { λ s. record { rest = drop s.passed s.bytes.items; fault = s.fault; faults = s.faults.value } };
+    ghost view = { λ s. record {
+      rest = drop s.passed s.bytes.items;
+      fault = s.fault;
+      faults = s.faults.value;
+    } };
 
     ghost invariant = { λ s. s.passed ≤ vec_len s.bytes };
 }
@@ -61,7 +67,8 @@ impl ByteSource for Script {
 
     fn read(&mut self, buf: &mut [u8]) -> Result<usize, Fault>
         ensures within { IfOk result (λ n. n ≤ length buf.old) }
-        ensures passes { IfOk result (λ n. Passes (Some self.old.rest) (take n buf.new) (Some self.new.rest)) }
+        ensures passes { IfOk result (λ n. Passes (Some self.old.rest) (take n buf.new)
+            (Some self.new.rest)) }
         ensures end { IfOk result (λ n. n ≡ 0 → 0 < length buf.old → IsAtEnd (Some self.old.rest)) }
         ensures no_fault { OnOk result (self.new.faults ≡ self.old.faults) }
         ensures fault { OnErr result (self.new.faults ≡ self.old.faults + 1) }
@@ -69,7 +76,8 @@ impl ByteSource for Script {
 
         // The script is followed.
         ensures fails { IsErr result ↔ IsTrue (is_at_fault self.old.fault) }
-        ensures count { IfOk result (λ n. n ≡ min (length buf.old) (length (before_fault self.old.fault self.old.rest))) }
+        ensures count { IfOk result (λ n. n ≡
+            min (length buf.old) (length (before_fault self.old.fault self.old.rest))) }
         ensures next { self.new.fault ≡ fault_after (result_unwrap_or result 0) self.old.fault }
     {
         let fault = self.fault;

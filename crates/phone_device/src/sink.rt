@@ -1,5 +1,6 @@
 //! Sinks of bytes, and the writing of all bytes of a slice.
-ghost use Rattle.std.specs.Prelude.{◌≡◌, ℕ, ◌+◌, ◌≤◌, List, length, take, Option, IfOk, OnOk, OnErr};
+ghost use Rattle.std.specs.Prelude.{◌≡◌, ℕ, ◌+◌, ◌≤◌, List, length, take, Option, IfOk, OnOk};
+ghost use Rattle.std.specs.Prelude.{OnErr};
 ghost use Rattle.phone_device.specs.Passing.{Takes, TakesFront, faults_of_write};
 
 use crate::Fault;
@@ -12,24 +13,28 @@ pub trait ByteSink {
     // How many calls have failed.
     ghost faults: { Self → ℕ };
 
-    /// Writes once. At `Ok(n)` the first n bytes of the slice were taken; n is at most its length. A call that fails takes
-    /// none, and counts as one fault; so does one that takes 0 bytes of a slice that has some.
+    /// Writes once. At `Ok(n)` the first n bytes of the slice were taken; n is at most its length.
+    /// A call that fails takes none, and counts as one fault; so does one that takes 0 bytes of a
+    /// slice that has some.
     fn write(&mut self, bytes: &[u8]) -> Result<usize, Fault>
         ensures within { IfOk result (λ n. n ≤ length bytes.now) }
-        ensures takes { IfOk result (λ n. Takes (taken self.old) (take n bytes.now) (taken self.new)) }
-        ensures stalled { IfOk result (λ n. faults self.new ≡ faults self.old + faults_of_write n bytes.now) }
+        ensures takes { IfOk result (λ n. Takes (taken self.old) (take n bytes.now)
+            (taken self.new)) }
+        ensures stalled { IfOk result (λ n. faults self.new ≡
+            faults self.old + faults_of_write n bytes.now) }
         ensures fault { OnErr result (faults self.new ≡ faults self.old + 1) }
         ensures kept { OnErr result (taken self.new ≡ taken self.old) };
 
-    /// Hands on what the sink holds back. A call that fails counts as one fault; the bytes taken stay.
+    /// Hands on what the sink holds back. A call that fails counts as one fault; the bytes taken
+    /// stay.
     fn flush(&mut self) -> Result<(), Fault>
         ensures no_fault { OnOk result (faults self.new ≡ faults self.old) }
         ensures fault { OnErr result (faults self.new ≡ faults self.old + 1) }
         ensures kept { taken self.new ≡ taken self.old };
 }
 
-/// Writes all bytes of a slice, by as many writes as the sink wants. At `Err` one write failed or took none, and a
-/// beginning of the bytes was taken. It takes no memory of its own.
+/// Writes all bytes of a slice, by as many writes as the sink wants. At `Err` one write failed or
+/// took none, and a beginning of the bytes was taken. It takes no memory of its own.
 pub fn write_all<S: ByteSink>(sink: &mut S, bytes: &[u8]) -> Result<(), Fault>
     ensures all { OnOk result (Takes (S.taken sink.old) bytes.now (S.taken sink.new)) }
     ensures no_fault { OnOk result (S.faults sink.new ≡ S.faults sink.old) }

@@ -1,5 +1,6 @@
 //! Sources of bytes, and the reading of all that one has.
-ghost use Rattle.std.specs.Prelude.{◌≡◌, ℕ, ◌+◌, ◌<◌, ◌≤◌, List, length, take, Option, IfOk, OnOk, OnErr};
+ghost use Rattle.std.specs.Prelude.{◌≡◌, ℕ, ◌+◌, ◌<◌, ◌≤◌, List, length, take, Option, IfOk, OnOk};
+ghost use Rattle.std.specs.Prelude.{OnErr};
 ghost use Rattle.phone_device.specs.Passing.{Passes, PassesSome, IsAll, IsAtEnd};
 
 use crate::{Block, Fault};
@@ -13,11 +14,13 @@ pub trait ByteSource {
     // How many calls have failed.
     ghost faults: { Self → ℕ };
 
-    /// Reads once. At `Ok(n)` n bytes passed, and are the first n of the slice; n is at most its length. A read of 0 bytes
-    /// into a slice that has room says that none are to come. A call that fails passes none, and counts as one fault.
+    /// Reads once. At `Ok(n)` n bytes passed, and are the first n of the slice; n is at most its
+    /// length. A read of 0 bytes into a slice that has room says that none are to come. A call that
+    /// fails passes none, and counts as one fault.
     fn read(&mut self, buf: &mut [u8]) -> Result<usize, Fault>
         ensures within { IfOk result (λ n. n ≤ length buf.old) }
-        ensures passes { IfOk result (λ n. Passes (to_come self.old) (take n buf.new) (to_come self.new)) }
+        ensures passes { IfOk result (λ n. Passes (to_come self.old) (take n buf.new)
+            (to_come self.new)) }
         ensures end { IfOk result (λ n. n ≡ 0 → 0 < length buf.old → IsAtEnd (to_come self.old)) }
         ensures no_fault { OnOk result (faults self.new ≡ faults self.old) }
         ensures fault { OnErr result (faults self.new ≡ faults self.old + 1) }
@@ -54,8 +57,8 @@ impl From<AllocError> for ReadError {
     }
 }
 
-/// Reads all bytes that are to come, block by block. It is refused by `Fault` where a read failed, and by `Memory`
-/// where the bytes found no room; then some bytes have passed and are lost.
+/// Reads all bytes that are to come, block by block. It is refused by `Fault` where a read failed,
+/// and by `Memory` where the bytes found no room; then some bytes have passed and are lost.
 pub fn read_all<S: ByteSource>(alloc: Global, source: &mut S) -> Result<Vec<u8>, ReadError>
     ensures all { IfOk result (λ v. IsAll (S.to_come source.old) v.items) }
     ensures end { OnOk result (IsAtEnd (S.to_come source.new)) }

@@ -6,8 +6,8 @@ ghost use Rattle.phone_device.specs.Passing.{Passes, IsAtEnd, Takes, faults_of_w
 use crate::{ByteSink, ByteSource, Count, Fault};
 use std::io::{Read, Write};
 
-/// A device over a reader or a writer of std. It tells nothing of its bytes. A call that the reader or writer refuses is a
-/// fault, one that was interrupted among them: it is not tried again.
+/// A device over a reader or a writer of std. It tells nothing of its bytes. A call that the reader
+/// or writer refuses is a fault, one that was interrupted among them: it is not tried again.
 #[derive(Drop)]
 pub struct Std<D: Drop> {
     /// The reader or writer below.
@@ -44,7 +44,8 @@ impl<R: Read + Drop> ByteSource for Std<R> {
         ensures kept { OnErr result (untold ≡ untold) }
 
         // Where std knows the reader's bytes, they are those that pass.
-        ensures reader { ReadConsumes (R.remaining self.old.device) (R.remaining self.new.device) result buf.new }
+        ensures reader { ReadConsumes (R.remaining self.old.device)
+            (R.remaining self.new.device) result buf.new }
     {
         if let Ok(n) = self.device.read(buf) {
             return Ok(n);
@@ -64,12 +65,14 @@ impl<W: Write + Drop> ByteSink for Std<W> {
     fn write(&mut self, bytes: &[u8]) -> Result<usize, Fault>
         ensures within { IfOk result (λ n. n ≤ length bytes.now) }
         ensures takes { IfOk result (λ n. Takes untold (take n bytes.now) untold) }
-        ensures stalled { IfOk result (λ n. self.new.faults.value ≡ self.old.faults.value + faults_of_write n bytes.now) }
+        ensures stalled { IfOk result (λ n. self.new.faults.value ≡
+            self.old.faults.value + faults_of_write n bytes.now) }
         ensures fault { OnErr result (self.new.faults.value ≡ self.old.faults.value + 1) }
         ensures kept { OnErr result (untold ≡ untold) }
 
         // Where std knows the writer's bytes, it gets those that were taken.
-        ensures writer { WriteAppends (W.contents self.old.device) (W.contents self.new.device) result bytes.now }
+        ensures writer { WriteAppends (W.contents self.old.device)
+            (W.contents self.new.device) result bytes.now }
     {
         let Ok(n) = self.device.write(bytes) else {
             self.faults.tick();

@@ -1,5 +1,6 @@
 -- What is wrong with a database text: the first fault of its records, field by field.
-use Rattle.std.specs.Prelude.{ℕ, List, [], ◌∷◌, ◌++◌, map, Option, Some, None, Bool, not, codes, bytes_eq, option_and_then, option_map}
+use Rattle.std.specs.Prelude.{ℕ, List, [], ◌∷◌, ◌++◌, map, Option, Some, None, Bool, not, codes}
+use Rattle.std.specs.Prelude.{bytes_eq, option_and_then, option_map}
 use Rattle.std.specs.Cmp.Lexicographic.{slice_cmp}
 use Rattle.std.specs.List.{filter, fold, list_any}
 use Rattle.std.specs.Option.{option_map_or}
@@ -49,7 +50,8 @@ least_unknown known ms = least (filter (is_unknown known) (keys_in ms))
 
 -- a key that a record of this kind may not have
 abbrev pub unknown_fault : List ℕ → List (List ℕ) → Data → Option Refusal
-unknown_fault phase known d = option_map (unknown_key phase) (option_and_then (least_unknown known) (as_object d))
+unknown_fault phase known d = option_map (unknown_key phase)
+    (option_and_then (least_unknown known) (as_object d))
 
 -- a value that can't be taken for what it must be is refused
 abbrev pub fault_if_none : {X : Type 0} → Refusal → Option X → Option Refusal
@@ -70,7 +72,8 @@ truth_fault wrong d = fault_if_none wrong (as_bool d)
 
 -- a value that must be a list: the first fault of its items
 abbrev pub list_fault : (Refusal → Data → Option Refusal) → Refusal → Data → Option Refusal
-list_fault fault wrong d = option_map_or (λ items. first_given (map (fault wrong) items)) (as_list d) (Some wrong)
+list_fault fault wrong d = option_map_or (λ items. first_given (map (fault wrong) items))
+    (as_list d) (Some wrong)
 
 -- a value that must be a record: the fault inside it
 abbrev pub record_fault : (Data → Option Refusal) → Refusal → Data → Option Refusal
@@ -82,7 +85,8 @@ fault_at fault phase d key = option_and_then (fault (wrong_kind phase key)) (fie
 
 -- the fields of a descriptor
 abbrev pub descriptor_keys : List (List ℕ)
-descriptor_keys = codes "national_number" ∷ codes "possible_length" ∷ codes "possible_local_length" ∷ codes "example" ∷ []
+descriptor_keys = codes "national_number" ∷ codes "possible_length" ∷
+    codes "possible_local_length" ∷ codes "example" ∷ []
 
 -- the first fault of a descriptor
 unfoldable pub descriptor_fault : Data → Option Refusal
@@ -99,7 +103,8 @@ descriptor_fault d =
 -- the fields of a layout
 abbrev pub format_keys : List (List ℕ)
 format_keys =
-    codes "pattern" ∷ codes "format" ∷ codes "leading_digits" ∷ codes "national_prefix_formatting_rule"
+    codes "pattern" ∷ codes "format" ∷ codes "leading_digits" ∷
+    codes "national_prefix_formatting_rule"
     ∷ codes "national_prefix_optional_when_formatting" ∷ codes "domestic_carrier" ∷ []
 
 -- the first fault of a layout
@@ -133,20 +138,24 @@ defaults_fault d =
 -- a territory's descriptors
 abbrev pub kind_keys : List (List ℕ)
 kind_keys =
-    codes "general" ∷ codes "fixed_line" ∷ codes "mobile" ∷ codes "toll_free" ∷ codes "premium_rate" ∷ codes "shared_cost"
-    ∷ codes "personal_number" ∷ codes "voip" ∷ codes "pager" ∷ codes "uan" ∷ codes "emergency" ∷ codes "voicemail"
+    codes "general" ∷ codes "fixed_line" ∷ codes "mobile" ∷ codes "toll_free" ∷
+    codes "premium_rate" ∷ codes "shared_cost"
+    ∷ codes "personal_number" ∷ codes "voip" ∷ codes "pager" ∷ codes "uan" ∷ codes "emergency" ∷
+    codes "voicemail"
     ∷ codes "short_code" ∷ codes "standard_rate" ∷ codes "carrier" ∷ codes "no_international" ∷ []
 
 -- what is dialled or written in front of a territory's numbers
 abbrev pub prefix_keys : List (List ℕ)
 prefix_keys =
     codes "international_prefix" ∷ codes "preferred_international_prefix" ∷ codes "national_prefix"
-    ∷ codes "preferred_extension_prefix" ∷ codes "national_prefix_for_parsing" ∷ codes "national_prefix_transform_rule" ∷ []
+    ∷ codes "preferred_extension_prefix" ∷ codes "national_prefix_for_parsing" ∷
+    codes "national_prefix_transform_rule" ∷ []
 
 -- the fields of a territory that are neither
 abbrev pub other_keys : List (List ℕ)
 other_keys =
-    codes "id" ∷ codes "country_code" ∷ codes "formats" ∷ codes "international_formats" ∷ codes "main_country_for_code"
+    codes "id" ∷ codes "country_code" ∷ codes "formats" ∷ codes "international_formats" ∷
+    codes "main_country_for_code"
     ∷ codes "leading_digits" ∷ codes "mobile_number_portable" ∷ codes "defaults" ∷ []
 
 -- the fields of a territory
@@ -181,4 +190,5 @@ metadata_fault d =
 
 -- the first fault of a database: it must be a list of records
 abbrev pub database_fault : Data → Option Refusal
-database_fault = list_fault (record_fault metadata_fault) (wrong_kind (codes "database") (codes "records"))
+database_fault = list_fault (record_fault metadata_fault)
+    (wrong_kind (codes "database") (codes "records"))

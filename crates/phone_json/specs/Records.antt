@@ -9,7 +9,8 @@ use Rattle.phone_records.specs.declared.loader.Descriptor.{Descriptor}
 use Rattle.phone_records.specs.declared.loader.Format.{Format}
 use Rattle.phone_records.specs.declared.loader.Metadata.{Metadata}
 use Rattle.phone_json.specs.Faults.{Refusal, no_json, database_fault}
-use Rattle.phone_json.specs.Fields.{field, text_at, number_at, truth_at, items_at, texts_at, numbers_at, items_in}
+use Rattle.phone_json.specs.Fields.{field, text_at, number_at, truth_at, items_at, texts_at}
+use Rattle.phone_json.specs.Fields.{numbers_at, items_in}
 
 -- the descriptor that an object is
 unfoldable pub descriptor_of : Data → Descriptor
@@ -31,7 +32,8 @@ format_of d = record {
   format = text_at (codes "format") d;
   leading_digits = texts_at (codes "leading_digits") d;
   national_prefix_formatting_rule = text_at (codes "national_prefix_formatting_rule") d;
-  national_prefix_optional_when_formatting = truth_at (codes "national_prefix_optional_when_formatting") d;
+  national_prefix_optional_when_formatting = truth_at
+      (codes "national_prefix_optional_when_formatting") d;
   domestic_carrier = text_at (codes "domestic_carrier") d;
 }
 

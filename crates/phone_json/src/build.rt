@@ -4,7 +4,9 @@ ghost use Rattle.std.specs.Option.{option_map_or};
 ghost use Rattle.serde_json.specs.Find.{as_str};
 ghost use Rattle.serde_json.specs.View.{view};
 ghost use Rattle.phone_json.specs.Fields.{field, text_at, texts_at, numbers_at, items_in};
-ghost use Rattle.phone_json.specs.Records.{descriptor_of, descriptor_at, format_of, formats_at, defaults_of, with_first_kinds, with_last_kinds, with_prefixes, with_others, metadata_of};
+ghost use Rattle.phone_json.specs.Records.{descriptor_of, descriptor_at, format_of, formats_at};
+ghost use Rattle.phone_json.specs.Records.{defaults_of, with_first_kinds, with_last_kinds};
+ghost use Rattle.phone_json.specs.Records.{with_prefixes, with_others, metadata_of};
 ghost use Rattle.phone_records.specs.Empty.{no_descriptor, no_format, no_defaults};
 
 use crate::fields::{field, items_at, items_in, number_at, small_number, truth_at};
@@ -126,7 +128,8 @@ fn formats_at(alloc: Global, object: &Value, key: &str) -> Result<Items<Format>,
 }
 
 fn default_format(alloc: Global, object: &Value) -> Result<Format, AllocError>
-    ensures { IfOk result (λ f. f ≡ option_map_or format_of (field (codes "format") (view object.now)) no_format) }
+    ensures { IfOk result (λ f. f ≡ option_map_or format_of
+        (field (codes "format") (view object.now)) no_format) }
 {
     match field(object, "format") {
         Some(value) => format(alloc, value),
@@ -135,7 +138,8 @@ fn default_format(alloc: Global, object: &Value) -> Result<Format, AllocError>
 }
 
 fn default_descriptor(alloc: Global, object: &Value) -> Result<Descriptor, AllocError>
-    ensures { IfOk result (λ d. d ≡ option_map_or descriptor_of (field (codes "descriptor") (view object.now)) no_descriptor) }
+    ensures { IfOk result (λ d. d ≡ option_map_or descriptor_of
+        (field (codes "descriptor") (view object.now)) no_descriptor) }
 {
     match field(object, "descriptor") {
         Some(value) => descriptor(alloc, value),
@@ -145,7 +149,8 @@ fn default_descriptor(alloc: Global, object: &Value) -> Result<Descriptor, Alloc
 
 #[tactic(auto, unfolding(crate::specs::Records::defaults_of))]
 fn defaults_at(alloc: Global, object: &Value) -> Result<Defaults, AllocError>
-    ensures { IfOk result (λ d. d ≡ option_map_or defaults_of (field (codes "defaults") (view object.now)) no_defaults) }
+    ensures { IfOk result (λ d. d ≡ option_map_or defaults_of
+        (field (codes "defaults") (view object.now)) no_defaults) }
 {
     let Some(value) = field(object, "defaults") else {
         return Ok(Defaults::empty(alloc));

@@ -1,7 +1,8 @@
 //! The values at the keys of an object, each taken for what it must be.
 ghost use Rattle.std.specs.Prelude.{◌≡◌, map, option_map};
 ghost use Rattle.serde_json.specs.View.{view};
-ghost use Rattle.phone_json.specs.Fields.{field, as_small, as_list, items_in, items_at, number_at, truth_at};
+ghost use Rattle.phone_json.specs.Fields.{field, as_small, as_list, items_in, items_at, number_at};
+ghost use Rattle.phone_json.specs.Fields.{truth_at};
 
 use serde_json::Value;
 

@@ -1,6 +1,6 @@
-//! Steps of which each may be refused memory. A function that holds values and may leave between its
-//! steps takes long to prove, since it drops each of them at each way out; one that hands on what its
-//! steps gave drops none.
+//! Steps of which each may be refused memory. A function that holds values and may leave between
+//! its steps takes long to prove, since it drops each of them at each way out; one that hands on
+//! what its steps gave drops none.
 ghost use Rattle.std.specs.Prelude.{◌≡◌, Ok, OnOk, IfOk};
 
 use std::alloc::AllocError;

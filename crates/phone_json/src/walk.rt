@@ -3,7 +3,11 @@ ghost use Rattle.std.specs.Prelude.{◌≡◌, List, ℕ, codes, map, option_map
 ghost use Rattle.std.specs.Borrow.{Bor};
 ghost use Rattle.serde_json.specs.View.{view, members_view};
 ghost use Rattle.phone_records.specs.Missing.{first_given};
-ghost use Rattle.phone_json.specs.Faults.{lesser, least_unknown, is_unknown, unknown_fault, text_fault, number_fault, truth_fault, list_fault, record_fault, fault_at, descriptor_fault, format_fault, defaults_fault, fault_behind_prefixes, metadata_fault, database_fault, metadata_keys, kind_keys, prefix_keys};
+ghost use Rattle.phone_json.specs.Faults.{lesser, least_unknown, is_unknown, unknown_fault};
+ghost use Rattle.phone_json.specs.Faults.{text_fault, number_fault, truth_fault, list_fault};
+ghost use Rattle.phone_json.specs.Faults.{record_fault, fault_at, descriptor_fault, format_fault};
+ghost use Rattle.phone_json.specs.Faults.{defaults_fault, fault_behind_prefixes, metadata_fault};
+ghost use Rattle.phone_json.specs.Faults.{database_fault, metadata_keys, kind_keys, prefix_keys};
 ghost use Rattle.phone_json.specs.Told.{refusal_of, shown};
 
 use crate::fault::Fault;
@@ -31,7 +35,8 @@ fn lesser<'v>(best: Option<&'v str>, key: &'v str) -> Option<&'v str>
 }
 
 fn least_unknown<'v>(known: &[&str], members: &'v Map<String, Value>) -> Option<&'v str>
-    ensures { option_map shown result ≡ least_unknown (map shown known.now) (members_view members.now.entries) }
+    ensures { option_map shown result ≡
+        least_unknown (map shown known.now) (members_view members.now.entries) }
 {
     let mut least: Option<&str> = None;
     for (key, _) in members.iter() {
@@ -43,7 +48,8 @@ fn least_unknown<'v>(known: &[&str], members: &'v Map<String, Value>) -> Option<
 }
 
 fn unknown_key<'v>(object: &'v Value, phase: &'v str, known: &[&str]) -> Option<Fault<'v>>
-    ensures { option_map refusal_of result ≡ unknown_fault phase.now (map shown known.now) (view object.now) }
+    ensures { option_map refusal_of result ≡
+        unknown_fault phase.now (map shown known.now) (view object.now) }
 {
     match object.as_object() {
         Some(members) => match least_unknown(known, members) {
@@ -64,7 +70,8 @@ fn in_text<'v>(value: &Value, wrong: Fault<'v>) -> Option<Fault<'v>>
 }
 
 fn in_number<'v>(value: &Value, wrong: Fault<'v>) -> Option<Fault<'v>>
-    ensures { option_map refusal_of result ≡ number_fault (refusal_of wrong.entry) (view value.now) }
+    ensures { option_map refusal_of result ≡
+        number_fault (refusal_of wrong.entry) (view value.now) }
 {
     match small_number(value) {
         Some(_) => None,
@@ -82,7 +89,8 @@ fn in_truth<'v>(value: &Value, wrong: Fault<'v>) -> Option<Fault<'v>>
 }
 
 fn in_texts<'v>(value: &Value, wrong: Fault<'v>) -> Option<Fault<'v>>
-    ensures { option_map refusal_of result ≡ list_fault text_fault (refusal_of wrong.entry) (view value.now) }
+    ensures { option_map refusal_of result ≡
+        list_fault text_fault (refusal_of wrong.entry) (view value.now) }
 {
     let Some(items) = as_list(value) else {
         return Some(wrong);
@@ -97,7 +105,8 @@ fn in_texts<'v>(value: &Value, wrong: Fault<'v>) -> Option<Fault<'v>>
 }
 
 fn in_numbers<'v>(value: &Value, wrong: Fault<'v>) -> Option<Fault<'v>>
-    ensures { option_map refusal_of result ≡ list_fault number_fault (refusal_of wrong.entry) (view value.now) }
+    ensures { option_map refusal_of result ≡
+        list_fault number_fault (refusal_of wrong.entry) (view value.now) }
 {
     let Some(items) = as_list(value) else {
         return Some(wrong);
@@ -112,7 +121,8 @@ fn in_numbers<'v>(value: &Value, wrong: Fault<'v>) -> Option<Fault<'v>>
 }
 
 fn text_at<'v>(object: &'v Value, phase: &'v str, key: &'v str) -> Option<Fault<'v>>
-    ensures { option_map refusal_of result ≡ fault_at text_fault phase.now (view object.now) key.now }
+    ensures { option_map refusal_of result ≡
+        fault_at text_fault phase.now (view object.now) key.now }
 {
     match field(object, key) {
         Some(value) => in_text(value, Fault::WrongKind { phase, name: key }),
@@ -121,7 +131,8 @@ fn text_at<'v>(object: &'v Value, phase: &'v str, key: &'v str) -> Option<Fault<
 }
 
 fn number_at<'v>(object: &'v Value, phase: &'v str, key: &'v str) -> Option<Fault<'v>>
-    ensures { option_map refusal_of result ≡ fault_at number_fault phase.now (view object.now) key.now }
+    ensures { option_map refusal_of result ≡
+        fault_at number_fault phase.now (view object.now) key.now }
 {
     match field(object, key) {
         Some(value) => in_number(value, Fault::WrongKind { phase, name: key }),
@@ -130,7 +141,8 @@ fn number_at<'v>(object: &'v Value, phase: &'v str, key: &'v str) -> Option<Faul
 }
 
 fn truth_at<'v>(object: &'v Value, phase: &'v str, key: &'v str) -> Option<Fault<'v>>
-    ensures { option_map refusal_of result ≡ fault_at truth_fault phase.now (view object.now) key.now }
+    ensures { option_map refusal_of result ≡
+        fault_at truth_fault phase.now (view object.now) key.now }
 {
     match field(object, key) {
         Some(value) => in_truth(value, Fault::WrongKind { phase, name: key }),
@@ -139,7 +151,8 @@ fn truth_at<'v>(object: &'v Value, phase: &'v str, key: &'v str) -> Option<Fault
 }
 
 fn texts_at<'v>(object: &'v Value, phase: &'v str, key: &'v str) -> Option<Fault<'v>>
-    ensures { option_map refusal_of result ≡ fault_at (list_fault text_fault) phase.now (view object.now) key.now }
+    ensures { option_map refusal_of result ≡
+        fault_at (list_fault text_fault) phase.now (view object.now) key.now }
 {
     match field(object, key) {
         Some(value) => in_texts(value, Fault::WrongKind { phase, name: key }),
@@ -148,7 +161,8 @@ fn texts_at<'v>(object: &'v Value, phase: &'v str, key: &'v str) -> Option<Fault
 }
 
 fn numbers_at<'v>(object: &'v Value, phase: &'v str, key: &'v str) -> Option<Fault<'v>>
-    ensures { option_map refusal_of result ≡ fault_at (list_fault number_fault) phase.now (view object.now) key.now }
+    ensures { option_map refusal_of result ≡
+        fault_at (list_fault number_fault) phase.now (view object.now) key.now }
 {
     match field(object, key) {
         Some(value) => in_numbers(value, Fault::WrongKind { phase, name: key }),
@@ -218,7 +232,8 @@ fn in_format<'v>(object: &'v Value) -> Option<Fault<'v>>
 }
 
 fn in_descriptor_record<'v>(value: &'v Value, wrong: Fault<'v>) -> Option<Fault<'v>>
-    ensures { option_map refusal_of result ≡ record_fault descriptor_fault (refusal_of wrong.entry) (view value.now) }
+    ensures { option_map refusal_of result ≡
+        record_fault descriptor_fault (refusal_of wrong.entry) (view value.now) }
 {
     match value.as_object() {
         Some(_) => in_descriptor(value),
@@ -227,7 +242,8 @@ fn in_descriptor_record<'v>(value: &'v Value, wrong: Fault<'v>) -> Option<Fault<
 }
 
 fn in_format_record<'v>(value: &'v Value, wrong: Fault<'v>) -> Option<Fault<'v>>
-    ensures { option_map refusal_of result ≡ record_fault format_fault (refusal_of wrong.entry) (view value.now) }
+    ensures { option_map refusal_of result ≡
+        record_fault format_fault (refusal_of wrong.entry) (view value.now) }
 {
     match value.as_object() {
         Some(_) => in_format(value),
@@ -236,7 +252,8 @@ fn in_format_record<'v>(value: &'v Value, wrong: Fault<'v>) -> Option<Fault<'v>>
 }
 
 fn in_formats<'v>(value: &'v Value, wrong: Fault<'v>) -> Option<Fault<'v>>
-    ensures { option_map refusal_of result ≡ list_fault (record_fault format_fault) (refusal_of wrong.entry) (view value.now) }
+    ensures { option_map refusal_of result ≡
+        list_fault (record_fault format_fault) (refusal_of wrong.entry) (view value.now) }
 {
     let Some(items) = as_list(value) else {
         return Some(wrong);
@@ -251,7 +268,8 @@ fn in_formats<'v>(value: &'v Value, wrong: Fault<'v>) -> Option<Fault<'v>>
 }
 
 fn descriptor_at<'v>(object: &'v Value, phase: &'v str, key: &'v str) -> Option<Fault<'v>>
-    ensures { option_map refusal_of result ≡ fault_at (record_fault descriptor_fault) phase.now (view object.now) key.now }
+    ensures { option_map refusal_of result ≡
+        fault_at (record_fault descriptor_fault) phase.now (view object.now) key.now }
 {
     match field(object, key) {
         Some(value) => in_descriptor_record(value, Fault::WrongKind { phase, name: key }),
@@ -260,7 +278,8 @@ fn descriptor_at<'v>(object: &'v Value, phase: &'v str, key: &'v str) -> Option<
 }
 
 fn format_at<'v>(object: &'v Value, phase: &'v str, key: &'v str) -> Option<Fault<'v>>
-    ensures { option_map refusal_of result ≡ fault_at (record_fault format_fault) phase.now (view object.now) key.now }
+    ensures { option_map refusal_of result ≡
+        fault_at (record_fault format_fault) phase.now (view object.now) key.now }
 {
     match field(object, key) {
         Some(value) => in_format_record(value, Fault::WrongKind { phase, name: key }),
@@ -269,7 +288,8 @@ fn format_at<'v>(object: &'v Value, phase: &'v str, key: &'v str) -> Option<Faul
 }
 
 fn formats_at<'v>(object: &'v Value, phase: &'v str, key: &'v str) -> Option<Fault<'v>>
-    ensures { option_map refusal_of result ≡ fault_at (list_fault (record_fault format_fault)) phase.now (view object.now) key.now }
+    ensures { option_map refusal_of result ≡
+        fault_at (list_fault (record_fault format_fault)) phase.now (view object.now) key.now }
 {
     match field(object, key) {
         Some(value) => in_formats(value, Fault::WrongKind { phase, name: key }),
@@ -290,7 +310,8 @@ fn in_defaults<'v>(object: &'v Value) -> Option<Fault<'v>>
 }
 
 fn in_defaults_record<'v>(value: &'v Value, wrong: Fault<'v>) -> Option<Fault<'v>>
-    ensures { option_map refusal_of result ≡ record_fault defaults_fault (refusal_of wrong.entry) (view value.now) }
+    ensures { option_map refusal_of result ≡
+        record_fault defaults_fault (refusal_of wrong.entry) (view value.now) }
 {
     match value.as_object() {
         Some(_) => in_defaults(value),
@@ -299,7 +320,8 @@ fn in_defaults_record<'v>(value: &'v Value, wrong: Fault<'v>) -> Option<Fault<'v
 }
 
 fn defaults_at<'v>(object: &'v Value, phase: &'v str, key: &'v str) -> Option<Fault<'v>>
-    ensures { option_map refusal_of result ≡ fault_at (record_fault defaults_fault) phase.now (view object.now) key.now }
+    ensures { option_map refusal_of result ≡
+        fault_at (record_fault defaults_fault) phase.now (view object.now) key.now }
 {
     match field(object, key) {
         Some(value) => in_defaults_record(value, Fault::WrongKind { phase, name: key }),
@@ -308,7 +330,8 @@ fn defaults_at<'v>(object: &'v Value, phase: &'v str, key: &'v str) -> Option<Fa
 }
 
 fn unknown_in_metadata<'v>(object: &'v Value) -> Option<Fault<'v>>
-    ensures { option_map refusal_of result ≡ unknown_fault (codes "metadata") metadata_keys (view object.now) }
+    ensures { option_map refusal_of result ≡
+        unknown_fault (codes "metadata") metadata_keys (view object.now) }
 {
     unknown_key(
         object,
@@ -349,7 +372,9 @@ fn unknown_in_metadata<'v>(object: &'v Value) -> Option<Fault<'v>>
 }
 
 fn in_kinds<'v>(object: &'v Value) -> Option<Fault<'v>>
-    ensures { option_map refusal_of result ≡ first_given (map (fault_at (record_fault descriptor_fault) (codes "metadata") (view object.now)) kind_keys) }
+    ensures { option_map refusal_of result ≡ first_given
+        (map (fault_at (record_fault descriptor_fault) (codes "metadata") (view object.now))
+        kind_keys) }
 {
     first_descriptor(
         object,
@@ -375,7 +400,9 @@ fn in_kinds<'v>(object: &'v Value) -> Option<Fault<'v>>
 }
 
 fn first_descriptor<'v>(object: &'v Value, keys: &[&'v str]) -> Option<Fault<'v>>
-    ensures { option_map refusal_of result ≡ first_given (map (λ (key : Bor (List ℕ)). fault_at (record_fault descriptor_fault) (codes "metadata") (view object.now) key.now) keys.now) }
+    ensures { option_map refusal_of result ≡ first_given
+        (map (λ (key : Bor (List ℕ)). fault_at (record_fault descriptor_fault) (codes "metadata")
+        (view object.now) key.now) keys.now) }
 {
     for key in keys {
         let fault = descriptor_at(object, "metadata", *key);
@@ -387,7 +414,8 @@ fn first_descriptor<'v>(object: &'v Value, keys: &[&'v str]) -> Option<Fault<'v>
 }
 
 fn in_prefixes<'v>(object: &'v Value) -> Option<Fault<'v>>
-    ensures { option_map refusal_of result ≡ first_given (map (fault_at text_fault (codes "metadata") (view object.now)) prefix_keys) }
+    ensures { option_map refusal_of result ≡
+        first_given (map (fault_at text_fault (codes "metadata") (view object.now)) prefix_keys) }
 {
     let phase = "metadata";
     first_of(&[
@@ -431,7 +459,8 @@ fn in_metadata<'v>(object: &'v Value) -> Option<Fault<'v>>
 }
 
 fn in_metadata_record<'v>(value: &'v Value, wrong: Fault<'v>) -> Option<Fault<'v>>
-    ensures { option_map refusal_of result ≡ record_fault metadata_fault (refusal_of wrong.entry) (view value.now) }
+    ensures { option_map refusal_of result ≡
+        record_fault metadata_fault (refusal_of wrong.entry) (view value.now) }
 {
     match value.as_object() {
         Some(_) => in_metadata(value),
@@ -440,7 +469,8 @@ fn in_metadata_record<'v>(value: &'v Value, wrong: Fault<'v>) -> Option<Fault<'v
 }
 
 fn in_records<'v>(value: &'v Value, wrong: Fault<'v>) -> Option<Fault<'v>>
-    ensures { option_map refusal_of result ≡ list_fault (record_fault metadata_fault) (refusal_of wrong.entry) (view value.now) }
+    ensures { option_map refusal_of result ≡
+        list_fault (record_fault metadata_fault) (refusal_of wrong.entry) (view value.now) }
 {
     let Some(items) = as_list(value) else {
         return Some(wrong);

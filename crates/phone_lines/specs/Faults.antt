@@ -3,7 +3,8 @@ use Rattle.std.specs.Prelude.{ℕ, Result, Ok, Err}
 use Rattle.phone_lines.specs.declared.desk.Refusal.{Refusal}
 use Rattle.phone_lines.specs.declared.desk.Refusal.TheVariants.{Fault, Memory}
 use Rattle.phone_lines.specs.declared.blocks.RunError.{RunError}
-use Rattle.phone_lines.specs.declared.blocks.RunError.TheVariants.{Input, Output, Memory as NoMemory}
+use Rattle.phone_lines.specs.declared.blocks.RunError.TheVariants.{Input, Output}
+use Rattle.phone_lines.specs.declared.blocks.RunError.TheVariants.{Memory as NoMemory}
 
 -- the faults of a sink that took a block: one where that was the refusal
 abbrev pub faults_of : {X : Type 0} → Result X Refusal → ℕ

@@ -23,7 +23,8 @@ last_line (c ∷ cs) = (c ∷ cs) ∷ []
 
 -- the lines of bytes: those that a line feed ends, and the last one
 abbrev pub AreLines : List ℕ → List (List ℕ) → Type 0
-AreLines bytes all = (lines : List (List ℕ)) × (last : List ℕ) × AreCut bytes lines last × (all ≡ lines ++ last_line last)
+AreLines bytes all = (lines : List (List ℕ)) × (last : List ℕ) × AreCut bytes lines last ×
+    (all ≡ lines ++ last_line last)
 
 -- a line without one carriage return at its end
 abbrev pub without_return : List ℕ → List ℕ

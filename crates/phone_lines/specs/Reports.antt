@@ -15,24 +15,29 @@ HasOneAnswer gives = (line a b : List ℕ) → gives line a → gives line b →
 abbrev pub HasAnAnswer : Gives → Type 0
 HasAnAnswer gives = (line : List ℕ) → (answer : List ℕ) × gives line answer
 
--- the answers to lines, in their order: to each without the carriage return at its end, and each ended by a line feed
+-- the answers to lines, in their order: to each without the carriage return at its end, and each
+-- ended by a line feed
 pub data AreAnswers (gives : List ℕ → List ℕ → Type 0) : List (List ℕ) → List ℕ → Type 0 where
   none : AreAnswers gives [] []
-  next : (line answer : List ℕ) (lines : List (List ℕ)) (answers : List ℕ) → gives (without_return line) answer → AreAnswers gives lines answers →
+  next : (line answer : List ℕ) (lines : List (List ℕ)) (answers : List ℕ) →
+      gives (without_return line) answer → AreAnswers gives lines answers →
       AreAnswers gives (line ∷ lines) (answer ++ 10 ∷ answers)
 
 -- the report on bytes: the answers to all their lines
 abbrev pub IsReport : Gives → List ℕ → List ℕ → Type 0
-IsReport gives bytes report = (lines : List (List ℕ)) × AreLines bytes lines × AreAnswers gives lines report
+IsReport gives bytes report = (lines : List (List ℕ)) × AreLines bytes lines ×
+    AreAnswers gives lines report
 
 -- the report on the lines that a line feed ends
 abbrev pub IsReportOnEnded : Gives → List ℕ → List ℕ → Type 0
-IsReportOnEnded gives bytes report = (lines : List (List ℕ)) × (last : List ℕ) × AreCut bytes lines last × AreAnswers gives lines report
+IsReportOnEnded gives bytes report = (lines : List (List ℕ)) × (last : List ℕ) ×
+    AreCut bytes lines last × AreAnswers gives lines report
 
 -- the report on some first ones of them
 abbrev pub IsReportOnFirst : Gives → List ℕ → List ℕ → Type 0
 IsReportOnFirst gives bytes report =
-    (first : List (List ℕ)) × (others : List (List ℕ)) × (last : List ℕ) × AreCut bytes (first ++ others) last × AreAnswers gives first report
+    (first : List (List ℕ)) × (others : List (List ℕ)) × (last : List ℕ) ×
+    AreCut bytes (first ++ others) last × AreAnswers gives first report
 
 -- lines of what was read, where this is still to come: those that a line feed ends, and what
 -- stands after the last line feed only where nothing is to come
@@ -63,4 +68,5 @@ pub record IsBeginning (gives : List ℕ → List ℕ → Type 0)
 
 -- a sink took a beginning of whatever is the report on bytes
 abbrev pub TakesBeginning : Gives → List ℕ → Option (List ℕ) → Option (List ℕ) → Type 0
-TakesBeginning gives bytes before after = (report : List ℕ) → IsReport gives bytes report → TakesFront before report after
+TakesBeginning gives bytes before after = (report : List ℕ) → IsReport gives bytes report →
+    TakesFront before report after

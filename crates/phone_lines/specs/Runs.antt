@@ -4,20 +4,23 @@ use Rattle.phone_device.specs.Passing.{Passes, Takes, TakesFront}
 use Rattle.phone_lines.specs.Lines.{AreCut}
 use Rattle.phone_lines.specs.Reports.{AreAnswers, Gives, IsReportOnFirst}
 
--- so far these bytes were read, of which the last piece isn't ended yet, and these answers given to the other lines
+-- so far these bytes were read, of which the last piece isn't ended yet, and these answers given to
+-- the other lines
 pub record IsSoFar (gives : List ℕ → List ℕ → Type 0) (bytes line answers : List ℕ) : Type 0 where
   pub lines : List (List ℕ)
   pub cut : AreCut bytes lines line
   pub answered : AreAnswers gives lines answers
 
 -- of such answers these are held back, and the others were taken by the sink
-pub record Stands (gives : List ℕ → List ℕ → Type 0) (bytes line held : List ℕ) (before after : Option (List ℕ)) : Type 0 where
+pub record Stands (gives : List ℕ → List ℕ → Type 0) (bytes line held : List ℕ)
+    (before after : Option (List ℕ)) : Type 0 where
   pub written : List ℕ
   pub taken : Takes before written after
   pub so_far : IsSoFar gives bytes line (written ++ held)
 
 -- what the sink took and what is held back is a text of which this holds
-pub record Holds (is_text : List ℕ → Type 0) (held : List ℕ) (before after : Option (List ℕ)) : Type 0 where
+pub record Holds (is_text : List ℕ → Type 0) (held : List ℕ)
+    (before after : Option (List ℕ)) : Type 0 where
   pub written : List ℕ
   pub taken : Takes before written after
   pub text : is_text (written ++ held)

@@ -24,14 +24,17 @@ pub fn without_return(line: &[u8]) -> &[u8]
     if *last == b'\r' { front } else { line }
 }
 
-/// The answer to a line, and a line feed, at the end of a text. Refused only for memory; then the text is as it was.
+/// The answer to a line, and a line feed, at the end of a text. Refused only for memory; then the
+/// text is as it was.
 pub(crate) fn add_answer<A: Answers>(
     alloc: Global,
     answers: &A,
     line: &[u8],
     text: &mut Vec<u8>,
 ) -> Result<(), AllocError>
-    ensures added { OnOk result ((answer : List ℕ) × A.gives answers.now (without_return line.now) answer × (text.new.items ≡ text.old.items ++ (answer ++ 10 ∷ []))) }
+    ensures added { OnOk result ((answer : List ℕ) ×
+        A.gives answers.now (without_return line.now) answer ×
+        (text.new.items ≡ text.old.items ++ (answer ++ 10 ∷ []))) }
     ensures kept { OnErr result (text.new.items ≡ text.old.items) }
 {
     let mut answer = answers.answer(alloc, without_return(line))?;

@@ -1,10 +1,12 @@
 //! The run over all lines.
-ghost use Rattle.std.specs.Prelude.{◌≡◌, ◌+◌, ◌<◌, ◌⊎◌, ℕ, List, Ok, Err, OnOk, OnErr, length, vec_len};
+ghost use Rattle.std.specs.Prelude.{◌≡◌, ◌+◌, ◌<◌, ◌⊎◌, ℕ, List, Ok, Err, OnOk, OnErr, length};
+ghost use Rattle.std.specs.Prelude.{vec_len};
 ghost use Rattle.phone_device.specs.Passing.{IsAtEnd};
 ghost use Rattle.phone_lines.specs.Faults.{number_of, sink_faults_of};
 ghost use Rattle.phone_lines.specs.Reports.{IsBeginning, IsReport};
 ghost use Rattle.phone_lines.specs.Reports.{IsReportOnEnded, IsReportOnFirst};
-ghost use Rattle.phone_lines.specs.Runs.{BreaksOff, Holds, IsFresh, OfRead, Stands, TakesA, most_bytes};
+ghost use Rattle.phone_lines.specs.Runs.{BreaksOff, Holds, IsFresh, OfRead, Stands, TakesA};
+ghost use Rattle.phone_lines.specs.Runs.{most_bytes};
 ghost use Rattle.phone_lines.specs.declared.blocks.End.TheVariants as end;
 ghost use Rattle.phone_lines.specs.declared.blocks.RunError.TheVariants as error;
 
@@ -59,14 +61,33 @@ fn take_blocks<A: Answers, S: ByteSource, W: ByteSink>(
     desk: &mut Desk,
 ) -> Result<End, Fault>
     ensures end { result ≡ Ok end.Whole → IsAtEnd (S.to_come source.new) }
-    ensures taken { result ≡ Ok end.Whole → (IsFresh (A.gives answers.now) desk.old.line.items desk.old.answers.items (W.taken sink.old) → OfRead (S.to_come source.old) (S.to_come source.new) (λ bytes. Stands (A.gives answers.now) bytes desk.new.line.items desk.new.answers.items (W.taken sink.old) (W.taken sink.new))) }
+    ensures taken { result ≡ Ok end.Whole → (IsFresh
+        (A.gives answers.now) desk.old.line.items desk.old.answers.items (W.taken sink.old) →
+        OfRead (S.to_come source.old) (S.to_come source.new)
+        (λ bytes. Stands (A.gives answers.now) bytes desk.new.line.items desk.new.answers.items
+        (W.taken sink.old) (W.taken sink.new))) }
     ensures no_fault { result ≡ Ok end.Whole → S.faults source.new ≡ S.faults source.old }
-    ensures input { result ≡ Ok end.Input → IsFresh (A.gives answers.now) desk.old.line.items desk.old.answers.items (W.taken sink.old) → OfRead (S.to_come source.old) (S.to_come source.new) (λ bytes. Stands (A.gives answers.now) bytes desk.new.line.items desk.new.answers.items (W.taken sink.old) (W.taken sink.new)) }
-    ensures cause { result ≡ Ok end.Input → (S.faults source.new ≡ S.faults source.old + 1) ⊎ OfRead (S.to_come source.old) (S.to_come source.new) (λ bytes. length bytes ≡ most_bytes) }
-    ensures memory { result ≡ Ok end.Memory → IsFresh (A.gives answers.now) desk.old.line.items desk.old.answers.items (W.taken sink.old) → OfRead (S.to_come source.old) (S.to_come source.new) (λ bytes. Holds (IsReportOnFirst (A.gives answers.now) bytes) desk.new.answers.items (W.taken sink.old) (W.taken sink.new)) }
-    ensures no_fault_without_memory { result ≡ Ok end.Memory → S.faults source.new ≡ S.faults source.old }
-    ensures broken { OnErr result (IsFresh (A.gives answers.now) desk.old.line.items desk.old.answers.items (W.taken sink.old) → OfRead (S.to_come source.old) (S.to_come source.new) (λ bytes. BreaksOff (A.gives answers.now) bytes (W.taken sink.old) (W.taken sink.new))) }
-    ensures short { result ≡ Ok end.Whole → vec_len desk.old.answers < BLOCK_LENGTH → vec_len desk.new.answers < BLOCK_LENGTH }
+    ensures input { result ≡ Ok end.Input → IsFresh
+        (A.gives answers.now) desk.old.line.items desk.old.answers.items (W.taken sink.old) →
+        OfRead (S.to_come source.old) (S.to_come source.new)
+        (λ bytes. Stands (A.gives answers.now) bytes desk.new.line.items desk.new.answers.items
+        (W.taken sink.old) (W.taken sink.new)) }
+    ensures cause { result ≡ Ok end.Input → (S.faults source.new ≡
+        S.faults source.old + 1) ⊎ OfRead (S.to_come source.old) (S.to_come source.new)
+        (λ bytes. length bytes ≡ most_bytes) }
+    ensures memory { result ≡
+        Ok end.Memory → IsFresh (A.gives answers.now) desk.old.line.items desk.old.answers.items
+        (W.taken sink.old) → OfRead (S.to_come source.old) (S.to_come source.new)
+        (λ bytes. Holds (IsReportOnFirst (A.gives answers.now) bytes) desk.new.answers.items
+        (W.taken sink.old) (W.taken sink.new)) }
+    ensures no_fault_without_memory { result ≡
+        Ok end.Memory → S.faults source.new ≡ S.faults source.old }
+    ensures broken { OnErr result (IsFresh (A.gives answers.now) desk.old.line.items
+        desk.old.answers.items (W.taken sink.old) →
+        OfRead (S.to_come source.old) (S.to_come source.new)
+        (λ bytes. BreaksOff (A.gives answers.now) bytes (W.taken sink.old) (W.taken sink.new))) }
+    ensures short { result ≡ Ok end.Whole → vec_len desk.old.answers < BLOCK_LENGTH →
+        vec_len desk.new.answers < BLOCK_LENGTH }
     ensures sink_no_fault { OnOk result (W.faults sink.new ≡ W.faults sink.old) }
     ensures sink_fault { OnErr result (W.faults sink.new ≡ W.faults sink.old + 1) }
 {
@@ -100,13 +121,31 @@ fn take_all<A: Answers, S: ByteSource, W: ByteSink>(
     desk: &mut Desk,
 ) -> Result<End, Fault>
     ensures end { result ≡ Ok end.Whole → IsAtEnd (S.to_come source.new) }
-    ensures taken { result ≡ Ok end.Whole → (IsFresh (A.gives answers.now) desk.old.line.items desk.old.answers.items (W.taken sink.old) → OfRead (S.to_come source.old) (S.to_come source.new) (λ bytes. Holds (IsReport (A.gives answers.now) bytes) desk.new.answers.items (W.taken sink.old) (W.taken sink.new))) }
+    ensures taken { result ≡ Ok end.Whole → (IsFresh
+        (A.gives answers.now) desk.old.line.items desk.old.answers.items (W.taken sink.old) →
+        OfRead (S.to_come source.old) (S.to_come source.new)
+        (λ bytes. Holds (IsReport (A.gives answers.now) bytes) desk.new.answers.items
+        (W.taken sink.old) (W.taken sink.new))) }
     ensures no_fault { result ≡ Ok end.Whole → S.faults source.new ≡ S.faults source.old }
-    ensures input { result ≡ Ok end.Input → IsFresh (A.gives answers.now) desk.old.line.items desk.old.answers.items (W.taken sink.old) → OfRead (S.to_come source.old) (S.to_come source.new) (λ bytes. Holds (IsReportOnEnded (A.gives answers.now) bytes) desk.new.answers.items (W.taken sink.old) (W.taken sink.new)) }
-    ensures cause { result ≡ Ok end.Input → (S.faults source.new ≡ S.faults source.old + 1) ⊎ OfRead (S.to_come source.old) (S.to_come source.new) (λ bytes. length bytes ≡ most_bytes) }
-    ensures memory { result ≡ Ok end.Memory → IsFresh (A.gives answers.now) desk.old.line.items desk.old.answers.items (W.taken sink.old) → OfRead (S.to_come source.old) (S.to_come source.new) (λ bytes. Holds (IsReportOnFirst (A.gives answers.now) bytes) desk.new.answers.items (W.taken sink.old) (W.taken sink.new)) }
-    ensures no_fault_without_memory { result ≡ Ok end.Memory → S.faults source.new ≡ S.faults source.old }
-    ensures broken { OnErr result (IsFresh (A.gives answers.now) desk.old.line.items desk.old.answers.items (W.taken sink.old) → OfRead (S.to_come source.old) (S.to_come source.new) (λ bytes. BreaksOff (A.gives answers.now) bytes (W.taken sink.old) (W.taken sink.new))) }
+    ensures input { result ≡ Ok end.Input → IsFresh
+        (A.gives answers.now) desk.old.line.items desk.old.answers.items (W.taken sink.old) →
+        OfRead (S.to_come source.old) (S.to_come source.new)
+        (λ bytes. Holds (IsReportOnEnded (A.gives answers.now) bytes) desk.new.answers.items
+        (W.taken sink.old) (W.taken sink.new)) }
+    ensures cause { result ≡ Ok end.Input → (S.faults source.new ≡
+        S.faults source.old + 1) ⊎ OfRead (S.to_come source.old) (S.to_come source.new)
+        (λ bytes. length bytes ≡ most_bytes) }
+    ensures memory { result ≡
+        Ok end.Memory → IsFresh (A.gives answers.now) desk.old.line.items desk.old.answers.items
+        (W.taken sink.old) → OfRead (S.to_come source.old) (S.to_come source.new)
+        (λ bytes. Holds (IsReportOnFirst (A.gives answers.now) bytes) desk.new.answers.items
+        (W.taken sink.old) (W.taken sink.new)) }
+    ensures no_fault_without_memory { result ≡
+        Ok end.Memory → S.faults source.new ≡ S.faults source.old }
+    ensures broken { OnErr result (IsFresh (A.gives answers.now) desk.old.line.items
+        desk.old.answers.items (W.taken sink.old) →
+        OfRead (S.to_come source.old) (S.to_come source.new)
+        (λ bytes. BreaksOff (A.gives answers.now) bytes (W.taken sink.old) (W.taken sink.new))) }
     ensures sink_no_fault { OnOk result (W.faults sink.new ≡ W.faults sink.old) }
     ensures sink_fault { OnErr result (W.faults sink.new ≡ W.faults sink.old + 1) }
 {
@@ -122,10 +161,11 @@ fn take_all<A: Answers, S: ByteSource, W: ByteSink>(
     Ok(End::Whole)
 }
 
-/// Answers each line of a source by a line to a sink, in the order of the lines. The source is read in blocks to its end,
-/// and cut at each line feed; what stands after the last one is a line where it has a byte. One carriage return at a
-/// line's end is dropped. Each answer is ended by a line feed. What is held in memory are a block, the longest line and
-/// its answer: it does not grow with the number of lines.
+/// Answers each line of a source by a line to a sink, in the order of the lines. The source is read
+/// in blocks to its end, and cut at each line feed; what stands after the last one is a line where
+/// it has a byte. One carriage return at a line's end is dropped. Each answer is ended by a line
+/// feed. What is held in memory are a block, the longest line and its answer: it does not grow with
+/// the number of lines.
 ///
 /// Refused by `Input` where the source failed or 2^64 - 1 bytes were read: then the answers to all
 /// lines that a line feed ended are written. By `Output` where the sink failed, or took no byte of
@@ -140,16 +180,27 @@ pub fn answer_lines<A: Answers, S: ByteSource, W: ByteSink>(
     sink: &mut W,
 ) -> Result<(), RunError>
     ensures end { OnOk result (IsAtEnd (S.to_come source.new)) }
-    ensures report { OnOk result (OfRead (S.to_come source.old) (S.to_come source.new) (λ bytes. TakesA (IsReport (A.gives answers.now) bytes) (W.taken sink.old) (W.taken sink.new))) }
+    ensures report { OnOk result (OfRead (S.to_come source.old) (S.to_come source.new)
+        (λ bytes. TakesA (IsReport (A.gives answers.now) bytes) (W.taken sink.old)
+        (W.taken sink.new))) }
     ensures no_fault { OnOk result (S.faults source.new ≡ S.faults source.old) }
-    ensures ended { result ≡ Err error.Input → OfRead (S.to_come source.old) (S.to_come source.new) (λ bytes. TakesA (IsReportOnEnded (A.gives answers.now) bytes) (W.taken sink.old) (W.taken sink.new)) }
-    ensures cause { result ≡ Err error.Input → (S.faults source.new ≡ S.faults source.old + 1) ⊎ OfRead (S.to_come source.old) (S.to_come source.new) (λ bytes. length bytes ≡ most_bytes) }
+    ensures ended { result ≡
+        Err error.Input → OfRead (S.to_come source.old) (S.to_come source.new)
+        (λ bytes. TakesA (IsReportOnEnded (A.gives answers.now) bytes) (W.taken sink.old)
+        (W.taken sink.new)) }
+    ensures cause { result ≡ Err error.Input →
+        (S.faults source.new ≡ S.faults source.old + 1) ⊎ OfRead (S.to_come source.old)
+        (S.to_come source.new) (λ bytes. length bytes ≡ most_bytes) }
     ensures beginning { result ≡ Err error.Output →
         OfRead (S.to_come source.old) (S.to_come source.new) (λ bytes.
         TakesA (IsBeginning (A.gives answers.now) (S.to_come source.new) bytes)
         (W.taken sink.old) (W.taken sink.new)) }
-    ensures first { result ≡ Err error.Memory → OfRead (S.to_come source.old) (S.to_come source.new) (λ bytes. TakesA (IsReportOnFirst (A.gives answers.now) bytes) (W.taken sink.old) (W.taken sink.new)) }
-    ensures no_fault_without_memory { result ≡ Err error.Memory → S.faults source.new ≡ S.faults source.old }
+    ensures first { result ≡
+        Err error.Memory → OfRead (S.to_come source.old) (S.to_come source.new)
+        (λ bytes. TakesA (IsReportOnFirst (A.gives answers.now) bytes) (W.taken sink.old)
+        (W.taken sink.new)) }
+    ensures no_fault_without_memory { result ≡
+        Err error.Memory → S.faults source.new ≡ S.faults source.old }
     ensures sink_faults { W.faults sink.new ≡ W.faults sink.old + sink_faults_of result }
 {
     let mut desk = Desk::new(alloc);

@@ -1,4 +1,5 @@
-//! What holds of the definitions of this crate. These functions do nothing; their contracts are the statements.
+//! What holds of the definitions of this crate. These functions do nothing; their contracts are the
+//! statements.
 ghost use Rattle.std.specs.Prelude.{◌≡◌, ℕ, List, Option};
 ghost use Rattle.phone_lines.specs.Lines.{AreLines};
 ghost use Rattle.phone_lines.specs.Reports.{HasAnAnswer, HasOneAnswer};
@@ -10,17 +11,20 @@ use crate::Answers;
 /// Bytes have lines, and in one way alone.
 pub fn lines()
     ensures some { (bytes : List ℕ) → (lines : List (List ℕ)) × AreLines bytes lines }
-    ensures one { (bytes : List ℕ) (a b : List (List ℕ)) → AreLines bytes a → AreLines bytes b → a ≡ b }
+    ensures one { (bytes : List ℕ) (a b : List (List ℕ)) → AreLines bytes a → AreLines bytes b →
+        a ≡ b }
 {}
 
 /// Bytes have at most one report, where a line has at most one answer.
 pub fn one_report<A: Answers>(answers: &A)
-    ensures { HasOneAnswer (A.gives answers.now) → (bytes a b : List ℕ) → IsReport (A.gives answers.now) bytes a → IsReport (A.gives answers.now) bytes b → a ≡ b }
+    ensures { HasOneAnswer (A.gives answers.now) → (bytes a b : List ℕ) →
+        IsReport (A.gives answers.now) bytes a → IsReport (A.gives answers.now) bytes b → a ≡ b }
 {}
 
 /// Bytes have a report, where each line has an answer.
 pub fn some_report<A: Answers>(answers: &A)
-    ensures { HasAnAnswer (A.gives answers.now) → (bytes : List ℕ) → (report : List ℕ) × IsReport (A.gives answers.now) bytes report }
+    ensures { HasAnAnswer (A.gives answers.now) → (bytes : List ℕ) →
+        (report : List ℕ) × IsReport (A.gives answers.now) bytes report }
 {}
 
 /// What was written where a sink failed begins each report on what was read, where a line has at

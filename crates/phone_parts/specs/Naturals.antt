@@ -11,4 +11,5 @@ pub data IsNatural (t : List ℕ) : Result Parts NoReading → Type 0 where
   nothing : ((c : List ℕ) → ¬ (IsCore t c)) → IsNatural t (Err Error)
   extended : (c n d : List ℕ) → IsCore t c → HasLongestSuffix c n d →
       IsNatural t (Ok (record { national = n; prefix = None; extension = Some d }))
-  plain : (c : List ℕ) → IsCore t c → HasNoSuffix c → IsNatural t (Ok (record { national = c; prefix = None; extension = None }))
+  plain : (c : List ℕ) → IsCore t c → HasNoSuffix c →
+      IsNatural t (Ok (record { national = c; prefix = None; extension = None }))

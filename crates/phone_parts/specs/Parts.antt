@@ -1,4 +1,5 @@
--- The parts of a number as texts, and where they stand: after the number of the original's `parser/helper`.
+-- The parts of a number as texts, and where they stand: after the number of the original's
+-- `parser/helper`.
 use Rattle.std.specs.Prelude.{ℕ, List, Option, ◌≡◌, ◌++◌, IfSome, chars}
 use Rattle.std.specs.Option.{option_map}
 use Rattle.std.specs.Cow.{cow_str_bytes, IsBorrowedStr}

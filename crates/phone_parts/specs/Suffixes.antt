@@ -1,5 +1,7 @@
--- The three forms of an extension at the end of a text, after the pattern for them in the original's `consts`. Letters are compared by simple folding.
-use Rattle.std.specs.Prelude.{◌≡◌, ℕ, ◌≤◌, ◌<◌, ◌==◌, Bool, true, List, [], ◌∷◌, ◌++◌, length, drop, codes, map}
+-- The three forms of an extension at the end of a text, after the pattern for them in the
+-- original's `consts`. Letters are compared by simple folding.
+use Rattle.std.specs.Prelude.{◌≡◌, ℕ, ◌≤◌, ◌<◌, ◌==◌, Bool, true, List, [], ◌∷◌, ◌++◌, length, drop}
+use Rattle.std.specs.Prelude.{codes, map}
 use Rattle.std.specs.List.{list_all, list_any}
 use Rattle.phone_chars.specs.Characters.{is_nd, is_one_of}
 use Rattle.phone_parts.specs.Texts.{is_like}
@@ -16,15 +18,18 @@ joined (front ∷ fronts) ends = map (λ end. front ++ end) ends ++ joined front
 abbrev pub maybe : List ℕ → List (List ℕ)
 maybe text = [] ∷ text ∷ []
 
--- `xt` with an optional `e` before it, then optionally `ensio`, also with an accent on its `o`, then an optional `n`
+-- `xt` with an optional `e` before it, then optionally `ensio`, also with an accent on its `o`,
+-- then an optional `n`
 abbrev pub ext_words : List (List ℕ)
 ext_words =
     joined (maybe (codes "e")) (joined (codes "xt" ∷ [])
-    (joined ([] ∷ codes "ensio" ∷ (codes "ensio" ++ 0x301 ∷ []) ∷ (codes "ensi" ++ 0xF3 ∷ []) ∷ []) (maybe (codes "n"))))
+    (joined ([] ∷ codes "ensio" ∷ (codes "ensio" ++ 0x301 ∷ []) ∷ (codes "ensi" ++ 0xF3 ∷ []) ∷ [])
+    (maybe (codes "n"))))
 
 -- fullwidth `xt`, with an optional fullwidth `e` before it and `n` after it
 abbrev pub wide_ext_words : List (List ℕ)
-wide_ext_words = joined (maybe (0xFF45 ∷ [])) (joined ((0xFF58 ∷ 0xFF54 ∷ []) ∷ []) (maybe (0xFF4E ∷ [])))
+wide_ext_words = joined (maybe (0xFF45 ∷ []))
+    (joined ((0xFF58 ∷ 0xFF54 ∷ []) ∷ []) (maybe (0xFF4E ∷ [])))
 
 -- one of , ; x # ~ and the fullwidth x, number sign and tilde
 abbrev pub indicator_signs : List ℕ
@@ -135,7 +140,8 @@ IsSomeSuffix w d = (f : Form) × IsSuffix w f d
 -- the foldings of the characters that an extension begins with
 abbrev pub suffix_starts : List ℕ
 suffix_starts =
-    32 ∷ 9 ∷ 0xA0 ∷ 44 ∷ 45 ∷ 59 ∷ 35 ∷ 126 ∷ 120 ∷ 101 ∷ 105 ∷ 97 ∷ 0xFF03 ∷ 0xFF5E ∷ 0xFF58 ∷ 0xFF45 ∷ 0xFF49 ∷ []
+    32 ∷ 9 ∷ 0xA0 ∷ 44 ∷ 45 ∷ 59 ∷ 35 ∷ 126 ∷ 120 ∷ 101 ∷ 105 ∷ 97 ∷ 0xFF03 ∷ 0xFF5E ∷ 0xFF58 ∷
+    0xFF45 ∷ 0xFF49 ∷ []
 
 -- the character folds to one of these
 abbrev pub is_suffix_start : ℕ → Bool

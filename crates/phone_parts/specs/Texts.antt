@@ -1,5 +1,6 @@
 -- Words on texts, as lists of characters, that the readers' definitions share.
-use Rattle.std.specs.Prelude.{ℕ, Bool, false, if◌then◌else◌, List, [], ◌∷◌, length, take, drop, map, Option, None, Some}
+use Rattle.std.specs.Prelude.{ℕ, Bool, false, if◌then◌else◌, List, [], ◌∷◌, length, take, drop, map}
+use Rattle.std.specs.Prelude.{Option, None, Some}
 use Rattle.std.specs.Str.{bytes_eq}
 use Rattle.ucd_case.specs.CaseFolding.{simple_fold}
 use Rattle.phone_chars.specs.Characters.{same_fold}

@@ -1,5 +1,6 @@
 //! What a text begins with.
-ghost use Rattle.std.specs.Prelude.{◌≡◌, ◌==◌, ℕ, List, [], true, ◌∷◌, ◌++◌, ◌<◌, length, false, None, Some, MatchOption, IfSome, chars};
+ghost use Rattle.std.specs.Prelude.{◌≡◌, ◌==◌, ℕ, List, [], true, ◌∷◌, ◌++◌, ◌<◌, length, false};
+ghost use Rattle.std.specs.Prelude.{None, Some, MatchOption, IfSome, chars};
 ghost use Rattle.phone_parts.specs.Texts.{begins, after_like, after_one};
 
 use phone_chars::chars::same_fold;
@@ -20,8 +21,8 @@ pub(crate) fn begins_with(text: &str, c: char) -> bool
     text.starts_with(c)
 }
 
-/// What follows a front of the text that is like the word: each of its characters has the folding of the word's
-/// character in that place. None where no such front is there.
+/// What follows a front of the text that is like the word: each of its characters has the folding
+/// of the word's character in that place. None where no such front is there.
 pub(crate) fn strip_like<'a>(text: &'a str, word: &str) -> Option<&'a str>
     ensures read { MatchOption result
         (after_like (chars text.now) (chars word.now) ≡ None)
@@ -43,7 +44,8 @@ pub(crate) fn strip_like<'a>(text: &'a str, word: &str) -> Option<&'a str>
 
 /// What follows this character, where the text begins with it.
 pub(crate) fn strip_char(text: &str, c: char) -> Option<&str>
-    ensures read { MatchOption result (begins (λ d. d == c) (chars text.now) ≡ false) (λ rest. chars text.now ≡ c ∷ chars rest.now) }
+    ensures read { MatchOption result (begins (λ d. d == c) (chars text.now) ≡
+        false) (λ rest. chars text.now ≡ c ∷ chars rest.now) }
     ensures end { IfSome result (λ rest. (v : List ℕ) × (text.now ≡ v ++ rest.now)) }
     ensures shorter { IfSome result (λ rest. length rest.now < length text.now) }
 {

@@ -1,6 +1,7 @@
 //! Cuts of a text before it is read.
 ghost use Rattle.std.specs.Prelude.{◌≡◌, ℕ, List, ◌++◌, MatchOption, IfSome, chars};
-ghost use Rattle.phone_parts.specs.Cores.{IsCore, IsTrimmed, IsBeforeSecondNumber, is_last, begins_second_number};
+ghost use Rattle.phone_parts.specs.Cores.{IsCore, IsTrimmed, IsBeforeSecondNumber, is_last};
+ghost use Rattle.phone_parts.specs.Cores.{begins_second_number};
 ghost use Rattle.phone_parts.specs.Parts.{IsSlice};
 
 use crate::fronts::{begins_with, is_nothing};
@@ -21,12 +22,14 @@ impl CharSet for BeforeStart {
     }
 }
 
-/// The part of a text that a number is read from: from its first plus sign or decimal digit on, without its longest
-/// end of characters that are neither letters nor numbers nor `#`, and cut before the first mark of a second number,
-/// a slash or backslash that any number of spaces and a small `x` follow (`508/x30`: two numbers that share a line).
-/// None where nothing is left. The answer is a slice of the text, and no memory is taken.
+/// The part of a text that a number is read from: from its first plus sign or decimal digit on,
+/// without its longest end of characters that are neither letters nor numbers nor `#`, and cut
+/// before the first mark of a second number, a slash or backslash that any number of spaces and a
+/// small `x` follow (`508/x30`: two numbers that share a line). None where nothing is left. The
+/// answer is a slice of the text, and no memory is taken.
 pub fn extract(text: &str) -> Option<&str>
-    ensures core { MatchOption result ((core : List ℕ) → ¬ (IsCore (chars text.now) core)) (λ core. IsCore (chars text.now) (chars core.now)) }
+    ensures core { MatchOption result ((core : List ℕ) →
+        ¬ (IsCore (chars text.now) core)) (λ core. IsCore (chars text.now) (chars core.now)) }
     ensures slice { IfSome result (λ core. IsSlice text.now core.now) }
 {
     let core = first_number(trimmed(after_run(text, &BeforeStart)));

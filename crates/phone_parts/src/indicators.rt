@@ -1,6 +1,6 @@
-//! The words and signs that announce an extension, found by their first character: `xt` with or without `e` before it,
-//! `ensio` (its `o` with or without an accent) and `n` behind it; wide `xt` with or without `e` and `n`; a sign; `int`,
-//! also in wide letters, and `anexo`.
+//! The words and signs that announce an extension, found by their first character: `xt` with or
+//! without `e` before it, `ensio` (its `o` with or without an accent) and `n` behind it; wide `xt`
+//! with or without `e` and `n`; a sign; `int`, also in wide letters, and `anexo`.
 ghost use Rattle.std.specs.Prelude.{◌≡◌, ℕ, List, chars, map};
 ghost use Rattle.std.specs.Borrow.{Bor};
 ghost use Rattle.std.specs.List.{filter};
@@ -60,9 +60,11 @@ const WIDE_TILDE: [&str; 1] = ["\u{FF5E}"];
 
 const NONE: [&str; 0] = [];
 
-/// The indicators that begin with this character, or with one that simple case folding makes the same.
+/// The indicators that begin with this character, or with one that simple case folding makes the
+/// same.
 pub(crate) fn indicators_from(c: char) -> &'static [&'static str]
-    ensures { map (λ (w : Bor (List ℕ)). chars w.now) result.now ≡ filter (λ w. begins (same_fold c) w) indicators }
+    ensures { map (λ (w : Bor (List ℕ)). chars w.now) result.now ≡
+        filter (λ w. begins (same_fold c) w) indicators }
 {
     match simple_fold(c) {
         'x' => &FROM_X,

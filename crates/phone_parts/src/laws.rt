@@ -1,4 +1,5 @@
-//! What holds of the definitions of the two readers. These functions do nothing; their contracts are the statements.
+//! What holds of the definitions of the two readers. These functions do nothing; their contracts
+//! are the statements.
 ghost use Rattle.std.specs.Prelude.{◌≡◌, ℕ, List, Option, Result, true};
 ghost use Rattle.phone_parts.specs.Cores.{IsCore};
 ghost use Rattle.phone_parts.specs.Naturals.{IsNatural};
@@ -22,17 +23,20 @@ pub fn one_tel_reading()
 
 /// A text is an extension of at most one form, and with at most one text of digits.
 pub fn one_extension()
-    ensures { (text : List ℕ) (f g : Form) (d e : List ℕ) → IsSuffix text f d → IsSuffix text g e → (f ≡ g) × (d ≡ e) }
+    ensures { (text : List ℕ) (f g : Form) (d e : List ℕ) → IsSuffix text f d → IsSuffix text g e →
+        (f ≡ g) × (d ≡ e) }
 {}
 
 /// A text is read in at most one way as free text.
 pub fn one_natural_reading()
-    ensures { (text : List ℕ) (a b : Result Parts NoReading) → IsNatural text a → IsNatural text b → a ≡ b }
+    ensures { (text : List ℕ) (a b : Result Parts NoReading) → IsNatural text a → IsNatural text b →
+        a ≡ b }
 {}
 
 /// What an extension may begin with.
 pub fn extension_starts()
-    ensures { (text : List ℕ) (f : Form) (digits : List ℕ) → IsSuffix text f digits → begins is_suffix_start text ≡ true }
+    ensures { (text : List ℕ) (f : Form) (digits : List ℕ) → IsSuffix text f digits →
+        begins is_suffix_start text ≡ true }
 {}
 
 /// A text has at most one set of parts.

@@ -46,11 +46,16 @@ pub fn phone_number(text: &str) -> Result<Number<'_>, NoReading>
 
 /// A number of these two parts.
 fn extended<'a>(national: &'a str, extension: &'a str) -> Number<'a>
-    ensures parts { parts_of result ≡ record { national = chars national.entry.now; prefix = None; extension = Some (chars extension.entry.now) } }
+    ensures parts { parts_of result ≡ record {
+      national = chars national.entry.now;
+      prefix = None;
+      extension = Some (chars extension.entry.now);
+    } }
     ensures country { result.country ≡ Default }
     ensures no_prefix { result.prefix ≡ None }
     ensures no_carrier { result.carrier ≡ None }
-    ensures lent { (text : List ℕ) → IsSlice text national.entry.now → IsSlice text extension.entry.now → AreLent text result }
+    ensures lent { (text : List ℕ) → IsSlice text national.entry.now →
+        IsSlice text extension.entry.now → AreLent text result }
 {
     Number {
         extension: Some(CowStr::Borrowed(extension)),

@@ -14,7 +14,8 @@ pub struct Number<'a> {
     /// How the calling code was found; `Default` until it is looked for.
     pub country: Source,
 
-    /// The national part, with whatever stands between its digits; the digits alone, once its calling code is looked for.
+    /// The national part, with whatever stands between its digits; the digits alone, once its
+    /// calling code is looked for.
     pub national: CowStr<'a>,
 
     /// The calling code, where the text says it apart from the national part, or once it is found.
@@ -46,7 +47,8 @@ impl<'a> Number<'a> {
         }
     }
 
-    /// Whether both have one source and the same texts, whether these are lent or owned; so `==` has it.
+    /// Whether both have one source and the same texts, whether these are lent or owned; so `==`
+    /// has it.
     pub fn is_same(&self, other: &Number<'a>) -> bool
         ensures { IsTrue result ↔ HasSameParts self.now other.now }
     {

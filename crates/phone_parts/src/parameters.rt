@@ -1,5 +1,6 @@
 //! The parameters of a number's `tel:` form.
-ghost use Rattle.std.specs.Prelude.{◌≡◌, ℕ, List, ◌++◌, MatchOption, IfSome, length, ◌<◌, chars, codes, option_copied, option_map, if◌then◌else◌, Some, ◌⊎◌};
+ghost use Rattle.std.specs.Prelude.{◌≡◌, ℕ, List, ◌++◌, MatchOption, IfSome, length, ◌<◌, chars};
+ghost use Rattle.std.specs.Prelude.{codes, option_copied, option_map, if◌then◌else◌, Some, ◌⊎◌};
 ghost use Rattle.std.specs.Str.{bytes_eq};
 ghost use Rattle.phone_parts.specs.Parts.{IsSlice};
 ghost use Rattle.phone_parts.specs.Tel.{BeginsWith, HasParameters, Parameter, value_of};
@@ -61,7 +62,8 @@ pub(crate) struct Parameters<'a> {
     pub(crate) extension: Option<&'a str>,
 }
 
-/// The values in the longest list of parameters at the front of a text; of parameters with one name the last counts.
+/// The values in the longest list of parameters at the front of a text; of parameters with one name
+/// the last counts.
 pub(crate) fn read_parameters(text: &str) -> Parameters<'_>
     ensures read { (ps : List Parameter) × HasParameters (chars text.now) ps
         × (option_map chars (option_copied result.context) ≡ value_of (codes "phone-context") ps)
@@ -87,7 +89,8 @@ pub(crate) fn read_parameters(text: &str) -> Parameters<'_>
 /// The value where the name is the one that is wanted, else what was found before.
 fn newer<'a>(name: &str, wanted: &str, value: &'a str, earlier: Option<&'a str>) -> Option<&'a str>
     ensures read { option_map chars (option_copied result)
-        ≡ (if bytes_eq (chars name.now) (chars wanted.now) then Some (chars value.entry.now) else option_map chars (option_copied earlier.entry)) }
+        ≡ (if bytes_eq (chars name.now) (chars wanted.now) then Some (chars value.entry.now)
+        else option_map chars (option_copied earlier.entry)) }
     ensures one_of { (result ≡ Some value.entry) ⊎ (result ≡ earlier.entry) }
 {
     if name == wanted { Some(value) } else { earlier }
@@ -97,7 +100,8 @@ fn newer<'a>(name: &str, wanted: &str, value: &'a str, earlier: Option<&'a str>)
 fn parameter(text: &str) -> Option<(&str, &str, &str)>
     ensures read { MatchOption result
         ((p : Parameter) (rest : List ℕ) → ¬ (BeginsWith p (chars text.now) rest))
-        (λ r. BeginsWith (record { name = chars r.0.now; value = chars r.1.now }) (chars text.now) (chars r.2.now)) }
+        (λ r. BeginsWith (record { name = chars r.0.now; value = chars r.1.now }) (chars text.now)
+        (chars r.2.now)) }
     ensures value { IfSome result (λ r. IsSlice text.now r.1.now) }
     ensures end { IfSome result (λ r. (v : List ℕ) × (text.now ≡ v ++ r.2.now)) }
     ensures shorter { IfSome result (λ r. length r.2.now < length text.now) }

@@ -7,8 +7,8 @@ ghost use Rattle.phone_parts.specs.Readers.{HasParts};
 use crate::number::Number;
 use crate::{natural, rfc3966};
 
-/// The parts of a text: those of its `tel:` form where it has that form, else those of free text; none where it is read
-/// as neither. They are lent from the text, and no memory is taken.
+/// The parts of a text: those of its `tel:` form where it has that form, else those of free text;
+/// none where it is read as neither. They are lent from the text, and no memory is taken.
 pub fn parts(text: &str) -> Option<Number<'_>>
     ensures read { HasParts (chars text.now) (option_map parts_of result) }
     ensures lent { IfSome result (λ n. AreLent text.now n) }

@@ -1,5 +1,7 @@
 //! The reader of the `tel:` form of a number, after RFC 3966.
-ghost use Rattle.std.specs.Prelude.{◌≡◌, ◌==◌, ℕ, List, ◌++◌, Option, None, Some, MatchOption, IfSome, codes, chars, unwrap_or, option_copied, option_map, true, IsTrue, ◌↔◌, ◌⊎◌, []};
+ghost use Rattle.std.specs.Prelude.{◌≡◌, ◌==◌, ℕ, List, ◌++◌, Option, None, Some, MatchOption};
+ghost use Rattle.std.specs.Prelude.{IfSome, codes, chars, unwrap_or, option_copied, option_map};
+ghost use Rattle.std.specs.Prelude.{true, IsTrue, ◌↔◌, ◌⊎◌, []};
 ghost use Rattle.phone_core.specs.declared.country.Source.TheVariants.{Default};
 ghost use Rattle.phone_parts.specs.Parts.{IsSlice, IsLent, AreLent, parts_of};
 ghost use Rattle.phone_parts.specs.Parts.{Parts};
@@ -44,15 +46,18 @@ impl CharSet for PhoneDigits {
     }
 }
 
-/// Reads a text of the form that RFC 3966 gives to telephone numbers: `tel:` in any case or nothing, then either
-/// `+` and a prefix up to the first hyphen, full stop or bracket, or nothing; then the national part, hexadecimal digits
-/// and those separators; then the end, or a semicolon, from which on parameters as `;ext=12` are read as long as there are
-/// any, and the rest is ignored. The prefix is what follows the plus sign, else what the parameter `phone-context` says,
-/// without one plus sign; the extension is what `ext` says; of parameters with one name the last counts. A text that has a
-/// space, an empty prefix after a plus sign, no national part, or anything else behind it, has no reading. The parts are
-/// slices of the text, and no memory is taken.
+/// Reads a text of the form that RFC 3966 gives to telephone numbers: `tel:` in any case or
+/// nothing, then either `+` and a prefix up to the first hyphen, full stop or bracket, or nothing;
+/// then the national part, hexadecimal digits and those separators; then the end, or a semicolon,
+/// from which on parameters as `;ext=12` are read as long as there are any, and the rest is
+/// ignored. The prefix is what follows the plus sign, else what the parameter `phone-context` says,
+/// without one plus sign; the extension is what `ext` says; of parameters with one name the last
+/// counts. A text that has a space, an empty prefix after a plus sign, no national part, or
+/// anything else behind it, has no reading. The parts are slices of the text, and no memory is
+/// taken.
 pub fn phone_number(text: &str) -> Option<Number<'_>>
-    ensures read { MatchOption result ((parts : Parts) → ¬ (IsTel (chars text.now) parts)) (λ n. IsTel (chars text.now) (parts_of n)) }
+    ensures read { MatchOption result ((parts : Parts) →
+        ¬ (IsTel (chars text.now) parts)) (λ n. IsTel (chars text.now) (parts_of n)) }
     ensures lent { IfSome result (λ n. AreLent text.now n) }
     ensures country { IfSome result (λ n. n.country ≡ Default) }
     ensures no_carrier { IfSome result (λ n. n.carrier ≡ None) }
@@ -87,7 +92,8 @@ fn has_space(text: &str) -> bool
 
 /// The text without `tel:`, in any case, at its front.
 fn without_scheme(text: &str) -> &str
-    ensures read { chars result.now ≡ unwrap_or (after_like (chars text.now) (codes "tel:")) (chars text.now) }
+    ensures read { chars result.now ≡
+        unwrap_or (after_like (chars text.now) (codes "tel:")) (chars text.now) }
     ensures end { (v : List ℕ) × (text.now ≡ v ++ result.now) }
 {
     match strip_like(text, RFC3966_PREFIX) {
@@ -96,12 +102,14 @@ fn without_scheme(text: &str) -> &str
     }
 }
 
-/// A plus sign's run of characters other than separators, if there is a plus sign, and what follows. None where the
-/// run after a plus sign is empty.
+/// A plus sign's run of characters other than separators, if there is a plus sign, and what
+/// follows. None where the run after a plus sign is empty.
 fn signed_run(text: &str) -> Option<(Option<&str>, &str)>
     ensures read { MatchOption result
-        ((signs rest : List ℕ) (run : Option (List ℕ)) → chars text.now ≡ signs ++ rest → ¬ (IsSignedRun rest signs run))
-        (λ r. (signs : List ℕ) × (chars text.now ≡ signs ++ chars r.1.now) × IsSignedRun (chars r.1.now) signs (option_map chars (option_copied r.0))) }
+        ((signs rest : List ℕ) (run : Option (List ℕ)) → chars text.now ≡ signs ++ rest →
+        ¬ (IsSignedRun rest signs run))
+        (λ r. (signs : List ℕ) × (chars text.now ≡ signs ++ chars r.1.now) ×
+        IsSignedRun (chars r.1.now) signs (option_map chars (option_copied r.0))) }
     ensures run { IfSome result (λ r. IfSome r.0 (λ run. IsSlice text.now run.now)) }
     ensures end { IfSome result (λ r. (v : List ℕ) × (text.now ≡ v ++ r.1.now)) }
 {
@@ -117,7 +125,8 @@ fn signed_run(text: &str) -> Option<(Option<&str>, &str)>
 
 /// Whether the national part may end here: at the end, or before parameters.
 fn is_tail(text: &str) -> bool
-    ensures { IsTrue result ↔ ((chars text.now ≡ []) ⊎ (begins (λ c. c == 59) (chars text.now) ≡ true)) }
+    ensures { IsTrue result ↔ ((chars text.now ≡ []) ⊎ (begins (λ c. c == 59) (chars text.now) ≡
+        true)) }
 {
     is_nothing(text) || begins_with(text, ';')
 }
@@ -125,8 +134,10 @@ fn is_tail(text: &str) -> bool
 /// The prefix: the run after a plus sign, else the context without one plus sign.
 fn prefix<'a>(run: Option<&'a str>, context: Option<&'a str>) -> Option<&'a str>
     ensures read { option_map chars (option_copied result)
-        ≡ option_or (option_map chars (option_copied run.entry)) (option_map without_plus (option_map chars (option_copied context.entry))) }
-    ensures slice { (text : List ℕ) → IfSome run.entry (λ r. IsSlice text r.now) → IfSome context.entry (λ r. IsSlice text r.now)
+        ≡ option_or (option_map chars (option_copied run.entry))
+        (option_map without_plus (option_map chars (option_copied context.entry))) }
+    ensures slice { (text : List ℕ) → IfSome run.entry (λ r. IsSlice text r.now) →
+        IfSome context.entry (λ r. IsSlice text r.now)
         → IfSome result (λ r. IsSlice text r.now) }
 {
     if run.is_some() {
@@ -141,8 +152,10 @@ fn prefix<'a>(run: Option<&'a str>, context: Option<&'a str>) -> Option<&'a str>
 
 /// The part, lent.
 fn lent(part: Option<&str>) -> Option<CowStr<'_>>
-    ensures read { option_map (λ p. chars (cow_str_bytes p)) result ≡ option_map chars (option_copied part.entry) }
-    ensures lent { (text : List ℕ) → IfSome part.entry (λ p. IsSlice text p.now) → IfSome result (λ p. IsLent text p) }
+    ensures read { option_map (λ p. chars (cow_str_bytes p)) result ≡
+        option_map chars (option_copied part.entry) }
+    ensures lent { (text : List ℕ) → IfSome part.entry (λ p. IsSlice text p.now) →
+        IfSome result (λ p. IsLent text p) }
 {
     match part {
         Some(part) => Some(CowStr::Borrowed(part)),

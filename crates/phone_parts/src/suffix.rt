@@ -1,12 +1,16 @@
 //! The extension at the end of a text, in its three forms.
-ghost use Rattle.std.specs.Prelude.{◌≡◌, ℕ, List, ◌∷◌, ◌++◌, ◌&&◌, [], nat_le, length, MatchOption, IfSome, IsTrue, chars, map};
+ghost use Rattle.std.specs.Prelude.{◌≡◌, ℕ, List, ◌∷◌, ◌++◌, ◌&&◌, [], nat_le, length, MatchOption};
+ghost use Rattle.std.specs.Prelude.{IfSome, IsTrue, chars, map};
 ghost use Rattle.std.specs.Borrow.{Bor};
 ghost use Rattle.std.specs.List.{list_all};
 ghost use Rattle.phone_chars.specs.Characters.{is_nd};
 ghost use Rattle.phone_parts.specs.Longest.{AreEndsUpTo, AreEndsWithin};
 ghost use Rattle.phone_parts.specs.Parts.{IsSlice};
 ghost use Rattle.phone_parts.specs.Texts.{begins};
-ghost use Rattle.phone_parts.specs.Suffixes.{IsParameter, IsNumberSigned, IsSomeNumberSigned, IsIndicated, IsAnnounced, IsEnding, IsSomeEnding, IsSuffix, indicators, is_lead, is_suffix_start, IsSomeSuffix, HasNoSuffix, HasLongestSuffix};
+ghost use Rattle.phone_parts.specs.Suffixes.{IsParameter, IsNumberSigned, IsSomeNumberSigned};
+ghost use Rattle.phone_parts.specs.Suffixes.{IsIndicated, IsAnnounced, IsEnding, IsSomeEnding};
+ghost use Rattle.phone_parts.specs.Suffixes.{IsSuffix, indicators, is_lead, is_suffix_start};
+ghost use Rattle.phone_parts.specs.Suffixes.{IsSomeSuffix, HasNoSuffix, HasLongestSuffix};
 
 use crate::fronts::{is_nothing, skip_one, strip_char, strip_like};
 use crate::indicators::indicators_from;
@@ -132,7 +136,8 @@ fn read_suffix(text: &str, limits: Limits, no_indicator: bool) -> Option<&str>
 fn indicated_unless(text: &str, limit: usize, no_indicator: bool) -> Option<&str>
     requires unindicated { IsTrue no_indicator → (d : List ℕ) → ¬ (IsIndicated (chars text.now) d) }
     requires limit { AreEndsUpTo IsSomeEnding limit text.now }
-    ensures read { MatchOption result ((d : List ℕ) → ¬ (IsIndicated (chars text.now) d)) (λ d. IsIndicated (chars text.now) (chars d.now)) }
+    ensures read { MatchOption result ((d : List ℕ) →
+        ¬ (IsIndicated (chars text.now) d)) (λ d. IsIndicated (chars text.now) (chars d.now)) }
     ensures slice { IfSome result (λ d. IsSlice text.now d.now) }
 {
     if no_indicator {
@@ -163,7 +168,8 @@ fn count_chars(text: &str) -> usize
 
 /// The digits of `;ext=5`.
 fn parameter(text: &str) -> Option<&str>
-    ensures read { MatchOption result ((d : List ℕ) → ¬ (IsParameter (chars text.now) d)) (λ d. IsParameter (chars text.now) (chars d.now)) }
+    ensures read { MatchOption result ((d : List ℕ) →
+        ¬ (IsParameter (chars text.now) d)) (λ d. IsParameter (chars text.now) (chars d.now)) }
     ensures slice { IfSome result (λ d. IsSlice text.now d.now) }
 {
     let digits = strip_like(text, ";ext=")?;
@@ -176,7 +182,9 @@ fn parameter(text: &str) -> Option<&str>
 /// The digits of ` 5#`, where the text is no longer than such an extension may be.
 fn number_signed(text: &str, limit: usize) -> Option<&str>
     requires { AreEndsWithin IsSomeNumberSigned limit text.now }
-    ensures read { MatchOption result ((d : List ℕ) → ¬ (IsNumberSigned (chars text.now) d)) (λ d. IsNumberSigned (chars text.now) (chars d.now)) }
+    ensures read { MatchOption result ((d : List ℕ) →
+        ¬ (IsNumberSigned (chars text.now) d))
+        (λ d. IsNumberSigned (chars text.now) (chars d.now)) }
     ensures slice { IfSome result (λ d. IsSlice text.now d.now) }
 {
     if text.len() > limit {
@@ -203,7 +211,8 @@ fn number_signed(text: &str, limit: usize) -> Option<&str>
 /// The digits of an extension with an indicator.
 fn indicated(text: &str, limit: usize) -> Option<&str>
     requires { AreEndsUpTo IsSomeEnding limit text.now }
-    ensures read { MatchOption result ((d : List ℕ) → ¬ (IsIndicated (chars text.now) d)) (λ d. IsIndicated (chars text.now) (chars d.now)) }
+    ensures read { MatchOption result ((d : List ℕ) →
+        ¬ (IsIndicated (chars text.now) d)) (λ d. IsIndicated (chars text.now) (chars d.now)) }
     ensures slice { IfSome result (λ d. IsSlice text.now d.now) }
 {
     let mut rest = text;
@@ -219,8 +228,8 @@ fn indicated(text: &str, limit: usize) -> Option<&str>
     None
 }
 
-/// The digits of an indicator at the front of the text, and what may follow one. Only the indicators are tried that
-/// begin with the text's first character.
+/// The digits of an indicator at the front of the text, and what may follow one. Only the
+/// indicators are tried that begin with the text's first character.
 fn announced(text: &str, limit: usize) -> Option<&str>
     requires { AreEndsUpTo IsSomeEnding limit text.now }
     ensures read { MatchOption result
@@ -236,8 +245,10 @@ fn announced(text: &str, limit: usize) -> Option<&str>
 fn after_some_word<'a>(text: &'a str, words: &[&str], limit: usize) -> Option<&'a str>
     requires { AreEndsUpTo IsSomeEnding limit text.now }
     ensures read { MatchOption result
-        ((d : List ℕ) → ¬ (IsAnnounced (map (λ (w : Bor (List ℕ)). chars w.now) words.now) (chars text.now) d))
-        (λ d. IsAnnounced (map (λ (w : Bor (List ℕ)). chars w.now) words.now) (chars text.now) (chars d.now)) }
+        ((d : List ℕ) → ¬ (IsAnnounced (map (λ (w : Bor (List ℕ)). chars w.now) words.now)
+        (chars text.now) d))
+        (λ d. IsAnnounced (map (λ (w : Bor (List ℕ)). chars w.now) words.now) (chars text.now)
+        (chars d.now)) }
     ensures slice { IfSome result (λ d. IsSlice text.now d.now) }
 {
     for word in words {
@@ -265,7 +276,8 @@ fn after_word<'a>(text: &'a str, word: &str, limit: usize) -> Option<&'a str>
 
 /// The digits of what may follow an indicator.
 fn ending(text: &str) -> Option<&str>
-    ensures read { MatchOption result ((d : List ℕ) → ¬ (IsEnding (chars text.now) d)) (λ d. IsEnding (chars text.now) (chars d.now)) }
+    ensures read { MatchOption result ((d : List ℕ) →
+        ¬ (IsEnding (chars text.now) d)) (λ d. IsEnding (chars text.now) (chars d.now)) }
     ensures slice { IfSome result (λ d. IsSlice text.now d.now) }
 {
     let from = after_run(skip_one(text, &Marks), &Gaps);

@@ -1,5 +1,7 @@
 -- The first match of a pattern text in a text, under flag x: as the kit's `regex` defines it.
-use Rattle.std.specs.Prelude.{◌≡◌, ℕ, ◌+◌, ◌-◌, ◌*◌, ◌==◌, ◌≤◌, ◌&&◌, nat_le, Bool, false, if◌then◌else◌, true, List, [], ◌∷◌, ◌++◌, map, take, drop, length, Option, Some, None, option_map, IfSome, IsCharBoundary}
+use Rattle.std.specs.Prelude.{◌≡◌, ℕ, ◌+◌, ◌-◌, ◌*◌, ◌==◌, ◌≤◌, ◌&&◌, nat_le, Bool, false}
+use Rattle.std.specs.Prelude.{if◌then◌else◌, true, List, [], ◌∷◌, ◌++◌, map, take, drop, length}
+use Rattle.std.specs.Prelude.{Option, Some, None, option_map, IfSome, IsCharBoundary}
 use Rattle.std.specs.Borrow.{Bor}
 use Rattle.std.specs.List.{AllByRecursion}
 use Rattle.std.specs.Option.{IsSome, option_and_then, option_map_or}
@@ -31,7 +33,8 @@ seen_of m = (m.start, m.trace.end, slot_of m)
 
 -- the first match of the pattern text in a text
 unfoldable pub first_match : List ℕ → List ℕ → Option Seen
-first_match pattern hay = option_and_then (λ (re, _). option_map seen_of (find_str re.value hay 0)) (read verbose (chars pattern))
+first_match pattern hay = option_and_then (λ (re, _). option_map seen_of (find_str re.value hay 0))
+    (read verbose (chars pattern))
 
 -- the names of its groups, from group 0 on
 unfoldable pub names_in : List ℕ → Names
@@ -45,15 +48,16 @@ first_span pattern hay = option_map (λ (s : Seen). (s.0, s.1)) (first_match pat
 abbrev pub at_start : List ℕ → List ℕ → Bool
 at_start pattern hay = option_map_or (λ (s : Seen). s.0 == 0) (first_match pattern hay) false
 
--- digits are led by patterns, the last of which comes first here: where there is none, or the last one's first match
--- begins at the first byte
+-- digits are led by patterns, the last of which comes first here: where there is none, or the last
+-- one's first match begins at the first byte
 abbrev pub led_by : List ℕ → List (List ℕ) → Bool
 led_by digits [] = true
 led_by digits (last ∷ others) = at_start last digits
 
 -- whether the first match begins at the first byte and ends after the last
 abbrev pub is_whole_match : List ℕ → List ℕ → Bool
-is_whole_match pattern digits = option_map_or (λ (s : ℕ × ℕ). (s.0 == 0) && (s.1 == length digits)) (first_span pattern digits) false
+is_whole_match pattern digits = option_map_or (λ (s : ℕ × ℕ). (s.0 == 0) &&
+    (s.1 == length digits)) (first_span pattern digits) false
 
 -- what group n spans; group 0 is the match
 abbrev pub group_in : Seen → ℕ → Option (ℕ × ℕ)
@@ -63,9 +67,15 @@ group_in s n = if n == 0 then Some (s.0, s.1) else both (s.2 (2 * n)) (s.2 (2 * 
 abbrev pub last_group : List ℕ → ℕ
 last_group pattern = length (names_in pattern) - 1
 
--- a match's span, its first group if the pattern has groups, and its last group, whose number is given
+-- a match's span, its first group if the pattern has groups, and its last group, whose number is
+-- given
 abbrev pub captured_by : ℕ → Seen → Captured
-captured_by last s = record { span = (s.0, s.1); first = if nat_le 1 last then group_in s 1 else None; last = group_in s last }
+captured_by last s = record {
+  span = (s.0, s.1);
+  first = if nat_le 1 last then group_in s 1
+      else None;
+  last = group_in s last;
+}
 
 -- what the first match captures
 abbrev pub captured : List ℕ → List ℕ → Option Captured
@@ -83,11 +93,13 @@ AreCuts text c = IsCut text c.span × IfSome c.first (IsCut text) × IfSome c.la
 abbrev pub with_first_replaced : Names → List ℕ → List ℕ → Option Seen → List ℕ
 with_first_replaced names template hay None = hay
 with_first_replaced names template hay (Some s) =
-    (take s.0 hay ++ written_after names (λ n. bytes_of hay (group_in s n)) template 0) ++ drop s.1 hay
+    (take s.0 hay ++ written_after names (λ n. bytes_of hay (group_in s n)) template 0) ++ drop s.1
+    hay
 
 -- the text with the first match replaced by what the template's text writes there
 abbrev pub replaced : List ℕ → List ℕ → List ℕ → List ℕ
-replaced pattern template hay = with_first_replaced (names_in pattern) template hay (first_match pattern hay)
+replaced pattern template hay = with_first_replaced (names_in pattern) template hay
+    (first_match pattern hay)
 
 -- a pattern was compiled from its text under flag x
 abbrev pub IsUnderX : Regex → Type 0

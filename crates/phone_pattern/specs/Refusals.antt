@@ -7,9 +7,11 @@ use Rattle.phone_texts.specs.declared.error.LoadMetadata.TheVariants as error
 
 -- one of these texts is refused, and all before it are patterns
 abbrev pub IsRefusedIn : List (List ℕ) → List ℕ → Type 0
-IsRefusedIn ps p = (before : List (List ℕ)) × (after : List (List ℕ)) × (ps ≡ before ++ p ∷ after) × AllByRecursion IsPattern before
+IsRefusedIn ps p = (before : List (List ℕ)) × (after : List (List ℕ)) × (ps ≡ before ++ p ∷ after) ×
+    AllByRecursion IsPattern before
 
--- one of these patterns, which are compiled in this order, is refused by its text, or memory was refused
+-- one of these patterns, which are compiled in this order, is refused by its text, or memory was
+-- refused
 abbrev pub IsPatternRefusal : List (List ℕ) → LoadMetadata → Type 0
 IsPatternRefusal ps (error.Regex text) = IsRefusedIn ps (string_bytes text)
 IsPatternRefusal ps error.Memory = Unit {0}

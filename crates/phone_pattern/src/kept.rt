@@ -77,7 +77,8 @@ impl Kept {
         self.text.as_str()
     }
 
-    /// Whether the first match in a text of ASCII begins at the first byte. None where the machine gives up.
+    /// Whether the first match in a text of ASCII begins at the first byte. None where the machine
+    /// gives up.
     pub(crate) fn is_at_start(&mut self, text: &str) -> Option<bool>
         requires { All (λ x. x < 128) text.now }
         ensures found { IfSome result (λ b. b ≡ at_start self.old text.now) }
@@ -112,8 +113,8 @@ impl Kept {
         }
     }
 
-    /// A text of ASCII with its first match replaced by a template. None where the machine gives up, or doesn't serve the
-    /// template. Refused only for memory.
+    /// A text of ASCII with its first match replaced by a template. None where the machine gives
+    /// up, or doesn't serve the template. Refused only for memory.
     pub(crate) fn replaced(
         &mut self,
         alloc: Global,
@@ -121,7 +122,8 @@ impl Kept {
         text: &str,
     ) -> Result<Option<String>, AllocError>
         requires { All (λ x. x < 128) text.now }
-        ensures replaced { IfOk result (λ found. IfSome found (λ out. string_bytes out ≡ replaced self.old template.now text.now)) }
+        ensures replaced { IfOk result (λ found. IfSome found (λ out. string_bytes out ≡
+            replaced self.old template.now text.now)) }
         ensures same { self.new ≡ self.old }
     {
         self.machine.replaced(alloc, template, text)

@@ -1,5 +1,6 @@
 //! The leading digits for which a layout is meant, with their patterns compiled.
-ghost use Rattle.std.specs.Prelude.{◌≡◌, ◌==◌, [], true, length, map, reverse, Ok, IfOk, IfErr, IsTrue};
+ghost use Rattle.std.specs.Prelude.{◌≡◌, ◌==◌, [], true, length, map, reverse, Ok, IfOk, IfErr};
+ghost use Rattle.std.specs.Prelude.{IsTrue};
 ghost use Rattle.std.specs.List.{AllByRecursion};
 ghost use Rattle.regex.specs.Strings.{regex_source};
 ghost use Rattle.phone_pattern.specs.First.{led_by, ArePatternsOf, IsPattern};
@@ -47,8 +48,8 @@ impl Drop for Leading {
 }
 
 impl Leading {
-    /// Compiles each of these texts. Refused by `Regex` with the first that is no pattern or compiles to more than
-    /// 10 MiB, by `Memory` where memory is refused.
+    /// Compiles each of these texts. Refused by `Regex` with the first that is no pattern or
+    /// compiles to more than 10 MiB, by `Memory` where memory is refused.
     pub fn new(alloc: Global, texts: Vec<Text>) -> Result<Leading, LoadMetadata>
         ensures compiled { IfOk result (λ l. l ≡ texts.items) }
         ensures read { IfOk result (λ l. AllByRecursion IsPattern texts.items) }
@@ -83,8 +84,9 @@ impl Leading {
         have_texts(self.patterns.as_slice(), texts)
     }
 
-    /// Whether digits are led by these patterns: there is none, or the first match of the last begins at the first byte.
-    /// Where there is none nothing is searched, and nothing refused. Else refused only for memory.
+    /// Whether digits are led by these patterns: there is none, or the first match of the last
+    /// begins at the first byte. Where there is none nothing is searched, and nothing refused. Else
+    /// refused only for memory.
     pub fn lead(&self, digits: &str) -> Result<bool, AllocError>
         ensures led { IfOk result (λ b. b ≡ led_by digits.now (reverse self.now)) }
         ensures unsearched { self.now ≡ [] → result ≡ Ok true }

@@ -1,8 +1,12 @@
 //! A pattern that is compiled once and held. Contracts see its text.
-ghost use Rattle.std.specs.Prelude.{◌≡◌, ℕ, List, [], ◌∷◌, nat_le, if◌then◌else◌, Some, None, IfOk, IfErr, IfSome, IsTrue, string_bytes};
+ghost use Rattle.std.specs.Prelude.{◌≡◌, ℕ, List, [], ◌∷◌, nat_le, if◌then◌else◌, Some, None, IfOk};
+ghost use Rattle.std.specs.Prelude.{IfErr, IfSome, IsTrue, string_bytes};
 ghost use Rattle.std.specs.List.{AllByRecursion};
-ghost use Rattle.regex.specs.Strings.{regex_source, captures_haystack, captures_span, match_haystack, match_span, IsReadFrom};
-ghost use Rattle.phone_pattern.specs.First.{at_start, captured, first_span, is_whole_match, names_in, replaced, ArePatternsOf, AreCuts, IsCut, IsPattern, IsPatternOf, IsUnderX};
+ghost use Rattle.regex.specs.Strings.{regex_source, captures_haystack, captures_span};
+ghost use Rattle.regex.specs.Strings.{match_haystack, match_span, IsReadFrom};
+ghost use Rattle.phone_pattern.specs.First.{at_start, captured, first_span, is_whole_match};
+ghost use Rattle.phone_pattern.specs.First.{names_in, replaced, ArePatternsOf, AreCuts, IsCut};
+ghost use Rattle.phone_pattern.specs.First.{IsPattern, IsPatternOf, IsUnderX};
 ghost use Rattle.phone_pattern.specs.Refusals.{IsPatternRefusal};
 
 use crate::warm::Warm;
@@ -11,7 +15,8 @@ use regex::{Captures, Error, Match, Regex, RegexBuilder, Template};
 use std::alloc::{AllocError, Global};
 use std::marker::Model;
 
-/// A compiled pattern of a database, read under flag x: white space and `#` comments in it don't count.
+/// A compiled pattern of a database, read under flag x: white space and `#` comments in it don't
+/// count.
 pub struct Pattern {
     alloc: Global,
     re: Regex,
@@ -40,8 +45,8 @@ impl Drop for Pattern {
     }
 }
 
-/// Compiles a text. Refused by `Regex` with the text where it is no pattern or compiles to more than 10 MiB, by `Memory`
-/// where memory is refused.
+/// Compiles a text. Refused by `Regex` with the text where it is no pattern or compiles to more
+/// than 10 MiB, by `Memory` where memory is refused.
 fn compile(alloc: Global, text: Text) -> Result<Regex, LoadMetadata>
     ensures compiled { IfOk result (λ re. IsPatternOf text re) }
     ensures read { IfOk result (λ re. IsPattern text) }
@@ -58,8 +63,8 @@ fn compile(alloc: Global, text: Text) -> Result<Regex, LoadMetadata>
 }
 
 impl Pattern {
-    /// Compiles a text. Refused by `Regex` with the text where it is no pattern or compiles to more than 10 MiB, by
-    /// `Memory` where memory is refused.
+    /// Compiles a text. Refused by `Regex` with the text where it is no pattern or compiles to more
+    /// than 10 MiB, by `Memory` where memory is refused.
     pub fn new(alloc: Global, text: Text) -> Result<Pattern, LoadMetadata>
         ensures compiled { IfOk result (λ p. p ≡ text) }
         ensures read { IfOk result (λ p. IsPattern text) }
@@ -100,7 +105,8 @@ impl Pattern {
         self.alloc
     }
 
-    /// Whether the first match begins at the first byte; it need not reach the end. Refused only for memory.
+    /// Whether the first match begins at the first byte; it need not reach the end. Refused only
+    /// for memory.
     pub fn is_at_start(&self, text: &str) -> Result<bool, AllocError>
         ensures { IfOk result (λ b. b ≡ at_start self.now text.now) }
     {
@@ -110,7 +116,8 @@ impl Pattern {
         is_at_start(self.alloc, &self.re, text)
     }
 
-    /// The bytes at which the first match begins and ends; none where the text has no match. Refused only for memory.
+    /// The bytes at which the first match begins and ends; none where the text has no match.
+    /// Refused only for memory.
     pub fn first_span(&self, text: &str) -> Result<Option<(usize, usize)>, AllocError>
         ensures span { IfOk result (λ found. found ≡ first_span self.now text.now) }
         ensures borders { IfOk result (λ found. IfSome found (IsCut text.now)) }
@@ -121,7 +128,8 @@ impl Pattern {
         }
     }
 
-    /// Whether the first match begins at the first byte and ends after the last. Refused only for memory.
+    /// Whether the first match begins at the first byte and ends after the last. Refused only for
+    /// memory.
     pub fn is_whole_match(&self, text: &str) -> Result<bool, AllocError>
         ensures { IfOk result (λ b. b ≡ is_whole_match self.now text.now) }
     {
@@ -131,8 +139,8 @@ impl Pattern {
         }
     }
 
-    /// What the first match spans, and its first and its last group; none where the text has no match. Refused only
-    /// for memory.
+    /// What the first match spans, and its first and its last group; none where the text has no
+    /// match. Refused only for memory.
     pub fn captured(&self, text: &str) -> Result<Option<Captured>, AllocError>
         ensures found { IfOk result (λ found. found ≡ captured self.now text.now) }
         ensures borders { IfOk result (λ found. IfSome found (AreCuts text.now)) }
@@ -158,8 +166,8 @@ impl Pattern {
         }
     }
 
-    /// The text with its first match replaced by a template, in which `$1` stands for the first group; a text without
-    /// a match stays as it is. Refused only for memory.
+    /// The text with its first match replaced by a template, in which `$1` stands for the first
+    /// group; a text without a match stays as it is. Refused only for memory.
     pub fn replaced(&self, template: &str, text: &str) -> Result<String, AllocError>
         ensures { IfOk result (λ out. string_bytes out ≡ replaced self.now template.now text.now) }
     {
@@ -179,18 +187,19 @@ impl Pattern {
         self.replaced_by(&template, text)
     }
 
-    /// A template that was read from this text, in which `$1` stands for the first group of the pattern. Refused only
-    /// for memory.
+    /// A template that was read from this text, in which `$1` stands for the first group of the
+    /// pattern. Refused only for memory.
     fn template(&self, text: &str) -> Result<Template, AllocError>
         ensures { IfOk result (λ t. IsReadFrom (names_in self.now) text.now t) }
     {
         Template::new(self.alloc, self.re.capture_names(), text)
     }
 
-    /// The text with its first match replaced by a template of this pattern; a text without a match stays as it is.
-    /// Refused only for memory.
+    /// The text with its first match replaced by a template of this pattern; a text without a match
+    /// stays as it is. Refused only for memory.
     fn replaced_by(&self, template: &Template, text: &str) -> Result<String, AllocError>
-        ensures { (source : List ℕ) → IsReadFrom (names_in self.now) source template.now → IfOk result (λ out. string_bytes out ≡ replaced self.now source text.now) }
+        ensures { (source : List ℕ) → IsReadFrom (names_in self.now) source template.now →
+            IfOk result (λ out. string_bytes out ≡ replaced self.now source text.now) }
     {
         let mut matcher = self.re.matcher(self.alloc)?;
         matcher.replace(self.alloc, text, template)
@@ -202,9 +211,11 @@ impl Pattern {
 pub struct Captured {
     /// The match.
     pub span: (usize, usize),
-    /// The first group; none where the pattern has no group, or the group took no part in the match.
+    /// The first group; none where the pattern has no group, or the group took no part in the
+    /// match.
     pub first: Option<(usize, usize)>,
-    /// The last group, or the match where the pattern has no group; none where the group took no part in the match.
+    /// The last group, or the match where the pattern has no group; none where the group took no
+    /// part in the match.
     pub last: Option<(usize, usize)>,
 }
 

@@ -11,8 +11,8 @@ use phone_texts::{LoadMetadata, Text};
 use std::alloc::{AllocError, Global};
 use std::rc::Rc;
 
-/// The patterns and the lists of leading digits that a database compiled so far, by their texts. The
-/// texts of what is found are compared.
+/// The patterns and the lists of leading digits that a database compiled so far, by their texts.
+/// The texts of what is found are compared.
 pub struct Pool {
     alloc: Global,
     patterns: Shelf<Pattern>,
@@ -47,8 +47,8 @@ impl Pool {
         self.alloc
     }
 
-    /// The pattern of a text, compiled where the text is new. Refused by `Regex` with the text where it is no pattern or
-    /// compiles to more than 10 MiB, by `Memory` where memory is refused.
+    /// The pattern of a text, compiled where the text is new. Refused by `Regex` with the text
+    /// where it is no pattern or compiles to more than 10 MiB, by `Memory` where memory is refused.
     pub fn pattern(&self, text: Text) -> Result<Rc<Pattern>, LoadMetadata>
         ensures compiled { IfOk result (λ p. p.value ≡ text) }
         ensures read { IfOk result (λ p. IsPattern text) }
@@ -74,8 +74,9 @@ impl Pool {
         Ok(made)
     }
 
-    /// A list of leading digits, compiled where its texts are new. Refused by `Regex` with the first text that is no
-    /// pattern or compiles to more than 10 MiB, by `Memory` where memory is refused.
+    /// A list of leading digits, compiled where its texts are new. Refused by `Regex` with the
+    /// first text that is no pattern or compiles to more than 10 MiB, by `Memory` where memory is
+    /// refused.
     pub fn leading(&self, texts: Vec<Text>) -> Result<Rc<Leading>, LoadMetadata>
         ensures compiled { IfOk result (λ l. l.value ≡ texts.items) }
         ensures read { IfOk result (λ l. AllByRecursion IsPattern texts.items) }

@@ -4,8 +4,8 @@ use std::cell::RefCell;
 use std::collections::HashMap;
 use std::rc::Rc;
 
-/// Things that are shared by those that ask for them by the same name. Of what a cell holds nothing is
-/// known, so who finds a thing looks whether it is the right one.
+/// Things that are shared by those that ask for them by the same name. Of what a cell holds nothing
+/// is known, so who finds a thing looks whether it is the right one.
 #[derive(Drop)]
 pub(crate) struct Shelf<T> {
     things: RefCell<HashMap<String, Rc<T>>>,

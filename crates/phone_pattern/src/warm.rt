@@ -7,9 +7,9 @@ use crate::pattern::Captured;
 use std::alloc::{AllocError, Global};
 use std::cell::RefCell;
 
-/// Keeps the machine of one pattern, which the first search makes. Of what a cell holds nothing is known, so each search
-/// names the pattern, and a machine of another one is dropped. It serves texts of ASCII; for others, and where it gives
-/// up, it answers none.
+/// Keeps the machine of one pattern, which the first search makes. Of what a cell holds nothing is
+/// known, so each search names the pattern, and a machine of another one is dropped. It serves
+/// texts of ASCII; for others, and where it gives up, it answers none.
 pub(crate) struct Warm {
     alloc: Global,
     slot: RefCell<Option<Box<Kept>>>,
@@ -32,8 +32,8 @@ impl Warm {
         }
     }
 
-    /// Takes the machine of a pattern out of its place, for a text of ASCII: that which was kept, if
-    /// it is of this pattern, else a new one.
+    /// Takes the machine of a pattern out of its place, for a text of ASCII: that which was kept,
+    /// if it is of this pattern, else a new one.
     fn taken(&self, pattern: &str, text: &str) -> Option<Box<Kept>>
         ensures same { IfSome result (λ k. k.value ≡ pattern.now) }
         ensures ascii { IfSome result (λ k. All (λ x. x < 128) text.now) }
@@ -56,8 +56,8 @@ impl Warm {
         }
     }
 
-    /// A new machine of a pattern. Each pattern needs it once, and its frame is large: a function of its own keeps that
-    /// off the searches that find a machine.
+    /// A new machine of a pattern. Each pattern needs it once, and its frame is large: a function
+    /// of its own keeps that off the searches that find a machine.
     #[cold]
     #[inline(never)]
     fn made(&self, pattern: &str) -> Option<Box<Kept>>
@@ -106,7 +106,8 @@ impl Warm {
         template: &str,
         text: &str,
     ) -> Result<Option<String>, AllocError>
-        ensures { IfOk result (λ found. IfSome found (λ out. string_bytes out ≡ replaced pattern.now template.now text.now)) }
+        ensures { IfOk result (λ found. IfSome found (λ out. string_bytes out ≡
+            replaced pattern.now template.now text.now)) }
     {
         let Some(mut kept) = self.taken(pattern, text) else {
             return Ok(None);

@@ -1,4 +1,5 @@
--- What every record must have, and which of it is missing first: after the original's `metadata/database`.
+-- What every record must have, and which of it is missing first: after the original's
+-- `metadata/database`.
 use Rattle.std.specs.Prelude.{ℕ, List, [], ◌∷◌, map, Option, Some, None, codes}
 use Rattle.std.specs.Option.{option_or}
 use Rattle.phone_records.specs.declared.loader.Descriptor.{Descriptor}
@@ -42,16 +43,19 @@ missing_in_descriptor (Some d) = missing_if_none lack.NationalNumber d.national_
 
 -- a layout must have a pattern and a template
 abbrev pub missing_in_format : Format → Option Missing
-missing_in_format f = option_or (missing_if_none lack.Pattern f.pattern) (missing_if_none lack.Template f.format)
+missing_in_format f = option_or (missing_if_none lack.Pattern f.pattern)
+    (missing_if_none lack.Template f.format)
 
 -- the descriptors of a territory, in the order of their declaration
 abbrev pub descriptors_of : Metadata → List (Option Descriptor)
 descriptors_of m =
-    m.general ∷ m.fixed_line ∷ m.mobile ∷ m.toll_free ∷ m.premium_rate ∷ m.shared_cost ∷ m.personal_number ∷ m.voip
-    ∷ m.pager ∷ m.uan ∷ m.emergency ∷ m.voicemail ∷ m.short_code ∷ m.standard_rate ∷ m.carrier ∷ m.no_international ∷ []
+    m.general ∷ m.fixed_line ∷ m.mobile ∷ m.toll_free ∷ m.premium_rate ∷ m.shared_cost ∷
+    m.personal_number ∷ m.voip
+    ∷ m.pager ∷ m.uan ∷ m.emergency ∷ m.voicemail ∷ m.short_code ∷ m.standard_rate ∷ m.carrier ∷
+    m.no_international ∷ []
 
--- what a territory lacks of each thing that it must have: a general descriptor, the patterns of its descriptors, an id, a
--- calling code, and whole layouts
+-- what a territory lacks of each thing that it must have: a general descriptor, the patterns of its
+-- descriptors, an id, a calling code, and whole layouts
 abbrev pub lacks_of : Metadata → List (Option Missing)
 lacks_of m =
     missing_if_none lack.General m.general

@@ -1,7 +1,9 @@
 //! What every record must have, looked for before any pattern is compiled.
 ghost use Rattle.std.specs.Prelude.{◌≡◌, map, Option};
 ghost use Rattle.std.specs.Borrow.{Bor};
-ghost use Rattle.phone_records.specs.Missing.{phase_of, name_of, missing_in_descriptor, missing_in_format, missing_in, first_missing, first_given, descriptors_of};
+ghost use Rattle.phone_records.specs.Missing.{phase_of, name_of, missing_in_descriptor};
+ghost use Rattle.phone_records.specs.Missing.{missing_in_format, missing_in, first_missing};
+ghost use Rattle.phone_records.specs.Missing.{first_given, descriptors_of};
 ghost use Rattle.phone_records.specs.declared.loader.Descriptor.{Descriptor};
 
 use crate::loader::{Descriptor, Format, Metadata};
@@ -60,7 +62,8 @@ fn in_descriptor(descriptor: &Option<Descriptor>) -> Option<Missing>
 }
 
 fn in_descriptors(descriptors: &[&Option<Descriptor>]) -> Option<Missing>
-    ensures { result ≡ first_given (map (λ (d : Bor (Option Descriptor)). missing_in_descriptor d.now) descriptors.now) }
+    ensures { result ≡ first_given (map (λ (d : Bor (Option Descriptor)).
+        missing_in_descriptor d.now) descriptors.now) }
 {
     for descriptor in descriptors {
         let missing = in_descriptor(descriptor);

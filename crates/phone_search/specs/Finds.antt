@@ -1,5 +1,6 @@
 -- What an automaton finds in a text, and what is asked of it.
-use Rattle.std.specs.Prelude.{◌≡◌, ◌<◌, ◌-◌, ◌*◌, ◌==◌, ℕ, Bool, false, List, length, Option, Some, None, All, if◌then◌else◌, slice_index}
+use Rattle.std.specs.Prelude.{◌≡◌, ◌<◌, ◌-◌, ◌*◌, ◌==◌, ℕ, Bool, false, List, length, Option, Some}
+use Rattle.std.specs.Prelude.{None, All, if◌then◌else◌, slice_index}
 use Rattle.std.specs.Option.{option_map_or}
 use Rattle.regex.specs.Writes.{both, group_of}
 use Rattle.regex_hir.specs.Find.{Match, find_str}

@@ -1,5 +1,5 @@
-//! What a pattern's tree finds in texts, asked of an automaton that its owner holds: the first search of it works out its
-//! steps, and the next ones only walk them.
+//! What a pattern's tree finds in texts, asked of an automaton that its owner holds: the first
+//! search of it works out its steps, and the next ones only walk them.
 #![tactic(auto)]
 
 mod machine;

@@ -1,5 +1,7 @@
-//! A machine: a pattern's automaton for ASCII texts, and the steps that its searches have worked out.
-ghost use Rattle.std.specs.Prelude.{◌≡◌, ◌-◌, ◌+◌, ◌*◌, ◌≤◌, ℕ, length, vec_len, string_bytes, IfOk, IfSome, option_map};
+//! A machine: a pattern's automaton for ASCII texts, and the steps that its searches have worked
+//! out.
+ghost use Rattle.std.specs.Prelude.{◌≡◌, ◌-◌, ◌+◌, ◌*◌, ◌≤◌, ℕ, length, vec_len, string_bytes};
+ghost use Rattle.std.specs.Prelude.{IfOk, IfSome, option_map};
 ghost use Rattle.phone_search.specs.Ascii.{AsciiSame};
 ghost use Rattle.phone_search.specs.Finds.{at_front, captured, finds, group_at, FindsInAscii};
 ghost use Rattle.phone_search.specs.Templates.{with_match_replaced};
@@ -21,9 +23,9 @@ use regex_tagged::{Near, Tagged};
 use std::alloc::{AllocError, Global};
 use std::marker::Model;
 
-/// What the first match of a pattern spans, and its group 1 and its last group, each part by the bytes at which it begins
-/// and ends. Without a group, or where one took no part in the match, the first is none; a pattern without groups has the
-/// match as its last one.
+/// What the first match of a pattern spans, and its group 1 and its last group, each part by the
+/// bytes at which it begins and ends. Without a group, or where one took no part in the match, the
+/// first is none; a pattern without groups has the match as its last one.
 #[derive(Clone, Copy, Debug, PartialEq, Eq)]
 pub struct Captured {
     /// The match.
@@ -40,8 +42,9 @@ const KEPT: usize = 0x1_0000;
 /// The greatest size of an automaton in bytes, as that of the patterns themselves.
 const LARGEST: usize = 10 << 20;
 
-/// A pattern's automaton for texts of ASCII, and the steps that its searches have worked out, with groups and without.
-/// Contracts see what it finds in each text, `finds`, and the number of the last group.
+/// A pattern's automaton for texts of ASCII, and the steps that its searches have worked out, with
+/// groups and without. Contracts see what it finds in each text, `finds`, and the number of the
+/// last group.
 pub struct Machine {
     dfa: Dfa,
     forward: Forward,
@@ -91,9 +94,11 @@ fn compiled(alloc: Global, hir: &Hir, groups: u32) -> Option<Nfa>
     }
 }
 
-/// The automaton of a pattern for ASCII texts, and the number of its last group; none where it is refused.
+/// The automaton of a pattern for ASCII texts, and the number of its last group; none where it is
+/// refused.
 fn narrow_compiled(alloc: Global, parsed: &Parsed) -> Option<(Nfa, usize)>
-    ensures nfa { IfSome result (λ p. (re : Re) × AsciiSame re (meaning parsed.now.hir) × Implements p.0 re) }
+    ensures nfa { IfSome result (λ p. (re : Re) × AsciiSame re (meaning parsed.now.hir) ×
+        Implements p.0 re) }
     ensures last { IfSome result (λ p. p.1 ≡ length parsed.now.names.items - 1) }
 {
     let Ok(groups) = u32::try_from(parsed.names.len()) else {
@@ -127,7 +132,8 @@ pub(crate) fn group_of_cells(
 }
 
 impl Machine {
-    /// The machine of a pattern that was read. None where memory is refused or its automaton grows too large.
+    /// The machine of a pattern that was read. None where memory is refused or its automaton grows
+    /// too large.
     #[cold]
     #[inline(never)]
     pub fn new(alloc: Global, parsed: &Parsed) -> Option<Machine>
@@ -178,8 +184,8 @@ impl Machine {
         }
     }
 
-    /// Where the first match begins and ends. None where the automata give up. A match at the front is the first one, and
-    /// needs no groups to be found.
+    /// Where the first match begins and ends. None where the automata give up. A match at the front
+    /// is the first one, and needs no groups to be found.
     pub fn span(&mut self, hay: &[u8]) -> Option<Option<(usize, usize)>>
         ensures found { IfSome result (λ found. found ≡ option_map span (finds self.old hay.now)) }
         ensures same { self.new ≡ self.old }
@@ -193,7 +199,8 @@ impl Machine {
         self.span_anywhere(hay)
     }
 
-    /// Where the first match begins and ends, wherever it begins. None where the automaton gives up.
+    /// Where the first match begins and ends, wherever it begins. None where the automaton gives
+    /// up.
     fn span_anywhere(&mut self, hay: &[u8]) -> Option<Option<(usize, usize)>>
         ensures found { IfSome result (λ found. found ≡ option_map span (finds self.old hay.now)) }
         ensures same { self.new ≡ self.old }
@@ -206,7 +213,8 @@ impl Machine {
 
     /// The first match with its groups. None where the automaton gives up.
     pub fn captured(&mut self, hay: &[u8]) -> Option<Option<Captured>>
-        ensures found { IfSome result (λ found. found ≡ option_map (captured self.old.last) (finds self.old hay.now)) }
+        ensures found { IfSome result (λ found. found ≡
+            option_map (captured self.old.last) (finds self.old hay.now)) }
         ensures same { self.new ≡ self.old }
     {
         let cells = self.cells.as_mut_slice();
@@ -221,16 +229,19 @@ impl Machine {
         }
     }
 
-    /// The text with its first match replaced by a template, in which `$1` stands for the first group; a text without a
-    /// match as it is. None where the automaton gives up, or the template names a group in another way than by one digit,
-    /// or a group that the pattern doesn't have. Refused only for memory.
+    /// The text with its first match replaced by a template, in which `$1` stands for the first
+    /// group; a text without a match as it is. None where the automaton gives up, or the template
+    /// names a group in another way than by one digit, or a group that the pattern doesn't have.
+    /// Refused only for memory.
     pub fn replaced(
         &mut self,
         alloc: Global,
         template: &str,
         hay: &str,
     ) -> Result<Option<String>, AllocError>
-        ensures replaced { IfOk result (λ found. IfSome found (λ out. (names : Names) → string_bytes out ≡ with_match_replaced names template.now hay.now (finds self.old hay.now))) }
+        ensures replaced { IfOk result (λ found. IfSome found (λ out. (names : Names) →
+            string_bytes out ≡ with_match_replaced names template.now hay.now
+            (finds self.old hay.now))) }
         ensures same { self.new ≡ self.old }
     {
         let bytes = hay.as_bytes();

@@ -1,5 +1,6 @@
-//! A pattern's tree with its classes of characters cut to ASCII. On a text of ASCII it matches as the whole tree does, and
-//! its automaton is small: `\d` stands for hundreds of characters, of which ten are ASCII.
+//! A pattern's tree with its classes of characters cut to ASCII. On a text of ASCII it matches as
+//! the whole tree does, and its automaton is small: `\d` stands for hundreds of characters, of
+//! which ten are ASCII.
 ghost use Rattle.std.specs.Prelude.{◌≡◌, map, IfOk};
 ghost use Rattle.phone_search.specs.Ascii.{AsciiSame, in_ascii};
 ghost use Rattle.regex_class.specs.Ranges.{HasExactly, in_ranges};
@@ -50,8 +51,10 @@ pub fn narrowed(alloc: Global, hir: &Hir) -> Result<Hir, AllocError>
 /// Each of these trees with its classes cut.
 #[cycle(narrow)]
 fn narrowed_all(alloc: Global, subs: &[Hir]) -> Result<Vec<Hir>, AllocError>
-    ensures sequence { IfOk result (λ new. AsciiSame (cat_all (map meaning new.items)) (cat_all (map meaning subs.now))) }
-    ensures choice { IfOk result (λ new. AsciiSame (alt_all (map meaning new.items)) (alt_all (map meaning subs.now))) }
+    ensures sequence { IfOk result (λ new. AsciiSame (cat_all (map meaning new.items))
+        (cat_all (map meaning subs.now))) }
+    ensures choice { IfOk result (λ new. AsciiSame (alt_all (map meaning new.items))
+        (alt_all (map meaning subs.now))) }
 {
     let mut all = Vec::new(alloc);
     for i in 0..subs.len() {

@@ -1,6 +1,8 @@
-//! Writing a template in the place of a match. Served are the templates in which each `$` is followed by a `$`, which
-//! then stands for itself, or by the one digit that names a group; any other is left to a library.
-ghost use Rattle.std.specs.Prelude.{◌≡◌, ◌+◌, ◌*◌, ◌≤◌, ◌<◌, ◌++◌, length, drop, take, slice_index, string_bytes, IfOk, IfSome, IsTrue, OnOk};
+//! Writing a template in the place of a match. Served are the templates in which each `$` is
+//! followed by a `$`, which then stands for itself, or by the one digit that names a group; any
+//! other is left to a library.
+ghost use Rattle.std.specs.Prelude.{◌≡◌, ◌+◌, ◌*◌, ◌≤◌, ◌<◌, ◌++◌, length, drop, take, slice_index};
+ghost use Rattle.std.specs.Prelude.{string_bytes, IfOk, IfSome, IsTrue, OnOk};
 ghost use Rattle.std.specs.List.{prefix_len};
 ghost use Rattle.phone_search.specs.Finds.{group_at};
 ghost use Rattle.phone_search.specs.Templates.{IsWritten};
@@ -25,9 +27,11 @@ fn is_doubled(rest: &[u8]) -> bool
     !rest.is_empty() && rest[0] == b'$'
 }
 
-/// The group that a `$` names before these bytes, where one digit names it that neither a letter, a digit nor `_` follows.
+/// The group that a `$` names before these bytes, where one digit names it that neither a letter, a
+/// digit nor `_` follows.
 fn group_named(rest: &[u8]) -> Option<usize>
-    ensures digit { IfSome result (λ n. (n < 10) × (0 < length rest.now) × (slice_index rest.now 0 ≡ 48 + n)) }
+    ensures digit { IfSome result (λ n. (n < 10) × (0 < length rest.now) ×
+        (slice_index rest.now 0 ≡ 48 + n)) }
     ensures alone { IfSome result (λ n. prefix_len is_name_byte rest.now ≡ 1) }
 {
     if rest.is_empty() || !rest[0].is_ascii_digit() {
@@ -39,13 +43,15 @@ fn group_named(rest: &[u8]) -> Option<usize>
     Some((rest[0] - b'0') as usize)
 }
 
-/// Appends what a group spans, or nothing where it took no part in the match. False where the span is none of the text.
+/// Appends what a group spans, or nothing where it took no part in the match. False where the span
+/// is none of the text.
 fn push_group(
     out: &mut Vec<u8>,
     hay: &[u8],
     group: Option<(usize, usize)>,
 ) -> Result<bool, AllocError>
-    ensures { IfOk result (λ done. IsTrue done → out.new.items ≡ out.old.items ++ bytes_of hay.now group) }
+    ensures { IfOk result (λ done. IsTrue done →
+        out.new.items ≡ out.old.items ++ bytes_of hay.now group) }
 {
     let Some((start, end)) = group else {
         return Ok(true);
@@ -57,8 +63,8 @@ fn push_group(
     Ok(true)
 }
 
-/// What a template writes where a match stands. None where the template names a group in another way than by one digit,
-/// or one that the cells have no room for.
+/// What a template writes where a match stands. None where the template names a group in another
+/// way than by one digit, or one that the cells have no room for.
 fn written(
     alloc: Global,
     template: &[u8],
@@ -66,7 +72,8 @@ fn written(
     span: (usize, usize),
     cells: &[usize],
 ) -> Result<Option<Vec<u8>>, AllocError>
-    ensures { IfOk result (λ found. IfSome found (λ out. IsWritten template.now hay.now span cells.now out.items)) }
+    ensures { IfOk result (λ found. IfSome found
+        (λ out. IsWritten template.now hay.now span cells.now out.items)) }
 {
     let mut out = Vec::with_capacity(alloc, hay.len().saturating_add(template.len()))?;
     let mut at = 0;
@@ -96,7 +103,8 @@ fn written(
     Ok(Some(out))
 }
 
-/// The text with a match replaced by a template, by the match's span and its cells. None where `written` gives none.
+/// The text with a match replaced by a template, by the match's span and its cells. None where
+/// `written` gives none.
 pub(crate) fn replaced(
     alloc: Global,
     template: &str,
@@ -104,7 +112,9 @@ pub(crate) fn replaced(
     span: (usize, usize),
     cells: &[usize],
 ) -> Result<Option<String>, AllocError>
-    ensures { IfOk result (λ found. IfSome found (λ out. (bytes : _) × (string_bytes out ≡ (take span.0 hay.now ++ bytes) ++ drop span.1 hay.now) × IsWritten template.now hay.now span cells.now bytes)) }
+    ensures { IfOk result (λ found. IfSome found (λ out. (bytes : _) ×
+        (string_bytes out ≡ (take span.0 hay.now ++ bytes) ++ drop span.1 hay.now) ×
+        IsWritten template.now hay.now span cells.now bytes)) }
 {
     let bytes = hay.as_bytes();
     let (start, end) = span;

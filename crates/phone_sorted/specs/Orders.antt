@@ -1,5 +1,6 @@
 -- Places by text and by calling code.
-use Rattle.std.specs.Prelude.{◌≡◌, ◌<◌, ℕ, ◌==◌, Bool, List, length, Option, option_map, slice_index_or}
+use Rattle.std.specs.Prelude.{◌≡◌, ◌<◌, ℕ, ◌==◌, Bool, List, length, Option, option_map}
+use Rattle.std.specs.Prelude.{slice_index_or}
 use Rattle.std.specs.Cmp.Lexicographic.{slice_cmp}
 use Rattle.std.specs.List.{find}
 use Rattle.std.specs.Ordering.{nat_cmp}
@@ -27,4 +28,5 @@ place_of text es = option_map (λ e. e.place) (find (has_text text) es)
 
 -- each text is below those after it, byte by byte
 abbrev pub Rises : List Named → Type 0
-Rises es = (i j : ℕ) (d : Named) → i < j → j < length es → slice_cmp nat_cmp (text_of (slice_index_or es i d)) (text_of (slice_index_or es j d)) ≡ Less
+Rises es = (i j : ℕ) (d : Named) → i < j → j < length es →
+    slice_cmp nat_cmp (text_of (slice_index_or es i d)) (text_of (slice_index_or es j d)) ≡ Less

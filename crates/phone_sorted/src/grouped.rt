@@ -13,7 +13,8 @@ pub struct Coded {
     pub place: usize,
 }
 
-/// Places with calling codes, sorted by code; those of one code stand as they came. Contracts see them in this order.
+/// Places with calling codes, sorted by code; those of one code stand as they came. Contracts see
+/// them in this order.
 #[derive(Drop)]
 pub struct Grouped {
     entries: Vec<Coded>,
@@ -34,7 +35,8 @@ impl Model for Grouped {
 impl Grouped {
     /// These places in order of their codes. Refused only for memory.
     pub fn of(entries: Vec<Coded>) -> Result<Grouped, AllocError>
-        ensures same_order { IfOk result (λ g. (code : ℕ) → filter (has_code code) g ≡ filter (has_code code) entries.items) }
+        ensures same_order { IfOk result (λ g. (code : ℕ) →
+            filter (has_code code) g ≡ filter (has_code code) entries.items) }
     {
         let mut entries = entries;
         entries.sort_by_key(|e| e.code)?;

@@ -16,7 +16,8 @@ pub struct Named {
     pub place: usize,
 }
 
-/// Of each text the last place that was given with it, sorted by text. Contracts see them in this order.
+/// Of each text the last place that was given with it, sorted by text. Contracts see them in this
+/// order.
 #[derive(Drop)]
 pub struct Sorted {
     entries: Vec<Named>,
@@ -37,11 +38,13 @@ impl Model for Sorted {
 impl Sorted {
     /// Of each text the last place that is given with it. Refused only for memory.
     pub fn of(entries: Vec<Named>) -> Result<Sorted, AllocError>
-        ensures last { IfOk result (λ s. (text : List ℕ) → place_of text s ≡ place_of text (reverse entries.items)) }
-        ensures once { IfOk result (λ s. length s ≡ distinct_count bytes_eq (map text_of entries.items)) }
+        ensures last { IfOk result (λ s. (text : List ℕ) →
+            place_of text s ≡ place_of text (reverse entries.items)) }
+        ensures once { IfOk result (λ s. length s ≡
+            distinct_count bytes_eq (map text_of entries.items)) }
     {
-        // The last place of a text is the first one of the list that runs backward. It stays the first one: the sort is
-        // stable, and the step after it keeps the first of equal texts.
+        // The last place of a text is the first one of the list that runs backward. It stays the
+        // first one: the sort is stable, and the step after it keeps the first of equal texts.
         let mut entries = entries;
         entries.reverse();
         entries.sort_by(|a, b| a.text.cmp(&b.text))?;
@@ -49,8 +52,8 @@ impl Sorted {
         Ok(Sorted { entries })
     }
 
-    /// The place of a text. Each comparison with a text is a step, of which it takes at most as many as the number of
-    /// texts has binary digits. Takes no memory.
+    /// The place of a text. Each comparison with a text is a step, of which it takes at most as
+    /// many as the number of texts has binary digits. Takes no memory.
     pub fn find_in(&self, text: &str, steps: &mut Steps) -> Option<usize>
         ensures place { result ≡ place_of text.now self.now }
         ensures bound { (k : ℕ) → length self.now < 2 ^ k → steps.new ≤ steps.old + k }

@@ -1,4 +1,5 @@
--- What the refusal of a database tells: after the original's `error`, with refusals of JSON in place of XML.
+-- What the refusal of a database tells: after the original's `error`, with refusals of JSON in
+-- place of XML.
 use Rattle.std.specs.Prelude.{ℕ, List, [], ◌∷◌, string_bytes}
 use Rattle.phone_core.specs.Errors.{told as told_of_record}
 use Rattle.phone_core.specs.declared.error.MetadataError.{MetadataError}
@@ -6,8 +7,8 @@ use Rattle.phone_core.specs.declared.error.MetadataError.TheVariants as fault
 use Rattle.phone_texts.specs.declared.error.LoadMetadata.{LoadMetadata}
 use Rattle.phone_texts.specs.declared.error.LoadMetadata.TheVariants as error
 
--- the number of what is wrong with a record: 1 for a missing value, 2 for a key that may not stand there, 8 for the others,
--- which are never given
+-- the number of what is wrong with a record: 1 for a missing value, 2 for a key that may not stand
+-- there, 8 for the others, which are never given
 abbrev pub fault_number : MetadataError → ℕ
 fault_number (fault.MissingValue phase name) = 1
 fault_number (fault.UnhandledElement phase name) = 2

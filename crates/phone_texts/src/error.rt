@@ -6,8 +6,8 @@ use phone_core::MetadataError;
 use std::alloc::{AllocError, AllocFailed};
 use thiserror::Error;
 
-/// Why a database was refused. `Json`, `Kind` and `Metadata(UnhandledElement)` speak of database texts, `Io` of sources and
-/// files.
+/// Why a database was refused. `Json`, `Kind` and `Metadata(UnhandledElement)` speak of database
+/// texts, `Io` of sources and files.
 #[derive(Debug, Drop, Error)]
 pub enum LoadMetadata {
     /// What is wrong with a record: a value is missing, or a key stands there that it may not have.
@@ -36,9 +36,9 @@ pub enum LoadMetadata {
 }
 
 impl LoadMetadata {
-    /// Which refusal it is: 1 a missing value, 2 a key that may not stand there, 3 no JSON, 4 a value of the wrong kind,
-    /// 5 a pattern that was refused, 6 input or output, 7 memory; 8 for the other errors of a record, which are never
-    /// given.
+    /// Which refusal it is: 1 a missing value, 2 a key that may not stand there, 3 no JSON, 4 a
+    /// value of the wrong kind, 5 a pattern that was refused, 6 input or output, 7 memory; 8 for
+    /// the other errors of a record, which are never given.
     pub fn number(&self) -> u8
         ensures { result ≡ (told self.now).0 }
     {

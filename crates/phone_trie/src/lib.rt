@@ -1,4 +1,5 @@
-//! The calling codes of a database as a trie of their decimal digits, and the steps that a look-up takes.
+//! The calling codes of a database as a trie of their decimal digits, and the steps that a look-up
+//! takes.
 #![tactic(auto)]
 
 mod node;

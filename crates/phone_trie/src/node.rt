@@ -7,7 +7,8 @@ pub(crate) struct Node {
     pub(crate) number: u16,
     /// The number is a calling code of the trie.
     pub(crate) listed: bool,
-    /// For each digit the place of the node that it leads to; 0, the place of the root, where it leads nowhere.
+    /// For each digit the place of the node that it leads to; 0, the place of the root, where it
+    /// leads nowhere.
     pub(crate) children: [usize; 10],
 }
 

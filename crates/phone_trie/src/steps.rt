@@ -4,8 +4,8 @@ ghost use Rattle.std.specs.Prelude.{◌≡◌, ◌+◌};
 use phone_device::Count;
 use std::marker::Model;
 
-/// How many steps were taken. Only clauses see the number: at run time it has no bytes. All that changes it is a step
-/// that is taken.
+/// How many steps were taken. Only clauses see the number: at run time it has no bytes. All that
+/// changes it is a step that is taken.
 #[derive(Drop)]
 pub struct Steps {
     taken: Count,

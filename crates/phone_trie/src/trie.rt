@@ -9,8 +9,9 @@ use crate::steps::Steps;
 use std::alloc::{AllocError, Global};
 use std::marker::Model;
 
-/// Calling codes by their digits: from the root each digit leads to a node, and each node is on the way to a code. Code 0
-/// is at the root, since no other code begins with its digit. Contracts see the codes.
+/// Calling codes by their digits: from the root each digit leads to a node, and each node is on the
+/// way to a code. Code 0 is at the root, since no other code begins with its digit. Contracts see
+/// the codes.
 #[derive(Drop)]
 pub struct Trie {
     nodes: Vec<Node>,
@@ -47,9 +48,9 @@ impl Trie {
         Ok(Trie { nodes })
     }
 
-    /// The calling code that stands in front of a text: the shortest of one to three digits; none where the text begins
-    /// with `0`, since no calling code does. Each move to a child is a step, of which it takes at most three. Takes no
-    /// memory.
+    /// The calling code that stands in front of a text: the shortest of one to three digits; none
+    /// where the text begins with `0`, since no calling code does. Each move to a child is a step,
+    /// of which it takes at most three. Takes no memory.
     pub fn shortest_in(&self, text: &str, steps: &mut Steps) -> Option<u16>
         ensures code { result ≡ shortest self.now text.now }
         ensures bound { steps.new ≤ steps.old + 3 }
@@ -72,8 +73,8 @@ impl Trie {
         None
     }
 
-    /// Whether no code's decimal text begins another's: no node of a code has a child. One pass over the nodes; takes no
-    /// memory.
+    /// Whether no code's decimal text begins another's: no node of a code has a child. One pass
+    /// over the nodes; takes no memory.
     pub fn is_prefix_free(&self) -> bool
         ensures { result ≡ is_prefix_free self.now }
     {
@@ -90,7 +91,8 @@ fn are_ends(nodes: &[Node]) -> bool
         .all(|n| n.number == 0 || !n.listed || !n.has_child())
 }
 
-/// The place of a number's node. It and those on the way to it are made where they are missing. Refused only for memory.
+/// The place of a number's node. It and those on the way to it are made where they are missing.
+/// Refused only for memory.
 fn place_of(nodes: &mut Vec<Node>, number: u16) -> Result<usize, AllocError>
     requires { IsTree nodes.old.items }
     ensures { IfOk result (λ place. IsPlaceOf nodes.old.items nodes.new.items number place) }

@@ -43,7 +43,8 @@ fn a_number_is_written_by_its_parts(rt: HostRuntime) -> Result<(), Fail> {
     let (text, is_read_back) = written(rt.alloc(), Some("31"))?;
     assert_eq!(rt;
         text.as_str(),
-        "{\"code\":{\"value\":64,\"source\":\"plus\"},\"national\":{\"value\":72057594071243941},\"extension\":\"012\",\"carrier\":\"31\"}"
+        "{\"code\":{\"value\":64,\"source\":\"plus\"},\"national\":{\"value\":72057594071243941},\
+         \"extension\":\"012\",\"carrier\":\"31\"}"
     );
     assert!(rt; is_read_back);
     let (text, is_read_back) = written(rt.alloc(), None)?;
@@ -69,7 +70,9 @@ fn a_number_is_copied_hashed_and_told(rt: HostRuntime) -> Result<(), Fail> {
     let (text, is_same) = told(rt.alloc())?;
     assert_eq!(rt;
         text.as_str(),
-        "PhoneNumber { code: Code { value: 64, source: Plus }, national: NationalNumber { word: 72057594071243941 }, extension: Some(Extension(\"012\")), carrier: None }"
+        "PhoneNumber { code: Code { value: 64, source: Plus }, \
+         national: NationalNumber { word: 72057594071243941 }, \
+         extension: Some(Extension(\"012\")), carrier: None }"
     );
     assert!(rt; is_same);
     Ok(())
@@ -112,7 +115,8 @@ fn refusals(alloc: Global) -> Result<String, AllocError> {
 fn errors_have_texts(rt: HostRuntime) -> Result<(), Fail> {
     assert_eq!(rt;
         refusals(rt.alloc())?.as_str(),
-        "unknown calling code\nout of memory\nnot a number\nout of memory\na listed calling code begins another\n"
+        "unknown calling code\nout of memory\nnot a number\nout of memory\n\
+         a listed calling code begins another\n"
     );
     Ok(())
 }

@@ -114,7 +114,8 @@ fn tell<R: AllocGlobal + Print>(rt: &R, name: &str, count: Count) -> Result<()> 
     } = count;
     let all = within.saturating_add(others);
     println!(rt;
-        "{name}: {within} of {all} numbers lie within the premises, {back} of them are read back; of the {others} others {others_back} are"
+        "{name}: {within} of {all} numbers lie within the premises, {back} of them are read back; \
+         of the {others} others {others_back} are"
     )?;
     Ok(())
 }

@@ -64,7 +64,8 @@ pub fn tell<R: Print>(rt: &R, name: &str, count: Count) -> Result<()> {
     } = count;
     println!(rt; "{name}: {examples} examples, {passed} of them without exception")?;
     println!(rt;
-        "  read back from international text {international} of {examples}, from national text {national} of {hinted}"
+        "  read back from international text {international} of {examples}, \
+         from national text {national} of {hinted}"
     )?;
     println!(rt; "  valid {valid}, of their kind {of_kind}, FixedLineOrMobile {either}")?;
     Ok(())
