@@ -149,6 +149,9 @@ pub fn as_dec_digit(c: char) -> Option<char>
     if is_digit(c) {
         return Some(c);
     }
+    if c.is_ascii() {
+        return None;
+    }
     let zero = find_zero(&SCRIPT_ZEROS, c as u32)?;
     char::from_digit(c as u32 - zero, 10)
 }

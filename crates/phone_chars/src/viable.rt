@@ -1,5 +1,5 @@
 //! Whether a text may be a number at all.
-ghost use Rattle.std.specs.Prelude.{◌≡◌, ◌↔◌, ◌&&◌, ◌||◌, IsTrue, chars, length};
+ghost use Rattle.std.specs.Prelude.{◌≡◌, ◌↔◌, ◌&&◌, ◌||◌, IsTrue, chars};
 ghost use Rattle.phone_chars.specs.Characters.{is_alpha, is_digit, is_plus, is_punctuation};
 ghost use Rattle.phone_chars.specs.Characters.{is_star};
 ghost use Rattle.phone_chars.specs.Viable.{IsTwoDigits, IsSignedDigits, IsViable};
@@ -19,18 +19,11 @@ impl CharSet for PlusSigns {
     }
 }
 
-/// How many characters a text has.
-fn char_count(text: &str) -> usize
-    ensures { result ≡ length (chars text.now) }
-{
-    text.chars().count()
-}
-
-/// Whether a text is exactly two digits.
+/// Whether a text is exactly two digits. Digits take one byte each.
 fn is_two_digits(text: &str) -> bool
     ensures { IsTrue result ↔ IsTwoDigits (chars text.now) }
 {
-    char_count(text) == 2 && has_digits_alone(text)
+    text.len() == 2 && has_digits_alone(text)
 }
 
 /// Whether a character that is no digit may stand in a number, where letters may or may not.

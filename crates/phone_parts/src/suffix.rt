@@ -16,7 +16,7 @@ use crate::fronts::{is_nothing, skip_one, strip_char, strip_like};
 use crate::indicators::indicators_from;
 use crate::sets::{Dashes, Digits, Gaps, Marks, Sign};
 use crate::tails::{ending_limit, number_sign_limit};
-use phone_chars::chars::is_nd;
+use phone_chars::chars::{is_digit, is_nd};
 use phone_chars::cuts::{after_run, before, split_first, split_run};
 use unicode::case::simple_fold;
 
@@ -38,8 +38,16 @@ fn is_lead(c: char) -> bool
     matches!(c, ' ' | '\u{A0}' | '\t' | ',')
 }
 
-/// Whether an extension may begin with this character.
+/// Whether an extension may begin with this character. A digit is its own folding and begins none:
+/// most characters of a number are digits, so they are asked first.
 fn is_suffix_start(c: char) -> bool
+    ensures { result ≡ is_suffix_start c }
+{
+    !is_digit(c) && folds_to_suffix_start(c)
+}
+
+/// Whether the folding of this character begins an extension.
+fn folds_to_suffix_start(c: char) -> bool
     ensures { result ≡ is_suffix_start c }
 {
     matches!(
