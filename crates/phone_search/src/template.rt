@@ -63,19 +63,19 @@ fn push_group(
     Ok(true)
 }
 
-/// What a template writes where a match stands. None where the template names a group in another
-/// way than by one digit, or one that the cells have no room for.
-fn written(
-    alloc: Global,
+/// Appends what a template writes where a match stands. False where the template names a group in
+/// another way than by one digit, or one that the cells have no room for.
+fn push_written(
+    out: &mut Vec<u8>,
     template: &[u8],
     hay: &[u8],
     span: (usize, usize),
     cells: &[usize],
-) -> Result<Option<Vec<u8>>, AllocError>
-    ensures { IfOk result (λ found. IfSome found
-        (λ out. IsWritten template.now hay.now span cells.now out.items)) }
+) -> Result<bool, AllocError>
+    ensures { IfOk result (λ done. IsTrue done → (bytes : _) ×
+        (out.new.items ≡ out.old.items ++ bytes) ×
+        IsWritten template.now hay.now span cells.now bytes) }
 {
-    let mut out = Vec::with_capacity(alloc, hay.len().saturating_add(template.len()))?;
     let mut at = 0;
     while at < template.len() {
         if template[at] != b'$' {
@@ -90,21 +90,21 @@ fn written(
             continue;
         }
         let Some(n) = group_named(rest) else {
-            return Ok(None);
+            return Ok(false);
         };
         if 2 * n > cells.len() {
-            return Ok(None);
+            return Ok(false);
         }
-        if !push_group(&mut out, hay, group_of_cells(span, cells, n))? {
-            return Ok(None);
+        if !push_group(out, hay, group_of_cells(span, cells, n))? {
+            return Ok(false);
         }
         at += 2;
     }
-    Ok(Some(out))
+    Ok(true)
 }
 
 /// The text with a match replaced by a template, by the match's span and its cells. None where
-/// `written` gives none.
+/// `push_written` doesn't serve the template.
 pub(crate) fn replaced(
     alloc: Global,
     template: &str,
@@ -121,12 +121,12 @@ pub(crate) fn replaced(
     if start > end || end > bytes.len() {
         return Ok(None);
     }
-    let Some(inside) = written(alloc, template.as_bytes(), bytes, span, cells)? else {
-        return Ok(None);
-    };
-    let mut out = Vec::with_capacity(alloc, bytes.len().saturating_add(inside.len()))?;
+    let room = bytes.len().saturating_add(template.len());
+    let mut out = Vec::with_capacity(alloc, room)?;
     out.extend_from_slice(&bytes[..start])?;
-    out.extend_from_slice(&inside)?;
+    if !push_written(&mut out, template.as_bytes(), bytes, span, cells)? {
+        return Ok(None);
+    }
     out.extend_from_slice(after(bytes, end))?;
     match String::from_utf8(out) {
         Ok(text) => Ok(Some(text)),

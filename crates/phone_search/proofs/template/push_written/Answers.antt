@@ -1,8 +1,12 @@
-use Rattle.std.proofs.Common.{◌<◌, ◌+◌, ◌*◌, ◌≤◌, ap, arith, length, sym, ◌∙◌}
-use Rattle.std.proofs.lemmas.List.{length-drop}
+use Rattle.std.proofs.Common.{◌≡◌, ◌<◌, ◌+◌, ◌*◌, ◌≤◌, ◌++◌, ℕ, List, [], ap, arith, length, refl, sym, ◌∙◌}
+use Rattle.std.proofs.lemmas.List.{append_cancel_left, length-drop}
 use Rattle.regex.specs.Replace.{bytes_of}
+use Rattle.regex.specs.Templates.{written_after}
+use Rattle.regex_syntax.specs.Grammar.{Names}
+use Rattle.phone_search.specs.Finds.{group_at}
+use Rattle.phone_search.specs.Templates.{AreTexts}
 use Rattle.phone_search.proofs.Writing.{all_on, byte_on, dollar_on, group_on}
-use Rattle.phone_search.proofs.template.written.Goals as goal
+use Rattle.phone_search.proofs.template.push_written.Goals as goal
 
 pub loop-at-preserved-then-template-at-ne36 : goal.loop-at-preserved-then-template-at-ne36
 loop-at-preserved-then-template-at-ne36 c =
@@ -34,4 +38,11 @@ loop-at-preserved c =
     )
 
 pub returns : goal.returns
-returns c = λ names text_of texts. all_on names text_of c.args.template.now c.loop-at.at c.loop-at.out.items _ c.loop-at-test.false (c.loop-at.invariant.1 names text_of texts)
+returns c = λ yes.
+    let t = c.args.template.now in
+    let own : ℕ → List ℕ = λ n. bytes_of c.args.hay.now (group_at c.args.span c.args.cells.now n) in
+    let told : (names : Names) (text_of : ℕ → List ℕ) → AreTexts c.args.hay.now c.args.span c.args.cells.now text_of →
+    c.loop-at.out.items ≡ c.args.out.now.items ++ written_after names text_of t 0 =
+    λ names text_of texts. all_on names text_of t c.loop-at.at c.loop-at.out.items _ c.loop-at-test.false (c.loop-at.invariant.1 names text_of texts) in
+    let whole = told [] own (λ n room. refl) in
+    (written_after [] own t 0, whole, λ names text_of texts. append_cancel_left _ _ _ (sym whole ∙ told names text_of texts))
