@@ -2,6 +2,7 @@ pub mod Chains
 pub mod CodeLemmas
 pub mod Complete
 pub mod Indexes
+pub mod LastPlaces
 pub mod Lasts
 pub mod Marks
 pub mod Places

@@ -1,10 +1,12 @@
 //! A database: territories by id and by calling code.
 ghost use Rattle.std.specs.Prelude.{◌≡◌, ◌⊎◌, ◌<◌, ◌≤◌, ◌+◌, ◌^◌, ℕ, None, IfOk, IfErr, map};
-ghost use Rattle.std.specs.List.{AllByRecursion};
+ghost use Rattle.std.specs.Prelude.{option_map};
+ghost use Rattle.std.specs.List.{AllByRecursion, slice_get};
 ghost use Rattle.std.specs.Result.{IsOk};
-ghost use Rattle.std.specs.Option.{option_copied};
+ghost use Rattle.std.specs.Option.{option_and_then, option_copied, option_flatten};
 ghost use Rattle.phone_meta.specs.Codes.{is_listed};
 ghost use Rattle.phone_meta.specs.Index.{count_of_ids};
+ghost use Rattle.phone_meta.specs.Lasts.{last_of, last_places, seen, with_last};
 ghost use Rattle.phone_meta.specs.Records.{last_with, places_where, has_code, first_group_pattern};
 ghost use Rattle.phone_meta.specs.First.{IsPattern, IsPatternOf};
 ghost use Rattle.phone_records.specs.Missing.{first_missing};
@@ -15,6 +17,7 @@ ghost use Rattle.phone_trie.specs.Codes.{is_in};
 use crate::index::Index;
 use crate::loader;
 use crate::metadata::{self, Metadata};
+use crate::placed::WithLast;
 use crate::rules::FirstGroup;
 use crate::together::{both, both_read};
 use phone_core::MetadataError;
@@ -39,6 +42,7 @@ impl Model for Database {
     ghost use Rattle.std.specs.Prelude.{◌≡◌, List, ℕ, filter, length, map};
     ghost use Rattle.phone_meta.specs.Codes.{is_listed};
     ghost use Rattle.phone_meta.specs.Index.{count_of_ids};
+    ghost use Rattle.phone_meta.specs.Lasts.{last_places};
     ghost use Rattle.phone_meta.specs.Records.{last_place, places_where, has_code, has_id};
     ghost use Rattle.phone_records.specs.declared.loader.Metadata as loader;
     ghost use Rattle.phone_sorted.specs.Orders as placed;
@@ -53,7 +57,8 @@ impl Model for Database {
         (length d.index.by_id ≡ count_of_ids d.territories.items) ×
         ((code : ℕ) → map (λ e. e.place) (filter (placed.has_code code) d.index.by_code) ≡
         places_where (has_code code) d.territories.items) ×
-        ((code : ℕ) → is_in code d.index.codes ≡ is_listed code d.territories.items) };
+        ((code : ℕ) → is_in code d.index.codes ≡ is_listed code d.territories.items) ×
+        (d.index.lasts.items ≡ last_places d.territories.items) };
 }
 
 impl Database {
@@ -122,6 +127,32 @@ impl Database {
     {
         let place = self.index.by_id.find_in(id, steps)?;
         self.territories.get(place)
+    }
+
+    /// The territory at a place, with the last one of its id.
+    pub(crate) fn with_last_at(&self, place: usize) -> Option<WithLast<'_>>
+        ensures { option_map seen result ≡
+            option_map (with_last self.now) (slice_get self.now place) }
+    {
+        let territory = self.territories.get(place)?;
+        let last = self.last_at(place);
+        Some(WithLast { territory, last })
+    }
+
+    /// The last territory of the id that the one at a place has.
+    fn last_at(&self, place: usize) -> Option<&Metadata>
+        ensures { option_copied result ≡
+            option_and_then (last_of self.now) (slice_get self.now place) }
+    {
+        let last = self.last_place_at(place)?;
+        self.territories.get(last)
+    }
+
+    /// The place of the last territory of the id that the one at a place has.
+    fn last_place_at(&self, place: usize) -> Option<usize>
+        ensures { result ≡ option_flatten (slice_get (last_places self.now) place) }
+    {
+        *self.index.lasts.get(place)?
     }
 
     /// The places of the territories of a calling code, in order of arrival.

@@ -1,8 +1,9 @@
-//! What territories are looked up by: their places by id and by calling code, and their codes by
-//! digits.
+//! What territories are looked up by: their places by id and by calling code, the place of the last
+//! one of each one's id, and their codes by digits.
 ghost use Rattle.std.specs.Prelude.{◌≡◌, ℕ, List, [], IfOk, filter, length, map, reverse};
 ghost use Rattle.phone_meta.specs.Codes.{is_listed};
 ghost use Rattle.phone_meta.specs.Index.{count_of_ids};
+ghost use Rattle.phone_meta.specs.Lasts.{last_places};
 ghost use Rattle.phone_meta.specs.Refusals.{AreRead};
 ghost use Rattle.phone_meta.specs.Records.{has_code, has_id, id_of, last_place, places_where};
 ghost use Rattle.phone_sorted.specs.Orders.{place_of, text_of};
@@ -13,7 +14,7 @@ use crate::metadata::Metadata;
 use crate::together::both;
 use phone_records::LoadMetadata;
 use phone_sorted::{Coded, Grouped, Named, Sorted};
-use phone_trie::Trie;
+use phone_trie::{Steps, Trie};
 use std::alloc::{AllocError, Global};
 
 /// What a database looks its territories up by.
@@ -21,6 +22,8 @@ use std::alloc::{AllocError, Global};
 pub(crate) struct Index {
     /// For each id the place of its last territory.
     pub(crate) by_id: Sorted,
+    /// For each territory, by its place, the place of the last one of its id.
+    pub(crate) lasts: Vec<Option<usize>>,
     /// The places of all territories, by calling code.
     pub(crate) by_code: Grouped,
     /// The calling codes that have a territory, by digits.
@@ -34,6 +37,7 @@ impl Index {
             place_of id index.by_id ≡ last_place (has_id id) territories.now) }
         ensures once { IfOk result (λ index.
             length index.by_id ≡ count_of_ids territories.now) }
+        ensures lasts { IfOk result (λ index. index.lasts.items ≡ last_places territories.now) }
         ensures coded { IfOk result (λ index. (code : ℕ) →
             map (λ e. e.place) (filter (placed.has_code code) index.by_code)
             ≡ places_where (has_code code) territories.now) }
@@ -41,16 +45,46 @@ impl Index {
             is_in code index.codes ≡ is_listed code territories.now) }
         ensures read { AreRead [] result }
     {
-        let by_id = by_id(alloc, territories);
+        let ids = ids(alloc, territories);
         let by_code = by_code(alloc, territories);
         let others = both(by_code, codes(alloc, territories));
-        let (by_id, (by_code, codes)) = both(by_id, others)?;
+        let ((by_id, lasts), (by_code, codes)) = both(ids, others)?;
         Ok(Index {
             by_id,
+            lasts,
             by_code,
             codes,
         })
     }
+}
+
+/// For each id the place of the last territory with it, sorted by id, and for each territory the
+/// place of the last one of its id. Refused only for memory.
+fn ids(alloc: Global, territories: &[Metadata]) -> Result<(Sorted, Vec<Option<usize>>), AllocError>
+    ensures last { IfOk result (λ s. (id : List ℕ) →
+        place_of id s.0 ≡ last_place (has_id id) territories.now) }
+    ensures once { IfOk result (λ s. length s.0 ≡ count_of_ids territories.now) }
+    ensures lasts { IfOk result (λ s. s.1.items ≡ last_places territories.now) }
+{
+    let by_id = by_id(alloc, territories)?;
+    let lasts = lasts(alloc, territories, &by_id);
+    both(Ok(by_id), lasts)
+}
+
+/// For each territory the place that its id has among these. Refused only for memory.
+fn lasts(
+    alloc: Global,
+    territories: &[Metadata],
+    by_id: &Sorted,
+) -> Result<Vec<Option<usize>>, AllocError>
+    ensures { IfOk result (λ v. v.items ≡
+        map (λ m. place_of (id_of m) by_id.now) territories.now) }
+{
+    let mut lasts = Vec::new(alloc);
+    for territory in territories {
+        lasts.push(by_id.find_in(territory.id(), &mut Steps::new()))?;
+    }
+    Ok(lasts)
 }
 
 /// For each id the place of the last territory with it, sorted by id. Refused only for memory.

@@ -30,5 +30,5 @@ pub use metadata::Metadata;
 pub use phone_pattern::{Captured, Pattern};
 pub use phone_records::LoadMetadata;
 pub use phone_trie::Steps;
-pub use placed::Placed;
+pub use placed::{Placed, WithLast, WithLasts};
 pub use rules::FirstGroup;

@@ -1,6 +1,7 @@
 //! The territories of a calling code.
-ghost use Rattle.std.specs.Prelude.{◌≡◌, ℕ, List, filter};
-ghost use Rattle.std.specs.Iterator.{YieldsFirstRef, item_count};
+ghost use Rattle.std.specs.Prelude.{◌≡◌, ℕ, List, filter, map};
+ghost use Rattle.std.specs.Iterator.{YieldsFirstBy, YieldsFirstRef, item_count};
+ghost use Rattle.phone_meta.specs.Lasts.{seen, with_last};
 ghost use Rattle.phone_meta.specs.Records.{has_code};
 
 use crate::database::Database;
@@ -44,6 +45,54 @@ impl<'a> Iterator for Placed<'a> {
     }
 }
 
+/// A territory, and the last one of its id, which is mostly the territory itself.
+#[derive(Clone, Copy, Drop)]
+pub struct WithLast<'a> {
+    /// The territory.
+    pub territory: &'a Metadata,
+    /// The last one of its id.
+    pub last: Option<&'a Metadata>,
+}
+
+/// Territories by their places, in the order of these, each with the last one of its id. Contracts
+/// see those that are still to come.
+#[derive(Drop)]
+pub struct WithLasts<'a> {
+    places: &'a [Coded],
+    database: &'a Database,
+}
+
+impl<'a> Model for WithLasts<'a> {
+    ghost use Rattle.std.specs.Prelude.{List, Option, map, option_map};
+    ghost use Rattle.std.specs.List.{filter_map, slice_get};
+    ghost use Rattle.phone_meta.specs.Lasts.{with_last};
+    ghost use Rattle.phone_records.specs.declared.loader.Metadata as loader;
+
+    ghost Value = { List (loader.Metadata × Option loader.Metadata) };
+
+    ghost view = { λ p.
+        filter_map (λ k. option_map (with_last p.database.now) (slice_get p.database.now k))
+        (map (λ e. e.place) p.places.now) };
+}
+
+impl<'a> Iterator for WithLasts<'a> {
+    type Item = WithLast<'a>;
+
+    ghost next_gives = { YieldsFirstBy seen (λ p. p) };
+
+    ghost remaining = { item_count (λ p. p) };
+
+    fn next(&mut self) -> Option<WithLast<'a>> {
+        while let Some((first, others)) = self.places.split_first() {
+            self.places = others;
+            if let Some(found) = self.database.with_last_at(first.place) {
+                return Some(found);
+            }
+        }
+        None
+    }
+}
+
 impl Database {
     /// The territories of a calling code, in order of arrival. Takes no memory.
     pub fn of_code(&self, code: u16) -> Placed<'_>
@@ -52,6 +101,17 @@ impl Database {
         Placed {
             places: self.places_of(code),
             territories: self.territories(),
+        }
+    }
+
+    /// The territories of a calling code, in order of arrival, each with the last one of its id.
+    /// Takes no memory, and looks up no id.
+    pub fn of_code_with_lasts(&self, code: u16) -> WithLasts<'_>
+        ensures { result ≡ map (with_last self.now) (filter (has_code code) self.now) }
+    {
+        WithLasts {
+            places: self.places_of(code),
+            database: self,
         }
     }
 }
