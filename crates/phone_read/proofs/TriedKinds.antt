@@ -16,7 +16,7 @@ passed_on f x true o u h = refl
 passed_on f x false o u h = h
 
 -- to find in a list of values is to find among what they are made of
-find-map : {X Y : Type 0} (f : X → Y) (p : Y → Bool) (xs : List X) → find p (map f xs) ≡ option_map f (find (λ x. p (f x)) xs)
+pub find-map : {X Y : Type 0} (f : X → Y) (p : Y → Bool) (xs : List X) → find p (map f xs) ≡ option_map f (find (λ x. p (f x)) xs)
 find-map f p [] = refl
 find-map f p (x ∷ xs) = passed_on f x (p (f x)) (find p (map f xs)) (find (λ x. p (f x)) xs) (find-map f p xs)
 

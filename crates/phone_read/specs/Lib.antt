@@ -1,6 +1,7 @@
 pub mod Codes
 pub mod Hints
 pub mod Numbering
+pub mod Origins
 pub mod Readings
 pub mod Regions
 pub mod Samples

@@ -65,6 +65,10 @@ belongs_to digits m = option_map_or (λ (pattern : List ℕ). at_start pattern d
 abbrev pub is_of_region : List Metadata → List ℕ → List ℕ → Bool
 is_of_region db digits id = option_map_or (belongs_to digits) (last_with id db) false
 
+-- the same of a territory that is given with the last one of its id
+abbrev pub is_of_last : List ℕ → Metadata × Option Metadata → Bool
+is_of_last digits t = option_map_or (belongs_to digits) t.1 false
+
 -- a region by its id; none where the id is no region's
 abbrev pub region_named : List ℕ → Option (Either Id ℕ)
 region_named id = option_map (λ i. Left i) (id_of id)
@@ -87,6 +91,10 @@ region_of db code digits = region_among db code digits (regions code db)
 abbrev pub territory_of : List Metadata → Either Id ℕ → Option Metadata
 territory_of db (Left id) = last_with (name id) db
 territory_of db (Right code) = first_of (territories code db)
+
+-- the answer with its territory
+abbrev pub with_territory : List Metadata → Either Id ℕ → Either Id ℕ × Option Metadata
+with_territory db r = (r, territory_of db r)
 
 -- the territory that a number of a code belongs to
 abbrev pub home : List Metadata → ℕ → List ℕ → Option Metadata
