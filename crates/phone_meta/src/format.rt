@@ -5,12 +5,13 @@ ghost use Rattle.std.specs.Borrow.{Bor};
 ghost use Rattle.std.specs.Option.{option_copied};
 ghost use Rattle.phone_meta.specs.First.{ArePatternsOf, IsLentPattern};
 ghost use Rattle.phone_meta.specs.Layouts.{laid_by, layout_template, national_template, rule_for};
-ghost use Rattle.phone_meta.specs.Layouts.{suits};
+ghost use Rattle.phone_meta.specs.Layouts.{ruled_template, suits};
 ghost use Rattle.phone_meta.specs.Records.{is_led};
 
 use crate::each::Compile;
 use crate::lent;
 use crate::loader::{self, Text};
+use crate::ruled::KeptRuled;
 use crate::rules::FirstGroup;
 use crate::together::both_read;
 use phone_pattern::{Leading, Pattern, Pool};
@@ -29,6 +30,8 @@ pub struct Format {
     national_prefix_rule: Option<Text>,
     is_national_prefix_optional: bool,
     domestic_carrier: Option<Text>,
+    /// The template of national text that was made last.
+    ruled: KeptRuled,
 }
 
 impl Model for Format {
@@ -78,6 +81,7 @@ impl Compile for Format {
             national_prefix_rule,
             is_national_prefix_optional: given.national_prefix_optional_when_formatting,
             domestic_carrier,
+            ruled: KeptRuled::new(pool.allocator()),
         })
     }
 }
@@ -166,9 +170,39 @@ impl Format {
         let Some((rule, carrier)) = self.rule_for(carrier) else {
             return self.lay_out(digits);
         };
+        let pattern = self.pattern.as_ref();
+        let text = self.text.as_str();
         let prefix = prefix.unwrap_or("");
-        let template = first_group.ruled(self.text.as_str(), rule, prefix, carrier)?;
-        self.pattern.replaced(template.as_str(), digits)
+        if let Some(laid) = self
+            .ruled
+            .laid(pattern, text, rule, prefix, carrier, digits)?
+        {
+            return Ok(laid);
+        }
+        self.lay_out_anew(first_group, rule, prefix, carrier, digits)
+    }
+
+    /// The digits laid out by the template with its first group written by a rule, which is kept
+    /// for the next number. Refused only for memory.
+    #[cold]
+    #[inline(never)]
+    fn lay_out_anew(
+        &self,
+        first_group: &FirstGroup,
+        rule: &str,
+        prefix: &str,
+        carrier: &str,
+        digits: &str,
+    ) -> Result<String, AllocError>
+        ensures { IfOk result (λ t. string_bytes t ≡ laid_by self.now
+            (ruled_template (layout_template self.now) rule.now prefix.now carrier.now)
+            digits.now) }
+    {
+        let text = self.text.as_str();
+        let template = first_group.ruled(text, rule, prefix, carrier)?;
+        let laid = self.pattern.replaced(template.as_str(), digits);
+        self.ruled.keep(template, text, rule, prefix, carrier);
+        laid
     }
 
     /// The rule of national text, and what its `$CC` stands for.

@@ -17,6 +17,7 @@ mod parse;
 mod patterns;
 mod placed;
 mod prefixes;
+mod ruled;
 mod rules;
 mod territory_id;
 mod together;
