@@ -1,60 +1,49 @@
 -- The report line of a number, by its territory.
-use Rattle.std.proofs.Common.{◌≡◌, ℕ, List, [], ◌∷◌, ◌++◌, Option, None, Some, Result, Ok, Err}
-use Rattle.std.proofs.Common.{option_map, append_assoc, refl, sym, ap, subst, ◌∙◌}
-use Rattle.std.specs.Prelude.{IfOk, MatchResult}
+use Rattle.std.proofs.Common.{◌≡◌, ℕ, List, [], ◌∷◌, ◌++◌, Option, None, Some, codes}
+use Rattle.std.proofs.Common.{option_map, append_assoc, refl, sym, ap, ◌∙◌}
 use Rattle.std.proofs.lemmas.Option.{none-some, same_Some}
-use Rattle.phone_core.specs.declared.mode.Mode.{Mode}
 use Rattle.phone_core.specs.declared.mode.Mode.TheVariants.{E164, International, National, Rfc3966}
 use Rattle.phone_read.specs.declared.reading.Reading.{Reading}
 use Rattle.phone_records.specs.declared.loader.Format.{Format}
 use Rattle.phone_records.specs.declared.loader.Metadata.{Metadata}
-use Rattle.phonenumber.specs.Reports.{number_line}
-use Rattle.phonenumber.specs.Texts.{printed, text_by}
-use Rattle.phone_report.specs.Lines.{line_of_texts}
-
--- where the four texts were printed, there is a territory, and the line is the number's
-pub number_line-from : (db : List Metadata) (n : Reading) (o : Option Metadata) (e i t r line : List ℕ) →
-    option_map (λ m. text_by m E164 None n) o ≡ Some e → option_map (λ m. text_by m International None n) o ≡ Some i →
-    option_map (λ m. text_by m National None n) o ≡ Some t → option_map (λ m. text_by m Rfc3966 None n) o ≡ Some r →
-    line ≡ line_of_texts db n e i t r → (m : Metadata) × (o ≡ Some m) × (line ≡ number_line db m n)
-number_line-from db n None e i t r line he hi ht hr is = absurd (none-some e he)
-number_line-from db n (Some m) e i t r line he hi ht hr is =
-    let e' = text_by m E164 None n in
-    let i' = text_by m International None n in
-    let t' = text_by m National None n in
-    let r' = text_by m Rfc3966 None n in (
-      m,
-      refl,
-      is ∙ sym
-          (ap (λ x. line_of_texts db n x i' t' r') (same_Some e' e he) ∙ ap (λ x. line_of_texts db n e x t' r') (same_Some i' i hi)
-          ∙ ap (λ x. line_of_texts db n e i x r') (same_Some t' t ht) ∙ ap (λ x. line_of_texts db n e i t x) (same_Some r' r hr)),
-    )
+use Rattle.phonenumber.specs.Reports.{number_line, printed_texts, tabbed, texts_by}
+use Rattle.phonenumber.specs.Texts.{text_by}
+use Rattle.phone_report.specs.Lines.{known_words}
 
 -- what a printer of a number under a database, without a layout of its own, prints
-pub printed_own : (db' db : List Metadata) (mode : Mode) (own : Option Format) (n' n : Reading) (text : List ℕ) → db' ≡ db → n' ≡ n → own ≡ None →
-    printed db' mode own n' ≡ Some text → printed db mode None n ≡ Some text
-printed_own db' db mode own n' n text d e o h =
-    sym (ap (λ x. printed x mode own n') d ∙ ap (λ x. printed db mode own x) e ∙ ap (λ x. printed db mode x n) o) ∙ h
+pub printed_texts_own : (db' db : List Metadata) (own : Option Format) (n' n : Reading) (texts : List ℕ) → db' ≡ db → n' ≡ n → own ≡ None →
+    printed_texts db' own n' ≡ Some texts → printed_texts db None n ≡ Some texts
+printed_texts_own db' db own n' n texts d e o h =
+    sym (ap (λ x. printed_texts x own n') d ∙ ap (λ x. printed_texts db own x) e ∙ ap (λ x. printed_texts db x n) o) ∙ h
 
--- nine fields, parted by tabs
-abbrev pub fields : (e164 international national rfc3966 source kind region validity : List ℕ) → List ℕ
-fields e i t r s k g v = 111 ∷ 107 ∷ 9 ∷ (e ++ 9 ∷ (i ++ 9 ∷ (t ++ 9 ∷ (r ++ 9 ∷ (s ++ 9 ∷ (k ++ 9 ∷ (g ++ 9 ∷ v)))))))
+-- where the texts were printed, there is a territory, and they are those by it
+pub texts_by-from : (n : Reading) (o : Option Metadata) (texts before known line : List ℕ) →
+    option_map (λ m. texts_by m None n) o ≡ Some texts → line ≡ (before ++ 9 ∷ texts) ++ known →
+    (m : Metadata) × (o ≡ Some m) × (line ≡ (before ++ 9 ∷ texts_by m None n) ++ known)
+texts_by-from n None texts before known line h is = absurd (none-some texts h)
+texts_by-from n (Some m) texts before known line h is =
+    (m, refl, is ∙ sym (ap (λ t. (before ++ 9 ∷ t) ++ known) (same_Some (texts_by m None n) texts h)))
 
--- the last four of them are given by other words
-pub fields_by : (line e i t r s k g v s' k' g' v' : List ℕ) → s ≡ s' → k ≡ k' → g ≡ g' → v ≡ v' → line ≡ fields e i t r s k g v → line ≡ fields e i t r s' k' g' v'
-fields_by line e i t r s k g v s' k' g' v' a b c d is =
-    is ∙ (ap (λ x. fields e i t r x k g v) a ∙ ap (λ x. fields e i t r s' x g v) b ∙ ap (λ x. fields e i t r s' k' x v) c ∙ ap (λ x. fields e i t r s' k' g' x) d)
+-- a front, four fields and a last one, parted by tabs
+parted : (o e i t r w : List ℕ) →
+    (o ++ 9 ∷ (e ++ 9 ∷ (i ++ 9 ∷ (t ++ 9 ∷ r)))) ++ 9 ∷ w ≡ o ++ 9 ∷ (e ++ 9 ∷ (i ++ 9 ∷ (t ++ 9 ∷ (r ++ 9 ∷ w))))
+parted o e i t r w =
+    append_assoc o (9 ∷ (e ++ 9 ∷ (i ++ 9 ∷ (t ++ 9 ∷ r)))) (9 ∷ w)
+    ∙ ap (λ z. o ++ 9 ∷ z)
+    (append_assoc e (9 ∷ (i ++ 9 ∷ (t ++ 9 ∷ r))) (9 ∷ w)
+    ∙ ap (λ z. e ++ 9 ∷ z) (append_assoc i (9 ∷ (t ++ 9 ∷ r)) (9 ∷ w) ∙ ap (λ z. i ++ 9 ∷ z) (append_assoc t (9 ∷ r) (9 ∷ w))))
 
--- five fields, and four more behind them
-pub fields-parted : (e i t r s k g v : List ℕ) → (111 ∷ 107 ∷ 9 ∷ (e ++ 9 ∷ (i ++ 9 ∷ (t ++ 9 ∷ r)))) ++ 9 ∷ (s ++ 9 ∷ (k ++ 9 ∷ (g ++ 9 ∷ v))) ≡ fields e i t r s k g v
-fields-parted e i t r s k g v =
-    let words = 9 ∷ (s ++ 9 ∷ (k ++ 9 ∷ (g ++ 9 ∷ v))) in
-    ap (λ z. 111 ∷ 107 ∷ 9 ∷ z)
-    (append_assoc e (9 ∷ (i ++ 9 ∷ (t ++ 9 ∷ r))) words
-    ∙ ap (λ z. e ++ 9 ∷ z) (append_assoc i (9 ∷ (t ++ 9 ∷ r)) words ∙ ap (λ z. i ++ 9 ∷ z) (append_assoc t (9 ∷ r) words)))
+-- the line of a number is its texts, and what is known of it
+pub number_line-parted : (db : List Metadata) (m : Metadata) (n : Reading) (before line : List ℕ) → before ≡ codes "ok" →
+    line ≡ (before ++ 9 ∷ texts_by m None n) ++ 9 ∷ known_words db n → line ≡ number_line db m n
+number_line-parted db m n before line b is =
+    is
+    ∙ ap (λ x. (x ++ 9 ∷ texts_by m None n) ++ 9 ∷ known_words db n) b
+    ∙ parted (codes "ok") (text_by m E164 None n) (text_by m International None n) (text_by m National None n) (text_by m Rfc3966 None n) (known_words db n)
 
--- what holds of a value that was made holds of it under another refusal
-pub kept_value : {T E F : Type 0} (made : Result T E) (r : Result T F) (e : F) (P : T → Type 0) →
-    MatchResult made (λ v. r ≡ Ok v) (λ _. r ≡ Err e) → IfOk made P → IfOk r P
-kept_value (Ok v) r e P h p = subst (λ s. IfOk s P) (sym h) p
-kept_value (Err _) r e P h p = subst (λ s. IfOk s P) (sym h) tt
+-- four words, given by others
+pub words_by : (s k g v s' k' g' v' : List ℕ) → s ≡ s' → k ≡ k' → g ≡ g' → v ≡ v' →
+    tabbed (s ∷ k ∷ g ∷ v ∷ []) ≡ tabbed (s' ∷ k' ∷ g' ∷ v' ∷ [])
+words_by s k g v s' k' g' v' a b c d =
+    ap (λ x. tabbed (x ∷ k ∷ g ∷ v ∷ [])) a ∙ ap (λ x. tabbed (s' ∷ x ∷ g ∷ v ∷ [])) b
+    ∙ ap (λ x. tabbed (s' ∷ k' ∷ x ∷ v ∷ [])) c ∙ ap (λ x. tabbed (s' ∷ k' ∷ g' ∷ x ∷ [])) d

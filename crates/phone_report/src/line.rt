@@ -1,16 +1,16 @@
 //! What the report says of one line.
-ghost use Rattle.std.specs.Prelude.{◌≡◌, [], ◌∷◌, ◌++◌, None, Some, Ok, Err};
-ghost use Rattle.std.specs.Prelude.{IfOk, MatchResult, codes, string_bytes};
+ghost use Rattle.std.specs.Prelude.{◌≡◌, [], ◌∷◌, ◌++◌, None, Some, Err};
+ghost use Rattle.std.specs.Prelude.{IfOk, OnOk, codes, string_bytes};
 ghost use Rattle.phone_meta.specs.Codes.{first_of, territories};
 ghost use Rattle.phone_records.specs.declared.loader.Metadata.{Metadata};
-ghost use Rattle.phone_report.specs.Lines.{line_of_texts};
-ghost use Rattle.phonenumber.specs.Reports.{number_line, tabbed};
+ghost use Rattle.phone_report.specs.Lines.{known_words};
+ghost use Rattle.phonenumber.specs.Reports.{number_line, tabbed, texts_by};
 
 use crate::words::{kind_word, refusal_line, region_word, source_word, validity_word};
 use phone_lines::Answers;
 use phonenumber::country::Id;
 use phonenumber::metadata::Database;
-use phonenumber::{FormatError, PhoneNumber, Texts, format_with, parse_with};
+use phonenumber::{FormatError, PhoneNumber, format_with, parse_with};
 use std::alloc::{AllocError, Global};
 use std::marker::Model;
 
@@ -36,75 +36,86 @@ fn number_line(
     ensures unknown { result ≡ Err FormatError.UnknownCode →
         first_of (territories number.now.code.value database.now) ≡ None }
 {
-    let texts = format_with(database, number).to_texts(alloc)?;
-    or_memory(line_of_texts(alloc, database, number, &texts))
+    let Ok(mut line) = begun(alloc) else {
+        return Err(FormatError::Memory);
+    };
+    push_number(&mut line, database, number)?;
+    Ok(line)
 }
 
-/// What was refused only for memory, with the refusal of printing.
-fn or_memory<T: Drop>(made: Result<T, AllocError>) -> Result<T, FormatError>
-    ensures { MatchResult made (λ value. result ≡ Ok value)
-        (λ _. result ≡ Err FormatError.Memory) }
+/// How many bytes a report line has room for at first: more than most take.
+const ROOM: usize = 160;
+
+/// The first field of a number's line, with room for what follows it. Refused only for memory.
+fn begun(alloc: Global) -> Result<String, AllocError>
+    ensures { IfOk result (λ line. string_bytes line ≡ codes "ok") }
 {
-    match made {
-        Ok(value) => Ok(value),
+    let mut line = String::with_capacity(alloc, ROOM)?;
+    line.push_str("ok")?;
+    Ok(line)
+}
+
+/// Puts the other fields behind a line, each after one tab. Refused by `UnknownCode` where no
+/// territory has the number's code, and by `Memory`.
+fn push_number(
+    line: &mut String,
+    database: &Database,
+    number: &PhoneNumber,
+) -> Result<(), FormatError>
+    ensures fields { OnOk result ((m : Metadata) ×
+        (first_of (territories number.now.code.value database.now) ≡ Some m) ×
+        (string_bytes line.new ≡ (string_bytes line.old ++ 9 ∷ texts_by m None number.now) ++
+        9 ∷ known_words database.now number.now)) }
+    ensures unknown { result ≡ Err FormatError.UnknownCode →
+        first_of (territories number.now.code.value database.now) ≡ None }
+{
+    format_with(database, number).push_texts(line)?;
+    match push_known(line, database, number) {
+        Ok(()) => Ok(()),
         Err(_) => Err(FormatError::Memory),
     }
 }
 
-/// The report line of a number whose texts these are. Refused only for memory.
-fn line_of_texts(
-    alloc: Global,
+/// Puts what is known of a number behind a line, each word after one tab. Refused only for memory.
+fn push_known(
+    line: &mut String,
     database: &Database,
     number: &PhoneNumber,
-    texts: &Texts,
-) -> Result<String, AllocError>
-    ensures { IfOk result (λ line. string_bytes line ≡ line_of_texts database.now number.now
-        (string_bytes texts.now.e164) (string_bytes texts.now.international)
-        (string_bytes texts.now.national) (string_bytes texts.now.rfc3966)) }
+) -> Result<(), AllocError>
+    ensures { OnOk result (string_bytes line.new ≡ string_bytes line.old ++
+        9 ∷ known_words database.now number.now) }
 {
     let queried = number.queried(database)?;
     let source = source_word(number.code().source());
     let kind = kind_word(queried.kind);
     let region = region_word(queried.region);
     let validity = validity_word(queried.is_valid);
-    let front = texts_in_front(alloc, texts)?;
-    with_words(front, source, kind, region, validity)
+    push_words(line, source, kind, region, validity)
 }
 
-/// How many bytes a report line has room for at first: more than most take.
-const ROOM: usize = 160;
-
-/// `ok` and the four texts of a number, parted by tabs, with room for what follows them. Refused
-/// only for memory.
-fn texts_in_front(alloc: Global, texts: &Texts) -> Result<String, AllocError>
-    ensures { IfOk result (λ line. string_bytes line ≡
-        tabbed (codes "ok" ∷ string_bytes texts.now.e164 ∷
-        string_bytes texts.now.international ∷ string_bytes texts.now.national ∷
-        string_bytes texts.now.rfc3966 ∷ [])) }
-{
-    let e164 = texts.e164.as_str();
-    let international = texts.international.as_str();
-    let national = texts.national.as_str();
-    let rfc3966 = texts.rfc3966.as_str();
-    let mut line = String::with_capacity(alloc, ROOM)?;
-    write!(line, "ok\t{e164}\t{international}\t{national}\t{rfc3966}")?;
-    Ok(line)
-}
-
-/// A front of a line and four more fields, parted by tabs. Refused only for memory.
-fn with_words(
-    front: String,
+/// Puts four words behind a line, each after one tab. Refused only for memory.
+fn push_words(
+    line: &mut String,
     source: &str,
     kind: &str,
     region: &str,
     validity: &str,
-) -> Result<String, AllocError>
-    ensures { IfOk result (λ line. string_bytes line ≡ string_bytes front ++
+) -> Result<(), AllocError>
+    ensures { OnOk result (string_bytes line.new ≡ string_bytes line.old ++
         9 ∷ tabbed (source.now ∷ kind.now ∷ region.now ∷ validity.now ∷ [])) }
 {
-    let mut line = front;
-    write!(line, "\t{source}\t{kind}\t{region}\t{validity}")?;
-    Ok(line)
+    push_word(line, source)?;
+    push_word(line, kind)?;
+    push_word(line, region)?;
+    push_word(line, validity)
+}
+
+/// Puts a tab and a word behind a line. Refused only for memory.
+fn push_word(line: &mut String, word: &str) -> Result<(), AllocError>
+    ensures { OnOk result (string_bytes line.new ≡ string_bytes line.old ++ 9 ∷ word.now) }
+{
+    line.push('\t')?;
+    line.push_str(word)
 }
 
 impl<'d> Answers for Reporter<'d> {

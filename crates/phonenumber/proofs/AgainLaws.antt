@@ -1,8 +1,7 @@
 -- A number that is printed and read again, by the laws of reading back.
-use Rattle.std.proofs.Common.{◌≡◌, inl, inr, List, ℕ, IsUtf8, Option, None, Some, option_map, Result, Ok, Err, refl, ap, sym, subst, ◌∙◌}
+use Rattle.std.proofs.Common.{◌≡◌, inl, inr, List, ℕ, IsUtf8, Option, None, Some, option_map, Result, Ok, refl, ap, sym, subst, ◌∙◌}
 use Rattle.std.specs.Str.{chars}
 use Rattle.phone_core.specs.declared.error.ParseError.{ParseError}
-use Rattle.phone_core.specs.declared.error.ParseError.TheVariants.{Memory}
 use Rattle.phone_core.specs.declared.mode.Mode.{Mode}
 use Rattle.phone_meta.specs.Codes.{first_of, territories}
 use Rattle.phone_records.specs.declared.loader.Metadata.{Metadata}

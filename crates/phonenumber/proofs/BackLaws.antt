@@ -16,7 +16,6 @@ use Rattle.phone_chars.specs.Cuts.{after_front}
 use Rattle.phone_chars.specs.Norm.{norm}
 use Rattle.phone_core.specs.Nsn.{nsn}
 use Rattle.phone_core.specs.Numbers.{IsHeld, text_of}
-use Rattle.phone_chars.specs.Viable.{IsViable}
 use Rattle.phone_core.specs.declared.country.Source.TheVariants.{Plus}
 use Rattle.phone_core.specs.declared.mode.Mode.{Mode}
 use Rattle.phone_core.specs.declared.mode.Mode.TheVariants.{E164, International, Rfc3966}

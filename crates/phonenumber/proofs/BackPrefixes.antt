@@ -1,5 +1,5 @@
 -- The benign prefixes announce by a word.
-use Rattle.std.proofs.Common.{◌≡◌, ◌⊎◌, inl, inr, ℕ, ◌≤◌, ◌&&◌, nat_le, leb-true, Bool, true, List, [], ◌∷◌, ◌++◌, codes, length, Option, None, Some, refl, ap, sym, subst, ◌∙◌, true≢false}
+use Rattle.std.proofs.Common.{◌≡◌, ◌⊎◌, inl, inr, ℕ, ◌&&◌, nat_le, leb-true, Bool, true, List, [], ◌∷◌, ◌++◌, codes, length, Option, None, Some, refl, sym, subst, true≢false}
 use Rattle.std.proofs.lemmas.Bool.{and_parts, or_cases}
 use Rattle.std.proofs.lemmas.Slice.Eq.{bytes_eq-Decides}
 use Rattle.std.specs.List.{list_all, list_any}
@@ -15,7 +15,7 @@ use Rattle.phone_parts.specs.Announcements.{IsAnnouncement, is_space}
 use Rattle.phone_parts.specs.Suffixes.{indicators, is_mark}
 use Rattle.phone_parts.specs.Texts.{ends, is_like}
 use Rattle.phone_read.specs.declared.reading.Reading.{Reading}
-use Rattle.phonenumber.specs.Plain.{IsAnnouncedByWord, IsBenign}
+use Rattle.phonenumber.specs.Plain.{IsBenign}
 use Rattle.phonenumber.specs.Texts.{laid_out}
 use Rattle.phonenumber.proofs.BackLaws.{IsAnnounced}
 use Rattle.phonenumber.proofs.BackTexts.{IsUtf8-low, chars-low, is_low}

@@ -13,3 +13,4 @@ pub mod BackTexts
 pub mod BackViable
 pub mod HyphenTexts
 pub mod Keys
+pub mod TextsLaid

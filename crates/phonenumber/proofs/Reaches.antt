@@ -1,5 +1,5 @@
 -- Which numbers the premises of reading back take.
-use Rattle.std.proofs.Common.{◌≡◌, ℕ, ◌<◌, ◌≤◌, ◌^◌, not, Bool, true, false, List, [], ◌∷◌, filter, length, Option, None, Some, Ok, refl, ap, sym, ◌∙◌, arith, true≢false}
+use Rattle.std.proofs.Common.{◌≡◌, ℕ, ◌≤◌, not, Bool, true, false, List, [], ◌∷◌, filter, length, Option, None, Some, Ok, refl, ap, sym, ◌∙◌, arith, true≢false}
 use Rattle.std.proofs.lemmas.Bool.{and_parts, cond-true}
 use Rattle.std.specs.List.{list_all, list_any}
 use Rattle.std.specs.Option.{option_map_or}
@@ -17,7 +17,7 @@ use Rattle.phone_read.specs.Readings.{Reads}
 use Rattle.phone_read.specs.TransformRules.{rules_have_no_plus}
 use Rattle.phone_read.specs.declared.reading.Reading.{Reading}
 use Rattle.phonenumber.specs.Layouts.{laid, layout_for}
-use Rattle.phonenumber.specs.Plain.{IsBounded, IsPlain, IsPlainE164, IsPlainInternational, IsPlainRfc3966, has_digits}
+use Rattle.phonenumber.specs.Plain.{IsBounded, IsPlainE164, IsPlainInternational, IsPlainRfc3966, has_digits}
 use Rattle.phonenumber.specs.Texts.{laid_out}
 use Rattle.phonenumber.proofs.BackLaws.{between_digits, punctuated}
 use Rattle.phonenumber.proofs.BackNumbers.{list_all-text_of}

@@ -5,6 +5,7 @@ use Rattle.phone_core.specs.declared.mode.Mode.{Mode}
 use Rattle.phone_records.specs.declared.loader.Format.{Format}
 use Rattle.phone_records.specs.declared.loader.Metadata.{Metadata}
 use Rattle.phone_read.specs.declared.reading.Reading.{Reading}
+use Rattle.phonenumber.specs.Reports.{printed_texts}
 use Rattle.phonenumber.specs.Texts.{printed}
 use Rattle.phonenumber.specs.declared.formatter.Formatter.{Formatter}
 
@@ -27,3 +28,7 @@ layout_of f = option_copied f.format
 -- what it prints: the number's text in its mode; none where the code is not listed
 abbrev pub text_of : Formatter → Option (List ℕ)
 text_of f = printed (database_of f) (mode_of f) (layout_of f) (number_of f)
+
+-- the texts that it prints in the four modes, parted by tabs; none where the code is not listed
+abbrev pub texts_of : Formatter → Option (List ℕ)
+texts_of f = printed_texts (database_of f) (layout_of f) (number_of f)

@@ -1,9 +1,11 @@
 //! The printing of a number.
-ghost use Rattle.std.specs.Prelude.{◌≡◌, ◌↔◌, None, Some, Err, IfOk, IsErr, string_bytes};
+ghost use Rattle.std.specs.Prelude.{◌≡◌, ◌↔◌, ◌∷◌, ◌++◌, ℕ, List, None, Some, Err, IfOk, OnOk};
+ghost use Rattle.std.specs.Prelude.{IsErr, string_bytes};
 ghost use Rattle.std.specs.Fmt.{DisplaysOnOk, DisplaysStyledOnOk};
 ghost use Rattle.std.specs.Option.{option_copied};
 ghost use Rattle.phone_core.specs.declared.mode.Mode.TheVariants as mode;
 ghost use Rattle.phonenumber.specs.Printers.{database_of, layout_of, mode_of, number_of, text_of};
+ghost use Rattle.phonenumber.specs.Printers.{texts_of};
 ghost use Rattle.phonenumber.specs.Texts.{printed};
 
 use crate::printing::Texts;
@@ -169,6 +171,32 @@ impl Formatter<'_, '_, '_> {
         let finder = self.database.first_group_finder();
         match printing::texts_by(alloc, finder, m, self.format, self.number) {
             Ok(texts) => Ok(texts),
+            Err(_) => Err(FormatError::Memory),
+        }
+    }
+}
+
+impl Formatter<'_, '_, '_> {
+    /// Puts the texts in the four modes behind a line, each after one tab: E.164, international,
+    /// national, RFC 3966, each as `to_text` would give it, whatever the printer's own mode is. It
+    /// takes memory of the database's allocator, where the line doesn't grow: for a national number
+    /// that is laid out, or has leading zeros. `UnknownCode` exactly where the database lists no
+    /// territory of the code: then the line is as it was. `Memory` where memory was refused: then
+    /// some of the texts may stand there.
+    pub fn push_texts(&self, line: &mut String) -> Result<(), FormatError>
+        ensures texts { OnOk result ((texts : List ℕ) × (texts_of self.now ≡ Some texts) ×
+            (string_bytes line.new ≡ string_bytes line.old ++ 9 ∷ texts)) }
+        ensures unknown { (result ≡ Err FormatError.UnknownCode) ↔ (text_of self.now ≡ None) }
+        ensures untouched { result ≡ Err FormatError.UnknownCode → line.new ≡ line.old }
+    {
+        let code = self.number.code().value();
+        let Some(m) = self.database.first_by_code(&code) else {
+            return Err(FormatError::UnknownCode);
+        };
+        let alloc = self.database.allocator();
+        let finder = self.database.first_group_finder();
+        match printing::push_texts(line, alloc, finder, m, self.format, self.number) {
+            Ok(()) => Ok(()),
             Err(_) => Err(FormatError::Memory),
         }
     }

@@ -1,12 +1,12 @@
 //! Separators made hyphens, as texts of RFC 3966 have them.
-ghost use Rattle.std.specs.Prelude.{◌≡◌, chars, encode_utf8_all, string_bytes, IfOk};
+ghost use Rattle.std.specs.Prelude.{◌≡◌, ◌++◌, chars, encode_utf8_all, string_bytes, OnOk};
 ghost use Rattle.phone_chars.specs.Characters.{is_separator};
 ghost use Rattle.phone_parts.specs.Texts.{begins};
 ghost use Rattle.phonenumber.specs.Texts.{hyphenated};
 
 use phone_chars::chars::is_separator;
 use phone_chars::cuts::split_first;
-use std::alloc::{AllocError, Global};
+use std::alloc::AllocError;
 
 /// Whether the first character of a text is a separator.
 fn begins_apart(text: &str) -> bool
@@ -18,12 +18,12 @@ fn begins_apart(text: &str) -> bool
     }
 }
 
-/// The text with each longest run of separators made one hyphen; all other characters stay in their
-/// order. Refused only for memory.
-pub(crate) fn hyphenated(alloc: Global, text: &str) -> Result<String, AllocError>
-    ensures { IfOk result (λ s. string_bytes s ≡ encode_utf8_all (hyphenated (chars text.now))) }
+/// Puts a text behind another, with each longest run of separators made one hyphen; all other
+/// characters stay in their order. Refused only for memory; then some of it may stand there.
+pub(crate) fn push_hyphenated(out: &mut String, text: &str) -> Result<(), AllocError>
+    ensures { OnOk result (string_bytes out.new ≡ string_bytes out.old ++
+        encode_utf8_all (hyphenated (chars text.now))) }
 {
-    let mut out = String::with_capacity(alloc, text.len())?;
     let mut rest = text;
     while let Some((c, after)) = split_first(rest) {
         if !is_separator(c) {
@@ -33,5 +33,5 @@ pub(crate) fn hyphenated(alloc: Global, text: &str) -> Result<String, AllocError
         }
         rest = after;
     }
-    Ok(out)
+    Ok(())
 }

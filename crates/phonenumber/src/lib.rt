@@ -2,6 +2,7 @@
 #![tactic(auto)]
 
 pub mod again;
+mod appending;
 mod formatter;
 mod hyphens;
 pub mod laws;

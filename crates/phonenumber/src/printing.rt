@@ -1,6 +1,6 @@
 //! The printed text of a number, by a territory.
-ghost use Rattle.std.specs.Prelude.{◌≡◌, ◌∷◌, ◌++◌, IfOk, Ok, chars, codes, encode_utf8_all};
-ghost use Rattle.std.specs.Prelude.{string_bytes};
+ghost use Rattle.std.specs.Prelude.{◌≡◌, ◌∷◌, ◌++◌, IfOk, OnOk, IsTrue, Ok, Option, chars, codes};
+ghost use Rattle.std.specs.Prelude.{encode_utf8_all, string_bytes};
 ghost use Rattle.std.specs.Fmt.{decimal};
 ghost use Rattle.std.specs.List.{find};
 ghost use Rattle.std.specs.Option.{option_copied};
@@ -8,14 +8,18 @@ ghost use Rattle.phone_core.specs.declared.mode.Mode.TheVariants as mode;
 ghost use Rattle.phone_meta.specs.Layouts.{suits};
 ghost use Rattle.phonenumber.specs.Layouts.{laid, layout_for, layouts_for};
 ghost use Rattle.phone_core.specs.Numbers.{text_of};
+ghost use Rattle.phone_records.specs.declared.loader.Format as loader;
+ghost use Rattle.phonenumber.specs.Reports.{texts_by, texts_laid};
 ghost use Rattle.phonenumber.specs.Texts.{e164_text, extension_parameter, extension_part};
 ghost use Rattle.phonenumber.specs.Texts.{hyphenated, laid_out, text_by};
 
 use crate::PhoneNumber;
-use crate::hyphens::hyphenated;
-use crate::written::written;
+use crate::appending::{
+    push_e164, push_extension, push_international, push_national, push_rfc3966,
+};
+use crate::written::{ROOM, written};
+use itoa::Buffer;
 use phone_core::Mode;
-use phone_core::consts::{DEFAULT_EXTN_PREFIX, RFC3966_EXTN_PREFIX, RFC3966_PREFIX};
 use phone_meta::{FirstGroup, Format, Metadata};
 use std::alloc::{AllocError, Global};
 
@@ -159,6 +163,116 @@ fn texts_laid(
     })
 }
 
+/// Puts the texts in all modes behind a line, by a territory, each after one tab. Refused only for
+/// memory; then some of them may stand there. The digits of a number without leading zeros take no
+/// memory.
+pub(crate) fn push_texts(
+    line: &mut String,
+    alloc: Global,
+    finder: &FirstGroup,
+    m: &Metadata,
+    own: Option<&Format>,
+    number: &PhoneNumber,
+) -> Result<(), AllocError>
+    ensures { OnOk result (string_bytes line.new ≡ string_bytes line.old ++
+        9 ∷ texts_by m.now (option_copied own.entry) number.now) }
+{
+    let national = number.national();
+    if national.zeros() == 0 {
+        let mut buffer = Buffer::new();
+        let digits = buffer.format(national.value());
+        return push_texts_of(line, alloc, finder, m, own, number, digits);
+    }
+    let digits = written(alloc, format_args!("{national}"))?;
+    push_texts_of(line, alloc, finder, m, own, number, digits.as_str())
+}
+
+/// The same of a number whose national digits are these. It is laid out once where national text
+/// is laid out as the others are.
+fn push_texts_of(
+    line: &mut String,
+    alloc: Global,
+    finder: &FirstGroup,
+    m: &Metadata,
+    own: Option<&Format>,
+    number: &PhoneNumber,
+    digits: &str,
+) -> Result<(), AllocError>
+    requires { digits.now ≡ text_of number.now.national }
+    ensures { OnOk result (string_bytes line.new ≡ string_bytes line.old ++
+        9 ∷ texts_by m.now (option_copied own.entry) number.now) }
+{
+    let layouts = layouts_of(m, own, digits)?;
+    let mode = Mode::International;
+    let abroad = laid_by(alloc, finder, m, mode, layouts.abroad, number, digits)?;
+    let laid = abroad.as_str();
+    if is_laid_alike(m, layouts.abroad, number) {
+        return push_laid(line, m, number, digits, laid, laid);
+    }
+    let mode = Mode::National;
+    let at_home = laid_by(alloc, finder, m, mode, layouts.at_home, number, digits)?;
+    push_laid(line, m, number, digits, laid, at_home.as_str())
+}
+
+/// Whether it is certain that a number is laid out at home as it is abroad, by this layout: the
+/// territory has no layouts for abroad alone, no carrier was dialled, and the layout has no rule.
+fn is_laid_alike(m: &Metadata, abroad: Option<&Format>, number: &PhoneNumber) -> bool
+    ensures { IsTrue result → (own : Option loader.Format) → option_copied abroad.entry ≡
+        layout_for m.now mode.International own (text_of number.now.national) →
+        laid_out m.now mode.National own number.now ≡
+        laid_out m.now mode.International own number.now }
+{
+    if !m.international_formats().is_empty() {
+        return false;
+    }
+    match (number.carrier(), abroad) {
+        (None, Some(layout)) => layout.national_prefix().is_none(),
+        (None, None) => true,
+        _ => false,
+    }
+}
+
+/// Puts the texts in all modes behind a line, each after one tab, of a number that has these digits
+/// and is laid out so, abroad and at home.
+fn push_laid(
+    line: &mut String,
+    m: &Metadata,
+    number: &PhoneNumber,
+    digits: &str,
+    abroad: &str,
+    at_home: &str,
+) -> Result<(), AllocError>
+    ensures { OnOk result (string_bytes line.new ≡ string_bytes line.old ++ 9 ∷ texts_laid m.now
+        number.now (decimal number.now.code.value) digits.now abroad.now at_home.now) }
+{
+    let mut buffer = Buffer::new();
+    let code = buffer.format(number.code().value());
+    push_coded(line, m, number, code, digits, abroad, at_home)
+}
+
+/// The same where the code is this.
+fn push_coded(
+    line: &mut String,
+    m: &Metadata,
+    number: &PhoneNumber,
+    code: &str,
+    digits: &str,
+    abroad: &str,
+    at_home: &str,
+) -> Result<(), AllocError>
+    ensures { OnOk result (string_bytes line.new ≡ string_bytes line.old ++
+        9 ∷ texts_laid m.now number.now code.now digits.now abroad.now at_home.now) }
+{
+    line.push('\t')?;
+    push_e164(line, code, digits)?;
+    line.push('\t')?;
+    push_international(line, code, abroad, m, number)?;
+    line.push('\t')?;
+    push_national(line, at_home, m, number)?;
+    line.push('\t')?;
+    push_rfc3966(line, code, abroad, number)
+}
+
 /// The international text of a number that is laid out so.
 fn international(
     alloc: Global,
@@ -170,8 +284,11 @@ fn international(
         43 ∷ (decimal number.now.code.value ++ 32 ∷
         (laid.now ++ extension_part m.now number.now.extension))) }
 {
-    let code = number.code().value();
-    with_extension(written(alloc, format_args!("+{code} {laid}"))?, m, number)
+    let mut buffer = Buffer::new();
+    let code = buffer.format(number.code().value());
+    let mut text = String::with_capacity(alloc, ROOM)?;
+    push_international(&mut text, code, laid, m, number)?;
+    Ok(text)
 }
 
 /// The text of RFC 3966 of a number that is laid out so.
@@ -181,22 +298,11 @@ fn rfc3966(alloc: Global, laid: &str, number: &PhoneNumber) -> Result<String, Al
         (encode_utf8_all (hyphenated (chars laid.now)) ++
         extension_parameter number.now.extension))) }
 {
-    let hyphens = hyphenated(alloc, laid)?;
-    rfc3966_of(alloc, hyphens.as_str(), number)
-}
-
-/// The text of RFC 3966 of a number whose national number is written so, with hyphens alone.
-fn rfc3966_of(alloc: Global, hyphens: &str, number: &PhoneNumber) -> Result<String, AllocError>
-    ensures { IfOk result (λ t. string_bytes t ≡
-        codes "tel:+" ++ (decimal number.now.code.value ++
-        45 ∷ (hyphens.now ++ extension_parameter number.now.extension))) }
-{
-    let code = number.code().value();
-    let text = written(alloc, format_args!("{RFC3966_PREFIX}+{code}-{hyphens}"))?;
-    match number.extension() {
-        Some(extension) => announced(text, RFC3966_EXTN_PREFIX, extension.as_str()),
-        None => Ok(text),
-    }
+    let mut buffer = Buffer::new();
+    let code = buffer.format(number.code().value());
+    let mut text = String::with_capacity(alloc, ROOM)?;
+    push_rfc3966(&mut text, code, laid, number)?;
+    Ok(text)
 }
 
 /// A text and the extension after it, announced by the territory's preferred prefix, else by ` ext.
@@ -205,24 +311,8 @@ fn with_extension(text: String, m: &Metadata, number: &PhoneNumber) -> Result<St
     ensures { IfOk result (λ t. string_bytes t ≡ string_bytes text ++
         extension_part m.now number.now.extension) }
 {
-    let prefix = m
-        .preferred_extension_prefix()
-        .unwrap_or(DEFAULT_EXTN_PREFIX);
-    match number.extension() {
-        Some(extension) => announced(text, prefix, extension.as_str()),
-        None => Ok(text),
-    }
-}
-
-/// A text, and after it an extension that a prefix announces.
-fn announced(text: String, prefix: &str, extension: &str) -> Result<String, AllocError>
-    ensures { IfOk result (λ t. string_bytes t ≡
-        string_bytes text ++ (prefix.now ++ extension.now)) }
-{
     let mut text = text;
-    if text.push_str(prefix).is_err() || text.push_str(extension).is_err() {
-        return Err(AllocError);
-    }
+    push_extension(&mut text, m, number)?;
     Ok(text)
 }
 

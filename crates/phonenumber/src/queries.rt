@@ -1,6 +1,5 @@
 //! What a database tells of a number: its territory, its region, its kind, whether it is valid.
-ghost use Rattle.std.specs.Prelude.{◌≡◌, IfOk, false, string_bytes};
-ghost use Rattle.std.specs.Fmt.{decimal};
+ghost use Rattle.std.specs.Prelude.{◌≡◌, IfOk, false};
 ghost use Rattle.std.specs.Option.{option_and_then, option_copied, option_map_or};
 ghost use Rattle.phone_core.specs.Ids.{id_of};
 ghost use Rattle.phone_core.specs.declared.kind.«Type».TheVariants.{Unknown};
@@ -11,11 +10,12 @@ ghost use Rattle.phonenumber.specs.Queries.{territory_of_number};
 
 use crate::PhoneNumber;
 use crate::written::written;
+use itoa::Buffer;
 use phone_core::Type;
 use phone_core::country::{Code, Id};
 use phone_meta::{Database, Metadata};
 use phone_read::validator;
-use std::alloc::{AllocError, Global};
+use std::alloc::AllocError;
 use std::marker::Model;
 
 /// What a database tells of a number.
@@ -78,21 +78,14 @@ impl PhoneNumber {
         Country { number: self }
     }
 
-    /// The value in decimal, without leading zeros.
-    fn value_text(&self, alloc: Global) -> Result<String, AllocError>
-        ensures { IfOk result (λ text. string_bytes text ≡ decimal self.now.national.value) }
-    {
-        let value = self.national().value();
-        written(alloc, format_args!("{value}"))
-    }
-
     /// The territory that the number belongs to, by its value in decimal without leading zeros;
     /// none where it belongs to none. Refused only for memory.
     pub fn metadata<'a>(&self, database: &'a Database) -> Result<Option<&'a Metadata>, AllocError>
         ensures { IfOk result (λ m. option_copied m ≡ territory_of_number database.now self.now) }
     {
-        let value = self.value_text(database.allocator())?;
-        validator::home(database, self.code().value(), value.as_str())
+        let mut buffer = Buffer::new();
+        let value = buffer.format(self.national().value());
+        validator::home(database, self.code().value(), value)
     }
 
     /// The kind of number that the value is, without leading zeros, in its territory; `Unknown`
@@ -109,8 +102,9 @@ impl PhoneNumber {
         ensures region { IfOk result (λ told. told.0 ≡ region_of_number database.now self.now) }
         ensures kind { IfOk result (λ told. told.1 ≡ kind_of_number database.now self.now) }
     {
-        let value = self.value_text(database.allocator())?;
-        region_and_kind_of(database, self.code().value(), value.as_str())
+        let mut buffer = Buffer::new();
+        let value = buffer.format(self.national().value());
+        region_and_kind_of(database, self.code().value(), value)
     }
 
     /// The number's region, kind and validity at once, as `country`, `number_type` and

@@ -5,7 +5,7 @@ use std::alloc::{AllocError, Global};
 use std::fmt::Display;
 
 /// How many bytes a text has room for at first: more than the texts of most numbers take.
-const ROOM: usize = 48;
+pub(crate) const ROOM: usize = 48;
 
 /// The text that a value writes. Refused only for memory.
 pub(crate) fn written<D: Display + Drop>(alloc: Global, value: D) -> Result<String, AllocError>

@@ -1,7 +1,7 @@
 use Rattle.std.proofs.Common.{◌++◌, chars, encode_utf8_all, string_bytes, append-nil, ap, sym, ◌∙◌}
 use Rattle.std.proofs.lemmas.Str.{chars-nil}
 use Rattle.phonenumber.specs.Texts.{hyphenated}
-use Rattle.phonenumber.proofs.hyphens.hyphenated.Goals as goal
+use Rattle.phonenumber.proofs.hyphens.push_hyphenated.Goals as goal
 
 pub returns : goal.returns
 returns c =
