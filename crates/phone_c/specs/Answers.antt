@@ -1,0 +1,74 @@
+-- What is told of a number that is given as plain numbers.
+use Rattle.std.specs.Prelude.{◌≡◌, ℕ, if◌then◌else◌, List, [], Some}
+use Rattle.std.specs.Prelude.{None}
+use Rattle.std.specs.Option.{option_map_or}
+use Rattle.phone_core.specs.Ids.{name}
+use Rattle.phone_core.specs.declared.kind.«Type».{«Type»}
+use Rattle.phone_core.specs.declared.kind.«Type».TheVariants.{FixedLine, Mobile, FixedLineOrMobile}
+use Rattle.phone_core.specs.declared.kind.«Type».TheVariants.{TollFree, PremiumRate, SharedCost}
+use Rattle.phone_core.specs.declared.kind.«Type».TheVariants.{PersonalNumber, Voip, Pager, Uan}
+use Rattle.phone_core.specs.declared.kind.«Type».TheVariants.{Emergency, Voicemail, ShortCode}
+use Rattle.phone_core.specs.declared.kind.«Type».TheVariants.{StandardRate, Carrier}
+use Rattle.phone_core.specs.declared.kind.«Type».TheVariants.{NoInternational, Unknown}
+use Rattle.phone_core.specs.declared.mode.Mode.{Mode}
+use Rattle.phone_core.specs.declared.mode.Mode.TheVariants.{E164, International, National, Rfc3966}
+use Rattle.phone_records.specs.declared.loader.Metadata.{Metadata}
+use Rattle.phone_read.specs.declared.reading.Reading.{Reading}
+use Rattle.phonenumber.specs.Queries.{is_valid, kind_of_number, region_of_number}
+use Rattle.phonenumber.specs.Texts.{e164_text, printed}
+use Rattle.phone_c.specs.Numbers.{HasNumbers, IsNumber}
+use Rattle.phone_c.specs.declared.number.Number as plain
+
+-- a kind by its number
+abbrev pub kind_number : «Type» → ℕ
+kind_number FixedLine = 0
+kind_number Mobile = 1
+kind_number FixedLineOrMobile = 2
+kind_number TollFree = 3
+kind_number PremiumRate = 4
+kind_number SharedCost = 5
+kind_number PersonalNumber = 6
+kind_number Voip = 7
+kind_number Pager = 8
+kind_number Uan = 9
+kind_number Emergency = 10
+kind_number Voicemail = 11
+kind_number ShortCode = 12
+kind_number StandardRate = 13
+kind_number Carrier = 14
+kind_number NoInternational = 15
+kind_number Unknown = 16
+
+-- the kind of the number that has these plain numbers
+abbrev pub IsKind : List Metadata → plain.Number → ℕ → Type 0
+IsKind db x kind = (n : Reading) × HasNumbers x n × (kind ≡ kind_number (kind_of_number db n))
+
+-- 1 where the number is valid, else 0
+abbrev pub IsValidity : List Metadata → plain.Number → ℕ → Type 0
+IsValidity db x valid = (n : Reading) × HasNumbers x n × (valid ≡ (if is_valid db n then 1 else 0))
+
+-- the id of its region; no byte where it has none
+abbrev pub IsRegion : List Metadata → plain.Number → List ℕ → Type 0
+IsRegion db x id = (n : Reading) × HasNumbers x n ×
+    (id ≡ option_map_or name (region_of_number db n) [])
+
+-- its E.164 text, by which tables are keyed
+abbrev pub IsKey : plain.Number → List ℕ → Type 0
+IsKey x text = (n : Reading) × HasNumbers x n × (text ≡ e164_text n)
+
+-- a mode by its number
+abbrev pub mode_number : Mode → ℕ
+mode_number E164 = 0
+mode_number International = 1
+mode_number National = 2
+mode_number Rfc3966 = 3
+
+-- the text of the number in the mode
+abbrev pub IsPrinted : List Metadata → plain.Number → (bytes : List ℕ) → ℕ → List ℕ → Type 0
+IsPrinted db x bytes mode text = (n : Reading) × (m : Mode) × IsNumber x bytes n ×
+    (mode ≡ mode_number m) × (printed db m None n ≡ Some text)
+
+-- it is a number and a mode, but no territory has its code
+abbrev pub IsUnprinted : List Metadata → plain.Number → (bytes : List ℕ) → ℕ → Type 0
+IsUnprinted db x bytes mode = (n : Reading) × (m : Mode) × IsNumber x bytes n ×
+    (mode ≡ mode_number m) × (printed db m None n ≡ None)

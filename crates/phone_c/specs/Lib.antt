@@ -1,0 +1,9 @@
+pub mod Answers
+pub mod Buffers
+pub mod Handles
+pub mod Hints
+pub mod Numbers
+pub mod Openings
+pub mod Owned
+pub mod Parses
+pub mod Reports

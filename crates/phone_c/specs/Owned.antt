@@ -1,0 +1,22 @@
+-- What a handle owns.
+use Rattle.std.specs.Prelude.{List}
+use base.Fml.{Fml}
+use denote.RawPtr.{Ptr}
+use Rattle.core.specs.Ptr.{if_non_null}
+use Rattle.std.specs.declared.alloc.Global.{Global}
+use Rattle.std.specs.contracts.impls.GlobalAllocator.TheImpl.{ghosts}
+use Rattle.std_alloc.specs.Box.Ownership.{box_owns}
+use Rattle.phone_meta.specs.contracts.database.Database.{the_row}
+use Rattle.phone_records.specs.declared.loader.Metadata.{Metadata}
+
+-- the heap of the C library: every `Global` is this one, and holds nothing
+abbrev pub c_heap : Global
+c_heap = record { memory = record { seal = tt } }
+
+-- at p lies the database of these records, with the right to free its block
+abbrev pub boxed_at : Ptr → List Metadata → Fml
+boxed_at p records = box_owns (ghosts.dealloc_token c_heap) the_row p records
+
+-- nothing at null, else the boxed database at p
+abbrev pub handle_owns : Ptr → List Metadata → Fml
+handle_owns p records = if_non_null p (boxed_at p records)

@@ -1,0 +1,128 @@
+//! What a database tells of a number that is given as plain numbers.
+ghost use Rattle.std.specs.Prelude.{◌≡◌, ◌⊎◌, ◌↔◌, if◌then◌else◌, IfOk};
+ghost use Rattle.phonenumber.specs.Texts.{e164_text};
+ghost use Rattle.std.specs.Prelude.{string_bytes};
+ghost use Rattle.phone_c.specs.Answers.{IsKey, IsKind, IsRegion, IsValidity, kind_number};
+ghost use Rattle.phone_c.specs.Buffers.{IsTooLongA, IsWrittenA};
+ghost use Rattle.phone_c.specs.Numbers.{AreNone};
+
+use crate::buffer::give;
+use crate::number::{Number, bare};
+use crate::status::{BAD_NUMBER, MEMORY, OK, TOO_SMALL};
+use phone_meta::Database;
+use phonenumber::{PhoneNumber, Type};
+use std::alloc::{AllocError, Global};
+
+/// A kind by its number.
+fn kind_number(kind: Type) -> u32
+    ensures { result ≡ kind_number kind }
+{
+    match kind {
+        Type::FixedLine => 0,
+        Type::Mobile => 1,
+        Type::FixedLineOrMobile => 2,
+        Type::TollFree => 3,
+        Type::PremiumRate => 4,
+        Type::SharedCost => 5,
+        Type::PersonalNumber => 6,
+        Type::Voip => 7,
+        Type::Pager => 8,
+        Type::Uan => 9,
+        Type::Emergency => 10,
+        Type::Voicemail => 11,
+        Type::ShortCode => 12,
+        Type::StandardRate => 13,
+        Type::Carrier => 14,
+        Type::NoInternational => 15,
+        Type::Unknown => 16,
+    }
+}
+
+/// The kind of a number.
+pub(crate) fn kind(database: &Database, number: &Number, kind: &mut u32) -> u32
+    ensures told { result ≡ OK → IsKind database.now number.now kind.new }
+    ensures bad { (result ≡ BAD_NUMBER) ↔ AreNone number.now }
+    ensures other { ¬ (result ≡ OK) → ¬ (result ≡ BAD_NUMBER) → result ≡ MEMORY }
+    ensures untouched { ¬ (result ≡ OK) → kind.new ≡ kind.old }
+{
+    let Some(number) = bare(number) else {
+        return BAD_NUMBER;
+    };
+    match number.number_type(database) {
+        Ok(told) => {
+            *kind = kind_number(told);
+            OK
+        }
+        Err(_) => MEMORY,
+    }
+}
+
+/// Whether a number is valid: 1, else 0.
+pub(crate) fn validity(database: &Database, number: &Number, valid: &mut u8) -> u32
+    ensures told { result ≡ OK → IsValidity database.now number.now valid.new }
+    ensures bad { (result ≡ BAD_NUMBER) ↔ AreNone number.now }
+    ensures other { ¬ (result ≡ OK) → ¬ (result ≡ BAD_NUMBER) → result ≡ MEMORY }
+    ensures untouched { ¬ (result ≡ OK) → valid.new ≡ valid.old }
+{
+    let Some(number) = bare(number) else {
+        return BAD_NUMBER;
+    };
+    match number.is_valid_with(database) {
+        Ok(told) => {
+            *valid = if told { 1 } else { 0 };
+            OK
+        }
+        Err(_) => MEMORY,
+    }
+}
+
+/// The id of a number's region, in a buffer; no byte where it has none.
+pub(crate) fn region(database: &Database, number: &Number, out: &mut [u8], wrote: &mut usize) -> u32
+    ensures written { result ≡ OK →
+        IsWrittenA (IsRegion database.now number.now) out.old out.new wrote.new }
+    ensures too_small { result ≡ TOO_SMALL →
+        IsTooLongA (IsRegion database.now number.now) out.old out.new wrote.new }
+    ensures bad { (result ≡ BAD_NUMBER) ↔ AreNone number.now }
+    ensures other { ¬ (result ≡ OK) → ¬ (result ≡ TOO_SMALL) → ¬ (result ≡ BAD_NUMBER) →
+        result ≡ MEMORY }
+    ensures untouched { ¬ (result ≡ OK) → out.new ≡ out.old }
+    ensures no_length { ¬ (result ≡ OK) → ¬ (result ≡ TOO_SMALL) → wrote.new ≡ 0 }
+{
+    *wrote = 0;
+    let Some(number) = bare(number) else {
+        return BAD_NUMBER;
+    };
+    match number.country().id(database) {
+        Ok(Some(id)) => give(id.as_str().as_bytes(), out, wrote),
+        Ok(None) => give(b"", out, wrote),
+        Err(_) => MEMORY,
+    }
+}
+
+/// The E.164 text of a number, in a buffer.
+pub(crate) fn key(alloc: Global, number: &Number, out: &mut [u8], wrote: &mut usize) -> u32
+    ensures written { result ≡ OK → IsWrittenA (IsKey number.now) out.old out.new wrote.new }
+    ensures too_small { result ≡ TOO_SMALL →
+        IsTooLongA (IsKey number.now) out.old out.new wrote.new }
+    ensures bad { (result ≡ BAD_NUMBER) ↔ AreNone number.now }
+    ensures other { ¬ (result ≡ OK) → ¬ (result ≡ TOO_SMALL) → ¬ (result ≡ BAD_NUMBER) →
+        result ≡ MEMORY }
+    ensures untouched { ¬ (result ≡ OK) → out.new ≡ out.old }
+    ensures no_length { ¬ (result ≡ OK) → ¬ (result ≡ TOO_SMALL) → wrote.new ≡ 0 }
+{
+    *wrote = 0;
+    let Some(number) = bare(number) else {
+        return BAD_NUMBER;
+    };
+    match e164(alloc, &number) {
+        Ok(text) => give(text.as_bytes(), out, wrote),
+        Err(_) => MEMORY,
+    }
+}
+
+/// The E.164 text of a number. Refused only for memory.
+fn e164(alloc: Global, number: &PhoneNumber) -> Result<String, AllocError>
+    ensures { IfOk result (λ text. string_bytes text ≡ e164_text number.now) }
+{
+    number.to_string(alloc)
+}

@@ -1,0 +1,82 @@
+//! The printing of a number that is given as plain numbers.
+ghost use Rattle.std.specs.Prelude.{◌≡◌, ◌↔◌, ◌<◌, Some, None, Err, IfOk, IfSome, IfNone};
+ghost use Rattle.std.specs.Prelude.{string_bytes};
+ghost use Rattle.phonenumber.specs.Texts.{printed};
+ghost use Rattle.phone_c.specs.Answers.{IsPrinted, IsUnprinted, mode_number};
+ghost use Rattle.phone_c.specs.Buffers.{IsTooLongA, IsWrittenA};
+ghost use Rattle.phone_c.specs.Numbers.{AreNoNumber};
+
+use crate::buffer::give;
+use crate::number::{Number, whole};
+use crate::status::{BAD_NUMBER, MEMORY, NO_MODE, OK, TOO_SMALL, UNKNOWN_CODE};
+use phone_meta::Database;
+use phonenumber::{FormatError, Mode, PhoneNumber, format_with};
+use std::alloc::Global;
+
+/// A mode, of its number; none for others than these four.
+fn mode_of(number: u32) -> Option<Mode>
+    ensures found { IfSome result (λ m. mode_number m ≡ number) }
+    ensures none { IfNone result (3 < number) }
+{
+    match number {
+        0 => Some(Mode::E164),
+        1 => Some(Mode::International),
+        2 => Some(Mode::National),
+        3 => Some(Mode::Rfc3966),
+        _ => None,
+    }
+}
+
+/// The text of a number in a mode.
+fn text_in(
+    alloc: Global,
+    database: &Database,
+    number: &PhoneNumber,
+    mode: Mode,
+) -> Result<String, FormatError>
+    ensures text { IfOk result (λ t.
+        printed database.now mode None number.now ≡ Some (string_bytes t)) }
+    ensures unknown { (result ≡ Err FormatError.UnknownCode) ↔
+        (printed database.now mode None number.now ≡ None) }
+{
+    format_with(database, number).mode(mode).to_text(alloc)
+}
+
+/// The text of a number in a mode, in a buffer.
+pub(crate) fn print(
+    alloc: Global,
+    database: &Database,
+    number: &Number,
+    bytes: &[u8],
+    mode: u32,
+    out: &mut [u8],
+    wrote: &mut usize,
+) -> u32
+    ensures written { result ≡ OK →
+        IsWrittenA (IsPrinted database.now number.now bytes.now mode) out.old out.new wrote.new }
+    ensures too_small { result ≡ TOO_SMALL →
+        IsTooLongA (IsPrinted database.now number.now bytes.now mode) out.old out.new wrote.new }
+    ensures no_mode { (result ≡ NO_MODE) ↔ (3 < mode) }
+    ensures bad { (result ≡ BAD_NUMBER) ↔
+        (¬ (3 < mode) × AreNoNumber number.now bytes.now) }
+    ensures unknown { result ≡ UNKNOWN_CODE →
+        IsUnprinted database.now number.now bytes.now mode }
+    ensures other { ¬ (result ≡ OK) → ¬ (result ≡ TOO_SMALL) → ¬ (result ≡ NO_MODE) →
+        ¬ (result ≡ BAD_NUMBER) → ¬ (result ≡ UNKNOWN_CODE) → result ≡ MEMORY }
+    ensures untouched { ¬ (result ≡ OK) → out.new ≡ out.old }
+    ensures no_length { ¬ (result ≡ OK) → ¬ (result ≡ TOO_SMALL) → wrote.new ≡ 0 }
+{
+    *wrote = 0;
+    let Some(mode) = mode_of(mode) else {
+        return NO_MODE;
+    };
+    let number = match whole(alloc, number, bytes) {
+        Ok(number) => number,
+        Err(status) => return status,
+    };
+    match text_in(alloc, database, &number, mode) {
+        Ok(text) => give(text.as_bytes(), out, wrote),
+        Err(FormatError::UnknownCode) => UNKNOWN_CODE,
+        Err(FormatError::Memory) => MEMORY,
+    }
+}
