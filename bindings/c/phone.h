@@ -97,7 +97,7 @@ void phone_close(phone_handle *handle);
  * `wrote`. The line is any bytes without their end: the program drops a line feed and one carriage
  * return before it, a caller does so where lines have them. The hint is the id of the region in which
  * the line was written, as "NZ", or has length 0 for none. PHONE_IS_CLOSED exactly where nothing is
- * open, else PHONE_NO_REGION exactly where the hint has a byte and is no id; PHONE_TOO_SMALL exactly
+ * open, else PHONE_NO_REGION exactly where the hint has a byte and is no id; PHONE_TOO_SMALL only
  * where `out` is shorter than the answer: `wrote` is then the length that it needs; PHONE_MEMORY.
  * For each but PHONE_OK `out` is as it was, and for each but PHONE_OK and PHONE_TOO_SMALL `wrote` is
  * 0. The handle stays open, or closed, as it was. */

@@ -82,8 +82,8 @@ pub extern "C" fn phone_close(alloc: Global, handle: &mut Handle)
 /// without a line feed. The hint is a region's id, as `NZ`, or has no byte for none.
 ///
 /// `OK`: the answer stands at the front of `out`, which is else as it was, and `wrote` is its
-/// length. `TOO_SMALL` exactly where `out` is shorter than the answer: then `wrote` is the length
-/// that it needs. `CLOSED` exactly where the handle is closed; else `NO_REGION` exactly where the
+/// length. `TOO_SMALL` only where `out` is shorter than the answer: then `wrote` is the length that
+/// it needs. `CLOSED` exactly where the handle is closed; else `NO_REGION` exactly where the
 /// hint has a byte and is no region's id. `MEMORY`: memory was refused. For each but `OK` `out` is
 /// as it was, and for each but these two `wrote` is 0. The handle stays as it was.
 #[unsafe(no_mangle)]
@@ -121,7 +121,7 @@ pub extern "C" fn phone_report(
 /// it: into plain numbers, and its texts, the extension and then the carrier, into a buffer.
 ///
 /// `OK`: `number` is the number, with its texts at the front of `out`, which is else as it was, and
-/// `wrote` is their length. `TOO_SMALL` exactly where `out` is shorter than the texts: then `wrote`
+/// `wrote` is their length. `TOO_SMALL` only where `out` is shorter than the texts: then `wrote`
 /// is the length that they need. `CLOSED`, `NO_REGION` and `MEMORY` as `phone_report` has them;
 /// else `NOT_UTF8` exactly where the text isn't UTF-8; 1 to 6: the number of the refusal. For each
 /// but `OK` `number` and `out` are as they were. The handle stays as it was.
