@@ -1,12 +1,12 @@
 //! The report on lines with their hints: lines TABLE [ROUNDS] <LINES. A line is a region, `-` for none, a tab, and the text.
 //! ROUNDS times over the lines are timed after the report is written: ns a line on standard error.
-use phonenumber_proved::{Database, WORLD};
+use phonenumber_proved::{Database, WORLD_PATH};
 use std::io::{Read, Write};
 use std::time::Instant;
 
 fn main() -> Result<(), Box<dyn std::error::Error>> {
     let words: Vec<String> = std::env::args().collect();
-    let world = Database::load(words.get(1).map_or(WORLD, String::as_str))?;
+    let world = Database::load(words.get(1).map_or(WORLD_PATH, String::as_str))?;
     let rounds: u32 = words.get(2).map_or(Ok(0), |word| word.parse())?;
     let mut text = Vec::new();
     std::io::stdin().read_to_end(&mut text)?;

@@ -2,7 +2,7 @@
 //!
 //! ```
 //! use phonenumber_proved::{Database, Mode, Type, WORLD};
-//! let world = Database::load(WORLD)?;
+//! let world = Database::from_json(WORLD)?;
 //! let number = world.parse(Some("NZ"), "03-331 6005 ext. 12")?;
 //! assert_eq!(number.to_string(), "+6433316005");
 //! assert_eq!(number.format().mode(Mode::National).to_string(), "03 331 6005 ext. 12");
@@ -22,8 +22,11 @@ use std::fmt;
 use std::marker::PhantomData;
 use std::path::Path;
 
-/// The table of the world that goes with this crate, as a path.
-pub const WORLD: &str = env!("PHONE_WORLD");
+/// The table of the world that goes with this crate: the text of a database, which the program then holds.
+pub const WORLD: &str = include_str!(env!("PHONE_WORLD"));
+
+/// The path at which that table lay when this crate was built, for programs that read it when they run.
+pub const WORLD_PATH: &str = env!("PHONE_WORLD");
 
 /// Why a call was refused.
 #[derive(Clone, Copy, Debug, PartialEq, Eq)]
@@ -219,6 +222,12 @@ impl Database {
     }
 
     /// The database that a file is.
+    ///
+    /// ```
+    /// use phonenumber_proved::{Database, Error, WORLD_PATH};
+    /// assert!(Database::load(WORLD_PATH).is_ok());
+    /// assert_eq!(Database::load("no such file").unwrap_err(), Error::Io);
+    /// ```
     pub fn load(path: impl AsRef<Path>) -> Result<Database, Error> {
         Database::from_json(std::fs::read(path).map_err(|_| Error::Io)?)
     }
@@ -227,7 +236,7 @@ impl Database {
     ///
     /// ```
     /// use phonenumber_proved::{Database, Error, WORLD};
-    /// let world = Database::load(WORLD)?;
+    /// let world = Database::from_json(WORLD)?;
     /// assert_eq!(world.parse(None, "call me").unwrap_err(), Error::NoNumber);
     /// assert_eq!(world.parse(Some("nz"), "03-331 6005").unwrap_err(), Error::NoRegion);
     /// # Ok::<(), Error>(())

@@ -3,7 +3,7 @@
 use phonenumber_proved::{Database, Mode, Source, Type, WORLD, is_viable};
 
 fn world() -> Database {
-    Database::load(WORLD).expect("the table of the world is read")
+    Database::from_json(WORLD).expect("the table of the world is read")
 }
 
 /// Hint, text: all are 33316005 of New Zealand.
