@@ -1,0 +1,5 @@
+pub mod CutLemmas
+pub mod AnswerLemmas
+pub mod Progress
+pub mod Ends
+pub mod KitRecords

@@ -1,0 +1,327 @@
+-- How far a run is after one more byte, or after the sink has taken more.
+use Rattle.std.proofs.Common.{◌≡◌, ◌⊎◌, Bool, Result, Ok, Err, OnOk, if◌then◌else◌, inr, add-one, ℕ, ◌+◌, ◌<◌, take, drop, length, get_or, List, [], ◌∷◌, ◌++◌, Option, Some, None, inl, true, false, refl, sym, ap, ◌∙◌, append_assoc, subst}
+use Rattle.std.proofs.lemmas.List.{append-nil, take-append-drop}
+use Rattle.std.proofs.Math.Seq.{take-suc}
+use Rattle.phone_device.specs.Passing.{IsAtEnd, Takes, TakesFront}
+use Rattle.csv.specs.Machine.{Feeds, ends_at_end, field_after, fields_after, is_end, next_record, step}
+use Rattle.csv.specs.Reading.{records_next}
+use Rattle.csv.specs.Records.{fields_of}
+use Rattle.csv.specs.declared.parser.Action.{Action}
+use Rattle.csv.specs.declared.parser.Action.TheVariants as act
+use Rattle.csv.specs.declared.parser.Config.{Config}
+use Rattle.csv.specs.declared.parser.State.{State}
+use Rattle.std.specs.Bool.{MatchBool}
+use Rattle.csv.proofs.ReadFacts.{feeds-push}
+use Rattle.phone_csv.specs.Formats.{Record, reading, record_text, state_of}
+use Rattle.phone_csv.specs.Records.{IsEnded}
+use Rattle.phone_csv.specs.Reports.{AreAnswers, Gives, IsBeginning, IsReport, IsReportBefore, IsReportOnEnded, IsReportOnFirst, last_record}
+use Rattle.phone_csv.specs.Reports.AreAnswers.{none as unanswered}
+use Rattle.phone_csv.specs.Records.AreCut.{none as uncut}
+use Rattle.phone_csv.specs.Runs.{BreaksOff, Holds, IsSoFar, Stands, TakesA}
+use Rattle.phone_csv.specs.declared.cutter.Cutter.{Cutter}
+use Rattle.phone_csv.proofs.AnswerLemmas.{AreAnswers-then}
+use Rattle.phone_csv.proofs.CutLemmas.{AreCut-ended, AreCut-grown}
+
+-- what follows at an `Ok` from two facts that hold at it
+pub both_ok : {T E P Q S : Type 0} (r : Result T E) → OnOk r P → OnOk r Q → (P → Q → S) → OnOk r S
+both_ok (Ok x) p q f = f p q
+both_ok (Err x) p q f = tt
+
+-- bytes that end no record, and then the end of the text
+pub feeds_rest : (cfg : Config) (s s2 : State) (f f2 : Record) (p p2 x : List ℕ) → Feeds cfg s f p x s2 f2 p2 false → next_record cfg s f p x ≡ next_record cfg s2 f2 p2 []
+unfolding Feeds next_record
+feeds_rest cfg s s2 f f2 p p2 [] h = rw (h.0, h.1, h.2) refl
+feeds_rest cfg s s2 f f2 p p2 (c ∷ x) h = by (is_end (step cfg s c).1) refl h (feeds_rest cfg (step cfg s c).0 s2 _ f2 _ p2 x)
+  where
+    by : (b : Bool) → is_end (step cfg s c).1 ≡ b
+        → MatchBool (is_end (step cfg s c).1)
+        ((x ≡ []) × (s2 ≡ (step cfg s c).0) × (f2 ≡ fields_after (step cfg s c).1 f p) × (p2 ≡ field_after (step cfg s c).1 c p) × (false ≡ true))
+        (Feeds cfg (step cfg s c).0 (fields_after (step cfg s c).1 f p) (field_after (step cfg s c).1 c p) x s2 f2 p2 false)
+        → (Feeds cfg (step cfg s c).0 (fields_after (step cfg s c).1 f p) (field_after (step cfg s c).1 c p) x s2 f2 p2 false →
+        next_record cfg (step cfg s c).0 (fields_after (step cfg s c).1 f p) (field_after (step cfg s c).1 c p) x ≡ next_record cfg s2 f2 p2 [])
+        → next_record cfg s f p (c ∷ x) ≡ next_record cfg s2 f2 p2 []
+    by true e q more = cc (rw e at q).4
+    by false e q more = rw e (more (rw e at q))
+
+-- what the end of the text leaves of a record that isn't ended yet
+at_end : (cfg : Config) (s : State) (f : Record) (p : List ℕ) (b : Bool) → ends_at_end s ≡ b →
+    records_next (λ _ _. []) (next_record cfg s f p []) ≡ if b then (f ++ p ∷ []) ∷ [] else []
+unfolding next_record
+at_end cfg s f p true e = rw e refl
+at_end cfg s f p false e = rw e refl
+
+-- the last record, where one stands behind the last line end, or none does
+pub IsSoFar-last : (gives : Gives) (start : State) (bytes : List ℕ) (c : Cutter) (answers : List ℕ) (s : IsSoFar gives start bytes c answers) (b : Bool) →
+    ends_at_end (state_of c.place) ≡ b → last_record c.delimiter s.state s.rest ≡ if b then (fields_of c.fields ++ c.field.items ∷ []) ∷ [] else []
+IsSoFar-last gives start bytes c answers s b e =
+    ap (λ r. records_next (λ _ _. []) r) (feeds_rest (reading c.delimiter) s.state (state_of c.place) [] (fields_of c.fields) [] c.field.items s.rest s.fed)
+    ∙ at_end (reading c.delimiter) (state_of c.place) (fields_of c.fields) c.field.items b e
+
+-- what a byte does to a record that isn't ended yet
+pub record Steps (before after : Cutter) (x : ℕ) : Type 0 where
+  pub place : state_of after.place ≡ (step (reading before.delimiter) (state_of before.place) x).0
+  pub fields : fields_of after.fields ≡ fields_after (step (reading before.delimiter) (state_of before.place) x).1 (fields_of before.fields) before.field.items
+  pub field : after.field.items ≡ field_after (step (reading before.delimiter) (state_of before.place) x).1 x before.field.items
+  pub delimiter : after.delimiter ≡ before.delimiter
+
+-- a byte that ends no record
+pub IsSoFar-grown : (gives : Gives) (start : State) (bytes : List ℕ) (c c' : Cutter) (answers : List ℕ) (x : ℕ) → IsSoFar gives start bytes c answers →
+    Steps c c' x → is_end (step (reading c.delimiter) (state_of c.place) x).1 ≡ false → IsSoFar gives start (bytes ++ x ∷ []) c' answers
+IsSoFar-grown gives start bytes c c' answers x s on e =
+    let fed = feeds-push (reading c.delimiter) s.state (state_of c.place) [] (fields_of c.fields) [] c.field.items s.rest x s.fed in
+    record {
+      records = s.records;
+      state = s.state;
+      rest = s.rest ++ x ∷ [];
+      cut = rw on.delimiter (AreCut-grown c.delimiter start s.state bytes s.rest (x ∷ []) s.records s.cut);
+      fed = rw (on.delimiter, on.place, on.fields, on.field) (rw e at fed);
+      answered = rw on.delimiter s.answered;
+    }
+
+-- a byte that ends the record
+pub IsSoFar-is_ended : (gives : Gives) (start : State) (bytes : List ℕ) (c c' : Cutter) (answers : List ℕ) (x : ℕ) (s : IsSoFar gives start bytes c answers) →
+    Steps c c' x → is_end (step (reading c.delimiter) (state_of c.place) x).1 ≡ true →
+    IsEnded c.delimiter s.state (s.rest ++ x ∷ []) (fields_of c'.fields) (state_of c'.place)
+IsSoFar-is_ended gives start bytes c c' answers x s on e =
+    let fed = feeds-push (reading c.delimiter) s.state (state_of c.place) [] (fields_of c.fields) [] c.field.items s.rest x s.fed in
+    (field_after (step (reading c.delimiter) (state_of c.place) x).1 x c.field.items, rw (on.place, on.fields) (rw e at fed))
+
+-- behind a record no byte of a field stands
+field_ended : (a : Action) (x : ℕ) (field : List ℕ) → is_end a ≡ true → field_after a x field ≡ []
+field_ended act.Skip x field e = cc e
+field_ended act.Copy x field e = cc e
+field_ended act.EndField x field e = cc e
+field_ended act.EndRecord x field e = refl
+
+-- in front of a record
+at_start : (d : ℕ) (s s' : State) (fields : Record) (field : List ℕ) → s' ≡ s → fields ≡ [] → field ≡ [] → Feeds (reading d) s [] [] [] s' fields field false
+unfolding Feeds
+at_start d s s' fields field e f g = (e, f, g, refl)
+
+-- and the answer to it
+pub IsSoFar-ended : (gives : Gives) (start : State) (bytes : List ℕ) (c m c' : Cutter) (written held : List ℕ) (given : Record) (x : ℕ) →
+    IsSoFar gives start bytes c (written ++ held) → Steps c m x → is_end (step (reading c.delimiter) (state_of c.place) x).1 ≡ true →
+    gives (fields_of m.fields) given →
+    c'.delimiter ≡ c.delimiter → c'.place ≡ m.place → fields_of c'.fields ≡ [] → c'.field.items ≡ m.field.items →
+    IsSoFar gives start (bytes ++ x ∷ []) c' (written ++ (held ++ record_text m.delimiter (fields_of m.fields ++ given)))
+IsSoFar-ended gives start bytes c m c' written held given x s on e is same place bare empty =
+    record {
+      records = s.records ++ fields_of m.fields ∷ [];
+      state = state_of m.place;
+      rest = [];
+      cut = rw same (AreCut-ended c.delimiter start s.state (state_of m.place) (bytes ++ x ∷ []) (s.rest ++ x ∷ []) s.records (fields_of m.fields)
+          (AreCut-grown c.delimiter start s.state bytes s.rest (x ∷ []) s.records s.cut) (IsSoFar-is_ended gives start bytes c m (written ++ held) x s on e));
+      fed = at_start c'.delimiter (state_of m.place) (state_of c'.place) (fields_of c'.fields) c'.field.items (ap state_of place) bare
+          (empty ∙ on.field ∙ field_ended _ x c.field.items e);
+      answered = rw (same, on.delimiter, sym (append_assoc written held (record_text c.delimiter (fields_of m.fields ++ given))))
+          (AreAnswers-then gives c.delimiter s.records (written ++ held) (fields_of m.fields) given s.answered is);
+    }
+
+-- and that it is refused
+pub IsSoFar-refused : (gives : Gives) (refuses : Record → Type 0) (start : State) (bytes : List ℕ) (c m : Cutter) (answers : List ℕ) (x : ℕ) →
+    IsSoFar gives start bytes c answers → Steps c m x → is_end (step (reading c.delimiter) (state_of c.place) x).1 ≡ true →
+    refuses (fields_of m.fields) → (to_come : Option (List ℕ)) (more : List ℕ) →
+    IsReportBefore gives refuses c.delimiter start to_come (bytes ++ x ∷ more) answers
+IsSoFar-refused gives refuses start bytes c m answers x s on e is to_come more = (
+  s.records,
+  s.state,
+  s.rest ++ x ∷ more,
+  fields_of m.fields,
+  AreCut-grown c.delimiter start s.state bytes s.rest (x ∷ more) s.records s.cut,
+  inl (s.rest ++ x ∷ [], more, state_of m.place, sym (append_assoc s.rest (x ∷ []) more), IsSoFar-is_ended gives start bytes c m answers x s on e),
+  is,
+  s.answered,
+)
+
+-- a text without bytes
+pub no_length : (x : List ℕ) → length x ≡ 0 → x ≡ []
+no_length [] e = refl
+no_length (c ∷ x) e = cc e
+
+-- the sink has taken nothing yet
+pub takes_nothing : (a : Option (List ℕ)) → Takes a [] a
+takes_nothing None = refl
+takes_nothing (Some all) = ap (λ t. Some t) (sym (append-nil all))
+
+-- what is taken one after the other is taken together
+pub takes_then : (a b c : Option (List ℕ)) (x y : List ℕ) → Takes a x b → Takes b y c → Takes a (x ++ y) c
+takes_then None b c x y p q = subst (λ b. Takes b y c) p q
+takes_then (Some all) b c x y p q = let e : Takes (Some (all ++ x)) y c = subst (λ b. Takes b y c) p q in e ∙ ap (λ t. Some t) (append_assoc all x y)
+
+-- how one byte changes what is so far
+abbrev pub Advances : Gives → State → ℕ → (c c' : Cutter) (held held' : List ℕ) → Type 0
+Advances gives start x c c' held held' = (bytes : List ℕ) (written : List ℕ) → IsSoFar gives start bytes c (written ++ held) →
+    IsSoFar gives start (bytes ++ x ∷ []) c' (written ++ held')
+
+-- one more byte was taken
+pub Stands-advanced : (gives : Gives) (start : State) (bytes : List ℕ) (c c' : Cutter) (held held' : List ℕ) (x : ℕ) (before after : Option (List ℕ)) →
+    Stands gives start bytes c held before after → Advances gives start x c c' held held' → Stands gives start (bytes ++ x ∷ []) c' held' before after
+Stands-advanced gives start bytes c c' held held' x before after s on = record { written = s.written; taken = s.taken; so_far = on bytes s.written s.so_far }
+
+-- the sink took some of the answers that were held
+pub Stands-handed : (gives : Gives) (start : State) (bytes : List ℕ) (c : Cutter) (held more held' : List ℕ) (before middle after : Option (List ℕ)) →
+    Stands gives start bytes c held before middle → held ≡ more ++ held' → Takes middle more after → Stands gives start bytes c held' before after
+Stands-handed gives start bytes c held more held' before middle after s e t = record {
+  written = s.written ++ more;
+  taken = takes_then before middle after s.written more s.taken t;
+  so_far = subst (λ r. IsSoFar gives start bytes c r) (ap (λ r. s.written ++ r) e ∙ sym (append_assoc s.written more held')) s.so_far;
+}
+
+-- where a run stops in front of the rest of the bytes, it has answered some first records
+pub Stands-first : (gives : Gives) (start : State) (bytes rest : List ℕ) (c : Cutter) (held : List ℕ) (before after : Option (List ℕ)) →
+    Stands gives start bytes c held before after → Holds (IsReportOnFirst gives c.delimiter start (bytes ++ rest)) held before after
+Stands-first gives start bytes rest c held before after s =
+    let f = s.so_far in record {
+      written = s.written;
+      taken = s.taken;
+      text = (f.records, f.state, f.rest ++ rest, AreCut-grown c.delimiter start f.state bytes f.rest rest f.records f.cut, f.answered);
+    }
+
+-- and where it stops at a record that is refused, those in front of it
+pub Stands-refused : (gives : Gives) (start : State) (bytes : List ℕ) (c : Cutter) (held : List ℕ) (before after : Option (List ℕ)) (is_text : List ℕ → Type 0) →
+    Stands gives start bytes c held before after → ((written : List ℕ) → IsSoFar gives start bytes c (written ++ held) → is_text (written ++ held)) →
+    Holds is_text held before after
+Stands-refused gives start bytes c held before after is_text s on = record { written = s.written; taken = s.taken; text = on s.written s.so_far }
+
+front_then : (before middle after : Option (List ℕ)) (written held : List ℕ) → Takes before written middle → TakesFront middle held after →
+    TakesFront before (written ++ held) after
+front_then before middle after written held t f = record {
+  front = written ++ f.front;
+  rest = f.rest;
+  whole = ap (λ r. written ++ r) f.whole ∙ sym (append_assoc written f.front f.rest);
+  taken = takes_then before middle after written f.front t f.taken;
+}
+
+-- where a sink fails in the middle of what is held
+pub Holds-breaks : (gives : Gives) (d : ℕ) (start : State) (bytes held : List ℕ) (before middle after : Option (List ℕ)) →
+    Holds (IsReportOnFirst gives d start bytes) held before middle → TakesFront middle held after → BreaksOff gives d start bytes before after
+Holds-breaks gives d start bytes held before middle after h f = (h.written ++ held, h.text, front_then before middle after h.written held h.taken f)
+
+-- the bytes of a block up to a place, and those from there on
+pub at_place : (bytes block : List ℕ) (i : ℕ) → (bytes ++ take i block) ++ drop i block ≡ bytes ++ block
+at_place bytes block i = append_assoc bytes (take i block) (drop i block) ∙ ap (λ t. bytes ++ t) (take-append-drop i block)
+
+-- and up to the next place
+pub next_place : (bytes block : List ℕ) (i d : ℕ) → i < length block → (bytes ++ take i block) ++ get_or block i d ∷ [] ≡ bytes ++ take (i + 1) block
+next_place bytes block i d h = append_assoc bytes (take i block) (get_or block i d ∷ []) ∙ ap (λ t. bytes ++ t) (rw add-one (sym (take-suc block i d h)))
+
+-- the byte at a place, and those behind it
+pub from_place : (bytes block : List ℕ) (i d : ℕ) → i < length block → (bytes ++ take i block) ++ get_or block i d ∷ drop (i + 1) block ≡ bytes ++ block
+from_place bytes block i d h = sym (append_assoc (bytes ++ take i block) (get_or block i d ∷ []) (drop (i + 1) block)) ∙
+    ap (λ t. t ++ drop (i + 1) block) (next_place bytes block i d h) ∙ at_place bytes block (i + 1)
+
+-- what was written out of what is held
+pub Holds-out : (is_text : List ℕ → Type 0) (held : List ℕ) (before middle after : Option (List ℕ)) → Holds is_text held before middle → Takes middle held after →
+    TakesA is_text before after
+Holds-out is_text held before middle after h t = (h.written ++ held, h.text, takes_then before middle after h.written held h.taken t)
+
+-- the whole report, where nothing stands behind the last line end
+pub Stands-whole : (gives : Gives) (start : State) (bytes : List ℕ) (c : Cutter) (held : List ℕ) (before after : Option (List ℕ)) →
+    ends_at_end (state_of c.place) ≡ false → Stands gives start bytes c held before after → Holds (IsReport gives c.delimiter start bytes) held before after
+Stands-whole gives start bytes c held before after e s =
+    let f = s.so_far in record {
+      written = s.written;
+      taken = s.taken;
+      text = (
+        f.records,
+        (
+          f.records,
+          f.state,
+          f.rest,
+          f.cut,
+          (state_of c.place, fields_of c.fields, c.field.items, f.fed),
+          sym (ap (λ l. f.records ++ l) (IsSoFar-last gives start bytes c (s.written ++ held) f false e) ∙ append-nil f.records),
+        ),
+        f.answered,
+      );
+    }
+
+-- and where one record does, and was answered
+pub Stands-last : (gives : Gives) (start : State) (bytes : List ℕ) (c : Cutter) (held : List ℕ) (fields given : Record) (before after : Option (List ℕ)) →
+    ends_at_end (state_of c.place) ≡ true → fields ≡ fields_of c.fields ++ c.field.items ∷ [] → Stands gives start bytes c held before after →
+    gives fields given → Holds (IsReport gives c.delimiter start bytes) (held ++ record_text c.delimiter (fields ++ given)) before after
+Stands-last gives start bytes c held fields given before after e is s on =
+    let f = s.so_far in record {
+      written = s.written;
+      taken = s.taken;
+      text = (
+        f.records ++ fields ∷ [],
+        (
+          f.records,
+          f.state,
+          f.rest,
+          f.cut,
+          (state_of c.place, fields_of c.fields, c.field.items, f.fed),
+          sym (ap (λ l. f.records ++ l) (IsSoFar-last gives start bytes c (s.written ++ held) f true e ∙ ap (λ r. r ∷ []) (sym is))),
+        ),
+        subst (λ t. AreAnswers gives c.delimiter (f.records ++ fields ∷ []) t) (append_assoc s.written held (record_text c.delimiter (fields ++ given)))
+            (AreAnswers-then gives c.delimiter f.records (s.written ++ held) fields given f.answered on),
+      );
+    }
+
+-- and where it is refused
+pub Stands-last-refused : (gives : Gives) (refuses : Record → Type 0) (start : State) (bytes : List ℕ) (c : Cutter) (held : List ℕ) (fields : Record)
+    (before after to_come : Option (List ℕ)) → ends_at_end (state_of c.place) ≡ true → fields ≡ fields_of c.fields ++ c.field.items ∷ [] → IsAtEnd to_come →
+    Stands gives start bytes c held before after → refuses fields → Holds (IsReportBefore gives refuses c.delimiter start to_come bytes) held before after
+Stands-last-refused gives refuses start bytes c held fields before after to_come e is end s on =
+    let f = s.so_far in record {
+      written = s.written;
+      taken = s.taken;
+      text = (
+        f.records,
+        f.state,
+        f.rest,
+        fields,
+        f.cut,
+        inr (end, IsSoFar-last gives start bytes c (s.written ++ held) f true e ∙ ap (λ r. r ∷ []) (sym is)),
+        on,
+        f.answered,
+      );
+    }
+
+-- nothing was read yet
+pub Stands-nothing : (gives : Gives) (start : State) (c : Cutter) (held : List ℕ) (a : Option (List ℕ)) → state_of c.place ≡ start → fields_of c.fields ≡ [] →
+    c.field.items ≡ [] → held ≡ [] → Stands gives start [] c held a a
+Stands-nothing gives start c held a place fields field empty = record {
+  written = [];
+  taken = takes_nothing a;
+  so_far = record {
+    records = [];
+    state = start;
+    rest = [];
+    cut = uncut start [];
+    fed = at_start c.delimiter start (state_of c.place) (fields_of c.fields) c.field.items place fields field;
+    answered = rw empty unanswered;
+  };
+}
+
+-- what was answered so far is the report on the records that are ended
+pub Stands-ended : (gives : Gives) (start : State) (bytes : List ℕ) (c : Cutter) (held : List ℕ) (before after : Option (List ℕ)) →
+    Stands gives start bytes c held before after → Holds (IsReportOnEnded gives c.delimiter start bytes) held before after
+Stands-ended gives start bytes c held before after s =
+    let f = s.so_far in record {
+      written = s.written;
+      taken = s.taken;
+      text = (f.records, f.state, f.rest, f.cut, (state_of c.place, fields_of c.fields, c.field.items, f.fed), f.answered);
+    }
+
+-- where a sink fails in the middle of what is held, it took a beginning of the report
+pub Holds-begins : (gives : Gives) (d : ℕ) (start : State) (to_come : Option (List ℕ)) (bytes held : List ℕ) (is_text : List ℕ → Type 0)
+    (before middle after : Option (List ℕ)) →
+    ((text : List ℕ) → is_text text → IsReportOnFirst gives d start bytes text ⊎ (IsAtEnd to_come × IsReport gives d start bytes text)) →
+    Holds is_text held before middle → TakesFront middle held after → TakesA (IsBeginning gives d start to_come bytes) before after
+Holds-begins gives d start to_come bytes held is_text before middle after on h t =
+    let f = front_then before middle after h.written held h.taken t in (
+      f.front,
+      (
+        f.rest,
+        subst (λ u. IsReportOnFirst gives d start bytes u ⊎ (IsAtEnd to_come × IsReport gives d start bytes u)) f.whole (on (h.written ++ held) h.text),
+      ),
+      f.taken,
+    )
+
+-- and so it did where it failed in the middle of the answers to some first records
+pub BreaksOff-begins : (gives : Gives) (d : ℕ) (start : State) (to_come : Option (List ℕ)) (bytes : List ℕ) (before after : Option (List ℕ)) →
+    BreaksOff gives d start bytes before after → TakesA (IsBeginning gives d start to_come bytes) before after
+BreaksOff-begins gives d start to_come bytes before after (text, first, f) =
+    (f.front, (f.rest, subst (λ u. IsReportOnFirst gives d start bytes u ⊎ (IsAtEnd to_come × IsReport gives d start bytes u)) f.whole (inl first)), f.taken)

@@ -1,0 +1,31 @@
+use Rattle.std.proofs.Common.{[], Ok, Err, ap}
+use Rattle.std.proofs.lemmas.List.{append-nil}
+use Rattle.phone_csv.proofs.Progress.{Stands-first}
+use Rattle.phone_csv.proofs.blocks.take_all.Goals as goal
+
+pub returns-in-Ok-clause-taken : goal.returns-in-Ok-clause-taken
+returns-in-Ok-clause-taken g c is start fresh =
+    let t = c.in-Ok-Whole.ensures.taken (ap Ok c.in-Ok-Whole.field-0-is) start fresh in
+    (t.0, t.1, rw c.in-Ok-Whole.ensures.delimiter at (c.in-Ok.ensures.taken start t.0 (g.W.ByteSink.taken c.args.sink.now) (g.W.ByteSink.taken c.take_blocks.new.sink) t.2))
+
+pub returns-in-Err-Record-clause-refused : goal.returns-in-Err-Record-clause-refused
+returns-in-Err-Record-clause-refused g c is start fresh =
+    let t = c.in-Ok-Whole.ensures.taken (ap Ok c.in-Ok-Whole.field-0-is) start fresh in
+    let end = c.in-Ok-Whole.ensures.end (ap Ok c.in-Ok-Whole.field-0-is) in (
+      t.0,
+      t.1,
+      rw c.in-Ok-Whole.ensures.delimiter at (c.in-Err-Record.ensures.refused (ap Err c.in-Err-Record.field-0-is) start t.0
+          (g.W.ByteSink.taken c.args.sink.now) (g.W.ByteSink.taken c.take_blocks.new.sink) (g.S.ByteSource.to_come c.take_blocks.new.source) end t.2),
+    )
+
+pub returns-in-Err-Memory-clause-memory : goal.returns-in-Err-Memory-clause-memory
+returns-in-Err-Memory-clause-memory g c is start fresh =
+    let t = c.in-Ok-Whole.ensures.taken (ap Ok c.in-Ok-Whole.field-0-is) start fresh in
+    let gives = g.A.Answers.gives c.args.answers.now in
+    let before = g.W.ByteSink.taken c.args.sink.now in
+    let after = g.W.ByteSink.taken c.take_blocks.new.sink in (
+      t.0,
+      t.1,
+      rw c.in-Err-Memory.ensures.kept
+          (rw (append-nil t.0, c.in-Ok-Whole.ensures.delimiter) at (Stands-first gives start t.0 [] c.take_blocks.new.desk.cutter c.take_blocks.new.desk.answers.items before after t.2)),
+    )

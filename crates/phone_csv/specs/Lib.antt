@@ -1,0 +1,5 @@
+pub mod Faults
+pub mod Formats
+pub mod Records
+pub mod Reports
+pub mod Runs

@@ -1,0 +1,73 @@
+-- What is written on the records of a text.
+use Rattle.std.specs.Prelude.{◌≡◌, ◌⊎◌, ℕ, List, [], ◌∷◌, ◌++◌, Option}
+use Rattle.csv.specs.Machine.{next_record}
+use Rattle.csv.specs.Reading.{records_next}
+use Rattle.csv.specs.declared.parser.State.{State}
+use Rattle.phone_device.specs.Passing.{IsAtEnd}
+use Rattle.phone_csv.specs.Formats.{Record, reading, record_text}
+use Rattle.phone_csv.specs.Records.{AreCut, IsEnded, IsUnended}
+
+-- what may be answered to a record
+abbrev pub Gives : Type 1
+Gives = Record → Record → Type 0
+
+-- the records written for the records read, in their order: each as it was read, and behind its
+-- fields those of its answer
+pub data AreAnswers (gives : Record → Record → Type 0) (delimiter : ℕ) :
+    List Record → List ℕ → Type 0 where
+  none : AreAnswers gives delimiter [] []
+  next : (fields answer : Record) (records : List Record) (text : List ℕ) → gives fields answer →
+      AreAnswers gives delimiter records text →
+      AreAnswers gives delimiter (fields ∷ records)
+      (record_text delimiter (fields ++ answer) ++ text)
+
+-- the record that stands behind the last line end, where the text ends here and one does
+abbrev pub last_record : ℕ → State → List ℕ → List Record
+last_record delimiter state rest = records_next (λ _ _. [])
+    (next_record (reading delimiter) state [] [] rest)
+
+-- the records of bytes: those that are ended, and the last one
+abbrev pub AreAll : ℕ → State → List ℕ → List Record → Type 0
+AreAll delimiter start bytes all =
+    (records : List Record) × (state : State) × (rest : List ℕ) ×
+    AreCut delimiter start bytes records state rest × IsUnended delimiter state rest ×
+    (all ≡ records ++ last_record delimiter state rest)
+
+-- the report on bytes: the answers to all their records
+abbrev pub IsReport : Gives → ℕ → State → List ℕ → List ℕ → Type 0
+IsReport gives delimiter start bytes text = (records : List Record) ×
+    AreAll delimiter start bytes records × AreAnswers gives delimiter records text
+
+-- the report on the records that are ended
+abbrev pub IsReportOnEnded : Gives → ℕ → State → List ℕ → List ℕ → Type 0
+IsReportOnEnded gives delimiter start bytes text =
+    (records : List Record) × (state : State) × (rest : List ℕ) ×
+    AreCut delimiter start bytes records state rest × IsUnended delimiter state rest ×
+    AreAnswers gives delimiter records text
+
+-- the report on some first ones of them
+abbrev pub IsReportOnFirst : Gives → ℕ → State → List ℕ → List ℕ → Type 0
+IsReportOnFirst gives delimiter start bytes text =
+    (records : List Record) × (state : State) × (rest : List ℕ) ×
+    AreCut delimiter start bytes records state rest × AreAnswers gives delimiter records text
+
+-- a text that begins the report on some first records, or on all where nothing is to come
+abbrev pub IsBeginning : Gives → ℕ → State → Option (List ℕ) → List ℕ → List ℕ → Type 0
+IsBeginning gives delimiter start to_come bytes text = (left : List ℕ) ×
+    (IsReportOnFirst gives delimiter start bytes (text ++ left) ⊎
+    (IsAtEnd to_come × IsReport gives delimiter start bytes (text ++ left)))
+
+-- the next record of bytes: one that is ended, or the last one where nothing is to come
+abbrev pub IsNext : ℕ → State → Option (List ℕ) → List ℕ → Record → Type 0
+IsNext delimiter state to_come rest fields =
+    ((part : List ℕ) × (more : List ℕ) × (after : State) × (rest ≡ part ++ more) ×
+    IsEnded delimiter state part fields after) ⊎
+    (IsAtEnd to_come × (last_record delimiter state rest ≡ fields ∷ []))
+
+-- the report on the records in front of one that is refused
+abbrev pub IsReportBefore : Gives → (Record → Type 0) → ℕ → State → Option (List ℕ) → List ℕ →
+    List ℕ → Type 0
+IsReportBefore gives refuses delimiter start to_come bytes text =
+    (records : List Record) × (state : State) × (rest : List ℕ) × (fields : Record) ×
+    AreCut delimiter start bytes records state rest × IsNext delimiter state to_come rest fields ×
+    refuses fields × AreAnswers gives delimiter records text

@@ -1,0 +1,57 @@
+-- How far a run over records is, and how it ends.
+use Rattle.std.specs.Prelude.{ℕ, ◌-◌, ◌^◌, List, [], ◌++◌, Option, false}
+use Rattle.csv.specs.Machine.{Feeds}
+use Rattle.csv.specs.Records.{fields_of}
+use Rattle.csv.specs.declared.parser.State.{State}
+use Rattle.phone_device.specs.Passing.{Passes, Takes, TakesFront}
+use Rattle.phone_csv.specs.Formats.{Record, reading, state_of}
+use Rattle.phone_csv.specs.Records.{AreCut}
+use Rattle.phone_csv.specs.Reports.{AreAnswers, Gives, IsReportOnFirst}
+use Rattle.phone_csv.specs.declared.cutter.Cutter.{Cutter}
+
+-- so far these bytes were read, of which the last record isn't ended yet, and these answers given
+-- to the other ones
+pub record IsSoFar (gives : Record → Record → Type 0) (start : State) (bytes : List ℕ)
+    (cutter : Cutter) (answers : List ℕ) : Type 0 where
+  pub records : List Record
+  pub state : State
+  pub rest : List ℕ
+  pub cut : AreCut cutter.delimiter start bytes records state rest
+  pub fed : Feeds (reading cutter.delimiter) state [] [] rest
+      (state_of cutter.place) (fields_of cutter.fields) cutter.field.items false
+  pub answered : AreAnswers gives cutter.delimiter records answers
+
+-- of such answers these are held back, and the others were taken by the sink
+pub record Stands (gives : Record → Record → Type 0) (start : State) (bytes : List ℕ)
+    (cutter : Cutter) (held : List ℕ) (before after : Option (List ℕ)) : Type 0 where
+  pub written : List ℕ
+  pub taken : Takes before written after
+  pub so_far : IsSoFar gives start bytes cutter (written ++ held)
+
+-- what the sink took and what is held back is a text of which this holds
+pub record Holds (is_text : List ℕ → Type 0) (held : List ℕ)
+    (before after : Option (List ℕ)) : Type 0 where
+  pub written : List ℕ
+  pub taken : Takes before written after
+  pub text : is_text (written ++ held)
+
+-- a sink took a beginning of the answers to some first records
+abbrev pub BreaksOff : Gives → ℕ → State → List ℕ → Option (List ℕ) → Option (List ℕ) → Type 0
+BreaksOff gives delimiter start bytes before after = (answers : List ℕ) ×
+    IsReportOnFirst gives delimiter start bytes answers × TakesFront before answers after
+
+-- this holds of the bytes that a source gave
+abbrev pub OfRead : Option (List ℕ) → Option (List ℕ) → (List ℕ → Type 0) → Type 0
+OfRead before after holds = (bytes : List ℕ) × Passes before bytes after × holds bytes
+
+-- a sink took a text of which this holds
+abbrev pub TakesA : (List ℕ → Type 0) → Option (List ℕ) → Option (List ℕ) → Type 0
+TakesA is_text before after = (text : List ℕ) × is_text text × Takes before text after
+
+-- as many bytes as a run reads at most
+abbrev pub most_bytes : ℕ
+most_bytes = 2 ^ 64 - 1
+
+-- nothing is held yet, and nothing was read
+abbrev pub IsFresh : Gives → State → Cutter → List ℕ → Option (List ℕ) → Type 0
+IsFresh gives start cutter held taken = Stands gives start [] cutter held taken taken

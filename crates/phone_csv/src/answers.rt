@@ -1,0 +1,66 @@
+//! What answers records, and the text of a record with its answer.
+ghost use Rattle.std.specs.Prelude.{◌≡◌, List, [], ◌++◌, ℕ, Err, IfOk, OnOk, OnErr};
+ghost use Rattle.csv.specs.Records.{fields_of, partial_of};
+ghost use Rattle.phone_csv.specs.Formats.{Record, record_text};
+ghost use Rattle.phone_csv.specs.declared.answers.Refusal.TheVariants as refusal;
+
+use csv::{ByteRecord, WriterBuilder};
+use std::alloc::{AllocError, Global};
+
+/// Why a record was not answered.
+#[derive(Clone, Copy, PartialEq, Eq, Debug)]
+pub enum Refusal {
+    /// It is not a record that is answered.
+    Record,
+    /// There was no memory for its answer.
+    Memory,
+}
+
+/// What answers records, each by itself.
+pub trait Answers {
+    // What may be answered to a record.
+    ghost gives: { Self → List (List ℕ) → List (List ℕ) → Type 0 };
+
+    // Which records are refused.
+    ghost refuses: { Self → List (List ℕ) → Type 0 };
+
+    /// Puts the fields of the answer behind those of a record. Refused by `Record` for a record
+    /// that is not answered, and by `Memory`.
+    fn answer(&self, alloc: Global, fields: &mut ByteRecord) -> Result<(), Refusal>
+        requires { partial_of fields.old ≡ [] }
+        ensures given { OnOk result ((answer : List (List ℕ)) ×
+            gives self.now (fields_of fields.old) answer ×
+            (fields_of fields.new ≡ fields_of fields.old ++ answer)) }
+        ensures refused { result ≡ Err refusal.Record → refuses self.now (fields_of fields.old) };
+}
+
+/// Puts the text of a record behind a text. Refused only for memory; then the text is as it was.
+pub(crate) fn add_record(
+    alloc: Global,
+    delimiter: u8,
+    fields: &ByteRecord,
+    text: &mut Vec<u8>,
+) -> Result<(), AllocError>
+    ensures added { OnOk result (text.new.items ≡
+        text.old.items ++ record_text delimiter (fields_of fields.now)) }
+    ensures kept { OnErr result (text.new.items ≡ text.old.items) }
+{
+    let written = written(alloc, delimiter, fields)?;
+    text.extend_from_slice(written.as_slice())
+}
+
+/// The text of a record.
+fn written(alloc: Global, delimiter: u8, fields: &ByteRecord) -> Result<Vec<u8>, AllocError>
+    ensures { IfOk result (λ v. v.items ≡ record_text delimiter (fields_of fields.now)) }
+{
+    let mut writer = WriterBuilder::new()
+        .delimiter(delimiter)
+        .from_writer(Vec::new(alloc));
+    let Ok(()) = writer.write_byte_record(fields) else {
+        return Err(AllocError);
+    };
+    match writer.into_inner() {
+        Ok(text) => Ok(text),
+        Err(_) => Err(AllocError),
+    }
+}

@@ -1,0 +1,244 @@
+//! The run over all records.
+ghost use Rattle.std.specs.Prelude.{◌≡◌, ◌+◌, ◌⊎◌, [], Ok, Err, OnOk, OnErr, length};
+ghost use Rattle.csv.specs.Records.{fields_of, partial_of};
+ghost use Rattle.csv.specs.declared.parser.State.{State};
+ghost use Rattle.phone_device.specs.Passing.{IsAtEnd};
+ghost use Rattle.phone_csv.specs.Faults.{sink_faults_of};
+ghost use Rattle.phone_csv.specs.Formats.{state_of};
+ghost use Rattle.phone_csv.specs.Reports.{IsBeginning, IsReport, IsReportBefore};
+ghost use Rattle.phone_csv.specs.Reports.{IsReportOnEnded, IsReportOnFirst};
+ghost use Rattle.phone_csv.specs.Runs.{BreaksOff, Holds, IsFresh, OfRead, Stands, TakesA};
+ghost use Rattle.phone_csv.specs.Runs.{most_bytes};
+ghost use Rattle.phone_csv.specs.declared.blocks.End.TheVariants as end;
+ghost use Rattle.phone_csv.specs.declared.blocks.RunError.TheVariants as error;
+
+use crate::answers::{Answers, Refusal};
+use crate::desk::{Desk, Stop};
+use crate::machine::Place;
+use phone_device::{Block, ByteSink, ByteSource, Fault};
+use std::alloc::Global;
+
+/// Why a run ended before all records were answered.
+#[derive(Clone, Copy, PartialEq, Eq, Debug)]
+pub enum RunError {
+    /// The source failed, or gave 2^64 - 1 bytes.
+    Input,
+    /// The sink failed, or took no byte of some.
+    Output,
+    /// A record is not answered.
+    Record,
+    /// There was no memory for a record or its answer.
+    Memory,
+}
+
+/// How a run ended, the sink never having failed.
+#[derive(Clone, Copy, PartialEq, Eq, Debug)]
+enum End {
+    /// All was read and answered.
+    Whole,
+    /// The source failed, or gave as many bytes as are read at most.
+    Input,
+    /// A record is not answered.
+    Record,
+    /// There was no memory for a record or its answer.
+    Memory,
+}
+
+/// Reads all blocks, and answers the records that are ended.
+fn take_blocks<A: Answers, S: ByteSource, W: ByteSink>(
+    alloc: Global,
+    answers: &A,
+    source: &mut S,
+    sink: &mut W,
+    desk: &mut Desk,
+) -> Result<End, Fault>
+    requires { partial_of desk.old.cutter.fields ≡ [] }
+    ensures end { result ≡ Ok end.Whole → IsAtEnd (S.to_come source.new) }
+    ensures partial { result ≡ Ok end.Whole → partial_of desk.new.cutter.fields ≡ [] }
+    ensures delimiter { desk.new.cutter.delimiter ≡ desk.old.cutter.delimiter }
+    ensures taken { result ≡ Ok end.Whole → (start : State) →
+        IsFresh (A.gives answers.now) start desk.old.cutter desk.old.answers.items
+        (W.taken sink.old) →
+        OfRead (S.to_come source.old) (S.to_come source.new) (λ bytes. Stands
+        (A.gives answers.now) start bytes desk.new.cutter desk.new.answers.items
+        (W.taken sink.old) (W.taken sink.new)) }
+    ensures input { result ≡ Ok end.Input → (start : State) →
+        IsFresh (A.gives answers.now) start desk.old.cutter desk.old.answers.items
+        (W.taken sink.old) →
+        OfRead (S.to_come source.old) (S.to_come source.new) (λ bytes. Holds (IsReportOnEnded
+        (A.gives answers.now) desk.old.cutter.delimiter start bytes) desk.new.answers.items
+        (W.taken sink.old) (W.taken sink.new)) }
+    ensures cause { result ≡ Ok end.Input → (S.faults source.new ≡ S.faults source.old + 1) ⊎
+        OfRead (S.to_come source.old) (S.to_come source.new) (λ bytes. length bytes ≡ most_bytes) }
+    ensures refused { result ≡ Ok end.Record → (start : State) →
+        IsFresh (A.gives answers.now) start desk.old.cutter desk.old.answers.items
+        (W.taken sink.old) →
+        OfRead (S.to_come source.old) (S.to_come source.new) (λ bytes. Holds (IsReportBefore
+        (A.gives answers.now) (A.refuses answers.now) desk.old.cutter.delimiter start
+        (S.to_come source.new) bytes) desk.new.answers.items
+        (W.taken sink.old) (W.taken sink.new)) }
+    ensures memory { result ≡ Ok end.Memory → (start : State) →
+        IsFresh (A.gives answers.now) start desk.old.cutter desk.old.answers.items
+        (W.taken sink.old) →
+        OfRead (S.to_come source.old) (S.to_come source.new) (λ bytes. Holds (IsReportOnFirst
+        (A.gives answers.now) desk.old.cutter.delimiter start bytes) desk.new.answers.items
+        (W.taken sink.old) (W.taken sink.new)) }
+    ensures broken { OnErr result ((start : State) →
+        IsFresh (A.gives answers.now) start desk.old.cutter desk.old.answers.items
+        (W.taken sink.old) →
+        OfRead (S.to_come source.old) (S.to_come source.new) (λ bytes. BreaksOff
+        (A.gives answers.now) desk.old.cutter.delimiter start bytes (W.taken sink.old)
+        (W.taken sink.new))) }
+    ensures no_fault { result ≡ Ok end.Whole → S.faults source.new ≡ S.faults source.old }
+    ensures no_fault_at_a_record { result ≡ Ok end.Record →
+        S.faults source.new ≡ S.faults source.old }
+    ensures no_fault_without_memory { result ≡ Ok end.Memory →
+        S.faults source.new ≡ S.faults source.old }
+    ensures sink_no_fault { OnOk result (W.faults sink.new ≡ W.faults sink.old) }
+    ensures sink_fault { OnErr result (W.faults sink.new ≡ W.faults sink.old + 1) }
+{
+    let mut block = Block::new();
+    let mut read: u64 = 0;
+    'blocks: loop {
+        if read == u64::MAX {
+            return Ok(End::Input);
+        }
+        let Ok(()) = block.fill(source, u64::MAX - read) else {
+            return Ok(End::Input);
+        };
+        if block.bytes().is_empty() {
+            return Ok(End::Whole);
+        }
+        read += block.bytes().len() as u64;
+        match desk.take_block(alloc, answers, sink, block.bytes()) {
+            Ok(()) => {}
+            Err(Stop::Fault) => return Err(Fault),
+            Err(Stop::Record) => return Ok(End::Record),
+            Err(Stop::Memory) => return Ok(End::Memory),
+        }
+    }
+}
+
+/// Reads to the end, and answers all records.
+fn take_all<A: Answers, S: ByteSource, W: ByteSink>(
+    alloc: Global,
+    answers: &A,
+    source: &mut S,
+    sink: &mut W,
+    desk: &mut Desk,
+) -> Result<End, Fault>
+    requires { partial_of desk.old.cutter.fields ≡ [] }
+    ensures end { result ≡ Ok end.Whole → IsAtEnd (S.to_come source.new) }
+    ensures taken { result ≡ Ok end.Whole → (start : State) →
+        IsFresh (A.gives answers.now) start desk.old.cutter desk.old.answers.items
+        (W.taken sink.old) →
+        OfRead (S.to_come source.old) (S.to_come source.new) (λ bytes. Holds (IsReport
+        (A.gives answers.now) desk.old.cutter.delimiter start bytes) desk.new.answers.items
+        (W.taken sink.old) (W.taken sink.new)) }
+    ensures input { result ≡ Ok end.Input → (start : State) →
+        IsFresh (A.gives answers.now) start desk.old.cutter desk.old.answers.items
+        (W.taken sink.old) →
+        OfRead (S.to_come source.old) (S.to_come source.new) (λ bytes. Holds (IsReportOnEnded
+        (A.gives answers.now) desk.old.cutter.delimiter start bytes) desk.new.answers.items
+        (W.taken sink.old) (W.taken sink.new)) }
+    ensures cause { result ≡ Ok end.Input → (S.faults source.new ≡ S.faults source.old + 1) ⊎
+        OfRead (S.to_come source.old) (S.to_come source.new) (λ bytes. length bytes ≡ most_bytes) }
+    ensures refused { result ≡ Ok end.Record → (start : State) →
+        IsFresh (A.gives answers.now) start desk.old.cutter desk.old.answers.items
+        (W.taken sink.old) →
+        OfRead (S.to_come source.old) (S.to_come source.new) (λ bytes. Holds (IsReportBefore
+        (A.gives answers.now) (A.refuses answers.now) desk.old.cutter.delimiter start
+        (S.to_come source.new) bytes) desk.new.answers.items
+        (W.taken sink.old) (W.taken sink.new)) }
+    ensures memory { result ≡ Ok end.Memory → (start : State) →
+        IsFresh (A.gives answers.now) start desk.old.cutter desk.old.answers.items
+        (W.taken sink.old) →
+        OfRead (S.to_come source.old) (S.to_come source.new) (λ bytes. Holds (IsReportOnFirst
+        (A.gives answers.now) desk.old.cutter.delimiter start bytes) desk.new.answers.items
+        (W.taken sink.old) (W.taken sink.new)) }
+    ensures broken { OnErr result ((start : State) →
+        IsFresh (A.gives answers.now) start desk.old.cutter desk.old.answers.items
+        (W.taken sink.old) →
+        OfRead (S.to_come source.old) (S.to_come source.new) (λ bytes. BreaksOff
+        (A.gives answers.now) desk.old.cutter.delimiter start bytes (W.taken sink.old)
+        (W.taken sink.new))) }
+    ensures no_fault { result ≡ Ok end.Whole → S.faults source.new ≡ S.faults source.old }
+    ensures no_fault_at_a_record { result ≡ Ok end.Record →
+        S.faults source.new ≡ S.faults source.old }
+    ensures no_fault_without_memory { result ≡ Ok end.Memory →
+        S.faults source.new ≡ S.faults source.old }
+    ensures sink_no_fault { OnOk result (W.faults sink.new ≡ W.faults sink.old) }
+    ensures sink_fault { OnErr result (W.faults sink.new ≡ W.faults sink.old + 1) }
+{
+    match take_blocks(alloc, answers, source, sink, desk) {
+        Ok(End::Whole) => {}
+        Ok(End::Input) => return Ok(End::Input),
+        Ok(End::Record) => return Ok(End::Record),
+        Ok(End::Memory) => return Ok(End::Memory),
+        Err(_) => return Err(Fault),
+    }
+    match desk.take_last(alloc, answers) {
+        Ok(()) => Ok(End::Whole),
+        Err(Refusal::Record) => Ok(End::Record),
+        Err(Refusal::Memory) => Ok(End::Memory),
+    }
+}
+
+/// Gives each record of a source back to a sink, unchanged, with the fields of its answer behind
+/// its own, in the order of the records. The source is read in blocks to its end, from this place
+/// in front of a record, as the kit's `csv` reads, and records are written as it writes, with this
+/// delimiter, each ended by a line feed. What is held in memory are a block, the longest record and
+/// its answer: it does not grow with the number of records.
+///
+/// Refused by `Input` where the source failed or 2^64 - 1 bytes were read: then the answers to all
+/// records that are ended are written. By `Output` where the sink failed, or took no byte of some:
+/// then a beginning of the report is written. By `Record` at a record that is not answered: then
+/// the answers to all records in front of it are written. By `Memory` where there was no room for a
+/// record or its answer: then the answers to some first records are written, each whole.
+pub fn answer_records<A: Answers, S: ByteSource, W: ByteSink>(
+    alloc: Global,
+    answers: &A,
+    delimiter: u8,
+    place: Place,
+    source: &mut S,
+    sink: &mut W,
+) -> Result<(), RunError>
+    ensures end { OnOk result (IsAtEnd (S.to_come source.new)) }
+    ensures report { OnOk result (OfRead (S.to_come source.old) (S.to_come source.new)
+        (λ bytes. TakesA (IsReport (A.gives answers.now) delimiter (state_of place) bytes)
+        (W.taken sink.old) (W.taken sink.new))) }
+    ensures no_fault { OnOk result (S.faults source.new ≡ S.faults source.old) }
+    ensures ended { result ≡ Err error.Input →
+        OfRead (S.to_come source.old) (S.to_come source.new) (λ bytes. TakesA (IsReportOnEnded
+        (A.gives answers.now) delimiter (state_of place) bytes) (W.taken sink.old)
+        (W.taken sink.new)) }
+    ensures cause { result ≡ Err error.Input → (S.faults source.new ≡ S.faults source.old + 1) ⊎
+        OfRead (S.to_come source.old) (S.to_come source.new) (λ bytes. length bytes ≡ most_bytes) }
+    ensures beginning { result ≡ Err error.Output →
+        OfRead (S.to_come source.old) (S.to_come source.new) (λ bytes. TakesA (IsBeginning
+        (A.gives answers.now) delimiter (state_of place) (S.to_come source.new) bytes)
+        (W.taken sink.old) (W.taken sink.new)) }
+    ensures before { result ≡ Err error.Record →
+        OfRead (S.to_come source.old) (S.to_come source.new) (λ bytes. TakesA (IsReportBefore
+        (A.gives answers.now) (A.refuses answers.now) delimiter (state_of place)
+        (S.to_come source.new) bytes) (W.taken sink.old) (W.taken sink.new)) }
+    ensures first { result ≡ Err error.Memory →
+        OfRead (S.to_come source.old) (S.to_come source.new) (λ bytes. TakesA (IsReportOnFirst
+        (A.gives answers.now) delimiter (state_of place) bytes) (W.taken sink.old)
+        (W.taken sink.new)) }
+    ensures sink_faults { W.faults sink.new ≡ W.faults sink.old + sink_faults_of result }
+{
+    let mut desk = Desk::new(alloc, delimiter, place);
+    let Ok(end) = take_all(alloc, answers, source, sink, &mut desk) else {
+        return Err(RunError::Output);
+    };
+    let Ok(()) = desk.write_out(sink) else {
+        return Err(RunError::Output);
+    };
+    match end {
+        End::Whole => Ok(()),
+        End::Input => Err(RunError::Input),
+        End::Record => Err(RunError::Record),
+        End::Memory => Err(RunError::Memory),
+    }
+}

@@ -1,0 +1,81 @@
+//! The record that isn't ended yet.
+ghost use Rattle.std.specs.Prelude.{◌≡◌, [], ◌++◌, ◌∷◌, ℕ, List, OnOk, IfOk};
+ghost use Rattle.csv.specs.Machine.{field_after, fields_after, is_end, step};
+ghost use Rattle.csv.specs.Records.{fields_of, partial_of};
+ghost use Rattle.phone_csv.specs.Formats.{action_of, reading, state_of};
+
+use crate::machine::{Effect, Place, step};
+use csv::ByteRecord;
+use std::alloc::{AllocError, Global};
+
+/// A record that isn't ended yet.
+#[derive(Drop)]
+pub struct Cutter {
+    /// The byte between fields.
+    pub delimiter: u8,
+    /// Where the text stands.
+    pub place: Place,
+    /// The fields that are ended.
+    pub fields: ByteRecord,
+    /// The bytes of the field that isn't ended yet.
+    pub field: Vec<u8>,
+}
+
+impl Cutter {
+    /// At this place, in front of a record.
+    pub fn new(alloc: Global, delimiter: u8, place: Place) -> Cutter
+        ensures delimiter { result.delimiter ≡ delimiter }
+        ensures place { result.place ≡ place }
+        ensures fields { fields_of result.fields ≡ [] }
+        ensures partial { partial_of result.fields ≡ [] }
+        ensures field { result.field.items ≡ [] }
+    {
+        Cutter {
+            delimiter,
+            place,
+            fields: ByteRecord::new(alloc),
+            field: Vec::new(alloc),
+        }
+    }
+
+    /// Puts the field behind those that are ended.
+    pub fn end_field(&mut self) -> Result<(), AllocError>
+        requires { partial_of self.old.fields ≡ [] }
+        ensures delimiter { self.new.delimiter ≡ self.old.delimiter }
+        ensures place { self.new.place ≡ self.old.place }
+        ensures fields { OnOk result (fields_of self.new.fields ≡
+            fields_of self.old.fields ++ self.old.field.items ∷ []) }
+        ensures partial { OnOk result (partial_of self.new.fields ≡ []) }
+        ensures field { OnOk result (self.new.field.items ≡ []) }
+    {
+        self.fields.push_field(self.field.as_slice())?;
+        self.field.clear();
+        Ok(())
+    }
+
+    /// Takes one more byte, and says whether it ended the record. Refused only for memory.
+    pub fn take(&mut self, byte: u8) -> Result<bool, AllocError>
+        requires { partial_of self.old.fields ≡ [] }
+        ensures ended { IfOk result (λ ended. ended ≡
+            is_end (step (reading self.old.delimiter) (state_of self.old.place) byte).1) }
+        ensures place { OnOk result (state_of self.new.place ≡
+            (step (reading self.old.delimiter) (state_of self.old.place) byte).0) }
+        ensures fields { OnOk result (fields_of self.new.fields ≡ fields_after
+            (step (reading self.old.delimiter) (state_of self.old.place) byte).1
+            (fields_of self.old.fields) self.old.field.items) }
+        ensures field { OnOk result (self.new.field.items ≡ field_after
+            (step (reading self.old.delimiter) (state_of self.old.place) byte).1 byte
+            self.old.field.items) }
+        ensures partial { OnOk result (partial_of self.new.fields ≡ []) }
+        ensures delimiter { self.new.delimiter ≡ self.old.delimiter }
+    {
+        let (place, effect) = step(self.delimiter, self.place, byte);
+        self.place = place;
+        match effect {
+            Effect::Skip => {}
+            Effect::Copy => self.field.push(byte)?,
+            Effect::EndField | Effect::EndRecord => self.end_field()?,
+        }
+        Ok(effect == Effect::EndRecord)
+    }
+}
