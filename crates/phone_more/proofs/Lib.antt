@@ -1,0 +1,3 @@
+pub mod Lent
+pub mod ListedLengths
+pub mod Longer
