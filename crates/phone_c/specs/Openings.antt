@@ -6,7 +6,7 @@ use Rattle.phone_texts.specs.Errors.{told}
 use Rattle.phone_texts.specs.declared.error.LoadMetadata.{LoadMetadata}
 use Rattle.phone_records.specs.Missing.{first_missing}
 use Rattle.phone_records.specs.declared.loader.Metadata.{Metadata}
-use Rattle.phone_meta.specs.First.{IsPattern}
+use Rattle.phone_territory.specs.First.{IsPattern}
 use Rattle.phone_meta.specs.Refusals.{patterns}
 use Rattle.phone_meta.specs.Texts.{IsTextRefusal}
 use Rattle.phone_c.specs.declared.status.TheConstants.{NOT_UTF8}

@@ -4,7 +4,8 @@ use Rattle.std.proofs.lemmas.Option.{slice_get-map}
 use Rattle.std.specs.List.{cons_option, filter_map, slice_get}
 use Rattle.std.specs.Option.{option_and_then, option_flatten}
 use Rattle.phone_meta.specs.Lasts.{last_of, last_places}
-use Rattle.phone_meta.specs.Records.{has_id, id_of, last_place, last_where}
+use Rattle.phone_territory.specs.Records.{id_of}
+use Rattle.phone_meta.specs.Records.{has_id, last_place, last_where}
 use Rattle.phone_meta.proofs.Places.{none_placed, some_placed}
 use Rattle.phone_records.specs.declared.loader.Metadata.{Metadata}
 use Rattle.phone_sorted.specs.Orders.{place_of}

@@ -7,7 +7,8 @@ use Rattle.std.proofs.lemmas.Slice.Eq.{bytes_eq-Decides}
 use Rattle.std.specs.List.{AllByRecursion, Contains, IsDistinct, list_any}
 use Rattle.std.specs.Option.{option_or, unwrap_or}
 use Rattle.std.specs.Str.{bytes_eq}
-use Rattle.phone_meta.specs.Records.{has_id, id_of, last_where, last_with, lasts}
+use Rattle.phone_territory.specs.Records.{id_of}
+use Rattle.phone_meta.specs.Records.{has_id, last_where, last_with, lasts}
 use Rattle.phone_records.specs.declared.loader.Metadata.{Metadata}
 
 uncons : {X : Type 0} (x y : X) (xs : List X) → Contains (x ∷ xs) y → (x ≡ y) ⊎ Contains xs y

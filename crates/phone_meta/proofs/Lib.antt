@@ -1,10 +1,8 @@
 pub mod Chains
 pub mod CodeLemmas
-pub mod Complete
 pub mod Indexes
 pub mod LastPlaces
 pub mod Lasts
-pub mod Marks
 pub mod Places
 pub mod Refused
 pub mod TextFaults

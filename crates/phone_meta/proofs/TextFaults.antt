@@ -15,7 +15,8 @@ use Rattle.phone_records.specs.declared.missing.Missing.{Missing}
 use Rattle.phone_json.specs.Fields.{field, as_small, as_list}
 use Rattle.phone_json.specs.Faults.{Refusal, no_json, unknown_key, wrong_kind, least_unknown, unknown_fault, fault_if_none, text_fault, number_fault, truth_fault, list_fault, record_fault, fault_at, descriptor_fault, format_fault, defaults_fault, fault_behind_prefixes, metadata_fault, database_fault, kind_keys, metadata_keys, prefix_keys}
 use Rattle.phone_json.specs.Records.{records_in, records_of}
-use Rattle.phone_meta.specs.Refusals.{IsPatternRefusal, IsRefusalOf, TellsMissing, patterns}
+use Rattle.phone_territory.specs.Refusals.{IsPatternRefusal}
+use Rattle.phone_meta.specs.Refusals.{IsRefusalOf, TellsMissing, patterns}
 use Rattle.phone_meta.specs.Texts.{IsTextRefusal, faults_of}
 
 -- a key that may not stand there, or a value of the wrong kind

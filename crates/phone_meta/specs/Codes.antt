@@ -5,10 +5,12 @@ use Rattle.std.specs.Prelude.{filter, reverse, Option, None, Some, codes}
 use Rattle.std.specs.List.{list_all, list_any}
 use Rattle.std.specs.Str.{bytes_eq}
 use Rattle.phone_records.specs.Missing.{first_given}
--- the number that a text's first bytes write, and numbers whose decimal texts begin one another's
+-- a number's decimal text begins another's
 unfoldable pub use Rattle.phone_trie.specs.Codes.{begins}
+-- the number that a text's first bytes write
 pub use Rattle.phone_trie.specs.Codes.{front_number}
-use Rattle.phone_meta.specs.Records.{code_of, has_code, id_of}
+use Rattle.phone_territory.specs.Records.{code_of, id_of}
+use Rattle.phone_meta.specs.Records.{has_code}
 use Rattle.phone_records.specs.declared.loader.Metadata.{Metadata}
 
 -- a main territory of a calling code

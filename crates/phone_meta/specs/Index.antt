@@ -2,7 +2,7 @@
 use Rattle.std.specs.Prelude.{ℕ, List, map}
 use Rattle.std.specs.Set.{distinct_count}
 use Rattle.std.specs.Str.{bytes_eq}
-use Rattle.phone_meta.specs.Records.{id_of}
+use Rattle.phone_territory.specs.Records.{id_of}
 use Rattle.phone_records.specs.declared.loader.Metadata.{Metadata}
 
 -- the number of different ids

@@ -1,7 +1,8 @@
 -- Territories with the last one of their id.
 use Rattle.std.specs.Prelude.{ℕ, List, map, Option}
 use Rattle.std.specs.Option.{option_copied}
-use Rattle.phone_meta.specs.Records.{has_id, id_of, last_place, last_with}
+use Rattle.phone_territory.specs.Records.{id_of}
+use Rattle.phone_meta.specs.Records.{has_id, last_place, last_with}
 use Rattle.phone_meta.specs.declared.placed.WithLast.{WithLast}
 use Rattle.phone_records.specs.declared.loader.Metadata.{Metadata}
 

@@ -1,10 +1,6 @@
 pub mod Codes
-pub mod First
 pub mod Index
-pub mod Kinds
 pub mod Lasts
-pub mod Layouts
-pub mod Prefixes
 pub mod Records
 pub mod Refusals
 pub mod Texts

@@ -6,12 +6,12 @@ ghost use Rattle.std.specs.List.{find};
 ghost use Rattle.std.specs.Option.{option_copied};
 ghost use Rattle.phone_meta.specs.Codes.{first_of, if_any, is_listed, is_main_of, is_other_of};
 ghost use Rattle.phone_meta.specs.Codes.{is_prefix_free, regions, shortest, territories};
-ghost use Rattle.phone_meta.specs.Records.{code_of, id_of};
+ghost use Rattle.phone_territory.specs.Records.{code_of, id_of};
 ghost use Rattle.phone_records.specs.declared.loader.Metadata as loader;
 
 use crate::database::Database;
-use crate::metadata::Metadata;
-use crate::together::both;
+use phone_territory::Metadata;
+use phone_territory::together::both;
 use phone_trie::Steps;
 use std::alloc::{AllocError, Global};
 

@@ -7,23 +7,22 @@ ghost use Rattle.std.specs.Option.{option_and_then, option_copied, option_flatte
 ghost use Rattle.phone_meta.specs.Codes.{is_listed};
 ghost use Rattle.phone_meta.specs.Index.{count_of_ids};
 ghost use Rattle.phone_meta.specs.Lasts.{last_of, last_places, seen, with_last};
-ghost use Rattle.phone_meta.specs.Records.{last_with, places_where, has_code, first_group_pattern};
-ghost use Rattle.phone_meta.specs.First.{IsPattern, IsPatternOf};
+ghost use Rattle.phone_territory.specs.Records.{first_group_pattern};
+ghost use Rattle.phone_meta.specs.Records.{last_with, places_where, has_code};
+ghost use Rattle.phone_territory.specs.First.{IsPattern, IsPatternOf};
 ghost use Rattle.phone_records.specs.Missing.{first_missing};
 ghost use Rattle.phone_texts.specs.declared.error.LoadMetadata.TheVariants as error;
 ghost use Rattle.phone_meta.specs.Refusals.{patterns, IsRefusalOf, TellsMissing};
 ghost use Rattle.phone_trie.specs.Codes.{is_in};
 
 use crate::index::Index;
-use crate::loader;
-use crate::metadata::{self, Metadata};
 use crate::placed::WithLast;
-use crate::rules::FirstGroup;
-use crate::together::{both, both_read};
 use phone_core::MetadataError;
 use phone_records::LoadMetadata;
 use phone_records::missing::{self, Missing};
 use phone_sorted::Coded;
+use phone_territory::together::{both, both_read};
+use phone_territory::{FirstGroup, Metadata, compile_all, loader};
 use phone_trie::{Steps, Trie};
 use regex::Regex;
 use std::alloc::Global;
@@ -76,7 +75,7 @@ impl Database {
         if let Some(missing) = missing::first_missing(records.as_slice()) {
             return Err(missing_value(alloc, missing));
         }
-        let territories = metadata::compile_all(alloc, records)?;
+        let territories = compile_all(alloc, records)?;
         let index = Index::of(alloc, territories.as_slice());
         let others = both_read(index, FirstGroup::compile(alloc));
         let (territories, (index, first_group)) = both_read(Ok(territories), others)?;

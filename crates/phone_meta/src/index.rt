@@ -4,16 +4,16 @@ ghost use Rattle.std.specs.Prelude.{◌≡◌, ℕ, List, [], IfOk, filter, leng
 ghost use Rattle.phone_meta.specs.Codes.{is_listed};
 ghost use Rattle.phone_meta.specs.Index.{count_of_ids};
 ghost use Rattle.phone_meta.specs.Lasts.{last_places};
-ghost use Rattle.phone_meta.specs.Refusals.{AreRead};
-ghost use Rattle.phone_meta.specs.Records.{has_code, has_id, id_of, last_place, places_where};
+ghost use Rattle.phone_territory.specs.Refusals.{AreRead};
+ghost use Rattle.phone_territory.specs.Records.{id_of};
+ghost use Rattle.phone_meta.specs.Records.{has_code, has_id, last_place, places_where};
 ghost use Rattle.phone_sorted.specs.Orders.{place_of, text_of};
 ghost use Rattle.phone_sorted.specs.Orders as placed;
 ghost use Rattle.phone_trie.specs.Codes.{is_in};
 
-use crate::metadata::Metadata;
-use crate::together::both;
-use phone_records::LoadMetadata;
 use phone_sorted::{Coded, Grouped, Named, Sorted};
+use phone_territory::together::both;
+use phone_territory::{LoadMetadata, Metadata};
 use phone_trie::{Steps, Trie};
 use std::alloc::{AllocError, Global};
 

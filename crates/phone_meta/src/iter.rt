@@ -3,11 +3,12 @@ ghost use Rattle.std.specs.Prelude.{◌≡◌, ℕ, List, map, Some};
 ghost use Rattle.std.specs.Iterator.{YieldsFirstRef, item_count};
 ghost use Rattle.std.specs.List.{Contains, IsDistinct, list_any};
 ghost use Rattle.std.specs.Str.{bytes_eq};
-ghost use Rattle.phone_meta.specs.Records.{has_id, id_of, last_with};
+ghost use Rattle.phone_territory.specs.Records.{id_of};
+ghost use Rattle.phone_meta.specs.Records.{has_id, last_with};
 ghost use Rattle.phone_records.specs.declared.loader.Metadata as loader;
 
 use crate::database::Database;
-use crate::metadata::Metadata;
+use phone_territory::Metadata;
 use std::marker::Model;
 
 /// For each id its last territory. Contracts see those that are still to come.

@@ -7,7 +7,7 @@ ghost use Rattle.phone_device.specs.Passing.{IsAtEnd, PassesSome};
 ghost use Rattle.phone_json.specs.Records.{records_of};
 ghost use Rattle.phone_records.specs.Missing.{first_missing};
 ghost use Rattle.phone_texts.specs.declared.error.LoadMetadata.TheVariants as error;
-ghost use Rattle.phone_meta.specs.First.{IsPattern};
+ghost use Rattle.phone_territory.specs.First.{IsPattern};
 ghost use Rattle.phone_meta.specs.Refusals.{patterns};
 ghost use Rattle.phone_meta.specs.Texts.{IsTextRefusal, IsByteRefusal, IsCutShort, IsRefusalOfSome};
 ghost use Rattle.phone_meta.specs.Texts.{faults_of};

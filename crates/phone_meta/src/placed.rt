@@ -5,8 +5,8 @@ ghost use Rattle.phone_meta.specs.Lasts.{seen, with_last};
 ghost use Rattle.phone_meta.specs.Records.{has_code};
 
 use crate::database::Database;
-use crate::metadata::Metadata;
 use phone_sorted::Coded;
+use phone_territory::Metadata;
 use std::marker::Model;
 
 /// Territories by their places, in the order of these. Contracts see those that are still to come.

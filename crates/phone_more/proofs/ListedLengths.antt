@@ -8,15 +8,15 @@ use Rattle.phone_core.specs.Numbers.{text_of}
 use Rattle.phone_core.specs.declared.kind.«Type».{«Type»}
 use Rattle.phone_core.specs.declared.kind.«Type».TheVariants as kind
 use Rattle.phone_meta.specs.Codes.{first_of, territories}
-use Rattle.phone_meta.specs.Kinds.{Kinds, descriptor_for, kinds_of}
-use Rattle.phone_meta.specs.Records.{allows_length, matches, pattern_of}
-use Rattle.phone_meta.specs.First.{at_start}
+use Rattle.phone_territory.specs.Kinds.{Kinds, descriptor_for, kinds_of}
+use Rattle.phone_territory.specs.Records.{allows_length, matches, pattern_of}
+use Rattle.phone_territory.specs.First.{at_start}
 use Rattle.phone_records.specs.declared.loader.Descriptor.{Descriptor}
 use Rattle.phone_records.specs.declared.loader.Metadata.{Metadata}
-use Rattle.phone_read.specs.Hints.{is_of}
-use Rattle.phone_read.specs.Regions.{home, is_known, is_one_pattern, line_or_mobile, tried_kinds, type_of}
+use Rattle.phone_validator.specs.Regions.{is_of}
+use Rattle.phone_validator.specs.Regions.{home, is_known, is_one_pattern, line_or_mobile, tried_kinds, type_of}
 use Rattle.phone_read.specs.declared.reading.Reading.{Reading}
-use Rattle.phonenumber.specs.Queries.{is_valid}
+use Rattle.phone_number.specs.Queries.{is_valid}
 use Rattle.phone_more.specs.Possibilities.{counting_descriptors, has_listed_kind, is_among, kind_descriptors}
 use Rattle.phone_more.specs.Possibilities.{lengths_of, lists_lengths, possibility_of, possibility_under}
 use Rattle.phone_more.specs.declared.possibilities.Possibility.TheVariants.{Possible, UnknownCode}

@@ -9,7 +9,7 @@ use Rattle.phone_core.specs.declared.country.TheConstants.{ALL}
 use Rattle.phone_core.specs.declared.error.ParseError.{ParseError}
 use Rattle.phone_core.specs.declared.error.ParseError.TheVariants.{Memory}
 use Rattle.phone_core.specs.declared.kind.«Type».{«Type»}
-use Rattle.phone_meta.specs.Kinds.{descriptor_for, kinds_of}
+use Rattle.phone_territory.specs.Kinds.{descriptor_for, kinds_of}
 use Rattle.phone_meta.specs.Records.{last_with}
 use Rattle.phone_records.specs.declared.loader.Descriptor.{Descriptor}
 use Rattle.phone_records.specs.declared.loader.Metadata.{Metadata}

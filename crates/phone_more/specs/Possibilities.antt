@@ -8,10 +8,10 @@ use Rattle.phone_core.specs.declared.error.ParseError.{ParseError}
 use Rattle.phone_core.specs.declared.error.ParseError.TheVariants as error
 use Rattle.phone_core.specs.declared.kind.«Type».{«Type»}
 use Rattle.phone_meta.specs.Codes.{first_of, territories}
-use Rattle.phone_meta.specs.Kinds.{descriptor_for, kinds_of}
+use Rattle.phone_territory.specs.Kinds.{descriptor_for, kinds_of}
 use Rattle.phone_records.specs.declared.loader.Descriptor.{Descriptor}
 use Rattle.phone_records.specs.declared.loader.Metadata.{Metadata}
-use Rattle.phone_read.specs.Regions.{home, tried_kinds, type_of}
+use Rattle.phone_validator.specs.Regions.{home, tried_kinds, type_of}
 use Rattle.phone_read.specs.declared.reading.Reading.{Reading}
 use Rattle.phone_more.specs.declared.possibilities.Possibility.{Possibility}
 use Rattle.phone_more.specs.declared.possibilities.Possibility.TheVariants.{Possible}

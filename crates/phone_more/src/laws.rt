@@ -3,7 +3,7 @@
 ghost use Rattle.std.specs.Prelude.{◌≡◌, ◌<◌, ℕ, List, true};
 ghost use Rattle.phone_records.specs.declared.loader.Metadata as loader;
 ghost use Rattle.phone_read.specs.declared.reading.Reading.{Reading};
-ghost use Rattle.phonenumber.specs.Queries.{is_valid};
+ghost use Rattle.phone_number.specs.Queries.{is_valid};
 ghost use Rattle.phone_more.specs.Possibilities.{has_listed_kind, possibility_by, possibility_of};
 ghost use Rattle.phone_more.specs.declared.possibilities.Possibility.TheVariants as possibility;
 

@@ -2,7 +2,7 @@
 ghost use Rattle.std.specs.Prelude.{◌≡◌, ◌⊎◌, ◌==◌, Err, Result, IfOk, chars, length, map, nat_lt};
 ghost use Rattle.std.specs.Borrow.{Bor};
 ghost use Rattle.std.specs.List.{filter_map, flat_map, list_all};
-ghost use Rattle.phone_meta.specs.Kinds.{descriptor_for, kinds_of};
+ghost use Rattle.phone_territory.specs.Kinds.{descriptor_for, kinds_of};
 ghost use Rattle.std.specs.Option.{option_copied};
 ghost use Rattle.phone_core.specs.Numbers.{text_of};
 ghost use Rattle.phone_core.specs.declared.error.ParseError.{ParseError as Refusal};

@@ -5,7 +5,7 @@ use Rattle.std.proofs.lemmas.Bool.{and_from, cond-true, cond-false}
 use Rattle.std.specs.Fmt.{decimal}
 use Rattle.phone_core.specs.declared.country.Source.TheVariants.{Number, Default}
 use Rattle.phone_records.specs.declared.loader.Metadata.{Metadata}
-use Rattle.phone_meta.specs.Records.{code_of}
+use Rattle.phone_territory.specs.Records.{code_of}
 use Rattle.phone_read.specs.Hints.{code_by_hint, looks_national}
 use Rattle.phone_parts.specs.Texts.{is_front}
 use Rattle.phone_parts.proofs.Prefixes.{is_front-append, is_front-no}

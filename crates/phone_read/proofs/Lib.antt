@@ -3,12 +3,9 @@ pub mod DecimalFronts
 pub mod DigitTexts
 pub mod FoundCodes
 pub mod HintCodes
-pub mod Lengths
 pub mod ListedCodes
 pub mod ListedFronts
 pub mod ReadNumbers
 pub mod ReadingOnes
 pub mod ReadingRows
 pub mod ReadingSome
-pub mod Regional
-pub mod TriedKinds

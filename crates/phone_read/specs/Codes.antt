@@ -21,7 +21,7 @@ use Rattle.phone_core.specs.declared.country.Source.TheVariants.{Plus, Idd, Defa
 use Rattle.phone_core.specs.declared.error.ParseError.{ParseError}
 use Rattle.phone_core.specs.declared.error.ParseError.TheVariants.{InvalidCountryCode}
 use Rattle.phone_core.specs.declared.error.ParseError.TheVariants.{MalformedInteger, TooShortNsn}
-use Rattle.phone_meta.specs.First.{first_span}
+use Rattle.phone_territory.specs.First.{first_span}
 use Rattle.phone_meta.specs.Codes.{is_listed, shortest}
 use Rattle.phone_records.specs.declared.loader.Metadata.{Metadata}
 use Rattle.phone_parts.specs.Texts.{begins}

@@ -1,6 +1,6 @@
 -- The hint: its territory, and the calling code that it gives, after the original's
 -- `parser/helper`. Texts are digits here, whose characters are their bytes.
-use Rattle.std.specs.Prelude.{ℕ, ◌&&◌, not, Bool, false, if◌then◌else◌, List, length, drop, Option}
+use Rattle.std.specs.Prelude.{ℕ, ◌&&◌, not, Bool, if◌then◌else◌, List, length, drop, Option}
 use Rattle.std.specs.Prelude.{None, Some}
 use Rattle.std.specs.Option.{option_and_then}
 use Rattle.std.specs.Fmt.{decimal}
@@ -9,11 +9,12 @@ use Rattle.phone_core.specs.Validations.{is_possible}
 use Rattle.phone_core.specs.declared.country.Id.{Id}
 use Rattle.phone_core.specs.declared.country.Source.{Source}
 use Rattle.phone_core.specs.declared.country.Source.TheVariants.{Number, Default}
-use Rattle.phone_meta.specs.Records.{code_of, last_with, matches}
-use Rattle.phone_records.specs.declared.loader.Descriptor.{Descriptor}
+use Rattle.phone_territory.specs.Records.{code_of}
+use Rattle.phone_meta.specs.Records.{last_with}
 use Rattle.phone_records.specs.declared.loader.Metadata.{Metadata}
 use Rattle.phone_parts.specs.Texts.{is_front}
-use Rattle.phone_read.specs.Verdicts.{verdict}
+use Rattle.phone_validator.specs.Regions.{is_of}
+use Rattle.phone_validator.specs.Verdicts.{verdict}
 
 -- a calling code, how it was found, and the digits that follow it
 pub record Coded : Type 0 where
@@ -24,11 +25,6 @@ pub record Coded : Type 0 where
 -- the territory of the hint: the last record with its id
 abbrev pub hinted : List Metadata → Option Id → Option Metadata
 hinted db hint = option_and_then (λ id. last_with (name id) db) hint
-
--- the descriptor is there and matches
-abbrev pub is_of : Option Descriptor → List ℕ → Bool
-is_of None digits = false
-is_of (Some d) digits = matches d digits
 
 -- digits look like a number of the territory: they are of its general kind, and their count is
 -- possible

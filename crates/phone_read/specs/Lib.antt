@@ -1,10 +1,7 @@
 pub mod Codes
 pub mod Hints
 pub mod Numbering
-pub mod Origins
 pub mod Readings
-pub mod Regions
 pub mod Samples
 pub mod Strips
 pub mod TransformRules
-pub mod Verdicts

@@ -4,11 +4,11 @@ use Rattle.std.specs.Prelude.{ℕ, ◌==◌, ◌&&◌, not, Bool, false, if◌th
 use Rattle.std.specs.Prelude.{Option, None, Some, option_map}
 use Rattle.std.specs.Option.{option_map_or}
 use Rattle.regex.specs.Replace.{bytes_of}
-use Rattle.phone_meta.specs.First.{captured, replaced, Captured}
+use Rattle.phone_territory.specs.First.{captured, replaced, Captured}
 use Rattle.phone_records.specs.declared.loader.Metadata.{Metadata}
 use Rattle.phone_parts.specs.Texts.{without_front}
-use Rattle.phone_read.specs.Hints.{is_of}
-use Rattle.phone_read.specs.Verdicts.{verdict, is_too_short}
+use Rattle.phone_validator.specs.Regions.{is_of}
+use Rattle.phone_validator.specs.Verdicts.{verdict, is_too_short}
 
 -- the digits that are left, and the carrier that was named
 pub record Stripped : Type 0 where

@@ -9,7 +9,7 @@ ghost use Rattle.phone_chars.specs.Characters.{is_digit, is_plus};
 ghost use Rattle.phone_chars.specs.Cuts.{after_front};
 ghost use Rattle.phone_chars.specs.Norm.{norm};
 ghost use Rattle.phone_core.specs.declared.country.Source.TheVariants.{Plus};
-ghost use Rattle.phone_meta.specs.First.{IsCut};
+ghost use Rattle.phone_territory.specs.First.{IsCut};
 ghost use Rattle.phone_parts.specs.Parts.{parts_of};
 ghost use Rattle.phone_parts.specs.Texts.{begins};
 ghost use Rattle.phone_read.specs.Codes.{IsLentDigits, after_match, dialled, found_by, is_bare};

@@ -12,7 +12,7 @@ pub mod rows;
 mod stripping;
 mod together;
 mod trims;
-pub mod validator;
 
 pub use phone_parts::{Number, natural, rfc3966};
+pub use phone_validator::validator;
 pub use reading::{Reading, read};

@@ -8,20 +8,20 @@ ghost use Rattle.phone_core.specs.declared.country.Source.{Source};
 ghost use Rattle.phone_read.specs.Hints.{Coded, hinted};
 ghost use Rattle.phone_read.specs.Numbering.{reading_of};
 ghost use Rattle.phone_read.specs.Readings.{Reads, stripped, stripping_territory, without_zeros};
-ghost use Rattle.phone_read.specs.Regions.{home};
+ghost use Rattle.phone_validator.specs.Regions.{home};
 
 use crate::calling_code::{CodedNumber, coded};
 use crate::hints::hinted;
 use crate::stripping::stripped;
 use crate::together::{both, instead};
 use crate::trims::without_zeros;
-use crate::validator::home;
 use phone_chars::is_viable;
 use phone_core::consts::{MAX_LENGTH_FOR_NSN, MIN_LENGTH_FOR_NSN};
 use phone_core::country::{Code, Id};
 use phone_core::{Carrier, Extension, NationalNumber, ParseError};
 use phone_meta::{Database, Metadata};
 use phone_parts::{Number, parts};
+use phone_validator::validator::home;
 use std::alloc::{AllocError, Global};
 use std::borrow::CowStr;
 

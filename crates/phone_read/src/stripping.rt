@@ -3,9 +3,9 @@ ghost use Rattle.std.specs.Prelude.{◌≡◌, ◌⊎◌, ◌==◌, ◌&&◌, no
 ghost use Rattle.std.specs.Prelude.{Some, drop, option_map, true, false, string_bytes, MatchOption};
 ghost use Rattle.std.specs.Cow.{cow_str_bytes, IsBorrowedStr};
 ghost use Rattle.std.specs.Option.{option_copied};
-ghost use Rattle.phone_meta.specs.First.{AreCuts, IsCut, captured, replaced};
+ghost use Rattle.phone_territory.specs.First.{AreCuts, IsCut, captured, replaced};
 ghost use Rattle.phone_records.specs.declared.loader.Metadata as loader;
-ghost use Rattle.phone_read.specs.Hints.{is_of};
+ghost use Rattle.phone_validator.specs.Regions.{is_of};
 ghost use Rattle.phone_read.specs.Readings.{stripped};
 ghost use Rattle.phone_read.specs.Strips.{Stripped, by_match, by_rule, held, is_anew};
 ghost use Rattle.phone_read.specs.Strips.{is_anew_by_match, is_anew_by_rule, is_left_by_rule};
@@ -13,10 +13,10 @@ ghost use Rattle.phone_read.specs.Strips.{once_more, step, strip, transformed};
 
 use crate::together::{beside, instead};
 use crate::trims::{part, trim, without_front};
-use crate::validator::{is_general, length_of};
 use phone_core::{Type, Validation};
 use phone_meta::{Captured, Metadata, Pattern};
 use phone_parts::Number;
+use phone_validator::validator::{is_general, length_of};
 use std::alloc::{AllocError, Global};
 use std::borrow::CowStr;
 

@@ -7,7 +7,7 @@ ghost use Rattle.std.specs.Option.{option_copied};
 ghost use Rattle.std.specs.Str.{bytes_eq};
 ghost use Rattle.regex.specs.Replace.{bytes_of};
 ghost use Rattle.phone_chars.specs.Cuts.{after_front};
-ghost use Rattle.phone_meta.specs.First.{IsCut};
+ghost use Rattle.phone_territory.specs.First.{IsCut};
 ghost use Rattle.phone_parts.specs.Texts.{is_front, without_front};
 
 use std::alloc::{AllocError, Global};

@@ -6,8 +6,8 @@ use Rattle.phone_core.specs.declared.mode.Mode.TheVariants.{E164, International,
 use Rattle.phone_read.specs.declared.reading.Reading.{Reading}
 use Rattle.phone_records.specs.declared.loader.Format.{Format}
 use Rattle.phone_records.specs.declared.loader.Metadata.{Metadata}
-use Rattle.phonenumber.specs.Reports.{number_line, printed_texts, tabbed, texts_by}
-use Rattle.phonenumber.specs.Texts.{text_by}
+use Rattle.phone_number.specs.Reports.{number_line, printed_texts, tabbed, texts_by}
+use Rattle.phone_number.specs.Texts.{text_by}
 use Rattle.phone_report.specs.Lines.{known_words}
 
 -- what a printer of a number under a database, without a layout of its own, prints

@@ -13,8 +13,8 @@ use Rattle.phone_read.proofs.ReadingOnes.{reading_same}
 use Rattle.phone_read.specs.Readings.{Reads}
 use Rattle.phone_read.specs.declared.reading.Reading.{Reading}
 use Rattle.phone_records.specs.declared.loader.Metadata.{Metadata}
-use Rattle.phonenumber.specs.Reports.{IsReportLine, number_line, refusal_line}
-use Rattle.phonenumber.specs.Reports.IsReportLine.{no_text, refused, read}
+use Rattle.phone_number.specs.Reports.{IsReportLine, number_line, refusal_line}
+use Rattle.phone_number.specs.Reports.IsReportLine.{no_text, refused, read}
 
 -- a result is no `Ok` and `Err` at once
 pub no_both : {T E : Type 0} (x : T) (e : E) → ◌≡◌ {A = Result T E} (Ok x) (Err e) → ⊥

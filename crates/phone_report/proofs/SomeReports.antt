@@ -12,7 +12,7 @@ use Rattle.phone_lines.specs.Runs.{IsSoFar}
 use Rattle.phone_lines.proofs.AnswerLemmas.{AreAnswers-then}
 use Rattle.phone_lines.proofs.CutLemmas.{AreCut-nothing}
 use Rattle.phone_lines.proofs.Progress.{IsSoFar-ended, IsSoFar-grown}
-use Rattle.phonenumber.specs.Reports.{IsReportLine}
+use Rattle.phone_number.specs.Reports.{IsReportLine}
 use Rattle.phone_report.specs.Report.{IsReport}
 
 -- under each database and hint this line has a report line

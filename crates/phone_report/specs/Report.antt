@@ -3,7 +3,7 @@ use Rattle.std.specs.Prelude.{ℕ, List, Option}
 use Rattle.phone_core.specs.declared.country.Id.{Id}
 use Rattle.phone_lines.specs.Reports as on_lines
 use Rattle.phone_records.specs.declared.loader.Metadata.{Metadata}
-use Rattle.phonenumber.specs.Reports.{IsReportLine}
+use Rattle.phone_number.specs.Reports.{IsReportLine}
 
 -- the report under a database and a hint: a report line for each line of the bytes
 abbrev pub IsReport : List Metadata → Option Id → List ℕ → List ℕ → Type 0

@@ -4,13 +4,13 @@ ghost use Rattle.std.specs.Prelude.{IfOk, OnOk, codes, string_bytes};
 ghost use Rattle.phone_meta.specs.Codes.{first_of, territories};
 ghost use Rattle.phone_records.specs.declared.loader.Metadata.{Metadata};
 ghost use Rattle.phone_report.specs.Lines.{known_words};
-ghost use Rattle.phonenumber.specs.Reports.{number_line, tabbed, texts_by};
+ghost use Rattle.phone_number.specs.Reports.{number_line, tabbed, texts_by};
 
 use crate::words::{kind_word, refusal_line, region_word, source_word, validity_word};
 use phone_lines::Answers;
-use phonenumber::country::Id;
-use phonenumber::metadata::Database;
-use phonenumber::{FormatError, PhoneNumber, format_with, parse_with};
+use phone_number::country::Id;
+use phone_number::metadata::Database;
+use phone_number::{FormatError, PhoneNumber, format_with, parse_with};
 use std::alloc::{AllocError, Global};
 use std::marker::Model;
 
@@ -119,7 +119,7 @@ fn push_word(line: &mut String, word: &str) -> Result<(), AllocError>
 }
 
 impl<'d> Answers for Reporter<'d> {
-    ghost use Rattle.phonenumber.specs.Reports.{IsReportLine};
+    ghost use Rattle.phone_number.specs.Reports.{IsReportLine};
 
     ghost gives = { λ r line answer. IsReportLine r.database.now r.hint line answer };
 

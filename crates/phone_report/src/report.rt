@@ -6,16 +6,16 @@ ghost use Rattle.phone_lines.specs.Faults.{sink_faults_of};
 ghost use Rattle.phone_lines.specs.Runs.{OfRead, TakesA, most_bytes};
 ghost use Rattle.phone_lines.specs.declared.blocks.RunError.TheVariants as error;
 ghost use Rattle.phone_records.specs.declared.loader.Metadata as loader;
-ghost use Rattle.phonenumber.specs.Reports.{IsReportLine};
+ghost use Rattle.phone_number.specs.Reports.{IsReportLine};
 ghost use Rattle.phone_report.specs.Report.{IsBeginning, IsReport, TakesBeginning};
 ghost use Rattle.phone_report.specs.Report.{IsReportOnEnded, IsReportOnFirst};
 
 use crate::line::Reporter;
 use phone_device::{ByteSink, ByteSource};
 use phone_lines::{RunError, answer_lines, without_return};
+use phone_number::country::Id;
+use phone_number::metadata::Database;
 use phone_read::laws::some_reading;
-use phonenumber::country::Id;
-use phonenumber::metadata::Database;
 
 /// Reads lines from a source and writes the report on them to a sink.
 ///

@@ -4,8 +4,8 @@ ghost use Rattle.std.specs.Prelude.{◌≡◌};
 use crate::report::run;
 use phone_device::{ByteSink, ByteSource, write_all};
 use phone_lines::RunError;
-use phonenumber::country::Id;
-use phonenumber::metadata::Database;
+use phone_number::country::Id;
+use phone_number::metadata::Database;
 use std::alloc::AllocGlobal;
 use std::fs::Files;
 

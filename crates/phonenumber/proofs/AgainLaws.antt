@@ -8,7 +8,7 @@ use Rattle.phone_records.specs.declared.loader.Metadata.{Metadata}
 use Rattle.phone_read.proofs.ReadingOnes.{reading_same}
 use Rattle.phone_read.specs.declared.reading.Reading.{Reading}
 use Rattle.phonenumber.specs.Again.{IsAgain, IsReadAs, IsReadOfPrinted}
-use Rattle.phonenumber.specs.Texts.{printed, text_by}
+use Rattle.phone_number.specs.Texts.{printed, text_by}
 
 -- what is read of the text is the number, as a text has one reading
 pub again_by : (db : List Metadata) (mode : Mode) (n : Reading) (m : Metadata) (e : Option (List ℕ)) (r : Result Reading ParseError) → first_of (territories n.code.value db) ≡ Some m →

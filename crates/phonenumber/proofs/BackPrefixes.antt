@@ -9,14 +9,14 @@ use Rattle.ucd_case.proofs.Computing.{ucd_case}
 use Rattle.ucd_category.proofs.Computing.{ucd_category}
 use Rattle.phone_chars.specs.Characters.{is_digit, is_letter}
 use Rattle.phone_core.specs.declared.mode.Mode.TheVariants.{International}
-use Rattle.phone_meta.specs.Prefixes.{benign_prefixes, is_benign_prefix}
+use Rattle.phone_territory.specs.Prefixes.{benign_prefixes, is_benign_prefix}
 use Rattle.phone_records.specs.declared.loader.Metadata.{Metadata}
 use Rattle.phone_parts.specs.Announcements.{IsAnnouncement, is_space}
 use Rattle.phone_parts.specs.Suffixes.{indicators, is_mark}
 use Rattle.phone_parts.specs.Texts.{ends, is_like}
 use Rattle.phone_read.specs.declared.reading.Reading.{Reading}
 use Rattle.phonenumber.specs.Plain.{IsBenign}
-use Rattle.phonenumber.specs.Texts.{laid_out}
+use Rattle.phone_number.specs.Texts.{laid_out}
 use Rattle.phonenumber.proofs.BackLaws.{IsAnnounced}
 use Rattle.phonenumber.proofs.BackTexts.{IsUtf8-low, chars-low, is_low}
 

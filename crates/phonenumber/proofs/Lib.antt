@@ -1,9 +1,4 @@
 pub mod AgainLaws
-pub mod Reaches
-pub mod ReportRows
-pub mod ThinReadings
-pub mod ThinTexts
-pub mod SameNumbers
 pub mod BackCodes
 pub mod BackLaws
 pub mod BackNumbers
@@ -11,6 +6,8 @@ pub mod BackPrefixes
 pub mod BackReads
 pub mod BackTexts
 pub mod BackViable
-pub mod HyphenTexts
 pub mod Keys
-pub mod TextsLaid
+pub mod Reaches
+pub mod ReportRows
+pub mod ThinReadings
+pub mod ThinTexts

@@ -26,7 +26,7 @@ use Rattle.phone_read.specs.Strips.{Stripped, strip}
 use Rattle.phone_parts.specs.Parts.{Parts}
 use Rattle.phone_parts.specs.Tel.{IsTel, is_phonedigit}
 use Rattle.phone_parts.specs.Texts.{begins, without_front}
-use Rattle.phone_read.specs.Verdicts.{verdict, is_too_short}
+use Rattle.phone_validator.specs.Verdicts.{verdict, is_too_short}
 use Rattle.phone_core.specs.declared.country.Source.TheVariants.{Default}
 use Rattle.phone_parts.specs.declared.natural.NoReading.TheVariants.{Error}
 use Rattle.phone_read.specs.declared.reading.Reading.{Reading}

@@ -1,27 +1,21 @@
 -- Which printed numbers are read back: the premises.
-use Rattle.std.specs.Prelude.{◌≡◌, ◌⊎◌, ℕ, ◌^◌, ◌<◌, ◌≤◌, not, Bool, true, false, List, [], ◌∷◌}
+use Rattle.std.specs.Prelude.{◌≡◌, ◌⊎◌, ℕ, ◌<◌, ◌≤◌, not, Bool, true, false, List, [], ◌∷◌}
 use Rattle.std.specs.Prelude.{filter, length, chars, IsUtf8, Option, None, Some}
 use Rattle.std.specs.List.{list_all, list_any}
 use Rattle.std.specs.Option.{option_map_or}
 use Rattle.phone_chars.specs.Characters.{is_digit, is_one_of, is_punctuation, is_separator}
-use Rattle.phone_core.specs.Numbers.{IsHeld, text_of}
+use Rattle.phone_core.specs.Numbers.{text_of}
 use Rattle.phone_core.specs.declared.mode.Mode.TheVariants.{International}
 use Rattle.phone_meta.specs.Codes.{first_of, territories}
-use Rattle.phone_meta.specs.Prefixes.{is_benign_prefix}
+use Rattle.phone_territory.specs.Prefixes.{is_benign_prefix}
 use Rattle.phone_parts.specs.Announcements.{IsAnnouncement}
 use Rattle.phone_parts.specs.Texts.{ends}
 use Rattle.phone_records.specs.declared.loader.Metadata.{Metadata}
 use Rattle.phone_read.specs.Readings.{without_zeros}
-use Rattle.phone_read.specs.Regions.{home}
+use Rattle.phone_validator.specs.Regions.{home}
 use Rattle.phone_read.specs.Strips.{strip}
 use Rattle.phone_read.specs.declared.reading.Reading.{Reading}
-use Rattle.phonenumber.specs.Texts.{laid_out}
-
--- what every number keeps that a `PhoneNumber` holds: value and zeros have room in their word, and
--- the code has 16 bits
-pub record IsBounded (n : Reading) : Type 0 where
-  pub national : IsHeld n.national
-  pub code : n.code.value < 2 ^ 16
+use Rattle.phone_number.specs.Texts.{laid_out}
 
 -- the code is listed, with m as its first territory, the value is not 0, and the national text has
 -- `least` to 17 digits

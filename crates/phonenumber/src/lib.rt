@@ -1,26 +1,12 @@
-//! Phone numbers: read from a text, printed, compared.
+//! Phone numbers: read from a text, printed, compared, and what holds of them all.
 #![tactic(auto)]
 
 pub mod again;
-mod appending;
-mod formatter;
-mod hyphens;
 pub mod laws;
-pub mod metadata;
-mod parser;
-mod phone_number;
-mod printing;
-mod queries;
 pub mod rows;
-mod written;
 
-pub use formatter::{FormatError, Formatter, format_with};
-pub use metadata::Metadata;
-pub use parser::parse_with;
-pub use phone_chars::is_viable;
-pub use phone_core::{
-    Carrier, Extension, MetadataError, Mode, NationalNumber, ParseError, Type, Validation, country,
+pub use phone_number::{
+    Carrier, Country, Extension, FormatError, Formatter, Metadata, MetadataError, Mode,
+    NationalNumber, ParseError, PhoneNumber, Queried, Texts, Type, Validation, country,
+    format_with, is_valid_with, is_viable, metadata, parse_with,
 };
-pub use phone_number::PhoneNumber;
-pub use printing::Texts;
-pub use queries::{Country, Queried, is_valid_with};

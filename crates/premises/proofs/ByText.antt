@@ -10,12 +10,12 @@ use Rattle.phone_chars.specs.Characters.{is_digit, is_one_of, is_punctuation, is
 use Rattle.phone_core.specs.Numbers.{text_of}
 use Rattle.phone_core.specs.declared.mode.Mode.TheVariants.{International}
 use Rattle.phone_meta.specs.Codes.{first_of, territories}
-use Rattle.phone_meta.specs.Prefixes.{is_benign_prefix}
+use Rattle.phone_territory.specs.Prefixes.{is_benign_prefix}
 use Rattle.phone_parts.specs.Texts.{ends}
 use Rattle.phone_records.specs.declared.loader.Metadata.{Metadata}
 use Rattle.phone_read.specs.declared.reading.Reading.{Reading}
 use Rattle.phonenumber.specs.Plain.{has_digits, IsBenign, IsPlain, IsPlainInternational, IsPlainRfc3966}
-use Rattle.phonenumber.specs.Texts.{laid_out}
+use Rattle.phone_number.specs.Texts.{laid_out}
 
 -- the value isn't 0, and there are so many digits
 abbrev pub counts : Reading → ℕ → Bool

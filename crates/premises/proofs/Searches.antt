@@ -16,7 +16,7 @@ use Rattle.regex_syntax.proofs.CapturesLemmas.{alike_of_same}
 use Rattle.regex_syntax.specs.Brackets.{Nested}
 use Rattle.regex_syntax.specs.Grammar.{Names, read}
 use Rattle.regex_syntax.specs.Same.{SameTree}
-use Rattle.phone_meta.specs.First.{verbose, first_match, seen_of}
+use Rattle.phone_territory.specs.First.{verbose, first_match, seen_of}
 use Rattle.phone_pattern.proofs.Matches.{found}
 
 -- what an answer unfolds to compute a search and what a template writes

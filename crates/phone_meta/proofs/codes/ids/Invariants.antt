@@ -1,5 +1,5 @@
 use Rattle.std.proofs.Common.{◌≡◌, ℕ, List, map, take, Bor}
-use Rattle.phone_meta.specs.Records.{id_of}
+use Rattle.phone_territory.specs.Records.{id_of}
 use Rattle.phone_records.specs.declared.loader.Metadata.{Metadata}
 use Rattle.phone_meta.proofs.codes.ids.Given as goal
 

@@ -1,5 +1,5 @@
 use Rattle.std.proofs.Common.{◌≡◌, map, take}
-use Rattle.phone_meta.specs.Records.{id_of}
+use Rattle.phone_territory.specs.Records.{id_of}
 use Rattle.phone_sorted.specs.Orders.{place_of}
 use Rattle.phone_meta.proofs.index.lasts.Given as goal
 

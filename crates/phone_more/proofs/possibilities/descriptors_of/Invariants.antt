@@ -1,7 +1,7 @@
 use Rattle.std.proofs.Common.{◌≡◌, ◌++◌, drop, map, Bor}
 use Rattle.std.specs.List.{filter_map}
 use Rattle.phone_core.specs.declared.kind.«Type».{«Type»}
-use Rattle.phone_meta.specs.Kinds.{descriptor_for, kinds_of}
+use Rattle.phone_territory.specs.Kinds.{descriptor_for, kinds_of}
 use Rattle.phone_records.specs.declared.loader.Descriptor.{Descriptor}
 use Rattle.phone_more.proofs.possibilities.descriptors_of.Given as goal
 

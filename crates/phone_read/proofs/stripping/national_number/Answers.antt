@@ -1,7 +1,7 @@
 use Rattle.std.proofs.Common.{◌≡◌, ℕ, List, Option, Some, None, false, IfOk, IfSome, option_map, ap, sym, subst, ◌∙◌}
 use Rattle.std.specs.Cow.{cow_str_bytes, IsBorrowedStr}
 use Rattle.std.specs.Option.{option_copied, option_map_or}
-use Rattle.phone_meta.specs.First.{AreCuts, Captured, captured}
+use Rattle.phone_territory.specs.First.{AreCuts, Captured, captured}
 use Rattle.phone_records.specs.declared.loader.Metadata.{Metadata}
 use Rattle.phone_parts.specs.Texts.{without_front}
 use Rattle.phone_parts.specs.declared.number.Number.{Number as Parts}

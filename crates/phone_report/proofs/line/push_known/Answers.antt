@@ -1,7 +1,7 @@
 use Rattle.std.proofs.Common.{◌≡◌, ◌∷◌, ◌++◌, OnOk, string_bytes, ap, subst, ◌∙◌}
 use Rattle.phone_core.specs.declared.country.Code.{Code}
-use Rattle.phonenumber.specs.Queries.{is_valid, kind_of_number, region_of_number}
-use Rattle.phonenumber.specs.Reports.{kind_word, region_word, source_word, validity_word}
+use Rattle.phone_number.specs.Queries.{is_valid, kind_of_number, region_of_number}
+use Rattle.phone_number.specs.Reports.{kind_word, region_word, source_word, validity_word}
 use Rattle.phone_report.proofs.NumberLines.{words_by}
 use Rattle.phone_report.proofs.line.push_known.Goals as goal
 

@@ -1,6 +1,6 @@
 use Rattle.std.proofs.Common.{chars, subst}
 use Rattle.phone_read.specs.Readings.{Reads}
-use Rattle.phonenumber.specs.Reports.IsReportLine.{no_text}
+use Rattle.phone_number.specs.Reports.IsReportLine.{no_text}
 use Rattle.phone_report.proofs.OneLine.{line_of_reading}
 use Rattle.phone_report.proofs.report.some_report_line.Goals as goal
 

@@ -5,14 +5,16 @@ use Rattle.phone_records.specs.declared.loader.Metadata.{Metadata}
 use Rattle.phone_meta.specs.Codes.{is_listed}
 use Rattle.phone_meta.specs.Index.{count_of_ids}
 use Rattle.phone_meta.specs.Lasts.{last_places}
-use Rattle.phone_meta.specs.Records.{first_group_pattern, has_code, has_id, last_place, places_where}
-use Rattle.phone_meta.specs.Refusals.{patterns_in}
+use Rattle.phone_territory.specs.Records.{first_group_pattern}
+use Rattle.phone_meta.specs.Records.{has_code, has_id, last_place, places_where}
+use Rattle.phone_territory.specs.Refusals.{patterns_in}
 use Rattle.phone_meta.specs.declared.index.Index.{Index}
 use Rattle.phone_sorted.specs.Orders.{place_of}
 use Rattle.phone_sorted.specs.Orders as placed
 use Rattle.phone_trie.specs.Codes.{is_in}
 use Rattle.phone_texts.specs.declared.error.LoadMetadata.{LoadMetadata}
-use Rattle.phone_meta.proofs.Refused.{one-read, refused-first_group, refused-territories}
+use Rattle.phone_territory.proofs.Refused.{one-read}
+use Rattle.phone_meta.proofs.Refused.{refused-first_group, refused-territories}
 use Rattle.phone_pattern.proofs.Refused.{both-patterns}
 use Rattle.phone_meta.proofs.database.Database.from.Goals as goal
 

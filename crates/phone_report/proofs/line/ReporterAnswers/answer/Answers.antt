@@ -1,8 +1,8 @@
 use Rattle.std.proofs.Common.{◌≡◌, ⊎_elim, List, ℕ, Err, Ok, chars, string_bytes, refl, sym, ap, subst}
 use Rattle.std.proofs.lemmas.Result.{IfErr-at_err, IfOk-from_err, IfOk-weaker}
 use Rattle.phone_read.specs.Readings.{Reads}
-use Rattle.phonenumber.specs.Reports.{IsReportLine}
-use Rattle.phonenumber.specs.Reports.IsReportLine.{no_text, refused, read}
+use Rattle.phone_number.specs.Reports.{IsReportLine}
+use Rattle.phone_number.specs.Reports.IsReportLine.{no_text, refused, read}
 use Rattle.phone_report.proofs.OneLine.{has_territory, no_both}
 use Rattle.phone_report.proofs.line.ReporterAnswers.answer.Goals as goal
 

@@ -1,0 +1,3 @@
+pub mod HyphenTexts
+pub mod SameNumbers
+pub mod TextsLaid

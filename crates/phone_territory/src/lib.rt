@@ -1,0 +1,24 @@
+//! A territory: what is known of the numbers of a country or region, its patterns compiled once.
+#![tactic(auto)]
+
+mod descriptor;
+mod descriptors;
+mod each;
+mod format;
+mod lent;
+pub mod loader;
+mod metadata;
+mod patterns;
+mod prefixes;
+mod ruled;
+mod rules;
+mod territory_id;
+pub mod together;
+
+pub use descriptor::Descriptor;
+pub use descriptors::Descriptors;
+pub use format::Format;
+pub use metadata::{Metadata, compile_all};
+pub use phone_pattern::{Captured, Pattern};
+pub use phone_records::LoadMetadata;
+pub use rules::FirstGroup;
