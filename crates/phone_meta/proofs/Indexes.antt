@@ -11,11 +11,11 @@ use Rattle.phone_territory.specs.Records.{code_of, id_of}
 use Rattle.phone_meta.specs.Records.{has_code, has_id, last_place, places_where}
 use Rattle.phone_meta.proofs.Places.{last_place-take, one_if, places_where-take}
 use Rattle.phone_records.specs.declared.loader.Metadata.{Metadata}
-use Rattle.phone_sorted.specs.Orders as placed
-use Rattle.phone_sorted.specs.declared.grouped.Coded.{Coded}
-use Rattle.phone_sorted.specs.declared.sorted.Named.{Named}
-use Rattle.phone_trie.specs.Codes.{is_in}
-use Rattle.phone_trie.specs.Codes as trie
+use Rattle.phone_index.specs.Orders as placed
+use Rattle.phone_index.specs.declared.grouped.Coded.{Coded}
+use Rattle.phone_index.specs.declared.sorted.Named.{Named}
+use Rattle.phone_index.specs.ListedCodes.{is_in}
+use Rattle.phone_index.specs.ListedCodes as trie
 
 found : (b : Bool) (e : Named) (o : Option Named) → option_map (λ e. e.place) (cond b (Some e) o) ≡ cond b (Some e.place) (option_map (λ e. e.place) o)
 found true e o = refl

@@ -8,8 +8,8 @@ use Rattle.phone_territory.specs.Records.{id_of}
 use Rattle.phone_meta.specs.Records.{has_id, last_place, last_where}
 use Rattle.phone_meta.proofs.Places.{none_placed, some_placed}
 use Rattle.phone_records.specs.declared.loader.Metadata.{Metadata}
-use Rattle.phone_sorted.specs.Orders.{place_of}
-use Rattle.phone_sorted.specs.declared.sorted.Named.{Named}
+use Rattle.phone_index.specs.Orders.{place_of}
+use Rattle.phone_index.specs.declared.sorted.Named.{Named}
 
 -- the last that passes is what stands at its place
 last_where-place : {X : Type 0} (p : X → Bool) (xs : List X) → last_where p xs ≡ option_and_then (slice_get xs) (last_place p xs)

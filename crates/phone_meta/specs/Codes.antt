@@ -6,9 +6,9 @@ use Rattle.std.specs.List.{list_all, list_any}
 use Rattle.std.specs.Str.{bytes_eq}
 use Rattle.phone_records.specs.Missing.{first_given}
 -- a number's decimal text begins another's
-unfoldable pub use Rattle.phone_trie.specs.Codes.{begins}
+unfoldable pub use Rattle.phone_index.specs.ListedCodes.{begins}
 -- the number that a text's first bytes write
-pub use Rattle.phone_trie.specs.Codes.{front_number}
+pub use Rattle.phone_index.specs.ListedCodes.{front_number}
 use Rattle.phone_territory.specs.Records.{code_of, id_of}
 use Rattle.phone_meta.specs.Records.{has_code}
 use Rattle.phone_records.specs.declared.loader.Metadata.{Metadata}

@@ -3,7 +3,7 @@ use Rattle.std.specs.Prelude.{ℕ, List, map, Option}
 use Rattle.std.specs.Option.{option_copied}
 use Rattle.phone_territory.specs.Records.{id_of}
 use Rattle.phone_meta.specs.Records.{has_id, last_place, last_with}
-use Rattle.phone_meta.specs.declared.placed.WithLast.{WithLast}
+use Rattle.phone_meta.specs.declared.of_code.WithLast.{WithLast}
 use Rattle.phone_records.specs.declared.loader.Metadata.{Metadata}
 
 -- the last territory of a territory's id

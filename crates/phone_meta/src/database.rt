@@ -1,31 +1,43 @@
-//! A database: territories by id and by calling code.
-ghost use Rattle.std.specs.Prelude.{◌≡◌, ◌⊎◌, ◌<◌, ◌≤◌, ◌+◌, ◌^◌, ℕ, None, IfOk, IfErr, map};
-ghost use Rattle.std.specs.Prelude.{option_map};
-ghost use Rattle.std.specs.List.{AllByRecursion, slice_get};
+//! A database: its territories in their order, from records or from text, by id and by calling code.
+ghost use Rattle.std.specs.Prelude.{◌≡◌, ◌⊎◌, ◌<◌, ◌≤◌, ◌+◌, ◌^◌, ◌++◌, ℕ, List, None, Some, Ok, Err};
+ghost use Rattle.std.specs.Prelude.{IfOk, IfErr, IfSome, IsUtf8, OnOk, filter, map, option_map};
+ghost use Rattle.std.specs.Prelude.{reverse};
+ghost use Rattle.std.specs.Borrow.{Bor};
+ghost use Rattle.std.specs.List.{AllByRecursion, Contains, IsDistinct, find, slice_get};
 ghost use Rattle.std.specs.Result.{IsOk};
 ghost use Rattle.std.specs.Option.{option_and_then, option_copied, option_flatten};
-ghost use Rattle.phone_meta.specs.Codes.{is_listed};
+ghost use Rattle.std.specs.Str.{bytes_eq};
+ghost use Rattle.serde_json.specs.Read.{read};
+ghost use Rattle.phone_device.specs.Passing.{IsAtEnd, PassesSome};
+ghost use Rattle.phone_json.specs.Records.{records_of};
+ghost use Rattle.phone_meta.specs.Codes.{first_of, if_any, is_listed, is_main_of, is_other_of};
+ghost use Rattle.phone_meta.specs.Codes.{is_prefix_free, regions, shortest, territories};
 ghost use Rattle.phone_meta.specs.Index.{count_of_ids};
 ghost use Rattle.phone_meta.specs.Lasts.{last_of, last_places, seen, with_last};
-ghost use Rattle.phone_territory.specs.Records.{first_group_pattern};
-ghost use Rattle.phone_meta.specs.Records.{last_with, places_where, has_code};
-ghost use Rattle.phone_territory.specs.First.{IsPattern, IsPatternOf};
-ghost use Rattle.phone_records.specs.Missing.{first_missing};
-ghost use Rattle.phone_texts.specs.declared.error.LoadMetadata.TheVariants as error;
+ghost use Rattle.phone_meta.specs.Records.{has_code, last_with, places_where};
 ghost use Rattle.phone_meta.specs.Refusals.{patterns, IsRefusalOf, TellsMissing};
-ghost use Rattle.phone_trie.specs.Codes.{is_in};
+ghost use Rattle.phone_meta.specs.Texts.{IsByteRefusal, IsCutShort, IsRefusalOfSome, IsTextRefusal};
+ghost use Rattle.phone_meta.specs.Texts.{faults_of};
+ghost use Rattle.phone_records.specs.Missing.{first_missing};
+ghost use Rattle.phone_records.specs.declared.loader.Metadata as loader;
+ghost use Rattle.phone_territory.specs.First.{IsPattern, IsPatternOf};
+ghost use Rattle.phone_territory.specs.Records.{code_of, first_group_pattern, id_of};
+ghost use Rattle.phone_texts.specs.declared.error.LoadMetadata.TheVariants as error;
+ghost use Rattle.phone_index.specs.ListedCodes.{is_in};
 
 use crate::index::Index;
-use crate::placed::WithLast;
+use crate::iter::Iter;
+use crate::of_code::{Placed, WithLast, WithLasts};
 use phone_core::MetadataError;
+use phone_device::{ByteSource, ReadError, Std, read_all};
+use phone_index::{Coded, Steps, Trie};
 use phone_records::LoadMetadata;
 use phone_records::missing::{self, Missing};
-use phone_sorted::Coded;
 use phone_territory::together::{both, both_read};
 use phone_territory::{FirstGroup, Metadata, compile_all, loader};
-use phone_trie::{Steps, Trie};
 use regex::Regex;
-use std::alloc::Global;
+use std::alloc::{AllocError, Global};
+use std::fs::{self, Files};
 use std::marker::Model;
 
 /// Territories in the order in which their records were handed in. Contracts see these records.
@@ -44,8 +56,8 @@ impl Model for Database {
     ghost use Rattle.phone_meta.specs.Lasts.{last_places};
     ghost use Rattle.phone_meta.specs.Records.{last_place, places_where, has_code, has_id};
     ghost use Rattle.phone_records.specs.declared.loader.Metadata as loader;
-    ghost use Rattle.phone_sorted.specs.Orders as placed;
-    ghost use Rattle.phone_trie.specs.Codes.{is_in};
+    ghost use Rattle.phone_index.specs.Orders as placed;
+    ghost use Rattle.phone_index.specs.ListedCodes.{is_in};
 
     ghost Value = { List loader.Metadata };
 
@@ -85,6 +97,91 @@ impl Database {
             index,
             first_group,
         })
+    }
+
+    /// The database that a text is: a JSON array of records, in their order, each an object whose
+    /// keys are the record's fields. An absent key and `null` mean none, an empty list, false or an
+    /// empty record. Of a repeated key the last value counts.
+    ///
+    /// Refused by `Json` exactly where the text is no JSON, or nests more than 127 deep; with a
+    /// byte-order mark in front it is none. Then by the first fault that is met, record by record:
+    /// by `Metadata(UnhandledElement)` for keys that may not stand there, with the least of them in
+    /// byte order; by `Kind` for a value of the wrong kind, with the record's kind and the field,
+    /// or with `database` and `records` where the text isn't an array of objects. A number that
+    /// isn't whole or is above 65535 is of the wrong kind. Then as `from` refuses the records: by
+    /// `Metadata(MissingValue)`, or by `Regex`. Refused by `Memory` where memory is refused; never
+    /// by `Io`.
+    pub fn parse(alloc: Global, text: &str) -> Result<Database, LoadMetadata>
+        ensures accepted { IfOk result (λ d. records_of text.now ≡ Ok d) }
+        ensures complete { IfOk result (λ d. first_missing d ≡ None) }
+        ensures read { IfOk result (λ d. AllByRecursion IsPattern (patterns d)) }
+        ensures refused { IfErr result (IsTextRefusal text.now) }
+        ensures json { result ≡ Err error.Json → read text.now ≡ None }
+        ensures no_json { read text.now ≡ None → (result ≡ Err error.Json) ⊎
+            (result ≡ Err error.Memory) }
+    {
+        Database::from(alloc, phone_json::records(alloc, text)?)
+    }
+
+    /// The database whose text, in UTF-8, is all the bytes that a source has to come: they are read
+    /// to their end, and then answered as `parse` answers them.
+    ///
+    /// Refused by `Io` exactly where a read failed; some bytes have passed then, and are lost.
+    /// Refused by `Json` where the bytes are no UTF-8, else as `parse` refuses the text. Refused by
+    /// `Memory` where memory is refused, also that for the bytes.
+    pub fn read_from<S: ByteSource>(alloc: Global, source: &mut S) -> Result<Database, LoadMetadata>
+        ensures io { S.faults source.new ≡ S.faults source.old + faults_of result }
+        ensures accepted { IfOk result (λ d.
+            IfSome (S.to_come source.old) (λ bytes. IsUtf8 bytes × (records_of bytes ≡ Ok d))) }
+        ensures complete { IfOk result (λ d. first_missing d ≡ None) }
+        ensures read { IfOk result (λ d. AllByRecursion IsPattern (patterns d)) }
+        ensures refused { IfErr result (λ e. IsCutShort e ⊎
+            IfSome (S.to_come source.old) (λ bytes. IsByteRefusal bytes e)) }
+        ensures refused_for_some { IfErr result IsRefusalOfSome }
+
+        // All bytes were read, unless a read failed or memory was refused.
+        ensures end { OnOk result (IsAtEnd (S.to_come source.new)) }
+        ensures refused_at_end { IfErr result (λ e. IsCutShort e ⊎ IsAtEnd (S.to_come source.new)) }
+        ensures lost { result ≡ Err error.Io →
+            PassesSome (S.to_come source.old) (S.to_come source.new) }
+    {
+        let bytes = match read_all(alloc, source) {
+            Ok(bytes) => bytes,
+            Err(ReadError::Fault) => return Err(LoadMetadata::Io),
+            Err(ReadError::Memory) => return Err(LoadMetadata::Memory),
+        };
+        Database::of_bytes(alloc, bytes.as_slice())
+    }
+
+    /// The database that these bytes are, as `parse` answers them; `Json` where they are no text.
+    fn of_bytes(alloc: Global, bytes: &[u8]) -> Result<Database, LoadMetadata>
+        ensures no_io { faults_of result ≡ 0 }
+        ensures accepted { IfOk result (λ d. IsUtf8 bytes.now × (records_of bytes.now ≡ Ok d)) }
+        ensures complete { IfOk result (λ d. first_missing d ≡ None) }
+        ensures read { IfOk result (λ d. AllByRecursion IsPattern (patterns d)) }
+        ensures refused { IfErr result (IsByteRefusal bytes.now) }
+    {
+        match std::str::from_utf8(bytes) {
+            Ok(text) => Database::parse(alloc, text),
+            Err(_) => Err(LoadMetadata::Json),
+        }
+    }
+
+    /// The database whose text, in UTF-8, is the file at a path: its bytes are answered as
+    /// `read_from` answers them.
+    ///
+    /// Refused by `Io` where the file can't be opened or a read of it fails, as that of a folder
+    /// does, and one that is interrupted; else as `read_from` refuses its bytes. No contract says
+    /// that these are the file's bytes.
+    pub fn load<R: Files + AllocGlobal>(rt: &R, path: &str) -> Result<Database, LoadMetadata>
+        ensures complete { IfOk result (λ d. first_missing d ≡ None) }
+        ensures read { IfOk result (λ d. AllByRecursion IsPattern (patterns d)) }
+        ensures refused { IfErr result IsRefusalOfSome }
+    {
+        match fs::open(rt, path) {
+            Ok(file) => Database::read_from(rt.alloc(), &mut Std::new(file)),
+            Err(_) => Err(LoadMetadata::Io),
+        }
     }
 
     /// The allocator that the database keeps, for calls on it and its parts.
@@ -167,6 +264,140 @@ impl Database {
     {
         &self.index.codes
     }
+
+    /// The territories of a calling code, in order of arrival. Takes no memory.
+    pub fn of_code(&self, code: u16) -> Placed<'_>
+        ensures { result ≡ filter (has_code code) self.now }
+    {
+        Placed {
+            places: self.places_of(code),
+            territories: self.territories(),
+        }
+    }
+
+    /// The territories of a calling code, in order of arrival, each with the last one of its id.
+    /// Takes no memory, and looks up no id.
+    pub fn of_code_with_lasts(&self, code: u16) -> WithLasts<'_>
+        ensures { result ≡ map (with_last self.now) (filter (has_code code) self.now) }
+    {
+        WithLasts {
+            places: self.places_of(code),
+            database: self,
+        }
+    }
+
+    /// The territories of a calling code: the main ones, latest first, then the others in order of
+    /// arrival; none where the code has no territory. Refused only for memory.
+    pub fn by_code(&self, code: &u16) -> Result<Option<Vec<&Metadata>>, AllocError>
+        ensures { IfOk result (λ found.
+            option_map (λ v. map (λ (t : Bor loader.Metadata). t.now) v.items) found ≡
+            if_any (territories code.now self.now)) }
+    {
+        let (mains, others) = both(self.mains(*code), self.others(*code))?;
+        backwards_before(mains, others)
+    }
+
+    /// The ids of the territories of a calling code, in the order of `by_code`. Refused only for
+    /// memory.
+    pub fn region(&self, code: &u16) -> Result<Option<Vec<&str>>, AllocError>
+        ensures { IfOk result (λ found.
+            option_map (λ v. map (λ (id : Bor (List ℕ)). id.now) v.items) found ≡
+            if_any (regions code.now self.now)) }
+    {
+        let Some(found) = self.by_code(code)? else {
+            return Ok(None);
+        };
+        Ok(Some(ids(self.allocator(), found.as_slice())?))
+    }
+
+    /// The first territory of a calling code: its latest main one, or else its earliest. Takes no
+    /// memory.
+    pub fn first_by_code(&self, code: &u16) -> Option<&Metadata>
+        ensures { option_copied result ≡ first_of (territories code.now self.now) }
+    {
+        match self.last_main(*code) {
+            Some(main) => Some(main),
+            None => self.first_other(*code),
+        }
+    }
+
+    fn mains(&self, code: u16) -> Result<Vec<&Metadata>, AllocError>
+        ensures { IfOk result (λ v. map (λ (t : Bor loader.Metadata). t.now) v.items ≡
+            filter (is_main_of code) self.now) }
+    {
+        self.of_code(code)
+            .filter(|t| t.is_main_country_for_code())
+            .collect(self.allocator())
+    }
+
+    fn others(&self, code: u16) -> Result<Vec<&Metadata>, AllocError>
+        ensures { IfOk result (λ v. map (λ (t : Bor loader.Metadata). t.now) v.items ≡
+            filter (is_other_of code) self.now) }
+    {
+        self.of_code(code)
+            .filter(|t| !t.is_main_country_for_code())
+            .collect(self.allocator())
+    }
+
+    fn last_main(&self, code: u16) -> Option<&Metadata>
+        ensures { option_copied result ≡ find (is_main_of code) (reverse self.now) }
+    {
+        self.of_code(code)
+            .filter(|t| t.is_main_country_for_code())
+            .last()
+    }
+
+    fn first_other(&self, code: u16) -> Option<&Metadata>
+        ensures { option_copied result ≡ find (is_other_of code) self.now }
+    {
+        self.of_code(code).find(|t| !t.is_main_country_for_code())
+    }
+
+    /// Whether a calling code has a territory. Takes no memory.
+    pub fn is_listed(&self, code: &u16) -> bool
+        ensures { result ≡ is_listed code.now self.now }
+    {
+        !self.places_of(*code).is_empty()
+    }
+
+    /// The calling code that stands in front of a text: the least number of digits, one to three,
+    /// whose number is listed. None where the text begins with `0`, since no calling code does.
+    /// Takes no memory.
+    pub fn shortest(&self, text: &str) -> Option<u16>
+        ensures { result ≡ shortest self.now text.now }
+    {
+        self.shortest_in(text, &mut Steps::new())
+    }
+
+    /// The same, with its steps counted: each move to a digit's child in the trie of codes is one,
+    /// of which it takes at most three.
+    pub fn shortest_in(&self, text: &str, steps: &mut Steps) -> Option<u16>
+        ensures code { result ≡ shortest self.now text.now }
+        ensures bound { steps.new ≤ steps.old + 3 }
+    {
+        self.codes().shortest_in(text, steps)
+    }
+
+    /// Whether no listed calling code's decimal text begins that of another listed one. Takes no
+    /// memory.
+    pub fn codes_prefix_free(&self) -> bool
+        ensures { result ≡ is_prefix_free self.now }
+    {
+        self.codes().is_prefix_free()
+    }
+
+    /// For each id its last territory, each once, in no order that is promised. Takes no memory.
+    pub fn iter(&self) -> Iter<'_>
+        ensures last_of_its_id { (m : loader.Metadata) → Contains result m →
+            last_with (id_of m) self.now ≡ Some m }
+        ensures each_id { (id : List ℕ) (m : loader.Metadata) → last_with id self.now ≡ Some m →
+            Contains result m }
+        ensures each_once { IsDistinct bytes_eq (map id_of result) }
+    {
+        Iter {
+            rest: self.territories(),
+        }
+    }
 }
 
 /// The refusal that tells of a missing value, or of memory for its text.
@@ -181,4 +412,31 @@ fn missing_value(alloc: Global, missing: Missing) -> LoadMetadata
         },
         Err(_) => LoadMetadata::Memory,
     }
+}
+
+/// The first items backwards, and after them the others, where there is any. Refused only for
+/// memory.
+fn backwards_before<T: Drop>(first: Vec<T>, others: Vec<T>) -> Result<Option<Vec<T>>, AllocError>
+    ensures { IfOk result (λ all.
+        option_map (λ v. v.items) all ≡ if_any (reverse first.items ++ others.items)) }
+{
+    let mut all = first;
+    let mut others = others;
+    all.reverse();
+    all.append(&mut others)?;
+    if all.is_empty() {
+        return Ok(None);
+    }
+    Ok(Some(all))
+}
+
+fn ids<'a>(alloc: Global, found: &[&'a Metadata]) -> Result<Vec<&'a str>, AllocError>
+    ensures { IfOk result (λ v. map (λ (id : Bor (List ℕ)). id.now) v.items ≡
+        map (λ (t : Bor loader.Metadata). id_of t.now) found.now) }
+{
+    let mut ids = Vec::new(alloc);
+    for territory in found {
+        ids.push(territory.id())?;
+    }
+    Ok(ids)
 }

@@ -7,14 +7,13 @@ ghost use Rattle.phone_meta.specs.Lasts.{last_places};
 ghost use Rattle.phone_territory.specs.Refusals.{AreRead};
 ghost use Rattle.phone_territory.specs.Records.{id_of};
 ghost use Rattle.phone_meta.specs.Records.{has_code, has_id, last_place, places_where};
-ghost use Rattle.phone_sorted.specs.Orders.{place_of, text_of};
-ghost use Rattle.phone_sorted.specs.Orders as placed;
-ghost use Rattle.phone_trie.specs.Codes.{is_in};
+ghost use Rattle.phone_index.specs.Orders.{place_of, text_of};
+ghost use Rattle.phone_index.specs.Orders as placed;
+ghost use Rattle.phone_index.specs.ListedCodes.{is_in};
 
-use phone_sorted::{Coded, Grouped, Named, Sorted};
+use phone_index::{Coded, Grouped, Named, Sorted, Steps, Trie};
 use phone_territory::together::both;
 use phone_territory::{LoadMetadata, Metadata};
-use phone_trie::{Steps, Trie};
 use std::alloc::{AllocError, Global};
 
 /// What a database looks its territories up by.

@@ -1,20 +1,16 @@
 //! The territories of a database, each id once.
-ghost use Rattle.std.specs.Prelude.{◌≡◌, ℕ, List, map, Some};
+ghost use Rattle.std.specs.Prelude.{◌≡◌};
 ghost use Rattle.std.specs.Iterator.{YieldsFirstRef, item_count};
-ghost use Rattle.std.specs.List.{Contains, IsDistinct, list_any};
-ghost use Rattle.std.specs.Str.{bytes_eq};
-ghost use Rattle.phone_territory.specs.Records.{id_of};
-ghost use Rattle.phone_meta.specs.Records.{has_id, last_with};
-ghost use Rattle.phone_records.specs.declared.loader.Metadata as loader;
+ghost use Rattle.std.specs.List.{list_any};
+ghost use Rattle.phone_meta.specs.Records.{has_id};
 
-use crate::database::Database;
 use phone_territory::Metadata;
 use std::marker::Model;
 
 /// For each id its last territory. Contracts see those that are still to come.
 #[derive(Drop)]
 pub struct Iter<'a> {
-    rest: &'a [Metadata],
+    pub(crate) rest: &'a [Metadata],
 }
 
 impl<'a> Model for Iter<'a> {
@@ -49,19 +45,4 @@ fn lists(territories: &[Metadata], id: &str) -> bool
     ensures { result ≡ list_any (has_id id.now) territories.now }
 {
     territories.iter().any(|t| t.id() == id)
-}
-
-impl Database {
-    /// For each id its last territory, each once, in no order that is promised. Takes no memory.
-    pub fn iter(&self) -> Iter<'_>
-        ensures last_of_its_id { (m : loader.Metadata) → Contains result m →
-            last_with (id_of m) self.now ≡ Some m }
-        ensures each_id { (id : List ℕ) (m : loader.Metadata) → last_with id self.now ≡ Some m →
-            Contains result m }
-        ensures each_once { IsDistinct bytes_eq (map id_of result) }
-    {
-        Iter {
-            rest: self.territories(),
-        }
-    }
 }

@@ -2,17 +2,15 @@
 //! and calling code.
 #![tactic(auto)]
 
-mod codes;
 mod database;
 mod index;
 mod iter;
-mod parse;
-mod placed;
+mod of_code;
 
 pub use database::Database;
 pub use iter::Iter;
+pub use of_code::{Placed, WithLast, WithLasts};
+pub use phone_index::Steps;
 pub use phone_territory::{
     Captured, Descriptor, Descriptors, FirstGroup, Format, LoadMetadata, Metadata, Pattern, loader,
 };
-pub use phone_trie::Steps;
-pub use placed::{Placed, WithLast, WithLasts};

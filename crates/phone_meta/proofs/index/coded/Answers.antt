@@ -1,6 +1,6 @@
 use Rattle.std.proofs.Common.{ap, sym, refl, filter, map, unwrap_or, ◌∙◌}
-use Rattle.phone_sorted.specs.Orders as placed
-use Rattle.phone_sorted.specs.declared.grouped.Coded.{Coded}
+use Rattle.phone_index.specs.Orders as placed
+use Rattle.phone_index.specs.declared.grouped.Coded.{Coded}
 use Rattle.phone_meta.proofs.Indexes.{places-take}
 use Rattle.phone_meta.proofs.index.coded.Goals as goal
 

@@ -1,6 +1,6 @@
 use Rattle.std.proofs.Common.{◌≡◌, ℕ, filter, map, take}
 use Rattle.phone_meta.specs.Records.{has_code, places_where}
-use Rattle.phone_sorted.specs.Orders as placed
+use Rattle.phone_index.specs.Orders as placed
 use Rattle.phone_meta.proofs.index.coded.Given as goal
 
 abbrev pub invariant-loop-place : goal.invariant-loop-place

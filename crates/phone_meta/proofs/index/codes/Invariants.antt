@@ -1,6 +1,6 @@
 use Rattle.std.proofs.Common.{◌≡◌, ℕ, take}
 use Rattle.phone_meta.specs.Codes.{is_listed}
-use Rattle.phone_trie.specs.Codes.{is_in}
+use Rattle.phone_index.specs.ListedCodes.{is_in}
 use Rattle.phone_meta.proofs.index.codes.Given as goal
 
 abbrev pub invariant-loop-territory : goal.invariant-loop-territory

@@ -1,6 +1,6 @@
 use Rattle.std.proofs.Common.{◌≡◌, map, take}
 use Rattle.phone_territory.specs.Records.{id_of}
-use Rattle.phone_sorted.specs.Orders.{place_of}
+use Rattle.phone_index.specs.Orders.{place_of}
 use Rattle.phone_meta.proofs.index.lasts.Given as goal
 
 abbrev pub invariant-loop-territory : goal.invariant-loop-territory

@@ -1,6 +1,6 @@
 use Rattle.std.proofs.Common.{◌≡◌, [], unwrap_or, ap, sym, refl, map, reverse, ◌∙◌}
-use Rattle.phone_sorted.specs.Orders.{place_of, text_of}
-use Rattle.phone_sorted.specs.declared.sorted.Named.{Named}
+use Rattle.phone_index.specs.Orders.{place_of, text_of}
+use Rattle.phone_index.specs.declared.sorted.Named.{Named}
 use Rattle.phone_meta.proofs.Indexes.{ids-take, place_of-take}
 use Rattle.phone_meta.proofs.index.named.Goals as goal
 

@@ -9,9 +9,9 @@ use Rattle.phone_territory.specs.Records.{first_group_pattern}
 use Rattle.phone_meta.specs.Records.{has_code, has_id, last_place, places_where}
 use Rattle.phone_territory.specs.Refusals.{patterns_in}
 use Rattle.phone_meta.specs.declared.index.Index.{Index}
-use Rattle.phone_sorted.specs.Orders.{place_of}
-use Rattle.phone_sorted.specs.Orders as placed
-use Rattle.phone_trie.specs.Codes.{is_in}
+use Rattle.phone_index.specs.Orders.{place_of}
+use Rattle.phone_index.specs.Orders as placed
+use Rattle.phone_index.specs.ListedCodes.{is_in}
 use Rattle.phone_texts.specs.declared.error.LoadMetadata.{LoadMetadata}
 use Rattle.phone_territory.proofs.Refused.{one-read}
 use Rattle.phone_meta.proofs.Refused.{refused-first_group, refused-territories}

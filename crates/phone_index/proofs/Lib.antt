@@ -1,0 +1,12 @@
+pub mod Between
+pub mod Ends
+pub mod Entries
+pub mod Finds
+pub mod Fronts
+pub mod Halves
+pub mod Listed
+pub mod Marks
+pub mod Stays
+pub mod Texts
+pub mod Trees
+pub mod Walks

@@ -1,0 +1,3 @@
+pub mod ListedCodes
+pub mod Nodes
+pub mod Orders

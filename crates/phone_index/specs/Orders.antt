@@ -1,0 +1,32 @@
+-- Places by text and by calling code.
+use Rattle.std.specs.Prelude.{◌≡◌, ◌<◌, ℕ, ◌==◌, Bool, List, length, Option, option_map}
+use Rattle.std.specs.Prelude.{slice_index_or}
+use Rattle.std.specs.Cmp.Lexicographic.{slice_cmp}
+use Rattle.std.specs.List.{find}
+use Rattle.std.specs.Ordering.{nat_cmp}
+use Rattle.std.specs.declared.cmp.Ordering.TheVariants.{Less}
+use Rattle.std.specs.Str.{bytes_eq}
+use Rattle.std.specs.String.{string_bytes}
+use Rattle.phone_index.specs.declared.grouped.Coded.{Coded}
+use Rattle.phone_index.specs.declared.sorted.Named.{Named}
+
+-- it has this calling code
+abbrev pub has_code : ℕ → Coded → Bool
+has_code code e = e.code == code
+
+-- its text
+abbrev pub text_of : Named → List ℕ
+text_of e = string_bytes e.text
+
+-- it has this text
+abbrev pub has_text : List ℕ → Named → Bool
+has_text text e = bytes_eq (text_of e) text
+
+-- the place that the first of this text has
+abbrev pub place_of : List ℕ → List Named → Option ℕ
+place_of text es = option_map (λ e. e.place) (find (has_text text) es)
+
+-- each text is below those after it, byte by byte
+abbrev pub Rises : List Named → Type 0
+Rises es = (i j : ℕ) (d : Named) → i < j → j < length es →
+    slice_cmp nat_cmp (text_of (slice_index_or es i d)) (text_of (slice_index_or es j d)) ≡ Less

@@ -1,0 +1,15 @@
+//! The index of a database: places of territories by id and by calling code, in orders that are
+//! searched by halves, calling codes as a trie of their decimal digits, and the steps that a
+//! look-up takes.
+#![tactic(auto)]
+
+mod grouped;
+mod node;
+mod sorted;
+mod steps;
+mod trie;
+
+pub use grouped::{Coded, Grouped};
+pub use sorted::{Named, Sorted};
+pub use steps::Steps;
+pub use trie::Trie;

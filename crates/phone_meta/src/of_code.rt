@@ -1,0 +1,92 @@
+//! The territories of a calling code.
+ghost use Rattle.std.specs.Iterator.{YieldsFirstBy, YieldsFirstRef, item_count};
+ghost use Rattle.phone_meta.specs.Lasts.{seen};
+
+use crate::database::Database;
+use phone_index::Coded;
+use phone_territory::Metadata;
+use std::marker::Model;
+
+/// Territories by their places, in the order of these. Contracts see those that are still to come.
+#[derive(Drop)]
+pub struct Placed<'a> {
+    pub(crate) places: &'a [Coded],
+    pub(crate) territories: &'a [Metadata],
+}
+
+impl<'a> Model for Placed<'a> {
+    ghost use Rattle.std.specs.Prelude.{List, map};
+    ghost use Rattle.std.specs.List.{filter_map, slice_get};
+    ghost use Rattle.phone_records.specs.declared.loader.Metadata as loader;
+
+    ghost Value = { List loader.Metadata };
+
+    ghost view = { λ p. filter_map (slice_get p.territories.now)
+        (map (λ e. e.place) p.places.now) };
+}
+
+impl<'a> Iterator for Placed<'a> {
+    type Item = &'a Metadata;
+
+    ghost next_gives = { YieldsFirstRef (λ p. p) };
+
+    ghost remaining = { item_count (λ p. p) };
+
+    fn next(&mut self) -> Option<&'a Metadata> {
+        while let Some((first, others)) = self.places.split_first() {
+            self.places = others;
+            if let Some(territory) = self.territories.get(first.place) {
+                return Some(territory);
+            }
+        }
+        None
+    }
+}
+
+/// A territory, and the last one of its id, which is mostly the territory itself.
+#[derive(Clone, Copy, Drop)]
+pub struct WithLast<'a> {
+    /// The territory.
+    pub territory: &'a Metadata,
+    /// The last one of its id.
+    pub last: Option<&'a Metadata>,
+}
+
+/// Territories by their places, in the order of these, each with the last one of its id. Contracts
+/// see those that are still to come.
+#[derive(Drop)]
+pub struct WithLasts<'a> {
+    pub(crate) places: &'a [Coded],
+    pub(crate) database: &'a Database,
+}
+
+impl<'a> Model for WithLasts<'a> {
+    ghost use Rattle.std.specs.Prelude.{List, Option, map, option_map};
+    ghost use Rattle.std.specs.List.{filter_map, slice_get};
+    ghost use Rattle.phone_meta.specs.Lasts.{with_last};
+    ghost use Rattle.phone_records.specs.declared.loader.Metadata as loader;
+
+    ghost Value = { List (loader.Metadata × Option loader.Metadata) };
+
+    ghost view = { λ p.
+        filter_map (λ k. option_map (with_last p.database.now) (slice_get p.database.now k))
+        (map (λ e. e.place) p.places.now) };
+}
+
+impl<'a> Iterator for WithLasts<'a> {
+    type Item = WithLast<'a>;
+
+    ghost next_gives = { YieldsFirstBy seen (λ p. p) };
+
+    ghost remaining = { item_count (λ p. p) };
+
+    fn next(&mut self) -> Option<WithLast<'a>> {
+        while let Some((first, others)) = self.places.split_first() {
+            self.places = others;
+            if let Some(found) = self.database.with_last_at(first.place) {
+                return Some(found);
+            }
+        }
+        None
+    }
+}

@@ -1,5 +1,0 @@
-pub mod Between
-pub mod Finds
-pub mod Halves
-pub mod Stays
-pub mod Texts

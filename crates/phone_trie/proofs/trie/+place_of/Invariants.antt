@@ -1,4 +1,0 @@
-use Rattle.phone_trie.proofs.trie.+place_of.Given as goal
-
-abbrev pub decreases-place_of : goal.decreases-place_of
-decreases-place_of l = l.number
