@@ -50,26 +50,15 @@ pub struct Database {
 }
 
 impl Model for Database {
-    ghost use Rattle.std.specs.Prelude.{◌≡◌, List, ℕ, filter, length, map};
-    ghost use Rattle.phone_meta.specs.Codes.{is_listed};
-    ghost use Rattle.phone_meta.specs.Index.{count_of_ids};
-    ghost use Rattle.phone_meta.specs.Lasts.{last_places};
-    ghost use Rattle.phone_meta.specs.Records.{last_place, places_where, has_code, has_id};
+    ghost use Rattle.std.specs.Prelude.{List};
+    ghost use Rattle.phone_meta.specs.Index.{IsIndexOf};
     ghost use Rattle.phone_records.specs.declared.loader.Metadata as loader;
-    ghost use Rattle.phone_index.specs.Orders as placed;
-    ghost use Rattle.phone_index.specs.ListedCodes.{is_in};
 
     ghost Value = { List loader.Metadata };
 
     ghost view = { λ d. d.territories.items };
 
-    ghost invariant = { λ d. ((id : List ℕ) →
-        placed.place_of id d.index.by_id ≡ last_place (has_id id) d.territories.items) ×
-        (length d.index.by_id ≡ count_of_ids d.territories.items) ×
-        ((code : ℕ) → map (λ e. e.place) (filter (placed.has_code code) d.index.by_code) ≡
-        places_where (has_code code) d.territories.items) ×
-        ((code : ℕ) → is_in code d.index.codes ≡ is_listed code d.territories.items) ×
-        (d.index.lasts.items ≡ last_places d.territories.items) };
+    ghost invariant = { λ d. IsIndexOf d.index d.territories.items };
 }
 
 impl Database {

@@ -2,7 +2,7 @@
 //! one of each one's id, and their codes by digits.
 ghost use Rattle.std.specs.Prelude.{◌≡◌, ℕ, List, [], IfOk, filter, length, map, reverse};
 ghost use Rattle.phone_meta.specs.Codes.{is_listed};
-ghost use Rattle.phone_meta.specs.Index.{count_of_ids};
+ghost use Rattle.phone_meta.specs.Index.{IsIndexOf, count_of_ids};
 ghost use Rattle.phone_meta.specs.Lasts.{last_places};
 ghost use Rattle.phone_territory.specs.Refusals.{AreRead};
 ghost use Rattle.phone_territory.specs.Records.{id_of};
@@ -32,16 +32,7 @@ pub(crate) struct Index {
 impl Index {
     /// The index of these territories. Refused only for memory.
     pub(crate) fn of(alloc: Global, territories: &[Metadata]) -> Result<Index, LoadMetadata>
-        ensures last { IfOk result (λ index. (id : List ℕ) →
-            place_of id index.by_id ≡ last_place (has_id id) territories.now) }
-        ensures once { IfOk result (λ index.
-            length index.by_id ≡ count_of_ids territories.now) }
-        ensures lasts { IfOk result (λ index. index.lasts.items ≡ last_places territories.now) }
-        ensures coded { IfOk result (λ index. (code : ℕ) →
-            map (λ e. e.place) (filter (placed.has_code code) index.by_code)
-            ≡ places_where (has_code code) territories.now) }
-        ensures listed { IfOk result (λ index. (code : ℕ) →
-            is_in code index.codes ≡ is_listed code territories.now) }
+        ensures index { IfOk result (λ index. IsIndexOf index territories.now) }
         ensures read { AreRead [] result }
     {
         let ids = ids(alloc, territories);

@@ -1,41 +1,13 @@
-use Rattle.std.proofs.Common.{◌≡◌, ℕ, List, None, Some, Result, Ok, Err, IfOk, [], ◌∷◌, filter, length, map, refl, rules, subst}
+use Rattle.std.proofs.Common.{◌≡◌, None, Some, Ok, IfOk, [], ◌∷◌, refl, rules, subst}
 use Rattle.std.specs.List.{flat_map}
 use Rattle.phone_records.specs.Missing.{first_missing}
-use Rattle.phone_records.specs.declared.loader.Metadata.{Metadata}
-use Rattle.phone_meta.specs.Codes.{is_listed}
-use Rattle.phone_meta.specs.Index.{count_of_ids}
-use Rattle.phone_meta.specs.Lasts.{last_places}
+use Rattle.phone_meta.specs.Index.{IsIndexOf}
 use Rattle.phone_territory.specs.Records.{first_group_pattern}
-use Rattle.phone_meta.specs.Records.{has_code, has_id, last_place, places_where}
 use Rattle.phone_territory.specs.Refusals.{patterns_in}
-use Rattle.phone_meta.specs.declared.index.Index.{Index}
-use Rattle.phone_index.specs.Orders.{place_of}
-use Rattle.phone_index.specs.Orders as placed
-use Rattle.phone_index.specs.ListedCodes.{is_in}
-use Rattle.phone_texts.specs.declared.error.LoadMetadata.{LoadMetadata}
 use Rattle.phone_territory.proofs.Refused.{one-read}
 use Rattle.phone_meta.proofs.Refused.{refused-first_group, refused-territories}
 use Rattle.phone_pattern.proofs.Refused.{both-patterns}
 use Rattle.phone_meta.proofs.database.Database.from.Goals as goal
-
--- what an index finds in these territories
-abbrev IsIndexOf : Index → List Metadata → Type 0
-IsIndexOf index db =
-    ((id : List ℕ) → place_of id index.by_id ≡ last_place (has_id id) db) ×
-    (length index.by_id ≡ count_of_ids db) ×
-    ((code : ℕ) → map (λ e. e.place) (filter (placed.has_code code) index.by_code) ≡ places_where (has_code code) db) ×
-    ((code : ℕ) → is_in code index.codes ≡ is_listed code db) ×
-    (index.lasts.items ≡ last_places db)
-
-all-of : (made : Result Index LoadMetadata) (db : List Metadata) →
-    IfOk made (λ i. (id : List ℕ) → place_of id i.by_id ≡ last_place (has_id id) db) →
-    IfOk made (λ i. length i.by_id ≡ count_of_ids db) →
-    IfOk made (λ i. (code : ℕ) → map (λ e. e.place) (filter (placed.has_code code) i.by_code) ≡ places_where (has_code code) db) →
-    IfOk made (λ i. (code : ℕ) → is_in code i.codes ≡ is_listed code db) →
-    IfOk made (λ i. i.lasts.items ≡ last_places db) →
-    IfOk made (λ i. IsIndexOf i db)
-all-of (Ok i) db last once coded listed lasts = (last, once, coded, listed, lasts)
-all-of (Err e) db last once coded listed lasts = tt
 
 pub returns-in_err-territories-clause-refused : goal.returns-in_err-territories-clause-refused
 returns-in_err-territories-clause-refused c =
@@ -61,7 +33,7 @@ invariant_of-result c =
     let made : c.of-index.result ≡ Ok index = (subst (λ r. IfOk r (λ all. (c.of-index.result ≡ Ok all.0) × (c.compile.result ≡ Ok all.1))) both c.both_read-others.ensures.made).0 in
     let same : c.as_slice-2.result.now ≡ c.in_ok-territories-2.territories.items = search rules in
     let of : IsIndexOf index c.as_slice-2.result.now =
-    subst (λ r. IfOk r (λ i. IsIndexOf i c.as_slice-2.result.now)) made (all-of c.of-index.result c.as_slice-2.result.now c.of-index.ensures.last c.of-index.ensures.once c.of-index.ensures.coded c.of-index.ensures.listed c.of-index.ensures.lasts) in
+    subst (λ r. IfOk r (λ i. IsIndexOf i c.as_slice-2.result.now)) made c.of-index.ensures.index in
     subst (IsIndexOf index) same of
 
 pub returns-clause-read : goal.returns-clause-read
