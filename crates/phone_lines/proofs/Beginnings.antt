@@ -8,7 +8,7 @@ use Rattle.phone_lines.specs.Reports.{AreAnswers, AreLinesSoFar, BeginsAnswer, G
 use Rattle.phone_lines.specs.Reports.{IsBeginning, IsReport, IsReportOnFirst, TakesBeginning}
 use Rattle.phone_lines.specs.Reports.AreAnswers.{none, next}
 use Rattle.phone_lines.specs.Reports.BeginsAnswer.{nothing, some}
-use Rattle.phone_lines.specs.Runs.{TakesA}
+use Rattle.phone_lines.specs.Reports.{TakesA}
 use Rattle.phone_lines.proofs.AnswerLemmas.{Begun, head_or_zero, same_pieces, tail_of}
 
 -- where one text is two others, cut in two ways: the one cut is in the first of them, or behind it

@@ -2,14 +2,13 @@
 use Rattle.std.proofs.Common.{◌≡◌, add-one, ℕ, ◌+◌, ◌<◌, take, drop, length, get_or, List, [], ◌∷◌, ◌++◌, Option, Some, None, refl, sym, ap, ◌∙◌, append_assoc, subst}
 use Rattle.std.proofs.lemmas.List.{append-nil, take-append-drop}
 use Rattle.std.proofs.Math.Seq.{take-suc}
-use Rattle.phone_device.specs.Passing.{IsAtEnd, Takes, TakesFront}
+use Rattle.phone_device.specs.Passing.{Takes, TakesFront}
 use Rattle.phone_lines.specs.Lines.{last_line, without_return}
-use Rattle.phone_lines.specs.Reports.{AreAnswers, Gives, IsBeginning, IsReport, IsReportOnEnded}
-use Rattle.phone_lines.specs.Reports.{IsReportOnFirst}
+use Rattle.phone_lines.specs.Reports.{AreAnswers, Gives, IsReport, IsReportOnEnded}
+use Rattle.phone_lines.specs.Reports.{IsReportOnFirst, TakesA}
 use Rattle.phone_lines.specs.Reports.AreAnswers.{none}
-use Rattle.phone_lines.specs.Runs.{BreaksOff, Holds, IsSoFar, Stands, TakesA}
-use Rattle.phone_lines.proofs.AnswerLemmas.{AreAnswers-then, IsReportOnEnded-first}
-use Rattle.phone_lines.proofs.Beginnings.{TakesFront-all, TakesFront-first}
+use Rattle.phone_lines.specs.Runs.{BreaksOff, Holds, IsSoFar, Stands}
+use Rattle.phone_lines.proofs.AnswerLemmas.{AreAnswers-then}
 use Rattle.phone_lines.proofs.CutLemmas.{AreCut-ended, AreCut-grown, AreCut-nothing, cut_on}
 
 -- a byte that is no line feed
@@ -85,7 +84,8 @@ Stands-first gives bytes rest line held before after s = record {
   text = IsSoFar-first gives bytes rest line (s.written ++ held) s.so_far;
 }
 
-front_then : (before middle after : Option (List ℕ)) (written held : List ℕ) → Takes before written middle → TakesFront middle held after →
+-- and a beginning of what comes next
+pub front_then : (before middle after : Option (List ℕ)) (written held : List ℕ) → Takes before written middle → TakesFront middle held after →
     TakesFront before (written ++ held) after
 front_then before middle after written held t f = record {
   front = written ++ f.front;
@@ -100,6 +100,15 @@ pub Holds-breaks : (gives : Gives) (bytes held : List ℕ) (before middle after 
 Holds-breaks gives bytes held before middle after h f =
     (h.written ++ held, h.text, front_then before middle after h.written held h.taken f)
 
+-- where a run stops here, what it has answered is the report on the ended lines
+pub Stands-ended : (gives : Gives) (bytes line held : List ℕ) (before after : Option (List ℕ)) → Stands gives bytes line held before after →
+    Holds (IsReportOnEnded gives bytes) held before after
+Stands-ended gives bytes line held before after s = record {
+  written = s.written;
+  taken = s.taken;
+  text = (s.so_far.lines, line, s.so_far.cut, s.so_far.answered);
+}
+
 -- the bytes of a block up to a place, and those from there on
 pub at_place : (bytes block : List ℕ) (i : ℕ) → (bytes ++ take i block) ++ drop i block ≡ bytes ++ block
 at_place bytes block i = append_assoc bytes (take i block) (drop i block) ∙ ap (λ t. bytes ++ t) (take-append-drop i block)
@@ -108,20 +117,12 @@ at_place bytes block i = append_assoc bytes (take i block) (drop i block) ∙ ap
 pub next_place : (bytes block : List ℕ) (i d : ℕ) → i < length block → (bytes ++ take i block) ++ get_or block i d ∷ [] ≡ bytes ++ take (i + 1) block
 next_place bytes block i d h = append_assoc bytes (take i block) (get_or block i d ∷ []) ∙ ap (λ t. bytes ++ t) (rw add-one (sym (take-suc block i d h)))
 
--- what is so far, where the last piece is no line
-pub Stands-whole : (gives : Gives) (bytes line held : List ℕ) (before after : Option (List ℕ)) → line ≡ [] → Stands gives bytes line held before after →
-    Holds (IsReport gives bytes) held before after
-Stands-whole gives bytes line held before after e s = record {
-  written = s.written;
-  taken = s.taken;
-  text = (s.so_far.lines, (s.so_far.lines, line, s.so_far.cut, sym (ap (λ l. s.so_far.lines ++ last_line l) e ∙ append-nil s.so_far.lines)), s.so_far.answered);
-}
-
+-- what stands after the last line feed is a line where it has a byte
 one_line : (line : List ℕ) → (line ≡ [] → ⊥) → last_line line ≡ line ∷ []
 one_line [] some = absurd (some refl)
 one_line (c ∷ cs) some = refl
 
--- and where it is one, and was answered
+-- and was answered
 pub Stands-last : (gives : Gives) (bytes line held answer : List ℕ) (before after : Option (List ℕ)) → (line ≡ [] → ⊥) → Stands gives bytes line held before after →
     gives (without_return line) answer → Holds (IsReport gives bytes) (held ++ (answer ++ 10 ∷ [])) before after
 Stands-last gives bytes line held answer before after some s given = record {
@@ -139,31 +140,3 @@ Stands-last gives bytes line held answer before after some s given = record {
 pub Holds-out : (is_text : List ℕ → Type 0) (held : List ℕ) (before middle after : Option (List ℕ)) → Holds is_text held before middle → Takes middle held after →
     TakesA is_text before after
 Holds-out is_text held before middle after h t = (h.written ++ held, h.text, takes_then before middle after h.written held h.taken t)
-
--- where a sink fails in the middle of the whole report, at the end of all
-pub Holds-report-breaks : (gives : Gives) (to_come : Option (List ℕ)) (bytes held : List ℕ)
-    (before middle after : Option (List ℕ)) → IsAtEnd to_come →
-    Holds (IsReport gives bytes) held before middle → TakesFront middle held after →
-    TakesA (IsBeginning gives to_come bytes) before after
-Holds-report-breaks gives to_come bytes held before middle after end h f =
-    TakesFront-all gives to_come bytes (h.written ++ held) before after end h.text
-    (front_then before middle after h.written held h.taken f)
-
--- or of the report on some first lines
-pub Holds-first-breaks : (gives : Gives) (to_come : Option (List ℕ)) (bytes held : List ℕ)
-    (before middle after : Option (List ℕ)) →
-    Holds (IsReportOnFirst gives bytes) held before middle → TakesFront middle held after →
-    TakesA (IsBeginning gives to_come bytes) before after
-Holds-first-breaks gives to_come bytes held before middle after h f =
-    TakesFront-first gives to_come bytes (h.written ++ held) before after h.text
-    (front_then before middle after h.written held h.taken f)
-
--- or on the ended lines
-pub Holds-ended-breaks : (gives : Gives) (to_come : Option (List ℕ)) (bytes held : List ℕ)
-    (before middle after : Option (List ℕ)) →
-    Holds (IsReportOnEnded gives bytes) held before middle → TakesFront middle held after →
-    TakesA (IsBeginning gives to_come bytes) before after
-Holds-ended-breaks gives to_come bytes held before middle after h f =
-    TakesFront-first gives to_come bytes (h.written ++ held) before after
-    (IsReportOnEnded-first gives bytes (h.written ++ held) h.text)
-    (front_then before middle after h.written held h.taken f)
