@@ -15,6 +15,15 @@ pub record Devices : Type 0 where
   pub taken : Option (List ℕ)
   pub sink_faults : ℕ
 
+-- the two as a contract sees them
+abbrev pub seen : Option (List ℕ) → ℕ → Option (List ℕ) → ℕ → Devices
+seen to_come source_faults taken sink_faults = record {
+  to_come = to_come;
+  source_faults = source_faults;
+  taken = taken;
+  sink_faults = sink_faults;
+}
+
 -- as many bytes as a run reads at most
 abbrev pub most_bytes : ℕ
 most_bytes = 2 ^ 64 - 1

@@ -1,7 +1,7 @@
 //! The run over all lines.
 ghost use Rattle.std.specs.Prelude.{◌≡◌, ◌<◌, ℕ, List, Err, IfErr, IfOk, OnOk, vec_len};
 ghost use Rattle.phone_device.specs.Passing.{IsAtEnd};
-ghost use Rattle.phone_lines.specs.Ends.{Ends};
+ghost use Rattle.phone_lines.specs.Ends.{Ends, seen};
 ghost use Rattle.phone_lines.specs.Faults.{number_of};
 ghost use Rattle.phone_lines.specs.Runs.{Leaves, Runs};
 
@@ -48,7 +48,7 @@ fn leave<W: ByteSink>(desk: &Desk, sink: &mut W, error: RunError) -> RunError
     }
 }
 
-/// Reads all blocks, and answers the lines that a line feed ends. It gives what is held then; where
+/// Reads all blocks, and answers the lines that a line feed ends. It gives what it holds then; where
 /// it is refused, the run has ended.
 fn take_blocks<A: Answers, S: ByteSource, W: ByteSink>(
     alloc: Global,
@@ -59,31 +59,11 @@ fn take_blocks<A: Answers, S: ByteSource, W: ByteSink>(
     ensures end { OnOk result (IsAtEnd (S.to_come source.new)) }
     ensures taken { IfOk result (λ desk. (bytes : List ℕ) × Runs
         (A.gives answers.now) bytes desk.line.items desk.answers.items
-        (record {
-          to_come = S.to_come source.old;
-          source_faults = S.faults source.old;
-          taken = W.taken sink.old;
-          sink_faults = W.faults sink.old;
-        })
-        (record {
-          to_come = S.to_come source.new;
-          source_faults = S.faults source.new;
-          taken = W.taken sink.new;
-          sink_faults = W.faults sink.new;
-        })) }
+        (seen (S.to_come source.old) (S.faults source.old) (W.taken sink.old) (W.faults sink.old))
+        (seen (S.to_come source.new) (S.faults source.new) (W.taken sink.new) (W.faults sink.new))) }
     ensures ends { IfErr result (λ error. Ends (A.gives answers.now)
-        (record {
-          to_come = S.to_come source.old;
-          source_faults = S.faults source.old;
-          taken = W.taken sink.old;
-          sink_faults = W.faults sink.old;
-        })
-        (record {
-          to_come = S.to_come source.new;
-          source_faults = S.faults source.new;
-          taken = W.taken sink.new;
-          sink_faults = W.faults sink.new;
-        })
+        (seen (S.to_come source.old) (S.faults source.old) (W.taken sink.old) (W.faults sink.old))
+        (seen (S.to_come source.new) (S.faults source.new) (W.taken sink.new) (W.faults sink.new))
         (Err error)) }
     ensures short { IfOk result (λ desk. vec_len desk.answers < BLOCK_LENGTH) }
 {
@@ -97,11 +77,12 @@ fn take_blocks<A: Answers, S: ByteSource, W: ByteSink>(
         let Ok(()) = block.fill(source, u64::MAX - read) else {
             return Err(leave(&desk, sink, RunError::Input));
         };
-        if block.bytes().is_empty() {
+        let bytes = block.bytes();
+        if bytes.is_empty() {
             return Ok(desk);
         }
-        read += block.bytes().len() as u64;
-        match desk.take_block(alloc, answers, sink, block.bytes()) {
+        read += bytes.len() as u64;
+        match desk.take_block(alloc, answers, sink, bytes) {
             Ok(()) => {}
             Err(Refusal::Fault) => return Err(RunError::Output),
             Err(Refusal::Memory) => return Err(leave(&desk, sink, RunError::Memory)),
@@ -128,18 +109,8 @@ pub fn answer_lines<A: Answers, S: ByteSource, W: ByteSink>(
     sink: &mut W,
 ) -> Result<(), RunError>
     ensures ends { Ends (A.gives answers.now)
-        (record {
-          to_come = S.to_come source.old;
-          source_faults = S.faults source.old;
-          taken = W.taken sink.old;
-          sink_faults = W.faults sink.old;
-        })
-        (record {
-          to_come = S.to_come source.new;
-          source_faults = S.faults source.new;
-          taken = W.taken sink.new;
-          sink_faults = W.faults sink.new;
-        })
+        (seen (S.to_come source.old) (S.faults source.old) (W.taken sink.old) (W.faults sink.old))
+        (seen (S.to_come source.new) (S.faults source.new) (W.taken sink.new) (W.faults sink.new))
         result }
 {
     let mut desk = take_blocks(alloc, answers, source, sink)?;

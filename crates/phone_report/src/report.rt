@@ -1,7 +1,7 @@
 //! The run over all lines of a source, and laws of its report.
 ghost use Rattle.std.specs.Prelude.{◌≡◌, ℕ, List, Option};
 ghost use Rattle.phone_core.specs.declared.country.Id.{Id};
-ghost use Rattle.phone_lines.specs.Ends.{Ends};
+ghost use Rattle.phone_lines.specs.Ends.{Ends, seen};
 ghost use Rattle.phone_lines.specs.Reports.{TakesA};
 ghost use Rattle.phone_records.specs.declared.loader.Metadata as loader;
 ghost use Rattle.phone_number.specs.Reports.{IsReportLine};
@@ -37,18 +37,8 @@ pub fn run<S: ByteSource, W: ByteSink>(
     sink: &mut W,
 ) -> Result<(), RunError>
     ensures ends { Ends (IsReportLine database.now hint)
-        (record {
-          to_come = S.to_come source.old;
-          source_faults = S.faults source.old;
-          taken = W.taken sink.old;
-          sink_faults = W.faults sink.old;
-        })
-        (record {
-          to_come = S.to_come source.new;
-          source_faults = S.faults source.new;
-          taken = W.taken sink.new;
-          sink_faults = W.faults sink.new;
-        })
+        (seen (S.to_come source.old) (S.faults source.old) (W.taken sink.old) (W.faults sink.old))
+        (seen (S.to_come source.new) (S.faults source.new) (W.taken sink.new) (W.faults sink.new))
         result }
 {
     let reporter = Reporter { database, hint };
