@@ -1,14 +1,14 @@
 -- A beginning of the answers to lines: some of them whole, and a part of the next one.
-use Rattle.std.proofs.Common.{◌≡◌, ◌⊎◌, inl, inr, ⊎_elim, ℕ, Bool, true, false, List, [], ◌∷◌, ◌++◌}
-use Rattle.std.proofs.Common.{Option, refl, sym, ap, ap₂, ◌∙◌, append_assoc, subst, true≢false}
-use Rattle.std.proofs.lemmas.List.{append-nil}
+use Rattle.std.proofs.Common.{◌≡◌, ◌⊎◌, inl, inr, ⊎_elim, ℕ, List, [], ◌∷◌, ◌++◌, length, Option}
+use Rattle.std.proofs.Common.{refl, sym, ap, ap₂, ◌∙◌, append_assoc, length-append, subst, arith}
+use Rattle.std.proofs.lemmas.List.{append-nil, nil_from_length}
 use Rattle.phone_device.specs.Passing.{IsAtEnd, TakesFront}
 use Rattle.phone_lines.specs.Lines.{AreLines, last_line, without_return}
 use Rattle.phone_lines.specs.Reports.{AreAnswers, AreLinesSoFar, BeginsAnswer, Gives, HasOneAnswer}
 use Rattle.phone_lines.specs.Reports.{IsBeginning, IsReport, IsReportOnFirst, TakesBeginning}
 use Rattle.phone_lines.specs.Reports.AreAnswers.{none, next}
 use Rattle.phone_lines.specs.Reports.BeginsAnswer.{nothing, some}
-use Rattle.phone_lines.specs.Runs.{TakesA}
+use Rattle.phone_lines.specs.Reports.{TakesA}
 use Rattle.phone_lines.proofs.AnswerLemmas.{Begun, head_or_zero, same_pieces, tail_of}
 
 -- where one text is two others, cut in two ways: the one cut is in the first of them, or behind it
@@ -39,24 +39,7 @@ record CutAnswers (gives : List ℕ → List ℕ → Type 0) (lines : List (List
   is : text ≡ whole ++ part
 
 nothing_left : (x y : List ℕ) → [] ≡ x ++ y → x ≡ []
-nothing_left [] y e = refl
-nothing_left (c ∷ x) y e = absurd (true≢false (ap has_no_byte e))
-  where
-    has_no_byte : List ℕ → Bool
-    has_no_byte [] = true
-    has_no_byte (c ∷ cs) = false
-
-cut_nothing : (gives : Gives) (front rest : List ℕ) → [] ≡ front ++ rest → CutAnswers gives [] front
-cut_nothing gives front rest e = record {
-  first = [];
-  others = [];
-  lines_are = refl;
-  whole = [];
-  part = [];
-  answers = none;
-  begun = nothing [];
-  is = nothing_left front rest e;
-}
+nothing_left x y e = nil_from_length x (omega (arith, ap length e, length-append x y))
 
 cut_later : (gives : Gives) (line answer : List ℕ) (lines : List (List ℕ)) (front w : List ℕ) →
     gives (without_return line) answer →
@@ -74,27 +57,29 @@ cut_later gives line answer lines front w g e c = record {
       ∙ sym (append_assoc answer (10 ∷ c.whole) c.part);
 }
 
-cut_here : (gives : Gives) (line answer : List ℕ) (lines : List (List ℕ)) (front w : List ℕ) →
-    gives (without_return line) answer →
-    answer ++ 10 ∷ [] ≡ front ++ w → CutAnswers gives (line ∷ lines) front
-cut_here gives line answer lines front w g e = record {
+-- a beginning of the answer to the first one, or nothing
+cut_here : (gives : Gives) (lines : List (List ℕ)) (front : List ℕ) →
+    BeginsAnswer gives lines front → CutAnswers gives lines front
+cut_here gives lines front begun = record {
   first = [];
-  others = line ∷ lines;
+  others = lines;
   lines_are = refl;
   whole = [];
   part = front;
   answers = none;
-  begun = some line answer front w lines g e;
+  begun = begun;
   is = refl;
 }
 
 cut_answers : (gives : Gives) (lines : List (List ℕ)) (answers front rest : List ℕ) →
     AreAnswers gives lines answers → answers ≡ front ++ rest →
     CutAnswers gives lines front
-cut_answers gives _ _ front rest none e = cut_nothing gives front rest e
+cut_answers gives _ _ front rest none e =
+    cut_here gives [] front (subst (λ t. BeginsAnswer gives [] t)
+    (sym (nothing_left front rest e)) (nothing []))
 cut_answers gives _ _ front rest (next line answer lines answers g are) e =
     ⊎_elim
-    (λ h. cut_here gives line answer lines front h.0 g h.1)
+    (λ h. cut_here gives (line ∷ lines) front (some line answer front h.0 lines g h.1))
     (λ h. cut_later gives line answer lines front h.0 g h.1
     (cut_answers gives lines answers h.0 rest are h.2))
     (seam (answer ++ 10 ∷ []) answers front rest (append_assoc answer (10 ∷ []) answers ∙ e))

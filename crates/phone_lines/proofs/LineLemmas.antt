@@ -3,9 +3,6 @@ use Rattle.std.proofs.Common.{◌≡◌, ℕ, ◌==◌, Bool, true, false, if◌
 use Rattle.std.proofs.lemmas.Bool.{cond-true, cond-false}
 use Rattle.phone_lines.specs.Lines.{without_return}
 
-prepended : (c x : ℕ) (d : ℕ) (cs : List ℕ) → without_return (c ∷ ((d ∷ cs) ++ x ∷ [])) ≡ c ∷ without_return ((d ∷ cs) ++ x ∷ [])
-prepended c x d cs = refl
-
 -- a line whose last byte this is
 pub without_return-last : (front : List ℕ) (x : ℕ) → without_return (front ++ x ∷ []) ≡ (if x == 13 then front else front ++ x ∷ [])
 without_return-last [] x = refl

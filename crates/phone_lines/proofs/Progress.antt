@@ -2,14 +2,14 @@
 use Rattle.std.proofs.Common.{◌≡◌, add-one, ℕ, ◌+◌, ◌<◌, take, drop, length, get_or, List, [], ◌∷◌, ◌++◌, Option, Some, None, refl, sym, ap, ◌∙◌, append_assoc, subst}
 use Rattle.std.proofs.lemmas.List.{append-nil, take-append-drop}
 use Rattle.std.proofs.Math.Seq.{take-suc}
-use Rattle.phone_device.specs.Passing.{IsAtEnd, Takes, TakesFront}
+use Rattle.phone_device.specs.Passing.{Takes, TakesFront}
+use Rattle.phone_device.proofs.PassingLemmas.{TakenSoFar-all, TakenSoFar-nothing}
 use Rattle.phone_lines.specs.Lines.{last_line, without_return}
-use Rattle.phone_lines.specs.Reports.{AreAnswers, Gives, IsBeginning, IsReport, IsReportOnEnded}
-use Rattle.phone_lines.specs.Reports.{IsReportOnFirst}
+use Rattle.phone_lines.specs.Reports.{AreAnswers, Gives, IsReport, IsReportOnEnded}
+use Rattle.phone_lines.specs.Reports.{IsReportOnFirst, TakesA}
 use Rattle.phone_lines.specs.Reports.AreAnswers.{none}
-use Rattle.phone_lines.specs.Runs.{BreaksOff, Holds, IsSoFar, Stands, TakesA}
-use Rattle.phone_lines.proofs.AnswerLemmas.{AreAnswers-then, IsReportOnEnded-first}
-use Rattle.phone_lines.proofs.Beginnings.{TakesFront-all, TakesFront-first}
+use Rattle.phone_lines.specs.Runs.{Holds, IsSoFar, Stands}
+use Rattle.phone_lines.proofs.AnswerLemmas.{AreAnswers-then}
 use Rattle.phone_lines.proofs.CutLemmas.{AreCut-ended, AreCut-grown, AreCut-nothing, cut_on}
 
 -- a byte that is no line feed
@@ -31,11 +31,6 @@ IsSoFar-ended gives bytes line written held answer x s is given = record {
       (AreAnswers-then gives s.lines (written ++ held) line answer s.answered given);
 }
 
--- the sink has taken nothing yet
-pub takes_nothing : (a : Option (List ℕ)) → Takes a [] a
-takes_nothing None = refl
-takes_nothing (Some all) = ap (λ t. Some t) (sym (append-nil all))
-
 -- what is taken one after the other is taken together
 pub takes_then : (a b c : Option (List ℕ)) (x y : List ℕ) → Takes a x b → Takes b y c → Takes a (x ++ y) c
 takes_then None b c x y p q = subst (λ b. Takes b y c) p q
@@ -45,7 +40,7 @@ takes_then (Some all) b c x y p q = let e : Takes (Some (all ++ x)) y c = subst 
 pub Stands-nothing : (gives : Gives) (a : Option (List ℕ)) → Stands gives [] [] [] a a
 Stands-nothing gives a = record {
   written = [];
-  taken = takes_nothing a;
+  taken = TakenSoFar-all a a [] [] refl (TakenSoFar-nothing a []);
   so_far = record { lines = []; cut = AreCut-nothing; answered = none };
 }
 
@@ -72,33 +67,33 @@ Stands-handed gives bytes line held more held' before middle after s e t = recor
   so_far = subst (λ r. IsSoFar gives bytes line r) (ap (λ r. s.written ++ r) e ∙ sym (append_assoc s.written more held')) s.so_far;
 }
 
--- what was answered so far is the report on some first lines, whatever bytes come next
-pub IsSoFar-first : (gives : Gives) (bytes rest line answers : List ℕ) → IsSoFar gives bytes line answers → IsReportOnFirst gives (bytes ++ rest) answers
-IsSoFar-first gives bytes rest line answers s = let on = cut_on rest bytes s.lines line s.cut in (s.lines, on.others, on.last, on.cut, s.answered)
-
 -- where a run stops before the rest of the bytes, what it has answered is the report on some first lines
-pub Stands-first : (gives : Gives) (bytes rest line held : List ℕ) (before after : Option (List ℕ)) → Stands gives bytes line held before after →
-    Holds (IsReportOnFirst gives (bytes ++ rest)) held before after
-Stands-first gives bytes rest line held before after s = record {
-  written = s.written;
-  taken = s.taken;
-  text = IsSoFar-first gives bytes rest line (s.written ++ held) s.so_far;
-}
+pub Stands-first : (gives : Gives) (bytes rest all line held : List ℕ) (before after : Option (List ℕ)) → bytes ++ rest ≡ all → Stands gives bytes line held before after →
+    Holds (IsReportOnFirst gives all) held before after
+Stands-first gives bytes rest all line held before after e s =
+    let on = cut_on rest bytes s.so_far.lines line s.so_far.cut in
+    let text = subst (λ t. IsReportOnFirst gives t (s.written ++ held)) e (s.so_far.lines, on.others, on.last, on.cut, s.so_far.answered) in
+    record { written = s.written; taken = s.taken; text = text }
 
-front_then : (before middle after : Option (List ℕ)) (written held : List ℕ) → Takes before written middle → TakesFront middle held after →
-    TakesFront before (written ++ held) after
-front_then before middle after written held t f = record {
-  front = written ++ f.front;
-  rest = f.rest;
-  whole = ap (λ r. written ++ r) f.whole ∙ sym (append_assoc written f.front f.rest);
-  taken = takes_then before middle after written f.front t f.taken;
-}
+-- where it stops here, that is the report on the ended lines
+pub Stands-ended : (gives : Gives) (bytes line held : List ℕ) (before after : Option (List ℕ)) → Stands gives bytes line held before after →
+    Holds (IsReportOnEnded gives bytes) held before after
+Stands-ended gives bytes line held before after s =
+    record { written = s.written; taken = s.taken; text = (s.so_far.lines, line, s.so_far.cut, s.so_far.answered) }
 
--- where a sink fails in the middle of what is held
-pub Holds-breaks : (gives : Gives) (bytes held : List ℕ) (before middle after : Option (List ℕ)) → Holds (IsReportOnFirst gives bytes) held before middle →
-    TakesFront middle held after → BreaksOff gives bytes before after
-Holds-breaks gives bytes held before middle after h f =
-    (h.written ++ held, h.text, front_then before middle after h.written held h.taken f)
+-- where the sink fails in the middle of what is held, it took a beginning of the text
+pub Holds-breaks : (is_text : List ℕ → Type 0) (held : List ℕ) (before middle after : Option (List ℕ)) → Holds is_text held before middle → TakesFront middle held after →
+    (text : List ℕ) × is_text text × TakesFront before text after
+Holds-breaks is_text held before middle after h f = (
+  h.written ++ held,
+  h.text,
+  record {
+    front = h.written ++ f.front;
+    rest = f.rest;
+    whole = ap (λ r. h.written ++ r) f.whole ∙ sym (append_assoc h.written f.front f.rest);
+    taken = takes_then before middle after h.written f.front h.taken f.taken;
+  },
+)
 
 -- the bytes of a block up to a place, and those from there on
 pub at_place : (bytes block : List ℕ) (i : ℕ) → (bytes ++ take i block) ++ drop i block ≡ bytes ++ block
@@ -108,20 +103,12 @@ at_place bytes block i = append_assoc bytes (take i block) (drop i block) ∙ ap
 pub next_place : (bytes block : List ℕ) (i d : ℕ) → i < length block → (bytes ++ take i block) ++ get_or block i d ∷ [] ≡ bytes ++ take (i + 1) block
 next_place bytes block i d h = append_assoc bytes (take i block) (get_or block i d ∷ []) ∙ ap (λ t. bytes ++ t) (rw add-one (sym (take-suc block i d h)))
 
--- what is so far, where the last piece is no line
-pub Stands-whole : (gives : Gives) (bytes line held : List ℕ) (before after : Option (List ℕ)) → line ≡ [] → Stands gives bytes line held before after →
-    Holds (IsReport gives bytes) held before after
-Stands-whole gives bytes line held before after e s = record {
-  written = s.written;
-  taken = s.taken;
-  text = (s.so_far.lines, (s.so_far.lines, line, s.so_far.cut, sym (ap (λ l. s.so_far.lines ++ last_line l) e ∙ append-nil s.so_far.lines)), s.so_far.answered);
-}
-
+-- what stands after the last line feed is a line where it has a byte
 one_line : (line : List ℕ) → (line ≡ [] → ⊥) → last_line line ≡ line ∷ []
 one_line [] some = absurd (some refl)
 one_line (c ∷ cs) some = refl
 
--- and where it is one, and was answered
+-- and was answered
 pub Stands-last : (gives : Gives) (bytes line held answer : List ℕ) (before after : Option (List ℕ)) → (line ≡ [] → ⊥) → Stands gives bytes line held before after →
     gives (without_return line) answer → Holds (IsReport gives bytes) (held ++ (answer ++ 10 ∷ [])) before after
 Stands-last gives bytes line held answer before after some s given = record {
@@ -139,31 +126,3 @@ Stands-last gives bytes line held answer before after some s given = record {
 pub Holds-out : (is_text : List ℕ → Type 0) (held : List ℕ) (before middle after : Option (List ℕ)) → Holds is_text held before middle → Takes middle held after →
     TakesA is_text before after
 Holds-out is_text held before middle after h t = (h.written ++ held, h.text, takes_then before middle after h.written held h.taken t)
-
--- where a sink fails in the middle of the whole report, at the end of all
-pub Holds-report-breaks : (gives : Gives) (to_come : Option (List ℕ)) (bytes held : List ℕ)
-    (before middle after : Option (List ℕ)) → IsAtEnd to_come →
-    Holds (IsReport gives bytes) held before middle → TakesFront middle held after →
-    TakesA (IsBeginning gives to_come bytes) before after
-Holds-report-breaks gives to_come bytes held before middle after end h f =
-    TakesFront-all gives to_come bytes (h.written ++ held) before after end h.text
-    (front_then before middle after h.written held h.taken f)
-
--- or of the report on some first lines
-pub Holds-first-breaks : (gives : Gives) (to_come : Option (List ℕ)) (bytes held : List ℕ)
-    (before middle after : Option (List ℕ)) →
-    Holds (IsReportOnFirst gives bytes) held before middle → TakesFront middle held after →
-    TakesA (IsBeginning gives to_come bytes) before after
-Holds-first-breaks gives to_come bytes held before middle after h f =
-    TakesFront-first gives to_come bytes (h.written ++ held) before after h.text
-    (front_then before middle after h.written held h.taken f)
-
--- or on the ended lines
-pub Holds-ended-breaks : (gives : Gives) (to_come : Option (List ℕ)) (bytes held : List ℕ)
-    (before middle after : Option (List ℕ)) →
-    Holds (IsReportOnEnded gives bytes) held before middle → TakesFront middle held after →
-    TakesA (IsBeginning gives to_come bytes) before after
-Holds-ended-breaks gives to_come bytes held before middle after h f =
-    TakesFront-first gives to_come bytes (h.written ++ held) before after
-    (IsReportOnEnded-first gives bytes (h.written ++ held) h.text)
-    (front_then before middle after h.written held h.taken f)

@@ -12,13 +12,6 @@ faults_of (Ok x) = 0
 faults_of (Err Fault) = 1
 faults_of (Err Memory) = 0
 
--- the faults of a sink in a run: one where that ended it
-abbrev pub sink_faults_of : {X : Type 0} → Result X RunError → ℕ
-sink_faults_of (Ok x) = 0
-sink_faults_of (Err Input) = 0
-sink_faults_of (Err Output) = 1
-sink_faults_of (Err NoMemory) = 0
-
 -- which of the refusals it is
 abbrev pub number_of : RunError → ℕ
 number_of Input = 1

@@ -1,6 +1,6 @@
 -- The report on bytes: the answers to their lines.
 use Rattle.std.specs.Prelude.{◌≡◌, ◌⊎◌, ℕ, List, [], ◌∷◌, ◌++◌, Option}
-use Rattle.phone_device.specs.Passing.{IsAtEnd, TakesFront}
+use Rattle.phone_device.specs.Passing.{IsAtEnd, Takes, TakesFront}
 use Rattle.phone_lines.specs.Lines.{AreCut, AreLines, last_line, without_return}
 
 -- what may be answered to a line
@@ -65,6 +65,10 @@ pub record IsBeginning (gives : List ℕ → List ℕ → Type 0)
   pub answers : AreAnswers gives first whole
   pub begun : BeginsAnswer gives others part
   pub is : text ≡ whole ++ part
+
+-- a sink took a text of which this holds
+abbrev pub TakesA : (List ℕ → Type 0) → Option (List ℕ) → Option (List ℕ) → Type 0
+TakesA is_text before after = (text : List ℕ) × is_text text × Takes before text after
 
 -- a sink took a beginning of whatever is the report on bytes
 abbrev pub TakesBeginning : Gives → List ℕ → Option (List ℕ) → Option (List ℕ) → Type 0

@@ -1,8 +1,11 @@
--- How far a run over lines is, and how it ends.
-use Rattle.std.specs.Prelude.{ℕ, ◌-◌, ◌^◌, List, [], ◌++◌, Option}
+-- How far a run over lines is.
+use Rattle.std.specs.Prelude.{◌≡◌, ℕ, ◌+◌, List, ◌++◌, Option}
 use Rattle.phone_device.specs.Passing.{Passes, Takes, TakesFront}
+use Rattle.phone_lines.specs.Ends.{Devices}
 use Rattle.phone_lines.specs.Lines.{AreCut}
 use Rattle.phone_lines.specs.Reports.{AreAnswers, Gives, IsReportOnFirst}
+use Rattle.phone_lines.specs.declared.blocks.RunError.{RunError}
+use Rattle.phone_lines.specs.declared.blocks.RunError.TheVariants.{Output}
 
 -- so far these bytes were read, of which the last piece isn't ended yet, and these answers given to
 -- the other lines
@@ -30,18 +33,18 @@ abbrev pub BreaksOff : Gives → List ℕ → Option (List ℕ) → Option (List
 BreaksOff gives bytes before after =
     (answers : List ℕ) × IsReportOnFirst gives bytes answers × TakesFront before answers after
 
--- this holds of the bytes that a source gave
-abbrev pub OfRead : Option (List ℕ) → Option (List ℕ) → (List ℕ → Type 0) → Type 0
-OfRead before after holds = (bytes : List ℕ) × Passes before bytes after × holds bytes
+-- no device has failed yet: what was read, and how far that is answered
+pub record Runs (gives : List ℕ → List ℕ → Type 0) (bytes line held : List ℕ)
+    (before after : Devices) : Type 0 where
+  pub read : Passes before.to_come bytes after.to_come
+  pub stands : Stands gives bytes line held before.taken after.taken
+  pub no_source_fault : after.source_faults ≡ before.source_faults
+  pub no_sink_fault : after.sink_faults ≡ before.sink_faults
 
--- a sink took a text of which this holds
-abbrev pub TakesA : (List ℕ → Type 0) → Option (List ℕ) → Option (List ℕ) → Type 0
-TakesA is_text before after = (text : List ℕ) × is_text text × Takes before text after
-
--- nothing is held yet, and nothing was read
-abbrev pub IsFresh : Gives → (line held : List ℕ) → Option (List ℕ) → Type 0
-IsFresh gives line held taken = Stands gives [] line held taken taken
-
--- as many bytes as a run reads at most
-abbrev pub most_bytes : ℕ
-most_bytes = 2 ^ 64 - 1
+-- a run that ends so, but for what is held: the sink took that, or it failed
+pub data Leaves (held : List ℕ) (end : RunError) (before after : Option (List ℕ))
+    (faults_before faults_after : ℕ) : RunError → Type 0 where
+  written : Takes before held after → faults_after ≡ faults_before →
+      Leaves held end before after faults_before faults_after end
+  broken : TakesFront before held after → faults_after ≡ faults_before + 1 →
+      Leaves held end before after faults_before faults_after Output

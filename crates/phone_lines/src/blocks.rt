@@ -1,18 +1,13 @@
 //! The run over all lines.
-ghost use Rattle.std.specs.Prelude.{◌≡◌, ◌+◌, ◌<◌, ◌⊎◌, ℕ, List, Ok, Err, OnOk, OnErr, length};
-ghost use Rattle.std.specs.Prelude.{vec_len};
+ghost use Rattle.std.specs.Prelude.{◌≡◌, ◌<◌, ℕ, List, Err, IfErr, IfOk, OnOk, vec_len};
 ghost use Rattle.phone_device.specs.Passing.{IsAtEnd};
-ghost use Rattle.phone_lines.specs.Faults.{number_of, sink_faults_of};
-ghost use Rattle.phone_lines.specs.Reports.{IsBeginning, IsReport};
-ghost use Rattle.phone_lines.specs.Reports.{IsReportOnEnded, IsReportOnFirst};
-ghost use Rattle.phone_lines.specs.Runs.{BreaksOff, Holds, IsFresh, OfRead, Stands, TakesA};
-ghost use Rattle.phone_lines.specs.Runs.{most_bytes};
-ghost use Rattle.phone_lines.specs.declared.blocks.End.TheVariants as end;
-ghost use Rattle.phone_lines.specs.declared.blocks.RunError.TheVariants as error;
+ghost use Rattle.phone_lines.specs.Ends.{Ends, seen};
+ghost use Rattle.phone_lines.specs.Faults.{number_of};
+ghost use Rattle.phone_lines.specs.Runs.{Leaves, Runs};
 
 use crate::answers::Answers;
 use crate::desk::{Desk, Refusal};
-use phone_device::{BLOCK_LENGTH, Block, ByteSink, ByteSource, Fault};
+use phone_device::{BLOCK_LENGTH, Block, ByteSink, ByteSource};
 use std::alloc::Global;
 
 /// Why a run ended before all lines were answered.
@@ -41,124 +36,58 @@ impl RunError {
     }
 }
 
-/// How a run ended, the sink never having failed.
-#[derive(Clone, Copy, PartialEq, Eq, Debug)]
-enum End {
-    /// All was read and answered.
-    Whole,
-    /// The source failed, or gave as many bytes as are read at most.
-    Input,
-    /// There was no memory for a line or its answer.
-    Memory,
+/// Writes the answers that are held where a run is refused, and gives why it ended: this, or
+/// `Output` where the sink fails.
+fn leave<W: ByteSink>(desk: &Desk, sink: &mut W, error: RunError) -> RunError
+    ensures { Leaves desk.now.answers.items error (W.taken sink.old) (W.taken sink.new)
+        (W.faults sink.old) (W.faults sink.new) result }
+{
+    match desk.write_out(sink) {
+        Ok(()) => error,
+        Err(_) => RunError::Output,
+    }
 }
 
-/// Reads all blocks, and answers the lines that a line feed ends.
+/// Reads all blocks, and answers the lines that a line feed ends. It gives what it holds then; where
+/// it is refused, the run has ended.
 fn take_blocks<A: Answers, S: ByteSource, W: ByteSink>(
     alloc: Global,
     answers: &A,
     source: &mut S,
     sink: &mut W,
-    desk: &mut Desk,
-) -> Result<End, Fault>
-    ensures end { result ≡ Ok end.Whole → IsAtEnd (S.to_come source.new) }
-    ensures taken { result ≡ Ok end.Whole → (IsFresh
-        (A.gives answers.now) desk.old.line.items desk.old.answers.items (W.taken sink.old) →
-        OfRead (S.to_come source.old) (S.to_come source.new)
-        (λ bytes. Stands (A.gives answers.now) bytes desk.new.line.items desk.new.answers.items
-        (W.taken sink.old) (W.taken sink.new))) }
-    ensures no_fault { result ≡ Ok end.Whole → S.faults source.new ≡ S.faults source.old }
-    ensures input { result ≡ Ok end.Input → IsFresh
-        (A.gives answers.now) desk.old.line.items desk.old.answers.items (W.taken sink.old) →
-        OfRead (S.to_come source.old) (S.to_come source.new)
-        (λ bytes. Stands (A.gives answers.now) bytes desk.new.line.items desk.new.answers.items
-        (W.taken sink.old) (W.taken sink.new)) }
-    ensures cause { result ≡ Ok end.Input → (S.faults source.new ≡
-        S.faults source.old + 1) ⊎ OfRead (S.to_come source.old) (S.to_come source.new)
-        (λ bytes. length bytes ≡ most_bytes) }
-    ensures memory { result ≡
-        Ok end.Memory → IsFresh (A.gives answers.now) desk.old.line.items desk.old.answers.items
-        (W.taken sink.old) → OfRead (S.to_come source.old) (S.to_come source.new)
-        (λ bytes. Holds (IsReportOnFirst (A.gives answers.now) bytes) desk.new.answers.items
-        (W.taken sink.old) (W.taken sink.new)) }
-    ensures no_fault_without_memory { result ≡
-        Ok end.Memory → S.faults source.new ≡ S.faults source.old }
-    ensures broken { OnErr result (IsFresh (A.gives answers.now) desk.old.line.items
-        desk.old.answers.items (W.taken sink.old) →
-        OfRead (S.to_come source.old) (S.to_come source.new)
-        (λ bytes. BreaksOff (A.gives answers.now) bytes (W.taken sink.old) (W.taken sink.new))) }
-    ensures short { result ≡ Ok end.Whole → vec_len desk.old.answers < BLOCK_LENGTH →
-        vec_len desk.new.answers < BLOCK_LENGTH }
-    ensures sink_no_fault { OnOk result (W.faults sink.new ≡ W.faults sink.old) }
-    ensures sink_fault { OnErr result (W.faults sink.new ≡ W.faults sink.old + 1) }
+) -> Result<Desk, RunError>
+    ensures end { OnOk result (IsAtEnd (S.to_come source.new)) }
+    ensures taken { IfOk result (λ desk. (bytes : List ℕ) × Runs
+        (A.gives answers.now) bytes desk.line.items desk.answers.items
+        (seen (S.to_come source.old) (S.faults source.old) (W.taken sink.old) (W.faults sink.old))
+        (seen (S.to_come source.new) (S.faults source.new) (W.taken sink.new) (W.faults sink.new))) }
+    ensures ends { IfErr result (λ error. Ends (A.gives answers.now)
+        (seen (S.to_come source.old) (S.faults source.old) (W.taken sink.old) (W.faults sink.old))
+        (seen (S.to_come source.new) (S.faults source.new) (W.taken sink.new) (W.faults sink.new))
+        (Err error)) }
+    ensures short { IfOk result (λ desk. vec_len desk.answers < BLOCK_LENGTH) }
 {
+    let mut desk = Desk::new(alloc);
     let mut block = Block::new();
     let mut read: u64 = 0;
     'blocks: loop {
         if read == u64::MAX {
-            return Ok(End::Input);
+            return Err(leave(&desk, sink, RunError::Input));
         }
         let Ok(()) = block.fill(source, u64::MAX - read) else {
-            return Ok(End::Input);
+            return Err(leave(&desk, sink, RunError::Input));
         };
-        if block.bytes().is_empty() {
-            return Ok(End::Whole);
+        let bytes = block.bytes();
+        if bytes.is_empty() {
+            return Ok(desk);
         }
-        read += block.bytes().len() as u64;
-        match desk.take_block(alloc, answers, sink, block.bytes()) {
+        read += bytes.len() as u64;
+        match desk.take_block(alloc, answers, sink, bytes) {
             Ok(()) => {}
-            Err(Refusal::Fault) => return Err(Fault),
-            Err(Refusal::Memory) => return Ok(End::Memory),
+            Err(Refusal::Fault) => return Err(RunError::Output),
+            Err(Refusal::Memory) => return Err(leave(&desk, sink, RunError::Memory)),
         }
     }
-}
-
-/// Reads to the end, and answers all lines.
-fn take_all<A: Answers, S: ByteSource, W: ByteSink>(
-    alloc: Global,
-    answers: &A,
-    source: &mut S,
-    sink: &mut W,
-    desk: &mut Desk,
-) -> Result<End, Fault>
-    ensures end { result ≡ Ok end.Whole → IsAtEnd (S.to_come source.new) }
-    ensures taken { result ≡ Ok end.Whole → (IsFresh
-        (A.gives answers.now) desk.old.line.items desk.old.answers.items (W.taken sink.old) →
-        OfRead (S.to_come source.old) (S.to_come source.new)
-        (λ bytes. Holds (IsReport (A.gives answers.now) bytes) desk.new.answers.items
-        (W.taken sink.old) (W.taken sink.new))) }
-    ensures no_fault { result ≡ Ok end.Whole → S.faults source.new ≡ S.faults source.old }
-    ensures input { result ≡ Ok end.Input → IsFresh
-        (A.gives answers.now) desk.old.line.items desk.old.answers.items (W.taken sink.old) →
-        OfRead (S.to_come source.old) (S.to_come source.new)
-        (λ bytes. Holds (IsReportOnEnded (A.gives answers.now) bytes) desk.new.answers.items
-        (W.taken sink.old) (W.taken sink.new)) }
-    ensures cause { result ≡ Ok end.Input → (S.faults source.new ≡
-        S.faults source.old + 1) ⊎ OfRead (S.to_come source.old) (S.to_come source.new)
-        (λ bytes. length bytes ≡ most_bytes) }
-    ensures memory { result ≡
-        Ok end.Memory → IsFresh (A.gives answers.now) desk.old.line.items desk.old.answers.items
-        (W.taken sink.old) → OfRead (S.to_come source.old) (S.to_come source.new)
-        (λ bytes. Holds (IsReportOnFirst (A.gives answers.now) bytes) desk.new.answers.items
-        (W.taken sink.old) (W.taken sink.new)) }
-    ensures no_fault_without_memory { result ≡
-        Ok end.Memory → S.faults source.new ≡ S.faults source.old }
-    ensures broken { OnErr result (IsFresh (A.gives answers.now) desk.old.line.items
-        desk.old.answers.items (W.taken sink.old) →
-        OfRead (S.to_come source.old) (S.to_come source.new)
-        (λ bytes. BreaksOff (A.gives answers.now) bytes (W.taken sink.old) (W.taken sink.new))) }
-    ensures sink_no_fault { OnOk result (W.faults sink.new ≡ W.faults sink.old) }
-    ensures sink_fault { OnErr result (W.faults sink.new ≡ W.faults sink.old + 1) }
-{
-    match take_blocks(alloc, answers, source, sink, desk) {
-        Ok(End::Whole) => {}
-        Ok(End::Input) => return Ok(End::Input),
-        Ok(End::Memory) => return Ok(End::Memory),
-        Err(_) => return Err(Fault),
-    }
-    let Ok(()) = desk.take_last(alloc, answers) else {
-        return Ok(End::Memory);
-    };
-    Ok(End::Whole)
 }
 
 /// Answers each line of a source by a line to a sink, in the order of the lines. The source is read
@@ -179,40 +108,17 @@ pub fn answer_lines<A: Answers, S: ByteSource, W: ByteSink>(
     source: &mut S,
     sink: &mut W,
 ) -> Result<(), RunError>
-    ensures end { OnOk result (IsAtEnd (S.to_come source.new)) }
-    ensures report { OnOk result (OfRead (S.to_come source.old) (S.to_come source.new)
-        (λ bytes. TakesA (IsReport (A.gives answers.now) bytes) (W.taken sink.old)
-        (W.taken sink.new))) }
-    ensures no_fault { OnOk result (S.faults source.new ≡ S.faults source.old) }
-    ensures ended { result ≡
-        Err error.Input → OfRead (S.to_come source.old) (S.to_come source.new)
-        (λ bytes. TakesA (IsReportOnEnded (A.gives answers.now) bytes) (W.taken sink.old)
-        (W.taken sink.new)) }
-    ensures cause { result ≡ Err error.Input →
-        (S.faults source.new ≡ S.faults source.old + 1) ⊎ OfRead (S.to_come source.old)
-        (S.to_come source.new) (λ bytes. length bytes ≡ most_bytes) }
-    ensures beginning { result ≡ Err error.Output →
-        OfRead (S.to_come source.old) (S.to_come source.new) (λ bytes.
-        TakesA (IsBeginning (A.gives answers.now) (S.to_come source.new) bytes)
-        (W.taken sink.old) (W.taken sink.new)) }
-    ensures first { result ≡
-        Err error.Memory → OfRead (S.to_come source.old) (S.to_come source.new)
-        (λ bytes. TakesA (IsReportOnFirst (A.gives answers.now) bytes) (W.taken sink.old)
-        (W.taken sink.new)) }
-    ensures no_fault_without_memory { result ≡
-        Err error.Memory → S.faults source.new ≡ S.faults source.old }
-    ensures sink_faults { W.faults sink.new ≡ W.faults sink.old + sink_faults_of result }
+    ensures ends { Ends (A.gives answers.now)
+        (seen (S.to_come source.old) (S.faults source.old) (W.taken sink.old) (W.faults sink.old))
+        (seen (S.to_come source.new) (S.faults source.new) (W.taken sink.new) (W.faults sink.new))
+        result }
 {
-    let mut desk = Desk::new(alloc);
-    let Ok(end) = take_all(alloc, answers, source, sink, &mut desk) else {
-        return Err(RunError::Output);
+    let mut desk = take_blocks(alloc, answers, source, sink)?;
+    let Ok(()) = desk.take_last(alloc, answers) else {
+        return Err(leave(&desk, sink, RunError::Memory));
     };
     let Ok(()) = desk.write_out(sink) else {
         return Err(RunError::Output);
     };
-    match end {
-        End::Whole => Ok(()),
-        End::Input => Err(RunError::Input),
-        End::Memory => Err(RunError::Memory),
-    }
+    Ok(())
 }

@@ -3,8 +3,7 @@
 ghost use Rattle.std.specs.Prelude.{◌≡◌, ℕ, List, Option};
 ghost use Rattle.phone_lines.specs.Lines.{AreLines};
 ghost use Rattle.phone_lines.specs.Reports.{HasAnAnswer, HasOneAnswer};
-ghost use Rattle.phone_lines.specs.Reports.{IsBeginning, IsReport, TakesBeginning};
-ghost use Rattle.phone_lines.specs.Runs.{TakesA};
+ghost use Rattle.phone_lines.specs.Reports.{IsBeginning, IsReport, TakesA, TakesBeginning};
 
 use crate::Answers;
 

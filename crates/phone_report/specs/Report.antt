@@ -9,14 +9,6 @@ use Rattle.phone_number.specs.Reports.{IsReportLine}
 abbrev pub IsReport : List Metadata → Option Id → List ℕ → List ℕ → Type 0
 IsReport db hint bytes report = on_lines.IsReport (IsReportLine db hint) bytes report
 
--- the report on the lines that a line feed ends
-abbrev pub IsReportOnEnded : List Metadata → Option Id → List ℕ → List ℕ → Type 0
-IsReportOnEnded db hint bytes report = on_lines.IsReportOnEnded (IsReportLine db hint) bytes report
-
--- the report on some first ones of them
-abbrev pub IsReportOnFirst : List Metadata → Option Id → List ℕ → List ℕ → Type 0
-IsReportOnFirst db hint bytes report = on_lines.IsReportOnFirst (IsReportLine db hint) bytes report
-
 -- a beginning of the report on what was read, where this is still to come: the report lines of some
 -- first lines, each whole, then a beginning of the next one
 abbrev pub IsBeginning : List Metadata → Option Id → Option (List ℕ) → List ℕ → List ℕ → Type 0

@@ -1,14 +1,11 @@
 //! The run over all lines of a source, and laws of its report.
-ghost use Rattle.std.specs.Prelude.{◌≡◌, ◌+◌, ◌⊎◌, ℕ, List, Option, Err, OnOk, length};
+ghost use Rattle.std.specs.Prelude.{◌≡◌, ℕ, List, Option};
 ghost use Rattle.phone_core.specs.declared.country.Id.{Id};
-ghost use Rattle.phone_device.specs.Passing.{IsAtEnd};
-ghost use Rattle.phone_lines.specs.Faults.{sink_faults_of};
-ghost use Rattle.phone_lines.specs.Runs.{OfRead, TakesA, most_bytes};
-ghost use Rattle.phone_lines.specs.declared.blocks.RunError.TheVariants as error;
+ghost use Rattle.phone_lines.specs.Ends.{Ends, seen};
+ghost use Rattle.phone_lines.specs.Reports.{TakesA};
 ghost use Rattle.phone_records.specs.declared.loader.Metadata as loader;
 ghost use Rattle.phone_number.specs.Reports.{IsReportLine};
 ghost use Rattle.phone_report.specs.Report.{IsBeginning, IsReport, TakesBeginning};
-ghost use Rattle.phone_report.specs.Report.{IsReportOnEnded, IsReportOnFirst};
 
 use crate::line::Reporter;
 use phone_device::{ByteSink, ByteSource};
@@ -39,28 +36,10 @@ pub fn run<S: ByteSource, W: ByteSink>(
     source: &mut S,
     sink: &mut W,
 ) -> Result<(), RunError>
-    ensures end { OnOk result (IsAtEnd (S.to_come source.new)) }
-    ensures report { OnOk result (OfRead (S.to_come source.old) (S.to_come source.new)
-        (λ bytes. TakesA (IsReport database.now hint bytes) (W.taken sink.old)
-        (W.taken sink.new))) }
-    ensures no_fault { OnOk result (S.faults source.new ≡ S.faults source.old) }
-    ensures ended { result ≡ Err error.Input →
-        OfRead (S.to_come source.old) (S.to_come source.new)
-        (λ bytes. TakesA (IsReportOnEnded database.now hint bytes) (W.taken sink.old)
-        (W.taken sink.new)) }
-    ensures cause { result ≡ Err error.Input → (S.faults source.new ≡ S.faults source.old + 1) ⊎
-        OfRead (S.to_come source.old) (S.to_come source.new) (λ bytes. length bytes ≡ most_bytes) }
-    ensures beginning { result ≡ Err error.Output →
-        OfRead (S.to_come source.old) (S.to_come source.new) (λ bytes.
-        TakesA (IsBeginning database.now hint (S.to_come source.new) bytes)
-        (W.taken sink.old) (W.taken sink.new)) }
-    ensures first { result ≡ Err error.Memory →
-        OfRead (S.to_come source.old) (S.to_come source.new)
-        (λ bytes. TakesA (IsReportOnFirst database.now hint bytes) (W.taken sink.old)
-        (W.taken sink.new)) }
-    ensures no_fault_without_memory { result ≡ Err error.Memory →
-        S.faults source.new ≡ S.faults source.old }
-    ensures sink_faults { W.faults sink.new ≡ W.faults sink.old + sink_faults_of result }
+    ensures ends { Ends (IsReportLine database.now hint)
+        (seen (S.to_come source.old) (S.faults source.old) (W.taken sink.old) (W.faults sink.old))
+        (seen (S.to_come source.new) (S.faults source.new) (W.taken sink.new) (W.faults sink.new))
+        result }
 {
     let reporter = Reporter { database, hint };
     answer_lines(database.allocator(), &reporter, source, sink)
