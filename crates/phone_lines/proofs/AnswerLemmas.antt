@@ -1,6 +1,7 @@
 -- Answers to lines, one after the other; and what begins whatever is the report.
 use Rattle.std.proofs.Common.{◌≡◌, ◌==◌, ℕ, Bool, true, false, ◌||◌, List, [], ◌∷◌, ◌++◌, refl, sym}
 use Rattle.std.proofs.Common.{ap, ap₂, ◌∙◌, append_assoc, subst, true≢false}
+use Rattle.std.proofs.lemmas.Bool.{or_parts}
 use Rattle.std.proofs.lemmas.List.{append-nil}
 use Rattle.std.proofs.lemmas.List.Folds.{list_any-append}
 use Rattle.std.specs.List.{AllByRecursion, list_any}
@@ -30,26 +31,8 @@ abbrev pub tail_of : List ℕ → List ℕ
 tail_of [] = []
 tail_of (c ∷ cs) = cs
 
-no_feed : (c : ℕ) (cs : List ℕ) → 10 ≡ c → IsUnbroken (c ∷ cs) → ⊥
-no_feed c cs e h = true≢false (subst (λ d. list_any (λ x. x == 10) (d ∷ cs) ≡ false) (sym e) h)
-
 unbroken_tail : (c : ℕ) (cs : List ℕ) → IsUnbroken (c ∷ cs) → IsUnbroken cs
-unbroken_tail c cs h = second (c == 10) _ h
-  where
-    second : (a b : Bool) → (a || b) ≡ false → b ≡ false
-    second false b h = h
-    second true b h = absurd (true≢false h)
-
-both_grow : (c d : ℕ) (x y u v : List ℕ) → c ≡ d → (x ≡ y) × (u ≡ v) → (c ∷ x ≡ d ∷ y) × (u ≡ v)
-both_grow c d x y u v e h = (ap₂ (λ a b. a ∷ b) e h.0, h.1)
-
--- two texts that are the same: what stands before the first line feed of each, and what stands after it
-pub same_first : (x y u v : List ℕ) → IsUnbroken x → IsUnbroken y → x ++ 10 ∷ u ≡ y ++ 10 ∷ v → (x ≡ y) × (u ≡ v)
-same_first [] [] u v p q e = (refl, ap tail_of e)
-same_first [] (c ∷ y) u v p q e = absurd (no_feed c y (ap head_or_zero e) q)
-same_first (c ∷ x) [] u v p q e = absurd (no_feed c x (sym (ap head_or_zero e)) p)
-same_first (c ∷ x) (d ∷ y) u v p q e =
-    both_grow c d x y u v (ap head_or_zero e) (same_first x y u v (unbroken_tail c x p) (unbroken_tail d y q) (ap tail_of e))
+unbroken_tail c cs h = (or_parts (c == 10) (list_any (λ c. c == 10) cs) h).1
 
 has_feed : (l rest : List ℕ) (text : List ℕ) → IsUnbroken text → text ≡ l ++ 10 ∷ rest → ⊥
 has_feed l rest text h e = true≢false (sym (there l rest) ∙ ap (list_any (λ c. c == 10)) (sym e) ∙ h)
@@ -61,13 +44,19 @@ has_feed l rest text h e = true≢false (sym (there l rest) ∙ ap (list_any (λ
     there : (l rest : List ℕ) → list_any (λ c. c == 10) (l ++ 10 ∷ rest) ≡ true
     there l rest = list_any-append (λ c. c == 10) l (10 ∷ rest) ∙ last_true _
 
+-- two texts that are the same: what stands before the first line feed of each, and what stands after it
+pub same_first : (x y u v : List ℕ) → IsUnbroken x → IsUnbroken y → x ++ 10 ∷ u ≡ y ++ 10 ∷ v → (x ≡ y) × (u ≡ v)
+same_first [] [] u v p q e = (refl, ap tail_of e)
+same_first [] (c ∷ y) u v p q e = absurd (has_feed [] y (c ∷ y) q (ap (λ d. d ∷ y) (sym (ap head_or_zero e))))
+same_first (c ∷ x) [] u v p q e = absurd (has_feed [] x (c ∷ x) p (ap (λ d. d ∷ x) (ap head_or_zero e)))
+same_first (c ∷ x) (d ∷ y) u v p q e =
+    let same = same_first x y u v (unbroken_tail c x p) (unbroken_tail d y q) (ap tail_of e) in
+    (ap₂ (λ a b. a ∷ b) (ap head_or_zero e) same.0, same.1)
+
 -- the same pieces
 pub record SamePieces (lines others : List (List ℕ)) (last end : List ℕ) : Type 0 where
   pub lines_are : lines ≡ others
   pub last_is : last ≡ end
-
-one_more : (l k : List ℕ) (lines others : List (List ℕ)) (last end : List ℕ) → l ≡ k → SamePieces lines others last end → SamePieces (l ∷ lines) (k ∷ others) last end
-one_more l k lines others last end e h = record { lines_are = ap₂ (λ a b. a ∷ b) e h.lines_are; last_is = h.last_is }
 
 seam : (l r last : List ℕ) → ((l ++ 10 ∷ []) ++ r) ++ last ≡ l ++ 10 ∷ (r ++ last)
 seam l r last = append_assoc (l ++ 10 ∷ []) r last ∙ append_assoc l (10 ∷ []) (r ++ last)
@@ -80,7 +69,8 @@ same_pieces [] (l ∷ others) last end p q h k e = absurd (has_feed l (ended oth
 same_pieces (l ∷ lines) [] last end p q h k e = absurd (has_feed l (ended lines ++ last) end k (sym e ∙ seam l (ended lines) last))
 same_pieces (l ∷ lines) (m ∷ others) last end p q h k e =
     let s = same_first l m (ended lines ++ last) (ended others ++ end) p.0 q.0 (sym (seam l (ended lines) last) ∙ e ∙ seam m (ended others) end) in
-    one_more l m lines others last end s.0 (same_pieces lines others last end p.1 q.1 h k s.1)
+    let rest = same_pieces lines others last end p.1 q.1 h k s.1 in
+    record { lines_are = ap₂ (λ a b. a ∷ b) s.0 rest.lines_are; last_is = rest.last_is }
 
 -- of the ended lines all are some first ones
 pub IsReportOnEnded-first : (gives : Gives) (bytes r : List ℕ) → IsReportOnEnded gives bytes r → IsReportOnFirst gives bytes r

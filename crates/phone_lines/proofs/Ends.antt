@@ -7,7 +7,7 @@ use Rattle.phone_lines.specs.Reports.{Gives, IsReportOnEnded, IsReportOnFirst, T
 use Rattle.phone_lines.specs.Runs.{Holds, Leaves, Runs}
 use Rattle.phone_lines.specs.Runs.Leaves.{broken, written}
 use Rattle.phone_lines.specs.declared.blocks.RunError.{RunError}
-use Rattle.phone_lines.specs.declared.blocks.RunError.TheVariants.{Input, Memory, Output}
+use Rattle.phone_lines.specs.declared.blocks.RunError.TheVariants.{Input, Memory}
 use Rattle.phone_lines.proofs.AnswerLemmas.{IsReportOnEnded-first}
 use Rattle.phone_lines.proofs.Beginnings.{TakesFront-first}
 use Rattle.phone_lines.proofs.Progress.{Holds-breaks, Holds-out, Stands-ended}

@@ -1,6 +1,6 @@
 -- How far a run is after one more byte, or after the sink has taken more.
 use Rattle.std.proofs.Common.{◌≡◌, add-one, ℕ, ◌+◌, ◌<◌, take, drop, length, get_or, List, [], ◌∷◌, ◌++◌, Option, Some, None, refl, sym, ap, ◌∙◌, append_assoc, subst}
-use Rattle.std.proofs.lemmas.List.{append-nil, take-append-drop}
+use Rattle.std.proofs.lemmas.List.{take-append-drop}
 use Rattle.std.proofs.Math.Seq.{take-suc}
 use Rattle.phone_device.specs.Passing.{Takes, TakesFront}
 use Rattle.phone_device.proofs.PassingLemmas.{TakenSoFar-all, TakenSoFar-nothing}

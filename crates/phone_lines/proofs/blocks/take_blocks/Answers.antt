@@ -1,4 +1,4 @@
-use Rattle.std.proofs.Common.{◌+◌, ◌++◌, [], Err, length, length-append, arith, inl, inr, refl, sym, ap, ap₂, ◌∙◌}
+use Rattle.std.proofs.Common.{◌+◌, ◌++◌, [], Err, length, length-append, arith, inl, inr, refl, sym, ap, ◌∙◌}
 use Rattle.phone_device.proofs.PassingLemmas.{Passes-nothing, Passes-then}
 use Rattle.phone_lines.specs.Ends.Ends.{output_failed}
 use Rattle.phone_lines.specs.Reports.{IsReportOnFirst}
