@@ -43,7 +43,7 @@ use Rattle.phone_validator.specs.Regions.{is_of}
 use Rattle.phone_read.specs.Readings
 use Rattle.phone_read.specs.Readings.{Reads, stripped, stripping_territory, without_zeros}
 use Rattle.phone_validator.specs.Regions.{home, region_of, territory_of}
-use Rattle.phone_read.specs.Strips.{Cut, Stripped, anew, by_match, cut_of, held, left_by, off_match, off_prefix, stay, step, strip}
+use Rattle.phone_read.specs.Strips.{Cut, Stripped, anew, by_match, held, left_by, off_prefix, stay, step, strip}
 use Rattle.phone_read.specs.TransformRules.{rules_have_no_plus}
 use Rattle.phone_validator.specs.Verdicts.{is_too_short, verdict}
 use Rattle.phone_read.specs.declared.reading.Reading.{Reading}

@@ -3,7 +3,7 @@ use Rattle.std.specs.Cow.{cow_str_bytes}
 use Rattle.phone_records.specs.declared.loader.Metadata.{Metadata}
 use Rattle.phone_parts.specs.Texts.{without_front}
 use Rattle.phone_validator.specs.Verdicts.{is_too_short, verdict}
-use Rattle.phone_read.specs.Strips.{Stripped, step, strip}
+use Rattle.phone_read.specs.Strips.{Stripped, step}
 use Rattle.phone_read.proofs.stripping.strip.Goals as goal
 
 -- what stripping leaves, by what the step left
