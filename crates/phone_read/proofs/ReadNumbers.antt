@@ -43,7 +43,7 @@ use Rattle.phone_validator.specs.Regions.{is_of}
 use Rattle.phone_read.specs.Readings
 use Rattle.phone_read.specs.Readings.{Reads, stripped, stripping_territory, without_zeros}
 use Rattle.phone_validator.specs.Regions.{home, region_of, territory_of}
-use Rattle.phone_read.specs.Strips.{Stripped, by_match, by_pattern, by_rule, once_more, step, strip, transformed}
+use Rattle.phone_read.specs.Strips.{Cut, Stripped, anew, by_match, held, left_by, off_prefix, stay, step, strip}
 use Rattle.phone_read.specs.TransformRules.{rules_have_no_plus}
 use Rattle.phone_validator.specs.Verdicts.{is_too_short, verdict}
 use Rattle.phone_read.specs.declared.reading.Reading.{Reading}
@@ -89,6 +89,11 @@ pub extension-digits : (db : List Metadata) (hint : Option Id) (t : List ℕ) (n
 extension-digits db hint t n h =
     let from = read_from db hint t n h in
     ap (λ e. option_map_or (list_all is_digit) e true) from.extension ∙ norm_if_some from.parts.extension
+
+-- what holds of each answer, with a value and without
+map_or_both : {X Y : Type 0} (o : Option X) (f : X → Y) (y : Y) (P : Y → Type 0) → ((x : X) → P (f x)) → P y → P (option_map_or f o y)
+map_or_both None f y P some none = none
+map_or_both (Some x) f y P some none = some x
 
 -- what every element of a list has, what is taken from it has
 module _ {X : Type 0} (Q : X → Type 0) where
@@ -180,35 +185,34 @@ module _ (P : ℕ → Type 0) where
     abbrev AllLeft : Stripped → Type 0
     AllLeft s = All P s.national
 
-    left_transformed : (pattern rule : List ℕ) (was : Option (List ℕ)) (found : Captured) → All P rule → AllLeft (transformed m pattern rule digits was found)
-    left_transformed pattern rule was found r =
-        cond_both (is_of m.general digits && not (is_of m.general (replaced pattern rule digits))) _ _ AllLeft
+    abbrev AllCut : Cut → Type 0
+    AllCut cut = AllLeft (left_by m digits None cut)
+
+    left_by_match : (pattern : List ℕ) (rule : Option (List ℕ)) (found : Captured) (last : Option (ℕ × ℕ)) → IfSome rule (All P) →
+        AllCut (by_match m pattern rule digits found last)
+    left_by_match pattern (Some rule) found (Some last) r =
+        let written = replaced pattern rule digits in
+        cond_both (is_of m.general digits && not (is_of m.general written)) stay (anew written (held digits found.first)) AllCut
         (λ _. h) (λ _. All-replaced pattern rule digits r h)
+    left_by_match pattern (Some rule) found None r = All-drop P found.span.1 digits h
+    left_by_match pattern None found (Some last) r = All-drop P found.span.1 digits h
+    left_by_match pattern None found None r = All-drop P found.span.1 digits h
 
-    left_by_rule : (pattern : List ℕ) (rule : Option (List ℕ)) (was : Option (List ℕ)) (found : Captured) (last : Option (ℕ × ℕ)) →
-        IfSome rule (All P) → AllLeft (by_rule m pattern rule digits was found last)
-    left_by_rule pattern (Some rule) was found (Some last) r = left_transformed pattern rule was found r
-    left_by_rule pattern (Some rule) was found None r = All-drop P found.span.1 digits h
-    left_by_rule pattern None was found (Some last) r = All-drop P found.span.1 digits h
-    left_by_rule pattern None was found None r = All-drop P found.span.1 digits h
+    left_at_front : (pattern : List ℕ) (found : Captured) →
+        AllCut (if found.span.0 == 0 then by_match m pattern m.national_prefix_transform_rule digits found found.last else stay)
+    left_at_front pattern found =
+        cond_both (found.span.0 == 0) _ stay AllCut (λ _. left_by_match pattern m.national_prefix_transform_rule found found.last of_rule) (λ _. h)
 
-    left_by_match : (pattern : List ℕ) (was : Option (List ℕ)) (o : Option Captured) → AllLeft (by_match m pattern digits was o)
-    left_by_match pattern was None = h
-    left_by_match pattern was (Some found) =
-        cond_both (found.span.0 == 0) _ _ AllLeft
-        (λ _. left_by_rule pattern m.national_prefix_transform_rule was found found.last of_rule) (λ _. h)
-
-    left_by_pattern : (pattern : Option (List ℕ)) (was : Option (List ℕ)) → AllLeft (by_pattern m pattern digits was)
-    left_by_pattern None was = All-without_front m.national_prefix digits h
-    left_by_pattern (Some pattern) was = left_by_match pattern was (captured pattern digits)
-
-    left_once_more : (s : Stripped) → AllLeft s → AllLeft (once_more m digits s)
-    left_once_more s left =
-        cond_both (is_too_short (verdict m (length (without_front m.national_prefix s.national)))) _ _ AllLeft
-        (λ _. h) (λ _. All-without_front m.national_prefix s.national left)
+    All-step : All P (step m digits None).national
+    All-step =
+        map_or_both m.national_prefix_for_parsing _ off_prefix AllCut
+        (λ pattern. map_or_both (captured pattern digits) _ stay AllCut (left_at_front pattern) h) (All-without_front m.national_prefix digits h)
 
     All-strip : All P (strip m digits).national
-    All-strip = left_once_more (step m digits None) (left_by_pattern m.national_prefix_for_parsing None)
+    All-strip =
+        let national = without_front m.national_prefix (step m digits None).national in
+        cond_both (is_too_short (verdict m (length national))) _ _ AllLeft
+        (λ _. h) (λ _. All-without_front m.national_prefix (step m digits None).national All-step)
 
   pub All-stripped : (o : Option Metadata) (digits : List ℕ) → All P digits →
       IfSome o (λ (m : Metadata). IfSome m.national_prefix_transform_rule (All P)) → All P (stripped o digits).national
@@ -221,8 +225,7 @@ module _ (P : ℕ → Type 0) where
 
   IfOk-option_map_or : {Y : Type 0} (f : Y → Result Coded ParseError) (o : Option Y) (e : ParseError) → ((y : Y) → IfOk (f y) AllAfter) →
       IfOk (option_map_or f o (Err e)) AllAfter
-  IfOk-option_map_or f None e h = tt
-  IfOk-option_map_or f (Some y) e h = h y
+  IfOk-option_map_or f o e h = map_or_both o f (Err e) (λ r. IfOk r AllAfter) h tt
 
   module _ (digits : List ℕ) (h : All P digits) where
     after_by_hint : (m : Metadata) → AllAfter (code_by_hint m digits)

@@ -1,7 +1,6 @@
 -- The hint: its territory, and the calling code that it gives, after the original's
 -- `parser/helper`. Texts are digits here, whose characters are their bytes.
 use Rattle.std.specs.Prelude.{ℕ, ◌&&◌, not, Bool, if◌then◌else◌, List, length, drop, Option}
-use Rattle.std.specs.Prelude.{None, Some}
 use Rattle.std.specs.Option.{option_and_then}
 use Rattle.std.specs.Fmt.{decimal}
 use Rattle.phone_core.specs.Ids.{name}

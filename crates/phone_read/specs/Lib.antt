@@ -1,4 +1,5 @@
 pub mod Codes
+pub mod HeldCuts
 pub mod Hints
 pub mod Numbering
 pub mod Readings

@@ -1,7 +1,7 @@
 -- What is cut off the digits after the calling code: national prefix and carrier code. After the
 -- original's `parser/helper` and `parser`.
-use Rattle.std.specs.Prelude.{ℕ, ◌==◌, ◌&&◌, not, Bool, false, if◌then◌else◌, List, length, drop}
-use Rattle.std.specs.Prelude.{Option, None, Some, option_map}
+use Rattle.std.specs.Prelude.{ℕ, ◌==◌, ◌&&◌, not, Bool, true, false, if◌then◌else◌}
+use Rattle.std.specs.Prelude.{List, length, drop, Option, None, Some, option_map}
 use Rattle.std.specs.Option.{option_map_or}
 use Rattle.regex.specs.Replace.{bytes_of}
 use Rattle.phone_territory.specs.First.{captured, replaced, Captured}
@@ -15,83 +15,64 @@ pub record Stripped : Type 0 where
   pub national : List ℕ
   pub carrier : Option (List ℕ)
 
+-- what a territory's rules do to digits
+pub data Cut : Type 0 where
+  -- nothing
+  stay : Cut
+  -- the national prefix is cut off, where the digits begin with it
+  off_prefix : Cut
+  -- so many bytes are cut off, and this names the carrier, if any
+  off_match : ℕ → Option (List ℕ) → Cut
+  -- they are written anew as these, and this names the carrier, if any
+  anew : List ℕ → Option (List ℕ) → Cut
+
+-- what each leaves, where a carrier may have been named before; it stays where none is named anew
+abbrev pub left_by : Metadata → List ℕ → Option (List ℕ) → Cut → Stripped
+left_by m digits was stay = record { national = digits; carrier = was }
+left_by m digits was off_prefix = record {
+  national = without_front m.national_prefix digits;
+  carrier = was;
+}
+left_by m digits was (off_match end name) = record { national = drop end digits; carrier = name }
+left_by m digits was (anew written name) = record { national = written; carrier = name }
+
+-- the digits are written anew
+abbrev pub is_anew : Cut → Bool
+is_anew (anew written name) = true
+is_anew _ = false
+
 -- what a group holds, where it took part
 abbrev pub held : List ℕ → Option (ℕ × ℕ) → Option (List ℕ)
 held digits group = option_map (λ (s : ℕ × ℕ). bytes_of digits (Some s)) group
 
--- a transform rule writes the digits anew, and group 1 names the carrier; but where the digits were
--- of the territory's general kind and no longer would be, they stay, and so does the carrier that
--- was named
-abbrev pub transformed : Metadata → List ℕ → List ℕ → List ℕ → Option (List ℕ) → Captured → Stripped
-transformed m pattern rule digits was found =
-    if is_of m.general digits && not (is_of m.general (replaced pattern rule digits))
-    then record { national = digits; carrier = was }
-    else record { national = replaced pattern rule digits; carrier = held digits found.first }
+-- what a match at the front does: where there is a transform rule and the last group took part, the
+-- rule writes the digits anew, and group 1 names the carrier, unless they would leave the
+-- territory's general kind; else the match is cut off, and the last group names the carrier
+abbrev pub by_match : Metadata → List ℕ → Option (List ℕ) → List ℕ → Captured → Option (ℕ × ℕ) →
+    Cut
+by_match m pattern (Some rule) digits found (Some last) =
+    let written = replaced pattern rule digits in
+    if is_of m.general digits && not (is_of m.general written) then stay
+    else anew written (held digits found.first)
+by_match m pattern rule digits found last = off_match found.span.1 (held digits last)
 
--- the digits as a transform rule writes them are no longer of the territory's general kind, and
--- were
-abbrev pub is_left_by_rule : Metadata → List ℕ → List ℕ → List ℕ → Bool
-is_left_by_rule m pattern rule digits = is_of m.general digits &&
-    not (is_of m.general (replaced pattern rule digits))
+-- what the rules do: without a parsing pattern the national prefix is cut off; with one its first
+-- match counts, where that is at the front
+abbrev pub cut_of : Metadata → List ℕ → Cut
+cut_of m digits =
+    option_map_or (λ pattern. option_map_or (λ (found : Captured).
+    if found.span.0 == 0
+    then by_match m pattern m.national_prefix_transform_rule digits found found.last
+    else stay) (captured pattern digits) stay) m.national_prefix_for_parsing off_prefix
 
--- a match at the front is cut off, and the last group (the match where there is none) names the
--- carrier; with a rule and that group there, the rule counts
-abbrev pub by_rule : Metadata → List ℕ → Option (List ℕ) → List ℕ → Option (List ℕ) → Captured →
-    Option (ℕ × ℕ) → Stripped
-by_rule m pattern (Some rule) digits was found (Some last) = transformed m pattern rule digits was
-    found
-by_rule m pattern rule digits was found last = record {
-  national = drop found.span.1 digits;
-  carrier = held digits last;
-}
-
--- only a first match at the front counts
-abbrev pub by_match : Metadata → List ℕ → List ℕ → Option (List ℕ) → Option Captured → Stripped
-by_match m pattern digits was None = record { national = digits; carrier = was }
-by_match m pattern digits was (Some found) =
-    if found.span.0 == 0 then by_rule m pattern m.national_prefix_transform_rule digits was found
-    found.last else record { national = digits; carrier = was }
-
--- without a parsing pattern the national prefix is cut off; with one, its first match counts
-abbrev pub by_pattern : Metadata → Option (List ℕ) → List ℕ → Option (List ℕ) → Stripped
-by_pattern m None digits was = record {
-  national = without_front m.national_prefix digits;
-  carrier = was;
-}
-by_pattern m (Some pattern) digits was = by_match m pattern digits was (captured pattern digits)
-
--- the transform rule writes the digits anew: there is one, the last group took part, and the digits
--- stay of the general kind if they were
-abbrev pub is_anew_by_rule : Metadata → List ℕ → Option (List ℕ) → List ℕ → Option (ℕ × ℕ) → Bool
-is_anew_by_rule m pattern (Some rule) digits (Some last) = not
-    (is_of m.general digits && not (is_of m.general (replaced pattern rule digits)))
-is_anew_by_rule m pattern rule digits last = false
-
--- only after a first match at the front
-abbrev pub is_anew_by_match : Metadata → List ℕ → List ℕ → Option Captured → Bool
-is_anew_by_match m pattern digits None = false
-is_anew_by_match m pattern digits (Some found) =
-    if found.span.0 == 0 then is_anew_by_rule m pattern m.national_prefix_transform_rule digits
-    found.last else false
-
--- only by a parsing pattern
-abbrev pub is_anew : Metadata → List ℕ → Bool
-is_anew m digits = option_map_or
-    (λ (pattern : List ℕ). is_anew_by_match m pattern digits (captured pattern digits))
-    m.national_prefix_for_parsing false
-
--- the step: by the territory's parsing pattern
+-- what they leave
 abbrev pub step : Metadata → List ℕ → Option (List ℕ) → Stripped
-step m digits was = by_pattern m m.national_prefix_for_parsing digits was
+step m digits was = left_by m digits was (cut_of m digits)
 
--- the national prefix is cut off once more; all of the stripping is dropped where too few digits
--- would be left
-abbrev pub once_more : Metadata → List ℕ → Stripped → Stripped
-once_more m digits stepped =
+-- then the national prefix is cut off once more; but all digits stay where too few would be left
+abbrev pub strip : Metadata → List ℕ → Stripped
+strip m digits =
+    let stepped = step m digits None in
     let national = without_front m.national_prefix stepped.national in
     if is_too_short (verdict m (length national)) then record { national = digits; carrier = None }
     else record { national = national; carrier = stepped.carrier }
-
--- the step, then the national prefix once more
-abbrev pub strip : Metadata → List ℕ → Stripped
-strip m digits = once_more m digits (step m digits None)

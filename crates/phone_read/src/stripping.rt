@@ -1,15 +1,15 @@
 //! What is cut off the digits after the calling code: national prefix and carrier code.
-ghost use Rattle.std.specs.Prelude.{◌≡◌, ◌⊎◌, ◌==◌, ◌&&◌, not, ℕ, List, IfOk, IfSome, IsOk, None};
-ghost use Rattle.std.specs.Prelude.{Some, drop, option_map, true, false, string_bytes, MatchOption};
+ghost use Rattle.std.specs.Prelude.{◌≡◌, ◌⊎◌, ◌==◌, ◌&&◌, not, if◌then◌else◌, ℕ, IfOk, IfSome, IsOk};
+ghost use Rattle.std.specs.Prelude.{None, Some, option_map, false, string_bytes};
 ghost use Rattle.std.specs.Cow.{cow_str_bytes, IsBorrowedStr};
 ghost use Rattle.std.specs.Option.{option_copied};
-ghost use Rattle.phone_territory.specs.First.{AreCuts, IsCut, captured, replaced};
+ghost use Rattle.phone_territory.specs.First.{AreCuts, IsCut, replaced};
 ghost use Rattle.phone_records.specs.declared.loader.Metadata as loader;
 ghost use Rattle.phone_validator.specs.Regions.{is_of};
+ghost use Rattle.phone_read.specs.HeldCuts.{EndsBetween, LendsName, told_by};
 ghost use Rattle.phone_read.specs.Readings.{stripped};
-ghost use Rattle.phone_read.specs.Strips.{Stripped, by_match, by_rule, held, is_anew};
-ghost use Rattle.phone_read.specs.Strips.{is_anew_by_match, is_anew_by_rule, is_left_by_rule};
-ghost use Rattle.phone_read.specs.Strips.{once_more, step, strip, transformed};
+ghost use Rattle.phone_read.specs.Strips.{Stripped, by_match, cut_of, held, is_anew, left_by};
+ghost use Rattle.phone_read.specs.Strips.{step, strip};
 
 use crate::together::{beside, instead};
 use crate::trims::{part, trim, without_front};
@@ -19,6 +19,19 @@ use phone_parts::Number;
 use phone_validator::validator::{is_general, length_of};
 use std::alloc::{AllocError, Global};
 use std::borrow::CowStr;
+
+/// What a territory's rules do to the digits after the calling code.
+#[derive(Drop)]
+enum Cut<'a> {
+    /// Nothing.
+    Stay,
+    /// The national prefix is cut off, where they begin with it.
+    OffPrefix,
+    /// So many bytes are cut off, and this names the carrier, if any.
+    OffMatch(usize, Option<CowStr<'a>>),
+    /// They are written anew as these, and this names the carrier, if any.
+    Anew(String, Option<CowStr<'a>>),
+}
 
 /// A number without what is dialled before its national number inside a territory, its carrier as
 /// it is named there. Without a parsing pattern the territory's national prefix is cut off, where
@@ -43,82 +56,146 @@ pub fn national_number<'a>(m: &Metadata, number: Number<'a>) -> Result<Number<'a
     ensures extension { IfOk result (λ n. n.extension ≡ number.entry.extension) }
     ensures no_pattern { m.now.national_prefix_for_parsing ≡ None → IsOk result }
     ensures borrowed { IfOk result (λ n. IsBorrowedStr number.entry.national →
-        is_anew m.now (cow_str_bytes number.entry.national) ≡ false → IsBorrowedStr n.national) }
+        is_anew (cut_of m.now (cow_str_bytes number.entry.national)) ≡ false →
+        IsBorrowedStr n.national) }
     ensures lent_carrier { IfOk result (λ n. IsBorrowedStr number.entry.national →
         (n.carrier ≡ number.entry.carrier) ⊎ IfSome n.carrier (λ c. IsBorrowedStr c)) }
 {
-    let Some(pattern) = m.national_prefix_for_parsing_pattern() else {
-        let national = without_front(m.national_prefix(), number.national);
-        return Ok(Number { national, ..number });
-    };
-    let found = pattern.captured(number.national.as_str());
-    let (found, number) = beside(found, number)?;
-    match found {
-        Some(found) => at_match(m, pattern, found, number),
-        None => Ok(number),
+    let cut = cut_of(m, &number.national);
+    let (cut, number) = beside(cut, number)?;
+    let (national, carrier) = left_by(m, cut, number.national, number.carrier);
+    Ok(Number {
+        national,
+        carrier,
+        ..number
+    })
+}
+
+/// What a cut leaves of a national part, and the carrier that is named then.
+fn left_by<'a>(
+    m: &Metadata,
+    cut: Cut<'a>,
+    national: CowStr<'a>,
+    carrier: Option<CowStr<'a>>,
+) -> (CowStr<'a>, Option<CowStr<'a>>)
+    requires { EndsBetween (cow_str_bytes national) cut }
+    ensures national { cow_str_bytes result.0 ≡ (left_by m.now (cow_str_bytes national.entry)
+        (option_map cow_str_bytes carrier.entry) (told_by cut.entry)).national }
+    ensures carrier { option_map cow_str_bytes result.1 ≡
+        (left_by m.now (cow_str_bytes national.entry)
+        (option_map cow_str_bytes carrier.entry) (told_by cut.entry)).carrier }
+    ensures borrowed { IsBorrowedStr national.entry → is_anew (told_by cut.entry) ≡ false →
+        IsBorrowedStr result.0 }
+    ensures lent_carrier { LendsName cut.entry →
+        (result.1 ≡ carrier.entry) ⊎ IfSome result.1 (λ c. IsBorrowedStr c) }
+{
+    match cut {
+        Cut::Stay => (national, carrier),
+        Cut::OffPrefix => (without_front(m.national_prefix(), national), carrier),
+        Cut::OffMatch(end, name) => (trim(national, end), instead(carrier, name)),
+        Cut::Anew(written, name) => (
+            instead(national, CowStr::Owned(written)),
+            instead(carrier, name),
+        ),
     }
 }
 
-/// A number by the first match of the parsing pattern, which counts where it is at the front.
-fn at_match<'a>(
+/// What a territory's rules do to a national part. A name of the carrier is borrowed if that is.
+fn cut_of<'a>(m: &Metadata, digits: &CowStr<'a>) -> Result<Cut<'a>, AllocError>
+    ensures cut { IfOk result (λ cut. told_by cut ≡ cut_of m.now (cow_str_bytes digits.now)) }
+    ensures ends { IfOk result (λ cut. EndsBetween (cow_str_bytes digits.now) cut) }
+    ensures lends { IfOk result (λ cut. IsBorrowedStr digits.now → LendsName cut) }
+    ensures no_pattern { m.now.national_prefix_for_parsing ≡ None → IsOk result }
+{
+    let Some(pattern) = m.national_prefix_for_parsing_pattern() else {
+        return Ok(Cut::OffPrefix);
+    };
+    let Some(found) = pattern.captured(digits.as_str())? else {
+        return Ok(Cut::Stay);
+    };
+    if found.span.0 == 0 {
+        by_match(m, pattern, found, digits)
+    } else {
+        Ok(Cut::Stay)
+    }
+}
+
+/// What a match at the front does to a national part.
+fn by_match<'a>(
     m: &Metadata,
     pattern: &Pattern,
     found: Captured,
-    number: Number<'a>,
-) -> Result<Number<'a>, AllocError>
-    requires { AreCuts (cow_str_bytes number.national) found }
-    ensures national { IfOk result (λ n. cow_str_bytes n.national ≡
-        (by_match m.now pattern.now (cow_str_bytes number.entry.national)
-        (option_map cow_str_bytes number.entry.carrier) (Some found)).national) }
-    ensures carrier { IfOk result (λ n. option_map cow_str_bytes n.carrier ≡
-        (by_match m.now pattern.now (cow_str_bytes number.entry.national)
-        (option_map cow_str_bytes number.entry.carrier) (Some found)).carrier) }
-    ensures country { IfOk result (λ n. n.country ≡ number.entry.country) }
-    ensures prefix { IfOk result (λ n. n.prefix ≡ number.entry.prefix) }
-    ensures extension { IfOk result (λ n. n.extension ≡ number.entry.extension) }
-    ensures borrowed { IfOk result (λ n. IsBorrowedStr number.entry.national →
-        is_anew_by_match m.now pattern.now (cow_str_bytes number.entry.national) (Some found) ≡
-        false → IsBorrowedStr n.national) }
-    ensures lent_carrier { IfOk result (λ n. IsBorrowedStr number.entry.national →
-        (n.carrier ≡ number.entry.carrier) ⊎ IfSome n.carrier (λ c. IsBorrowedStr c)) }
+    digits: &CowStr<'a>,
+) -> Result<Cut<'a>, AllocError>
+    requires { AreCuts (cow_str_bytes digits.now) found }
+    ensures cut { IfOk result (λ cut. told_by cut ≡ by_match m.now pattern.now
+        m.now.national_prefix_transform_rule (cow_str_bytes digits.now) found found.last) }
+    ensures ends { IfOk result (λ cut. EndsBetween (cow_str_bytes digits.now) cut) }
+    ensures lends { IfOk result (λ cut. IsBorrowedStr digits.now → LendsName cut) }
 {
-    if found.span.0 != 0 {
-        return Ok(number);
-    }
     match (m.national_prefix_transform_rule(), found.last) {
-        (Some(rule), Some(_)) => transformed(m, pattern, rule, found, number),
-        (_, last) => cut(m, found, last, number),
+        (Some(rule), Some(_)) => by_rule(m, pattern, rule, found, digits),
+        (_, last) => {
+            let name = part_if_any(m.allocator(), digits, last)?;
+            Ok(Cut::OffMatch(found.span.1, name))
+        }
     }
 }
 
-/// A number without the match at its front, whose last group names the carrier.
-fn cut<'a>(
+/// What the transform rule does to a national part, where the last group of the match took part.
+fn by_rule<'a>(
     m: &Metadata,
+    pattern: &Pattern,
+    rule: &str,
     found: Captured,
-    last: Option<(usize, usize)>,
-    number: Number<'a>,
-) -> Result<Number<'a>, AllocError>
-    requires found { AreCuts (cow_str_bytes number.national) found }
-    requires last { IfSome last (IsCut (cow_str_bytes number.national)) }
-    ensures national { IfOk result (λ n. cow_str_bytes n.national ≡
-        drop found.span.1 (cow_str_bytes number.entry.national)) }
-    ensures carrier { IfOk result (λ n. option_map cow_str_bytes n.carrier ≡
-        held (cow_str_bytes number.entry.national) last) }
-    ensures country { IfOk result (λ n. n.country ≡ number.entry.country) }
-    ensures prefix { IfOk result (λ n. n.prefix ≡ number.entry.prefix) }
-    ensures extension { IfOk result (λ n. n.extension ≡ number.entry.extension) }
-    ensures borrowed { IfOk result (λ n. IsBorrowedStr number.entry.national →
-        IsBorrowedStr n.national) }
-    ensures lent_carrier { IfOk result (λ n. IsBorrowedStr number.entry.national →
-        IfSome n.carrier (λ c. IsBorrowedStr c)) }
+    digits: &CowStr<'a>,
+) -> Result<Cut<'a>, AllocError>
+    requires { AreCuts (cow_str_bytes digits.now) found }
+    ensures cut { (last : ℕ × ℕ) → IfOk result (λ cut. told_by cut ≡ by_match m.now pattern.now
+        (Some rule.now) (cow_str_bytes digits.now) found (Some last)) }
+    ensures ends { IfOk result (λ cut. EndsBetween (cow_str_bytes digits.now) cut) }
+    ensures lends { IfOk result (λ cut. IsBorrowedStr digits.now → LendsName cut) }
 {
-    let carrier = part_if_any(m.allocator(), &number.national, last);
-    let (carrier, number) = beside(carrier, number)?;
-    Ok(Number {
-        national: trim(number.national, found.span.1),
-        carrier: instead(number.carrier, carrier),
-        ..number
-    })
+    let Some(written) = written_in_kind(m, pattern, rule, digits.as_str())? else {
+        return Ok(Cut::Stay);
+    };
+    let name = part_if_any(m.allocator(), digits, found.first);
+    let (name, written) = beside(name, written)?;
+    Ok(Cut::Anew(written, name))
+}
+
+/// The digits as the transform rule writes them anew; none where they would leave the territory's
+/// general kind.
+fn written_in_kind(
+    m: &Metadata,
+    pattern: &Pattern,
+    rule: &str,
+    digits: &str,
+) -> Result<Option<String>, AllocError>
+    ensures { IfOk result (λ made. option_map string_bytes made ≡
+        (if is_of m.now.general digits.now &&
+        not (is_of m.now.general (replaced pattern.now rule.now digits.now))
+        then None else Some (replaced pattern.now rule.now digits.now))) }
+{
+    let written = pattern.replaced(rule, digits)?;
+    let leaves = leaves_general(m, digits, written.as_str());
+    let (leaves, written) = beside(leaves, written)?;
+    if leaves {
+        Ok(instead(written, None))
+    } else {
+        Ok(Some(written))
+    }
+}
+
+/// Whether the digits are of the territory's general kind, and no longer are as they are written
+/// anew.
+fn leaves_general(m: &Metadata, digits: &str, written: &str) -> Result<bool, AllocError>
+    ensures { IfOk result (λ b. b ≡
+        (is_of m.now.general digits.now && not (is_of m.now.general written.now))) }
+{
+    let was = is_general(m, digits)?;
+    let is = is_general(m, written)?;
+    Ok(was && !is)
 }
 
 /// The part of a text that a group holds, where it took part.
@@ -138,103 +215,6 @@ fn part_if_any<'a>(
     }
 }
 
-/// A number that the transform rule writes anew, unless it would leave the territory's general
-/// kind.
-fn transformed<'a>(
-    m: &Metadata,
-    pattern: &Pattern,
-    rule: &str,
-    found: Captured,
-    number: Number<'a>,
-) -> Result<Number<'a>, AllocError>
-    requires { AreCuts (cow_str_bytes number.national) found }
-    ensures national { IfOk result (λ n. cow_str_bytes n.national ≡
-        (transformed m.now pattern.now rule.now (cow_str_bytes number.entry.national)
-        (option_map cow_str_bytes number.entry.carrier) found).national) }
-    ensures carrier { IfOk result (λ n. option_map cow_str_bytes n.carrier ≡
-        (transformed m.now pattern.now rule.now (cow_str_bytes number.entry.national)
-        (option_map cow_str_bytes number.entry.carrier) found).carrier) }
-    ensures country { IfOk result (λ n. n.country ≡ number.entry.country) }
-    ensures prefix { IfOk result (λ n. n.prefix ≡ number.entry.prefix) }
-    ensures extension { IfOk result (λ n. n.extension ≡ number.entry.extension) }
-    ensures borrowed { (last : ℕ × ℕ) →
-        IfOk result (λ n. IsBorrowedStr number.entry.national →
-        is_anew_by_rule m.now pattern.now (Some rule.now) (cow_str_bytes number.entry.national)
-        (Some last) ≡ false → IsBorrowedStr n.national) }
-    ensures lent_carrier { IfOk result (λ n. IsBorrowedStr number.entry.national →
-        (n.carrier ≡ number.entry.carrier) ⊎ IfSome n.carrier (λ c. IsBorrowedStr c)) }
-{
-    let made = written_anew(m, pattern, rule, found, &number.national);
-    let (made, number) = beside(made, number)?;
-    match made {
-        Some((anew, carrier)) => Ok(Number {
-            national: instead(number.national, CowStr::Owned(anew)),
-            carrier: instead(number.carrier, carrier),
-            ..number
-        }),
-        None => Ok(number),
-    }
-}
-
-/// The digits as the transform rule writes them anew, and the carrier; none where they would leave
-/// the territory's general kind.
-fn written_anew<'a>(
-    m: &Metadata,
-    pattern: &Pattern,
-    rule: &str,
-    found: Captured,
-    digits: &CowStr<'a>,
-) -> Result<Option<(String, Option<CowStr<'a>>)>, AllocError>
-    requires { AreCuts (cow_str_bytes digits.now) found }
-    ensures anew { IfOk result (λ made. MatchOption made
-        (is_left_by_rule m.now pattern.now rule.now (cow_str_bytes digits.now) ≡ true)
-        (λ made. (is_left_by_rule m.now pattern.now rule.now (cow_str_bytes digits.now) ≡ false)
-        × (string_bytes made.0 ≡ replaced pattern.now rule.now (cow_str_bytes digits.now))
-        × (option_map cow_str_bytes made.1 ≡ held (cow_str_bytes digits.now) found.first)
-        × (IsBorrowedStr digits.now → IfSome made.1 (λ c. IsBorrowedStr c)))) }
-{
-    let Some(anew) = anew_in_kind(m, pattern, rule, digits.as_str())? else {
-        return Ok(None);
-    };
-    let carrier = part_if_any(m.allocator(), digits, found.first);
-    let (carrier, anew) = beside(carrier, anew)?;
-    Ok(Some((anew, carrier)))
-}
-
-/// The digits as the transform rule writes them anew; none where they would leave the territory's
-/// general kind.
-fn anew_in_kind(
-    m: &Metadata,
-    pattern: &Pattern,
-    rule: &str,
-    digits: &str,
-) -> Result<Option<String>, AllocError>
-    ensures { IfOk result (λ made. MatchOption made
-        (is_left_by_rule m.now pattern.now rule.now digits.now ≡ true)
-        (λ anew. (is_left_by_rule m.now pattern.now rule.now digits.now ≡ false)
-        × (string_bytes anew ≡ replaced pattern.now rule.now digits.now))) }
-{
-    let anew = pattern.replaced(rule, digits)?;
-    let leaves = leaves_general(m, digits, anew.as_str());
-    let (leaves, anew) = beside(leaves, anew)?;
-    if leaves {
-        Ok(instead(anew, None))
-    } else {
-        Ok(Some(anew))
-    }
-}
-
-/// Whether the digits are of the territory's general kind, and no longer are as they are written
-/// anew.
-fn leaves_general(m: &Metadata, digits: &str, anew: &str) -> Result<bool, AllocError>
-    ensures { IfOk result (λ b. b ≡
-        (is_of m.now.general digits.now && not (is_of m.now.general anew.now))) }
-{
-    let was = is_general(m, digits)?;
-    let is = is_general(m, anew)?;
-    Ok(was && !is)
-}
-
 /// The digits that stripping by a territory leaves, with the carrier that was named:
 /// [`national_number`], then the national prefix once more; but the digits as they are where too
 /// few would be left. They are lent where they can be.
@@ -243,7 +223,7 @@ pub(crate) fn strip<'b>(m: &Metadata, digits: &'b str) -> Result<Number<'b>, All
         (strip m.now digits.entry.now).national) }
     ensures carrier { IfOk result (λ n. option_map cow_str_bytes n.carrier ≡
         (strip m.now digits.entry.now).carrier) }
-    ensures borrowed { IfOk result (λ n. is_anew m.now digits.entry.now ≡ false →
+    ensures borrowed { IfOk result (λ n. is_anew (cut_of m.now digits.entry.now) ≡ false →
         IsBorrowedStr n.national) }
 {
     let stepped = national_number(m, Number::of(digits))?;
