@@ -37,7 +37,7 @@ module _ (gives : Gives) (before after : Devices) (bytes : List ℕ) (read : Pas
       (λ t fault. no_memory (record { bytes = bytes; read = read; report = (t.0, first t.0 t.1, t.2); no_source_fault = none; no_sink_fault = fault }))
 
 -- the source failed, or gave as many bytes as are read
-pub left_by_input : (gives : Gives) (before middle after : Devices) (bytes line held : List ℕ) (error : RunError) → Runs gives bytes line held before middle →
+pub left_by_input : (gives : Gives) (before middle after : Devices) (bytes line held : List ℕ) (error : RunError) → Runs before middle gives bytes line held →
     after.to_come ≡ middle.to_come → (after.source_faults ≡ before.source_faults + 1) ⊎ (length bytes ≡ most_bytes) →
     Leaves held Input middle.taken after.taken middle.sink_faults after.sink_faults error → Ends gives before after (Err error)
 left_by_input gives before middle after bytes line held error run kept cause =

@@ -34,8 +34,8 @@ BreaksOff gives bytes before after =
     (answers : List ℕ) × IsReportOnFirst gives bytes answers × TakesFront before answers after
 
 -- no device has failed yet: what was read, and how far that is answered
-pub record Runs (gives : List ℕ → List ℕ → Type 0) (bytes line held : List ℕ)
-    (before after : Devices) : Type 0 where
+pub record Runs (before after : Devices) (gives : List ℕ → List ℕ → Type 0)
+    (bytes line held : List ℕ) : Type 0 where
   pub read : Passes before.to_come bytes after.to_come
   pub stands : Stands gives bytes line held before.taken after.taken
   pub no_source_fault : after.source_faults ≡ before.source_faults

@@ -48,8 +48,8 @@ fn leave<W: ByteSink>(desk: &Desk, sink: &mut W, error: RunError) -> RunError
     }
 }
 
-/// Reads all blocks, and answers the lines that a line feed ends. It gives what it holds then; where
-/// it is refused, the run has ended.
+/// Reads all blocks, and answers the lines that a line feed ends. It gives what it holds then;
+/// where it is refused, the run has ended.
 fn take_blocks<A: Answers, S: ByteSource, W: ByteSink>(
     alloc: Global,
     answers: &A,
@@ -58,9 +58,9 @@ fn take_blocks<A: Answers, S: ByteSource, W: ByteSink>(
 ) -> Result<Desk, RunError>
     ensures end { OnOk result (IsAtEnd (S.to_come source.new)) }
     ensures taken { IfOk result (λ desk. (bytes : List ℕ) × Runs
-        (A.gives answers.now) bytes desk.line.items desk.answers.items
         (seen (S.to_come source.old) (S.faults source.old) (W.taken sink.old) (W.faults sink.old))
-        (seen (S.to_come source.new) (S.faults source.new) (W.taken sink.new) (W.faults sink.new))) }
+        (seen (S.to_come source.new) (S.faults source.new) (W.taken sink.new) (W.faults sink.new))
+        (A.gives answers.now) bytes desk.line.items desk.answers.items) }
     ensures ends { IfErr result (λ error. Ends (A.gives answers.now)
         (seen (S.to_come source.old) (S.faults source.old) (W.taken sink.old) (W.faults sink.old))
         (seen (S.to_come source.new) (S.faults source.new) (W.taken sink.new) (W.faults sink.new))
