@@ -1,5 +1,6 @@
-//! A database: its territories in their order, from records or from text, by id and by calling code.
-ghost use Rattle.std.specs.Prelude.{◌≡◌, ◌⊎◌, ◌<◌, ◌≤◌, ◌+◌, ◌^◌, ◌++◌, ℕ, List, None, Some, Ok, Err};
+//! A database: its territories in order, from records or from text, by id and by calling code.
+ghost use Rattle.std.specs.Prelude.{◌≡◌, ◌⊎◌, ◌<◌, ◌≤◌, ◌+◌, ◌^◌, ◌++◌, ℕ, List, None, Some, Ok};
+ghost use Rattle.std.specs.Prelude.{Err};
 ghost use Rattle.std.specs.Prelude.{IfOk, IfErr, IfSome, IsUtf8, OnOk, filter, map, option_map};
 ghost use Rattle.std.specs.Prelude.{reverse};
 ghost use Rattle.std.specs.Borrow.{Bor};

@@ -2,7 +2,8 @@
 use Rattle.std.specs.Prelude.{ℕ, ◌-◌, ◌==◌, ◌&&◌, Bool, true, if◌then◌else◌, List, [], ◌∷◌, ◌++◌}
 use Rattle.std.specs.Prelude.{take, drop, reverse, Option, None, Some, option_map, unwrap_or}
 use Rattle.std.specs.Option.{option_or, option_map_or}
-use Rattle.phone_territory.specs.First.{Seen, at_start, first_match, is_whole_match, names_in, replaced}
+use Rattle.phone_territory.specs.First.{Seen, at_start, first_match, is_whole_match, names_in}
+use Rattle.phone_territory.specs.First.{replaced}
 use Rattle.phone_territory.specs.First.{with_first_replaced}
 use Rattle.phone_territory.specs.Records.{first_group_pattern}
 use Rattle.phone_records.specs.declared.loader.Format.{Format}

@@ -1,5 +1,6 @@
 -- What contracts see of a territory: its record. After the original's `metadata`.
-use Rattle.std.specs.Prelude.{ℕ, ◌==◌, ◌&&◌, ◌||◌, Bool, List, [], length, reverse, unwrap_or, codes}
+use Rattle.std.specs.Prelude.{ℕ, ◌==◌, ◌&&◌, ◌||◌, Bool, List, [], length, reverse, unwrap_or}
+use Rattle.std.specs.Prelude.{codes}
 use Rattle.std.specs.List.{list_any}
 use Rattle.phone_territory.specs.First.{at_start, led_by}
 use Rattle.phone_records.specs.declared.loader.Descriptor.{Descriptor}

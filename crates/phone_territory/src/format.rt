@@ -4,7 +4,8 @@ ghost use Rattle.std.specs.Prelude.{string_bytes};
 ghost use Rattle.std.specs.Borrow.{Bor};
 ghost use Rattle.std.specs.Option.{option_copied};
 ghost use Rattle.phone_territory.specs.First.{ArePatternsOf, IsLentPattern};
-ghost use Rattle.phone_territory.specs.Layouts.{laid_by, layout_template, national_template, rule_for};
+ghost use Rattle.phone_territory.specs.Layouts.{laid_by, layout_template, national_template};
+ghost use Rattle.phone_territory.specs.Layouts.{rule_for};
 ghost use Rattle.phone_territory.specs.Layouts.{ruled_template, suits};
 ghost use Rattle.phone_territory.specs.Records.{is_led};
 

@@ -35,8 +35,8 @@ impl Model for FirstGroup {
 }
 
 impl FirstGroup {
-    /// Compiles the pattern, `(\$\d)`. Refused by `Memory` where memory is refused; by `Regex` where
-    /// the pattern is refused.
+    /// Compiles the pattern, `(\$\d)`. Refused by `Memory` where memory is refused; by `Regex`
+    /// where the pattern is refused.
     pub fn compile(alloc: Global) -> Result<FirstGroup, LoadMetadata>
         ensures read { IfOk result (λ g. IsPattern first_group_pattern) }
         ensures refused { IfErr result (IsPatternRefusal (first_group_pattern ∷ [])) }

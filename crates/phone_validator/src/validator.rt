@@ -12,8 +12,10 @@ ghost use Rattle.phone_meta.specs.Lasts.{seen, with_last};
 ghost use Rattle.phone_territory.specs.Records.{id_of};
 ghost use Rattle.phone_validator.specs.Regions.{is_of};
 ghost use Rattle.phone_validator.specs.Origins.{told};
-ghost use Rattle.phone_validator.specs.Regions.{belongs_to, home, is_known, is_of_last, is_of_region};
-ghost use Rattle.phone_validator.specs.Regions.{is_one_pattern, line_or_mobile, region_named, region_of};
+ghost use Rattle.phone_validator.specs.Regions.{belongs_to, home, is_known, is_of_last};
+ghost use Rattle.phone_validator.specs.Regions.{is_of_region};
+ghost use Rattle.phone_validator.specs.Regions.{is_one_pattern, line_or_mobile, region_named};
+ghost use Rattle.phone_validator.specs.Regions.{region_of};
 ghost use Rattle.phone_validator.specs.Regions.{type_of, with_territory};
 ghost use Rattle.phone_validator.specs.Verdicts.{verdict_for, verdict_by, last_of};
 
