@@ -1,0 +1,6 @@
+//! How a number is dialled from a region.
+#![tactic(auto)]
+
+mod dialling;
+
+pub use dialling::{DialError, dialled_from};
