@@ -1,5 +1,5 @@
 -- The text that is dialled, by the number's national and international text.
-use Rattle.std.proofs.Common.{◌≡◌, ℕ, ◌==◌, true, false, List, ◌++◌, codes, drop, Option, None, Some, option_map, Result, Ok, Err, refl, ap, sym, ◌∙◌}
+use Rattle.std.proofs.Common.{◌≡◌, ℕ, ◌==◌, true, false, List, ◌++◌, codes, drop, Option, None, Some, IfOk, option_map, Result, Ok, Err, append_assoc, refl, ap, ap₂, sym, ◌∙◌, ◌∷◌, []}
 use Rattle.std.proofs.lemmas.Bool.{cond-false, cond-true}
 use Rattle.std.specs.Option.{option_map_or}
 use Rattle.phone_core.specs.declared.mode.Mode.{Mode}
@@ -8,7 +8,7 @@ use Rattle.phone_territory.specs.Records.{code_of}
 use Rattle.phone_records.specs.declared.loader.Metadata.{Metadata}
 use Rattle.phone_read.specs.declared.reading.Reading.{Reading}
 use Rattle.phone_number.specs.Texts.{international_text, national_text, text_by}
-use Rattle.phone_dial.specs.Dialled.{dialled_by, dialling_prefix_of}
+use Rattle.phone_dial.specs.Dialled.{dialled_by, dialled_prefix, dialling_prefix_of}
 use Rattle.phone_dial.specs.declared.dialling.DialError.{DialError}
 use Rattle.phone_dial.specs.declared.dialling.DialError.TheVariants.{UnknownCode, UnknownRegion}
 
@@ -46,3 +46,15 @@ module _ (from : Metadata) (n : Reading) where
   pub told_region : (o : Option Metadata) → ¬ (told o ≡ Err UnknownRegion)
   told_region None e = cc
   told_region (Some m) e = cc
+
+-- what is dialled behind a prefix, by its parts
+pub behind : {X E : Type 0} (bytes : X → List ℕ) (from : Metadata) (p r text : List ℕ)
+    (out : Result X E) → Some p ≡ dialled_prefix from → text ≡ 43 ∷ r →
+    IfOk out (λ t. bytes t ≡ p ++ 32 ∷ r) →
+    IfOk out (λ t. (rest : List ℕ) → text ≡ 43 ∷ rest → bytes t ≡ dialling_prefix_of from ++ rest)
+behind bytes from p r text (Err e) prefix whole h = tt
+behind bytes from p r text (Ok t) prefix whole h = λ rest same.
+    let front : p ++ 32 ∷ [] ≡ dialling_prefix_of from =
+    ap (λ o. option_map_or (λ p. p ++ 32 ∷ []) o (codes "+")) prefix in
+    let tail : r ≡ rest = ap (drop 1) (sym whole ∙ same) in
+    h ∙ sym (append_assoc p (32 ∷ []) r) ∙ ap₂ (λ a b. a ++ b) front tail

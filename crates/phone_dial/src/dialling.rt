@@ -1,9 +1,9 @@
 //! How a number is dialled from a region.
-ghost use Rattle.std.specs.Prelude.{◌≡◌, ◌↔◌, ◌++◌, ℕ, List, None, Some, Ok, Err, IfOk, codes};
-ghost use Rattle.std.specs.Prelude.{string_bytes};
+ghost use Rattle.std.specs.Prelude.{◌≡◌, ◌↔◌, ◌++◌, ◌∷◌, ℕ, List, None, Some, Ok, Err, IfOk, IfSome};
+ghost use Rattle.std.specs.Prelude.{IsNone, codes, string_bytes};
+ghost use Rattle.std.specs.List.{list_all};
 ghost use Rattle.std.specs.Option.{option_and_then, option_copied};
-ghost use Rattle.phone_core.specs.Ids.{name};
-ghost use Rattle.phone_meta.specs.Records.{last_with};
+ghost use Rattle.phone_chars.specs.Characters.{is_digit};
 ghost use Rattle.phone_number.specs.Texts.{printed};
 ghost use Rattle.phone_dial.specs.Dialled.{dialled_prefix, dialled_text, dialling_prefix_of};
 ghost use Rattle.phone_dial.specs.Dialled.{if_digits};
@@ -95,10 +95,25 @@ fn dialled_abroad(alloc: Global, from: &Metadata, text: &str) -> Result<String, 
     let Some(prefix) = dialled_prefix(from) else {
         return String::from_str(alloc, text);
     };
-    match text.strip_prefix("+") {
-        Some(rest) => format!(in alloc; "{prefix} {rest}"),
+    match signless(text) {
+        Some(rest) => behind_prefix(alloc, prefix, rest),
         None => String::from_str(alloc, text),
     }
+}
+
+/// A text without its leading plus sign, where it has one.
+fn signless(text: &str) -> Option<&str>
+    ensures found { IfSome result (λ rest. text.now ≡ codes "+" ++ rest.now) }
+    ensures none { IsNone result → (rest : List ℕ) → ¬ (text.now ≡ codes "+" ++ rest) }
+{
+    text.strip_prefix("+")
+}
+
+/// A prefix, a space, and what is dialled behind it. Refused only for memory.
+fn behind_prefix(alloc: Global, prefix: &str, rest: &str) -> Result<String, AllocError>
+    ensures { IfOk result (λ t. string_bytes t ≡ prefix.now ++ 32 ∷ rest.now) }
+{
+    format!(in alloc; "{prefix} {rest}")
 }
 
 /// The international prefix that is dialled in a territory.
@@ -124,9 +139,16 @@ fn only_prefix(from: &Metadata) -> Option<&str>
 fn digits(text: &str) -> Option<&str>
     ensures { option_copied result ≡ if_digits text.now }
 {
-    if !text.is_empty() && text.bytes().all(|b| b.is_ascii_digit()) {
+    if !text.is_empty() && are_digits(text.as_bytes()) {
         Some(text)
     } else {
         None
     }
+}
+
+/// Whether all bytes are digits.
+fn are_digits(bytes: &[u8]) -> bool
+    ensures { result ≡ list_all is_digit bytes.now }
+{
+    bytes.iter().all(|b| b.is_ascii_digit())
 }
