@@ -2,5 +2,6 @@
 #![tactic(auto)]
 
 mod dialling;
+pub mod laws;
 
 pub use dialling::{DialError, dialled_from};
