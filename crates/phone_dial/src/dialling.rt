@@ -1,6 +1,6 @@
 //! How a number is dialled from a region.
-ghost use Rattle.std.specs.Prelude.{◌≡◌, ◌↔◌, ◌++◌, ◌∷◌, ℕ, List, None, Some, Ok, Err, IfOk, IfSome};
-ghost use Rattle.std.specs.Prelude.{IsNone, codes, string_bytes};
+ghost use Rattle.std.specs.Prelude.{◌≡◌, ◌↔◌, ◌++◌, ◌∷◌, ℕ, List, None, Some, Ok, Err, IfOk};
+ghost use Rattle.std.specs.Prelude.{IfSome, IsNone, codes, string_bytes};
 ghost use Rattle.std.specs.List.{list_all};
 ghost use Rattle.std.specs.Option.{option_and_then, option_copied};
 ghost use Rattle.phone_chars.specs.Characters.{is_digit};
