@@ -1,0 +1,4 @@
+pub mod DialledParts
+pub mod DialledReads
+pub mod DialledTexts
+pub mod UnsignedParts
