@@ -14,7 +14,7 @@ use Rattle.phone_csv.specs.Reports.{AreAll}
 use Rattle.phone_csv.proofs.Progress.{feeds_rest}
 
 -- a record that its last byte ends is the next one of each text that begins with it
-feeds_next : (cfg : Config) (s s2 : State) (f f2 : Record) (p p2 x more : List ℕ) → Feeds cfg s f p x s2 f2 p2 true →
+pub feeds_next : (cfg : Config) (s s2 : State) (f f2 : Record) (p p2 x more : List ℕ) → Feeds cfg s f p x s2 f2 p2 true →
     next_record cfg s f p (x ++ more) ≡ Some (f2, s2, more)
 unfolding Feeds next_record
 feeds_next cfg s s2 f f2 p p2 [] more h = cc h.3

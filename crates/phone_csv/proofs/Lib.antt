@@ -3,3 +3,4 @@ pub mod AnswerLemmas
 pub mod Progress
 pub mod Ends
 pub mod KitRecords
+pub mod FirstLemmas

@@ -94,7 +94,7 @@ field_ended act.EndField x field e = cc e
 field_ended act.EndRecord x field e = refl
 
 -- in front of a record
-at_start : (d : ℕ) (s s' : State) (fields : Record) (field : List ℕ) → s' ≡ s → fields ≡ [] → field ≡ [] → Feeds (reading d) s [] [] [] s' fields field false
+pub at_start : (d : ℕ) (s s' : State) (fields : Record) (field : List ℕ) → s' ≡ s → fields ≡ [] → field ≡ [] → Feeds (reading d) s [] [] [] s' fields field false
 unfolding Feeds
 at_start d s s' fields field e f g = (e, f, g, refl)
 

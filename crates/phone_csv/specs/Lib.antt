@@ -1,4 +1,5 @@
 pub mod Faults
+pub mod Firsts
 pub mod Formats
 pub mod Records
 pub mod Reports

@@ -35,7 +35,7 @@ pub trait Answers {
 }
 
 /// Puts the text of a record behind a text. Refused only for memory; then the text is as it was.
-pub(crate) fn add_record(
+pub fn add_record(
     alloc: Global,
     delimiter: u8,
     fields: &ByteRecord,

@@ -3,6 +3,7 @@ ghost use Rattle.std.specs.Prelude.{◌≡◌, [], ◌++◌, ◌∷◌, ℕ, Lis
 ghost use Rattle.csv.specs.Machine.{field_after, fields_after, is_end, step};
 ghost use Rattle.csv.specs.Records.{fields_of, partial_of};
 ghost use Rattle.phone_csv.specs.Formats.{action_of, reading, state_of};
+ghost use Rattle.phone_csv.specs.declared.machine.Place.TheVariants as place;
 
 use crate::machine::{Effect, Place, step};
 use csv::ByteRecord;
@@ -36,6 +37,19 @@ impl Cutter {
             fields: ByteRecord::new(alloc),
             field: Vec::new(alloc),
         }
+    }
+
+    /// Drops what was taken, in front of a record again.
+    pub fn begin_again(&mut self)
+        ensures delimiter { self.new.delimiter ≡ self.old.delimiter }
+        ensures place { self.new.place ≡ place.StartRecord }
+        ensures fields { fields_of self.new.fields ≡ [] }
+        ensures partial { partial_of self.new.fields ≡ [] }
+        ensures field { self.new.field.items ≡ [] }
+    {
+        self.place = Place::StartRecord;
+        self.fields.clear();
+        self.field.clear();
     }
 
     /// Puts the field behind those that are ended.

@@ -5,9 +5,12 @@ mod answers;
 mod blocks;
 mod cutter;
 mod desk;
+mod first;
+mod front;
 pub mod laws;
 mod machine;
 
-pub use answers::{Answers, Refusal};
+pub use answers::{Answers, Refusal, add_record};
 pub use blocks::{RunError, answer_records};
+pub use first::{First, FirstError, first_record};
 pub use machine::Place;

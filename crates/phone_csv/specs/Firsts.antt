@@ -1,0 +1,45 @@
+-- The first record of a text, as the header of a table.
+use Rattle.std.specs.Prelude.{◌≡◌, ℕ, ◌==◌, List, [], ◌∷◌, ◌++◌, Option, Some, if◌then◌else◌}
+use Rattle.std.specs.Prelude.{false}
+use Rattle.csv.specs.Machine.{Feeds, Read, next_record}
+use Rattle.csv.specs.Reading.{strip_bom}
+use Rattle.csv.specs.Records.{fields_of}
+use Rattle.csv.specs.declared.parser.State.{State}
+use Rattle.csv.specs.declared.parser.State.TheVariants as st
+use Rattle.phone_csv.specs.Formats.{Record, reading, state_of}
+use Rattle.phone_csv.specs.declared.cutter.Cutter.{Cutter}
+use Rattle.phone_csv.specs.declared.front.Mark.{Mark}
+use Rattle.phone_csv.specs.declared.front.Mark.TheVariants as mark
+
+-- the first record of a text, a byte-order mark in front of it passed over: its fields, the state
+-- after it, and the text after it
+abbrev pub first_in : ℕ → List ℕ → Option Read
+first_in delimiter text = next_record (reading delimiter) st.StartRecord [] [] (strip_bom text)
+
+-- bytes that are the first record of each text that begins with them
+abbrev pub IsFirst : ℕ → List ℕ → Record → State → Type 0
+IsFirst delimiter bytes fields after = (more : List ℕ) →
+    first_in delimiter (bytes ++ more) ≡ Some (fields, after, more)
+
+-- how much of a byte-order mark the bytes so far are, after one more
+abbrev pub mark_after : Mark → ℕ → Mark
+mark_after mark.Start byte = if byte == 239 then mark.One else mark.Past
+mark_after mark.One byte = if byte == 187 then mark.Two else mark.Past
+mark_after mark.Two byte = if byte == 191 then mark.Whole else mark.Past
+mark_after mark.Whole byte = mark.Past
+mark_after mark.Past byte = mark.Past
+
+-- of such bytes this part stands behind the byte-order mark
+abbrev pub IsBehind : Mark → List ℕ → List ℕ → Type 0
+IsBehind mark.Start bytes part = (bytes ≡ []) × (part ≡ [])
+IsBehind mark.One bytes part = (bytes ≡ 239 ∷ []) × (part ≡ 239 ∷ [])
+IsBehind mark.Two bytes part = (bytes ≡ 239 ∷ 187 ∷ []) × (part ≡ 239 ∷ 187 ∷ [])
+IsBehind mark.Whole bytes part = (more : List ℕ) → strip_bom (bytes ++ more) ≡ part ++ more
+IsBehind mark.Past bytes part = (more : List ℕ) → strip_bom (bytes ++ more) ≡ part ++ more
+
+-- these bytes are a beginning of a first record, which they don't end
+pub record IsFront (mark : Mark) (bytes : List ℕ) (cutter : Cutter) : Type 0 where
+  pub part : List ℕ
+  pub behind : IsBehind mark bytes part
+  pub fed : Feeds (reading cutter.delimiter) st.StartRecord [] [] part
+      (state_of cutter.place) (fields_of cutter.fields) cutter.field.items false
