@@ -36,8 +36,8 @@ pub struct First {
     pub rest: Option<Place>,
 }
 
-/// Reads the first record of a source, one byte at a time, so that what follows it is still to come.
-/// A UTF-8 byte-order mark in front of it is passed over, and so are line ends.
+/// Reads the first record of a source, one byte at a time, so that what follows it is still to
+/// come. A UTF-8 byte-order mark in front of it is passed over, and so are line ends.
 ///
 /// Refused by `Absent` where the source has no record; then it is at its end. By `Input` where it
 /// failed, or 2^64 - 1 bytes were read. By `Memory`.
