@@ -1,12 +1,11 @@
 -- Which numbers are found alone: the premises of the laws. Texts are lists of bytes.
 use Rattle.std.specs.Prelude.{◌≡◌, ◌⊎◌, ℕ, ◌≤◌, ◌+◌, true, false, List, [], IsUtf8, chars, length}
-use Rattle.std.specs.Prelude.{Option, None, Some}
+use Rattle.std.specs.Prelude.{None, Some}
 use Rattle.std.specs.List.{list_any}
 use Rattle.phone_chars.specs.Characters.{is_digit}
 use Rattle.phone_core.specs.Numbers.{text_of}
 use Rattle.phone_core.specs.declared.mode.Mode.TheVariants.{International}
 use Rattle.phone_meta.specs.Codes.{is_prefix_free}
-use Rattle.phone_number.specs.Queries.{is_valid}
 use Rattle.phone_number.specs.Texts.{laid_out}
 use Rattle.phone_parts.specs.Texts.{ends}
 use Rattle.phone_records.specs.declared.loader.Metadata.{Metadata}
@@ -14,6 +13,8 @@ use Rattle.phone_read.specs.declared.reading.Reading.{Reading}
 use Rattle.phonenumber.specs.Plain.{IsBenign, IsIdle, IsPlainInternational}
 use Rattle.phone_find.specs.Candidates.{is_number_shaped, is_opening}
 use Rattle.phone_find.specs.Founds.{most_bytes}
+use Rattle.phone_find.specs.Leniencies.{suffices}
+use Rattle.phone_find.specs.declared.leniency.Leniency.{Leniency}
 use Rattle.phone_find.specs.declared.search.Found.{Found}
 
 -- a number at the place of a piece that stands behind a text
@@ -35,17 +36,17 @@ pub record IsShaped (text : List ℕ) : Type 0 where
   pub made : is_number_shaped (chars text) ≡ true
   pub ended : ends is_digit (chars text) ≡ true
 
--- a valid number that is read back from its international text: it is plain for that, stripping
--- leaves its digits alone, its extension, if any, is announced safely, its code has one to three
--- digits, and no listed code begins another
-pub record IsPlainValid (db : List Metadata) (n : Reading) : Type 0 where
+-- a number that suffices and is read back from its international text: it is plain for that,
+-- stripping leaves its digits alone, its extension, if any, is announced safely, its code has one
+-- to three digits, and no listed code begins another
+pub record IsPlainEnough (db : List Metadata) (leniency : Leniency) (n : Reading) : Type 0 where
   pub plain : IsPlainInternational db n
   pub idle : IsIdle db n.code.value (text_of n.national)
   pub announced : (n.extension ≡ None) ⊎ IsBenign plain.territory n
   pub some_code : 1 ≤ n.code.value
   pub few_digits : n.code.value ≤ 999
   pub prefix_free : is_prefix_free db ≡ true
-  pub valid : is_valid db n ≡ true
+  pub enough : suffices db leniency n ≡ true
 
 -- a laid-out number ends in a digit, and its extension, if any, isn't empty and is announced by
 -- ` ext. `

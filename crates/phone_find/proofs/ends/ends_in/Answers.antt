@@ -11,4 +11,5 @@ returns-in-None g c = rw (c.in-None.ensures.cut, chars-nil) refl
 pub returns-in-Some : goal.returns-in-Some
 returns-in-Some g c =
     let p = g.S.CharSet.members c.args.set.now in
-    c.has.ensures ∙ sym (ap (ends p) c.in-Some.ensures.read ∙ ends-push p (chars c.in-Some.field-0-0.now) c.in-Some.c)
+    c.has.ensures ∙ sym (ap (ends p) c.in-Some.ensures.read ∙ ends-push p (chars
+    c.in-Some.field-0-0.now) c.in-Some.c)

@@ -7,5 +7,6 @@ use Rattle.phone_find.proofs.extension.is_extension.Goals as goal
 
 pub is_announcing-requires : goal.is_announcing-requires
 is_announcing-requires c = record {
-  letters = subst (λ cs. list_all is_alpha cs ≡ true) (sym c.split_run.ensures.front) (all_front is_alpha (chars c.args.text.now));
+  letters = subst (λ cs. list_all is_alpha cs ≡ true) (sym c.split_run.ensures.front) (all_front
+      is_alpha (chars c.args.text.now));
 }
