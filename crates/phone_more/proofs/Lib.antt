@@ -1,3 +1,6 @@
 pub mod Lent
 pub mod ListedLengths
 pub mod Longer
+pub mod Printed
+pub mod Swaps
+pub mod Taken

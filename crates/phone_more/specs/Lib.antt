@@ -1,2 +1,4 @@
 pub mod Listed
 pub mod Possibilities
+pub mod Sameness
+pub mod Sides

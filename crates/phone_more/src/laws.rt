@@ -1,11 +1,26 @@
 //! What holds of the definitions of this crate. These functions do nothing; their contracts are the
 //! statements.
-ghost use Rattle.std.specs.Prelude.{◌≡◌, ◌<◌, ℕ, List, true};
+ghost use Rattle.std.specs.Prelude.{◌≡◌, ◌⊎◌, ◌<◌, ◌≤◌, ℕ, List, true, None, Some, Result, Ok};
+ghost use Rattle.std.specs.Prelude.{IsUtf8, chars, if◌then◌else◌};
+ghost use Rattle.phone_core.specs.Numbers.{text_of};
+ghost use Rattle.phone_core.specs.declared.error.ParseError.{ParseError};
+ghost use Rattle.phone_core.specs.declared.mode.Mode.TheVariants as mode;
+ghost use Rattle.phone_meta.specs.Codes.{is_prefix_free};
 ghost use Rattle.phone_records.specs.declared.loader.Metadata as loader;
+ghost use Rattle.phone_read.specs.Readings.{Reads};
 ghost use Rattle.phone_read.specs.declared.reading.Reading.{Reading};
+ghost use Rattle.phone_number.specs.Bounds.{IsBounded};
 ghost use Rattle.phone_number.specs.Queries.{is_valid};
+ghost use Rattle.phone_number.specs.Texts.{printed};
+ghost use Rattle.phonenumber.specs.Plain.{IsBenign, IsIdle, IsPlainInternational, IsPlainRfc3966};
 ghost use Rattle.phone_more.specs.Possibilities.{has_listed_kind, possibility_by, possibility_of};
+ghost use Rattle.phone_more.specs.Sameness.{IsAnswer, is_one_extension, sameness_of};
 ghost use Rattle.phone_more.specs.declared.possibilities.Possibility.TheVariants as possibility;
+ghost use Rattle.phone_more.specs.declared.sameness.Sameness.{Sameness};
+ghost use Rattle.phone_more.specs.declared.sameness.Sameness.TheVariants as sameness;
+ghost use Rattle.phone_more.specs.declared.sides.Side.{Side};
+
+use phonenumber::laws;
 
 /// A valid number of a kind that lists its lengths is possible.
 pub fn valid_is_possible()
@@ -20,3 +35,64 @@ pub fn too_short_goes_on()
         (longer : ℕ) × (n < longer) ×
         (possibility_by lengths local longer ≡ possibility.Possible) }
 {}
+
+/// Two sides are as like in one order as in the other.
+pub fn swapped_sides()
+    ensures { (a b : Side) → sameness_of a b ≡ sameness_of b a }
+{}
+
+/// A side with a calling code is exactly itself; one without has its own national number.
+pub fn one_with_itself()
+    ensures coded { (a : Side) (code : ℕ) → a.code ≡ Some code → sameness_of a a ≡ sameness.Exact }
+    ensures dialled { (a : Side) → a.code ≡ None → sameness_of a a ≡ sameness.National }
+{}
+
+/// Under each database two texts have at most one answer, and in the other order the same.
+pub fn one_answer()
+    ensures one { (db : List loader.Metadata) (s t : List ℕ) (x y : Result Sameness ParseError) →
+        IsAnswer db s t x → IsAnswer db s t y → x ≡ y }
+    ensures swapped { (db : List loader.Metadata) (s t : List ℕ) (x : Sameness) →
+        IsAnswer db s t (Ok x) → IsAnswer db t s (Ok x) }
+{}
+
+/// Two texts that are read as one calling code and one national number are exactly the same where
+/// their extensions are, and else the same number.
+pub fn read_alike()
+    ensures { (db : List loader.Metadata) (s t : List ℕ) (m n : Reading) →
+        Reads db None s (Ok m) → Reads db None t (Ok n) → m.code.value ≡ n.code.value →
+        m.national ≡ n.national → IsAnswer db s t (Ok (if is_one_extension m.extension n.extension
+        then sameness.Exact else sameness.Number)) }
+{}
+
+/// The printed texts of a number are the same number, under the premises of `phonenumber::laws` for
+/// reading them back: those of RFC 3966 and international text exactly, each with the E.164 text,
+/// which has no extension, exactly where the number has none.
+pub fn printed_alike()
+    ensures rfc3966 { (db : List loader.Metadata) (n : Reading) (e164 text : List ℕ) →
+        IsBounded n → IsPlainRfc3966 db n → IsIdle db n.code.value (text_of n.national) →
+        1 ≤ n.code.value → n.code.value ≤ 999 → is_prefix_free db ≡ true →
+        printed db mode.E164 None n ≡ Some e164 → printed db mode.Rfc3966 None n ≡ Some text →
+        IsAnswer db (chars e164) (chars text)
+        (Ok (if is_one_extension None n.extension then sameness.Exact else sameness.Number)) }
+    ensures international { (db : List loader.Metadata) (n : Reading) (e164 text : List ℕ) →
+        IsBounded n → IsUtf8 text → (plain : IsPlainInternational db n) →
+        IsIdle db n.code.value (text_of n.national) →
+        1 ≤ n.code.value → n.code.value ≤ 999 → is_prefix_free db ≡ true →
+        (n.extension ≡ None) ⊎ IsBenign plain.territory n →
+        printed db mode.E164 None n ≡ Some e164 →
+        printed db mode.International None n ≡ Some text →
+        IsAnswer db (chars e164) (chars text)
+        (Ok (if is_one_extension None n.extension then sameness.Exact else sameness.Number)) }
+    ensures both { (db : List loader.Metadata) (n : Reading) (rfc3966 text : List ℕ) →
+        IsBounded n → IsUtf8 text → IsPlainRfc3966 db n → (plain : IsPlainInternational db n) →
+        IsIdle db n.code.value (text_of n.national) →
+        1 ≤ n.code.value → n.code.value ≤ 999 → is_prefix_free db ≡ true →
+        (n.extension ≡ None) ⊎ IsBenign plain.territory n →
+        printed db mode.Rfc3966 None n ≡ Some rfc3966 →
+        printed db mode.International None n ≡ Some text →
+        IsAnswer db (chars rfc3966) (chars text) (Ok sameness.Exact) }
+{
+    laws::e164_back();
+    laws::rfc3966_back();
+    laws::international_back();
+}

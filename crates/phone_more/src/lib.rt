@@ -1,10 +1,14 @@
 //! What users of phone numbers ask next: whether a number is possible, which regions a database
-//! has, and what an example number is.
+//! has, what an example number is, and whether two texts are the same number.
 #![tactic(auto)]
 
 pub mod laws;
 mod listed;
 mod possibilities;
+mod sameness;
+mod sides;
 
 pub use listed::{example, regions};
 pub use possibilities::{Possibility, possible, possible_text};
+pub use sameness::{Sameness, same, sameness_of};
+pub use sides::{Side, taken_as};

@@ -1,0 +1,8 @@
+use Rattle.phone_more.proofs.Taken.{answer_same, answer_swap}
+use Rattle.phone_more.proofs.laws.one_answer.Goals as goal
+
+pub returns-clause-one : goal.returns-clause-one
+returns-clause-one c = answer_same
+
+pub returns-clause-swapped : goal.returns-clause-swapped
+returns-clause-swapped c = answer_swap
