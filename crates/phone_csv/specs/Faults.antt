@@ -17,5 +17,5 @@ abbrev pub sink_faults_of : {X : Type 0} → Result X RunError → ℕ
 sink_faults_of (Ok x) = 0
 sink_faults_of (Err error.Input) = 0
 sink_faults_of (Err error.Output) = 1
-sink_faults_of (Err error.Record) = 0
+sink_faults_of (Err (error.Record feeds)) = 0
 sink_faults_of (Err error.Memory) = 0

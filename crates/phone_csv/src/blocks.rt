@@ -1,5 +1,5 @@
 //! The run over all records.
-ghost use Rattle.std.specs.Prelude.{◌≡◌, ◌+◌, ◌⊎◌, [], Ok, Err, OnOk, OnErr, length};
+ghost use Rattle.std.specs.Prelude.{◌≡◌, ◌+◌, ◌⊎◌, ℕ, [], Ok, Err, OnOk, OnErr, length};
 ghost use Rattle.csv.specs.Records.{fields_of, partial_of};
 ghost use Rattle.csv.specs.declared.parser.State.{State};
 ghost use Rattle.phone_device.specs.Passing.{IsAtEnd};
@@ -13,8 +13,8 @@ ghost use Rattle.phone_csv.specs.declared.blocks.End.TheVariants as end;
 ghost use Rattle.phone_csv.specs.declared.blocks.RunError.TheVariants as error;
 
 use crate::answers::{Answers, Refusal};
+use crate::cutter::Start;
 use crate::desk::{Desk, Stop};
-use crate::machine::Place;
 use phone_device::{Block, ByteSink, ByteSource, Fault};
 use std::alloc::Global;
 
@@ -25,8 +25,8 @@ pub enum RunError {
     Input,
     /// The sink failed, or took no byte of some.
     Output,
-    /// A record is not answered.
-    Record,
+    /// A record is not answered. The text has so many line feeds in front of it.
+    Record(u64),
     /// There was no memory for a record or its answer.
     Memory,
 }
@@ -185,7 +185,7 @@ fn take_all<A: Answers, S: ByteSource, W: ByteSink>(
 }
 
 /// Gives each record of a source back to a sink, unchanged, with the fields of its answer behind
-/// its own, in the order of the records. The source is read in blocks to its end, from this place
+/// its own, in the order of the records. The source is read in blocks to its end, from this start
 /// in front of a record, as the kit's `csv` reads, and records are written as it writes, with this
 /// delimiter, each ended by a line feed. What is held in memory are a block, the longest record and
 /// its answer: it does not grow with the number of records.
@@ -199,36 +199,40 @@ pub fn answer_records<A: Answers, S: ByteSource, W: ByteSink>(
     alloc: Global,
     answers: &A,
     delimiter: u8,
-    place: Place,
+    start: Start,
     source: &mut S,
     sink: &mut W,
 ) -> Result<(), RunError>
     ensures end { OnOk result (IsAtEnd (S.to_come source.new)) }
     ensures report { OnOk result (OfRead (S.to_come source.old) (S.to_come source.new)
-        (λ bytes. TakesA (IsReport (A.gives answers.now) delimiter (state_of place) bytes)
+        (λ bytes. TakesA (IsReport (A.gives answers.now) delimiter (state_of start.place) bytes)
         (W.taken sink.old) (W.taken sink.new))) }
     ensures no_fault { OnOk result (S.faults source.new ≡ S.faults source.old) }
     ensures ended { result ≡ Err error.Input →
         OfRead (S.to_come source.old) (S.to_come source.new) (λ bytes. TakesA (IsReportOnEnded
-        (A.gives answers.now) delimiter (state_of place) bytes) (W.taken sink.old)
+        (A.gives answers.now) delimiter (state_of start.place) bytes) (W.taken sink.old)
         (W.taken sink.new)) }
     ensures cause { result ≡ Err error.Input → (S.faults source.new ≡ S.faults source.old + 1) ⊎
         OfRead (S.to_come source.old) (S.to_come source.new) (λ bytes. length bytes ≡ most_bytes) }
     ensures beginning { result ≡ Err error.Output →
         OfRead (S.to_come source.old) (S.to_come source.new) (λ bytes. TakesA (IsBeginning
-        (A.gives answers.now) delimiter (state_of place) (S.to_come source.new) bytes)
+        (A.gives answers.now) delimiter (state_of start.place) (S.to_come source.new) bytes)
         (W.taken sink.old) (W.taken sink.new)) }
-    ensures before { result ≡ Err error.Record →
+    ensures before { (feeds : ℕ) → result ≡ Err (error.Record feeds) →
         OfRead (S.to_come source.old) (S.to_come source.new) (λ bytes. TakesA (IsReportBefore
-        (A.gives answers.now) (A.refuses answers.now) delimiter (state_of place)
+        (A.gives answers.now) (A.refuses answers.now) delimiter (state_of start.place)
         (S.to_come source.new) bytes) (W.taken sink.old) (W.taken sink.new)) }
     ensures first { result ≡ Err error.Memory →
         OfRead (S.to_come source.old) (S.to_come source.new) (λ bytes. TakesA (IsReportOnFirst
-        (A.gives answers.now) delimiter (state_of place) bytes) (W.taken sink.old)
+        (A.gives answers.now) delimiter (state_of start.place) bytes) (W.taken sink.old)
         (W.taken sink.new)) }
+    ensures no_fault_at_a_record { (feeds : ℕ) → result ≡ Err (error.Record feeds) →
+        S.faults source.new ≡ S.faults source.old }
+    ensures no_fault_without_memory { result ≡ Err error.Memory →
+        S.faults source.new ≡ S.faults source.old }
     ensures sink_faults { W.faults sink.new ≡ W.faults sink.old + sink_faults_of result }
 {
-    let mut desk = Desk::new(alloc, delimiter, place);
+    let mut desk = Desk::new(alloc, delimiter, start);
     let Ok(end) = take_all(alloc, answers, source, sink, &mut desk) else {
         return Err(RunError::Output);
     };
@@ -238,7 +242,7 @@ pub fn answer_records<A: Answers, S: ByteSource, W: ByteSink>(
     match end {
         End::Whole => Ok(()),
         End::Input => Err(RunError::Input),
-        End::Record => Err(RunError::Record),
+        End::Record => Err(RunError::Record(desk.cutter.feeds_before)),
         End::Memory => Err(RunError::Memory),
     }
 }

@@ -5,9 +5,18 @@ ghost use Rattle.csv.specs.Records.{fields_of, partial_of};
 ghost use Rattle.phone_csv.specs.Formats.{action_of, reading, state_of};
 ghost use Rattle.phone_csv.specs.declared.machine.Place.TheVariants as place;
 
-use crate::machine::{Effect, Place, step};
+use crate::machine::{Effect, Place, is_open, step};
 use csv::ByteRecord;
 use std::alloc::{AllocError, Global};
+
+/// Where records begin in a text.
+#[derive(Clone, Copy, PartialEq, Eq, Debug)]
+pub struct Start {
+    /// The place, in front of a record.
+    pub place: Place,
+    /// How many line feeds stand in front of it.
+    pub feeds: u64,
+}
 
 /// A record that isn't ended yet.
 #[derive(Drop)]
@@ -20,22 +29,28 @@ pub struct Cutter {
     pub fields: ByteRecord,
     /// The bytes of the field that isn't ended yet.
     pub field: Vec<u8>,
+    /// How many line feeds the text has up to here, 2^64 - 1 at most.
+    pub feeds: u64,
+    /// How many of them stand in front of the record.
+    pub feeds_before: u64,
 }
 
 impl Cutter {
-    /// At this place, in front of a record.
-    pub fn new(alloc: Global, delimiter: u8, place: Place) -> Cutter
+    /// Where records begin.
+    pub fn new(alloc: Global, delimiter: u8, start: Start) -> Cutter
         ensures delimiter { result.delimiter ≡ delimiter }
-        ensures place { result.place ≡ place }
+        ensures place { result.place ≡ start.place }
         ensures fields { fields_of result.fields ≡ [] }
         ensures partial { partial_of result.fields ≡ [] }
         ensures field { result.field.items ≡ [] }
     {
         Cutter {
             delimiter,
-            place,
+            place: start.place,
             fields: ByteRecord::new(alloc),
             field: Vec::new(alloc),
+            feeds: start.feeds,
+            feeds_before: start.feeds,
         }
     }
 
@@ -67,6 +82,22 @@ impl Cutter {
         Ok(())
     }
 
+    /// Counts one more byte, where it is a line feed. In front of a record those so far stand in
+    /// front of it.
+    fn count(&mut self, byte: u8)
+        ensures delimiter { self.new.delimiter ≡ self.old.delimiter }
+        ensures place { self.new.place ≡ self.old.place }
+        ensures fields { self.new.fields ≡ self.old.fields }
+        ensures field { self.new.field ≡ self.old.field }
+    {
+        if !is_open(self.place) {
+            self.feeds_before = self.feeds;
+        }
+        if byte == b'\n' {
+            self.feeds = self.feeds.saturating_add(1);
+        }
+    }
+
     /// Takes one more byte, and says whether it ended the record. Refused only for memory.
     pub fn take(&mut self, byte: u8) -> Result<bool, AllocError>
         requires { partial_of self.old.fields ≡ [] }
@@ -83,6 +114,7 @@ impl Cutter {
         ensures partial { OnOk result (partial_of self.new.fields ≡ []) }
         ensures delimiter { self.new.delimiter ≡ self.old.delimiter }
     {
+        self.count(byte);
         let (place, effect) = step(self.delimiter, self.place, byte);
         self.place = place;
         match effect {

@@ -12,8 +12,8 @@ ghost use Rattle.phone_csv.specs.declared.desk.Stop.TheVariants as stop;
 ghost use Rattle.phone_csv.specs.declared.answers.Refusal.TheVariants as refusal;
 
 use crate::answers::{Answers, Refusal, add_record};
-use crate::cutter::Cutter;
-use crate::machine::{Place, is_open};
+use crate::cutter::{Cutter, Start};
+use crate::machine::is_open;
 use phone_device::{BLOCK_LENGTH, ByteSink, Fault, write_all};
 use std::alloc::Global;
 
@@ -38,17 +38,17 @@ pub(crate) struct Desk {
 }
 
 impl Desk {
-    /// Holds nothing yet, at this place in front of a record.
-    pub fn new(alloc: Global, delimiter: u8, place: Place) -> Desk
+    /// Holds nothing yet, where records begin.
+    pub fn new(alloc: Global, delimiter: u8, start: Start) -> Desk
         ensures delimiter { result.cutter.delimiter ≡ delimiter }
-        ensures place { result.cutter.place ≡ place }
+        ensures place { result.cutter.place ≡ start.place }
         ensures fields { fields_of result.cutter.fields ≡ [] }
         ensures partial { partial_of result.cutter.fields ≡ [] }
         ensures field { result.cutter.field.items ≡ [] }
         ensures answers { result.answers.items ≡ [] }
     {
         Desk {
-            cutter: Cutter::new(alloc, delimiter, place),
+            cutter: Cutter::new(alloc, delimiter, start),
             answers: Vec::new(alloc),
         }
     }

@@ -9,9 +9,9 @@ ghost use Rattle.phone_csv.specs.Formats.{state_of};
 ghost use Rattle.phone_csv.specs.Runs.{OfRead, most_bytes};
 ghost use Rattle.phone_csv.specs.declared.first.FirstError.TheVariants as error;
 
-use crate::cutter::Cutter;
+use crate::cutter::{Cutter, Start};
 use crate::front::Front;
-use crate::machine::{Place, is_open};
+use crate::machine::is_open;
 use csv::ByteRecord;
 use phone_device::ByteSource;
 use std::alloc::{AllocError, Global};
@@ -33,7 +33,7 @@ pub struct First {
     /// Its fields.
     pub fields: ByteRecord,
     /// Where what follows begins. None where the source is at its end.
-    pub rest: Option<Place>,
+    pub rest: Option<Start>,
 }
 
 /// Reads the first record of a source, one byte at a time, so that what follows it is still to
@@ -47,9 +47,9 @@ pub fn first_record<S: ByteSource>(
     source: &mut S,
 ) -> Result<First, FirstError>
     ensures partial { IfOk result (λ first. partial_of first.fields ≡ []) }
-    ensures ended { IfOk result (λ first. IfSome first.rest (λ place.
+    ensures ended { IfOk result (λ first. IfSome first.rest (λ start.
         OfRead (S.to_come source.old) (S.to_come source.new) (λ bytes.
-        IsFirst delimiter bytes (fields_of first.fields) (state_of place)))) }
+        IsFirst delimiter bytes (fields_of first.fields) (state_of start.place)))) }
     ensures only { IfOk result (λ first. IsNone first.rest →
         OfRead (S.to_come source.old) (S.to_come source.new) (λ bytes.
         first_in delimiter bytes ≡ Some (fields_of first.fields, st.StartRecord, []))) }
@@ -58,13 +58,20 @@ pub fn first_record<S: ByteSource>(
     ensures absent { result ≡ Err error.Absent →
         OfRead (S.to_come source.old) (S.to_come source.new) (λ bytes.
         first_in delimiter bytes ≡ None) }
+    ensures absent_no_fault { result ≡ Err error.Absent →
+        S.faults source.new ≡ S.faults source.old }
     ensures absent_end { result ≡ Err error.Absent → IsAtEnd (S.to_come source.new) }
     ensures cause { result ≡ Err error.Input → (S.faults source.new ≡ S.faults source.old + 1) ⊎
         OfRead (S.to_come source.old) (S.to_come source.new) (λ bytes. length bytes ≡ most_bytes) }
+    ensures no_fault_without_memory { result ≡ Err error.Memory →
+        S.faults source.new ≡ S.faults source.old }
 {
     let mut front = Front::new(alloc, delimiter);
     if front.read(source)? {
-        let rest = Some(front.cutter.place);
+        let rest = Some(Start {
+            place: front.cutter.place,
+            feeds: front.cutter.feeds,
+        });
         return Ok(First {
             fields: front.cutter.fields,
             rest,

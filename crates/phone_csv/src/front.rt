@@ -8,7 +8,7 @@ ghost use Rattle.phone_csv.specs.Formats.{state_of};
 ghost use Rattle.phone_csv.specs.Runs.{OfRead, most_bytes};
 ghost use Rattle.phone_csv.specs.declared.first.FirstError.TheVariants as error;
 
-use crate::cutter::Cutter;
+use crate::cutter::{Cutter, Start};
 use crate::first::FirstError;
 use crate::machine::Place;
 use phone_device::{ByteSource, Fault};
@@ -76,8 +76,12 @@ impl Front {
         ensures delimiter { result.cutter.delimiter ≡ delimiter }
         ensures partial { partial_of result.cutter.fields ≡ [] }
     {
+        let start = Start {
+            place: Place::StartRecord,
+            feeds: 0,
+        };
         Front {
-            cutter: Cutter::new(alloc, delimiter, Place::StartRecord),
+            cutter: Cutter::new(alloc, delimiter, start),
             mark: Mark::Start,
         }
     }

@@ -12,5 +12,6 @@ mod machine;
 
 pub use answers::{Answers, Refusal, add_record};
 pub use blocks::{RunError, answer_records};
+pub use cutter::Start;
 pub use first::{First, FirstError, first_record};
 pub use machine::Place;

@@ -11,7 +11,7 @@ pub returns-in_default-clause-beginning : goal.returns-in_default-clause-beginni
 returns-in_default-clause-beginning g c is =
     let gives = g.A.Answers.gives c.args.answers.now in
     let d = c.args.delimiter in
-    let start = state_of c.args.place in
+    let start = state_of c.args.start.place in
     let n = c.new-desk.ensures in
     let fresh = Stands-nothing gives start c.new-desk.result.cutter c.new-desk.result.answers.items (g.W.ByteSink.taken c.args.sink.now) (ap state_of n.place) n.fields n.field n.answers in
     let b = rw n.delimiter at (c.in_default.ensures.broken start fresh) in
@@ -21,7 +21,7 @@ pub returns-in_default-write_out-clause-beginning : goal.returns-in_default-writ
 returns-in_default-write_out-clause-beginning g c is =
     let gives = g.A.Answers.gives c.args.answers.now in
     let d = c.args.delimiter in
-    let start = state_of c.args.place in
+    let start = state_of c.args.start.place in
     let n = c.new-desk.ensures in
     let fresh = Stands-nothing gives start c.new-desk.result.cutter c.new-desk.result.answers.items (g.W.ByteSink.taken c.args.sink.now) (ap state_of n.place) n.fields n.field n.answers in
     let refuses = g.A.Answers.refuses c.args.answers.now in
@@ -55,7 +55,7 @@ pub returns-in-Whole-clause-report : goal.returns-in-Whole-clause-report
 returns-in-Whole-clause-report g c =
     let gives = g.A.Answers.gives c.args.answers.now in
     let d = c.args.delimiter in
-    let start = state_of c.args.place in
+    let start = state_of c.args.start.place in
     let n = c.new-desk.ensures in
     let fresh = Stands-nothing gives start c.new-desk.result.cutter c.new-desk.result.answers.items (g.W.ByteSink.taken c.args.sink.now) (ap state_of n.place) n.fields n.field n.answers in
     let r = rw n.delimiter at (c.in-Ok.ensures.taken (ap Ok c.in-Whole.is) start fresh) in
@@ -65,17 +65,17 @@ pub returns-in-Input-clause-ended : goal.returns-in-Input-clause-ended
 returns-in-Input-clause-ended g c is =
     let gives = g.A.Answers.gives c.args.answers.now in
     let d = c.args.delimiter in
-    let start = state_of c.args.place in
+    let start = state_of c.args.start.place in
     let n = c.new-desk.ensures in
     let fresh = Stands-nothing gives start c.new-desk.result.cutter c.new-desk.result.answers.items (g.W.ByteSink.taken c.args.sink.now) (ap state_of n.place) n.fields n.field n.answers in
     let r = rw n.delimiter at (c.in-Ok.ensures.input (ap Ok c.in-Input.is) start fresh) in
     (r.0, r.1, Holds-out (IsReportOnEnded gives d start r.0) c.take_all.new.desk.answers.items _ _ _ r.2 c.in-Ok-write_out.ensures.all)
 
 pub returns-in-Record-clause-before : goal.returns-in-Record-clause-before
-returns-in-Record-clause-before g c is =
+returns-in-Record-clause-before g c feeds is =
     let gives = g.A.Answers.gives c.args.answers.now in
     let d = c.args.delimiter in
-    let start = state_of c.args.place in
+    let start = state_of c.args.start.place in
     let n = c.new-desk.ensures in
     let fresh = Stands-nothing gives start c.new-desk.result.cutter c.new-desk.result.answers.items (g.W.ByteSink.taken c.args.sink.now) (ap state_of n.place) n.fields n.field n.answers in
     let r = rw n.delimiter at (c.in-Ok.ensures.refused (ap Ok c.in-Record.is) start fresh) in
@@ -85,7 +85,7 @@ pub returns-clause-first : goal.returns-clause-first
 returns-clause-first g c is =
     let gives = g.A.Answers.gives c.args.answers.now in
     let d = c.args.delimiter in
-    let start = state_of c.args.place in
+    let start = state_of c.args.start.place in
     let n = c.new-desk.ensures in
     let fresh = Stands-nothing gives start c.new-desk.result.cutter c.new-desk.result.answers.items (g.W.ByteSink.taken c.args.sink.now) (ap state_of n.place) n.fields n.field n.answers in
     let r = rw n.delimiter at (c.in-Ok.ensures.memory (ap Ok c.in-Memory.is) start fresh) in
