@@ -1,0 +1,31 @@
+-- The column of a name, by the fields in front of it.
+use Rattle.std.proofs.Common.{◌≡◌, ◌≢◌, Bool, ℕ, zero, suc, ◌<◌, List, [], ◌∷◌, length, Some, None, true, false, refl, ap, arith}
+use Rattle.std.specs.Str.{bytes_eq}
+use Rattle.std.proofs.lemmas.Slice.Eq.{bytes_eq-Decides}
+use Rattle.std.proofs.lemmas.Option.{same_Some}
+use Rattle.csv.specs.Records.{field_at}
+use Rattle.phone_csv.specs.Formats.{Record}
+use Rattle.phone_table.specs.Headers.{column_of}
+
+-- a field that is the name, behind others that aren't, is its column
+pub column_of-found : (fields : Record) (name : List ℕ) (i : ℕ) → ((j : ℕ) → j < i → field_at fields j ≢ Some name) → field_at fields i ≡ Some name →
+    column_of fields name ≡ Some i
+unfolding field_at
+column_of-found [] name i before e = cc e
+column_of-found (f ∷ fields) name zero before e = rw ((bytes_eq-Decides f name).1 (same_Some f name e)) refl
+column_of-found (f ∷ fields) name (suc i) before e = by (bytes_eq f name) refl
+    (column_of-found fields name i (λ j l. before (suc j) (omega (arith, l))) e)
+  where
+    by : (b : Bool) → bytes_eq f name ≡ b → column_of fields name ≡ Some i → column_of (f ∷ fields) name ≡ Some (suc i)
+    by true h more = absurd (before 0 (omega arith) (ap Some ((bytes_eq-Decides f name).0 h)))
+    by false h more = rw (h, more) (ap Some (omega arith))
+
+-- where none is the name, there is no column
+pub column_of-none : (fields : Record) (name : List ℕ) → ((j : ℕ) → j < length fields → field_at fields j ≢ Some name) → column_of fields name ≡ None
+unfolding field_at
+column_of-none [] name before = refl
+column_of-none (f ∷ fields) name before = by (bytes_eq f name) refl (column_of-none fields name (λ j l. before (suc j) (omega (arith, l))))
+  where
+    by : (b : Bool) → bytes_eq f name ≡ b → column_of fields name ≡ None → column_of (f ∷ fields) name ≡ None
+    by true h more = absurd (before 0 (omega arith) (ap Some ((bytes_eq-Decides f name).0 h)))
+    by false h more = rw (h, more) refl

@@ -1,0 +1,6 @@
+pub mod ColumnLemmas
+pub mod RecordLemmas
+pub mod AnswerLemmas
+pub mod TableLemmas
+pub mod EndLemmas
+pub mod RunLemmas

@@ -1,0 +1,50 @@
+-- What the reading of a header says of a run.
+use Rattle.std.proofs.Common.{◌≡◌, ◌⊎◌, inl, inr, ℕ, ◌+◌, List, [], length, Option, Some, None, Result, Err, IfSome, IsNone, option_map, refl}
+use Rattle.csv.specs.declared.parser.State.TheVariants as st
+use Rattle.phone_device.specs.Passing.{IsAtEnd}
+use Rattle.phone_csv.specs.Firsts.{IsFirst, first_in}
+use Rattle.phone_csv.specs.Formats.{Record, state_of}
+use Rattle.phone_csv.specs.Runs.{OfRead, most_bytes}
+use Rattle.phone_csv.specs.declared.cutter.Start.{Start}
+use Rattle.phone_csv.specs.declared.first.FirstError.{FirstError}
+use Rattle.phone_csv.specs.declared.first.FirstError.TheVariants.{Absent, Input, Memory}
+use Rattle.phone_lines.specs.Ends.{Devices}
+use Rattle.phone_table.specs.Ends.{SourceFails}
+use Rattle.phone_table.specs.Headers.{column_of, region_column}
+use Rattle.phone_table.specs.Runs.{Lacks, NoHeader}
+use Rattle.phone_table.specs.Runs.NoHeader.{absent, input, memory}
+use Rattle.phone_table.specs.Tables.{IsHeader}
+use Rattle.phone_table.specs.declared.header.Column.{Column}
+use Rattle.phone_table.specs.declared.header.Column.TheVariants.{Number, Region}
+use Rattle.phone_table.specs.declared.run.Asked.{Asked}
+
+caused : (before after : Devices) → (after.source_faults ≡ before.source_faults + 1) ⊎ OfRead before.to_come after.to_come (λ bytes. length bytes ≡ most_bytes) →
+    SourceFails before after
+caused before after (inl f) = inl f
+caused before after (inr m) = inr (before.to_come, m)
+
+-- why no header was read
+pub no_header_by : {T : Type 0} (d : ℕ) (before after : Devices) (e : FirstError) →
+    (◌≡◌ {A = Result T FirstError} (Err e) (Err Absent) → OfRead before.to_come after.to_come (λ bytes. first_in d bytes ≡ None)) →
+    (◌≡◌ {A = Result T FirstError} (Err e) (Err Absent) → IsAtEnd after.to_come) →
+    (◌≡◌ {A = Result T FirstError} (Err e) (Err Absent) → after.source_faults ≡ before.source_faults) →
+    (◌≡◌ {A = Result T FirstError} (Err e) (Err Input) → (after.source_faults ≡ before.source_faults + 1) ⊎ OfRead before.to_come after.to_come (λ bytes. length bytes ≡ most_bytes)) →
+    (◌≡◌ {A = Result T FirstError} (Err e) (Err Memory) → after.source_faults ≡ before.source_faults) → NoHeader d before after e
+no_header_by d before after Absent none end same cause kept = absent (none refl) (end refl) (same refl)
+no_header_by d before after Input none end same cause kept = input (caused before after (cause refl))
+no_header_by d before after Memory none end same cause kept = memory (kept refl)
+
+-- a header was read, whether something follows it or not
+pub header_read : (d : ℕ) (header : Record) (rest : Option Start) (s0 s1 : Option (List ℕ)) →
+    IfSome rest (λ start. OfRead s0 s1 (λ bytes. IsFirst d bytes header (state_of start.place))) →
+    (IsNone rest → OfRead s0 s1 (λ bytes. first_in d bytes ≡ Some (header, st.StartRecord, []))) → OfRead s0 s1 (λ bytes. IsHeader d header rest bytes)
+header_read d header (Some start) s0 s1 ended only = ended
+header_read d header None s0 s1 ended only = only refl
+
+-- which column a header lacks
+pub lacks_by : {T : Type 0} (asked : Asked) (column : Column) (header : Record) →
+    (◌≡◌ {A = Result T Column} (Err column) (Err Number) → column_of header asked.number.now ≡ None) →
+    (◌≡◌ {A = Result T Column} (Err column) (Err Region) → region_column header (option_map (λ name. name.now) asked.region) ≡ None) →
+    Lacks asked column header
+lacks_by asked Number header number region = number refl
+lacks_by asked Region header number region = region refl

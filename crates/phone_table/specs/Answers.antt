@@ -1,0 +1,63 @@
+-- What a record of a table is answered: seven fields behind its own.
+use Rattle.std.specs.Prelude.{◌≡◌, ℕ, List, [], ◌∷◌, codes, chars, length}
+use Rattle.std.specs.Prelude.{Option, Some, None, Ok, Err, get_or, unwrap_or}
+use Rattle.std.specs.Option.{option_or}
+use Rattle.std.specs.Str.{IsUtf8}
+use Rattle.csv.specs.Records.{field_at}
+use Rattle.phone_core.specs.Ids.{id_of}
+use Rattle.phone_core.specs.declared.country.Id.{Id}
+use Rattle.phone_core.specs.declared.error.ParseError.{ParseError}
+use Rattle.phone_core.specs.declared.mode.Mode.TheVariants.{E164, International, National}
+use Rattle.phone_csv.specs.Formats.{Record}
+use Rattle.phone_meta.specs.Codes.{first_of, territories}
+use Rattle.phone_records.specs.declared.loader.Metadata.{Metadata}
+use Rattle.phone_read.specs.Readings.{Reads}
+use Rattle.phone_read.specs.declared.reading.Reading.{Reading}
+use Rattle.phone_number.specs.Queries.{is_valid, kind_of_number, region_of_number}
+use Rattle.phone_number.specs.Reports.{kind_word, refusal_fields, region_word, validity_word}
+use Rattle.phone_number.specs.Texts.{text_by}
+use Rattle.phone_table.specs.declared.header.Columns.{Columns}
+
+-- a number of a listed code: its texts in three modes, what is known of it, and no refusal
+abbrev pub number_answer : List Metadata → Metadata → Reading → Record
+number_answer db m n = text_by m E164 None n ∷ text_by m International None n ∷
+    text_by m National None n ∷ kind_word (kind_of_number db n) ∷
+    region_word (region_of_number db n) ∷ validity_word (is_valid db n) ∷ [] ∷ []
+
+-- a refusal: six empty fields, and its words
+abbrev pub refused_answer : List ℕ → Record
+refused_answer words = [] ∷ [] ∷ [] ∷ [] ∷ [] ∷ [] ∷ words ∷ []
+
+-- the words of a refusal, as a report line has them behind its number
+abbrev pub refusal_words : ParseError → List ℕ
+refusal_words e = get_or (refusal_fields e) 1 []
+
+-- what the field of a number is answered: bytes that are no text, a refusal, or a number
+pub data IsFieldAnswer (db : List Metadata) (hint : Option Id) (field : List ℕ) : Record →
+    Type 0 where
+  no_text : ¬ (IsUtf8 field) → IsFieldAnswer db hint field (refused_answer (codes "not UTF-8"))
+  refused : (e : ParseError) → IsUtf8 field → Reads db hint (chars field) (Err e) →
+      IsFieldAnswer db hint field (refused_answer (refusal_words e))
+  read : (n : Reading) (m : Metadata) → IsUtf8 field → Reads db hint (chars field) (Ok n) →
+      first_of (territories n.code.value db) ≡ Some m →
+      IsFieldAnswer db hint field (number_answer db m n)
+
+-- the field of a record in a column; empty where it has none
+abbrev pub field_in : Record → ℕ → List ℕ
+field_in fields column = unwrap_or (field_at fields column) []
+
+-- the region of a record: that which its field names, where there is a column of regions
+abbrev pub own_region : Option ℕ → Record → Option Id
+own_region None fields = None
+own_region (Some column) fields = id_of (field_in fields column)
+
+-- what a record is answered: the answer to its field of a number, under its own region, else under
+-- the hint
+abbrev pub IsAnswer : List Metadata → Columns → Option Id → Record → Record → Type 0
+IsAnswer db columns hint fields answer =
+    IsFieldAnswer db (option_or (own_region columns.region fields) hint)
+    (field_in fields columns.number) answer
+
+-- a record with another count of fields than the header has isn't answered
+abbrev pub IsOfOtherWidth : Columns → Record → Type 0
+IsOfOtherWidth columns fields = ¬ (length fields ≡ columns.width)

@@ -1,0 +1,6 @@
+pub mod Answers
+pub mod Ends
+pub mod Headers
+pub mod Runs
+pub mod Spelled
+pub mod Tables

@@ -1,0 +1,112 @@
+//! What the field of a number is answered.
+ghost use Rattle.std.specs.Prelude.{◌≡◌, ◌++◌, ◌∷◌, [], Err, Some, None, IfOk, OnOk, string_bytes};
+ghost use Rattle.csv.specs.Records.{fields_of, partial_of};
+ghost use Rattle.phone_meta.specs.Codes.{first_of, territories};
+ghost use Rattle.phone_number.specs.Reports.{kind_word, region_word, validity_word};
+ghost use Rattle.phone_records.specs.declared.loader.Metadata as loader;
+ghost use Rattle.phone_table.specs.Answers.{IsFieldAnswer, number_answer};
+ghost use Rattle.phone_table.specs.Spelled.{spelled};
+
+use crate::names::push_three;
+use crate::words::{kind_word, refusal_words, region_word, validity_word};
+use csv::ByteRecord;
+use phone_number::country::Id;
+use phone_number::metadata::Database;
+use phone_number::{FormatError, ParseError, PhoneNumber, Queried, Texts, format_with, parse_with};
+use std::alloc::{AllocError, Global};
+
+/// What the field of a number is answered.
+#[derive(Drop)]
+pub enum Answer {
+    /// The texts of the number that was read, and what is known of it.
+    Number(Texts, Queried),
+    /// The words of a refusal.
+    Refused(&'static str),
+}
+
+/// What a field is answered. Refused only for memory.
+pub(crate) fn answer_to(
+    alloc: Global,
+    database: &Database,
+    hint: Option<Id>,
+    field: &[u8],
+) -> Result<Answer, AllocError>
+    ensures { IfOk result (λ a. IsFieldAnswer database.now hint field.now (spelled a)) }
+{
+    let Ok(text) = std::str::from_utf8(field) else {
+        return Ok(Answer::Refused("not UTF-8"));
+    };
+    let number = match parse_with(database, hint, text) {
+        Ok(number) => number,
+        Err(error) => return Ok(Answer::Refused(refusal_words(error)?)),
+    };
+    match number_answer(alloc, database, &number) {
+        Ok(answer) => Ok(answer),
+        Err(FormatError::Memory) => Err(AllocError),
+        Err(FormatError::UnknownCode) => unreachable!(),
+    }
+}
+
+/// The answer of a number. Refused by `UnknownCode` where no territory has its code, and by
+/// `Memory`.
+fn number_answer(
+    alloc: Global,
+    database: &Database,
+    number: &PhoneNumber,
+) -> Result<Answer, FormatError>
+    ensures answer { IfOk result (λ a. (m : loader.Metadata) ×
+        (first_of (territories number.now.code.value database.now) ≡ Some m) ×
+        (spelled a ≡ number_answer database.now m number.now)) }
+    ensures unknown { result ≡ Err FormatError.UnknownCode →
+        first_of (territories number.now.code.value database.now) ≡ None }
+{
+    let texts = format_with(database, number).to_texts(alloc)?;
+    match number.queried(database) {
+        Ok(queried) => Ok(Answer::Number(texts, queried)),
+        Err(_) => Err(FormatError::Memory),
+    }
+}
+
+/// Puts the fields of an answer behind those of a record. Refused only for memory.
+pub(crate) fn push_answer(fields: &mut ByteRecord, answer: &Answer) -> Result<(), AllocError>
+    requires { partial_of fields.old ≡ [] }
+    ensures { OnOk result (fields_of fields.new ≡ fields_of fields.old ++ spelled answer.now) }
+{
+    match answer {
+        Answer::Number(texts, queried) => {
+            push_texts(fields, texts)?;
+            push_known(fields, *queried)
+        }
+        Answer::Refused(words) => {
+            push_three(fields, "", "", "")?;
+            push_three(fields, "", "", "")?;
+            fields.push_field(words.as_bytes())
+        }
+    }
+}
+
+/// Puts the texts in three modes behind the fields of a record.
+fn push_texts(fields: &mut ByteRecord, texts: &Texts) -> Result<(), AllocError>
+    requires { partial_of fields.old ≡ [] }
+    ensures fields { OnOk result (fields_of fields.new ≡ fields_of fields.old ++
+        string_bytes texts.now.e164 ∷ string_bytes texts.now.international ∷
+        string_bytes texts.now.national ∷ []) }
+    ensures partial { OnOk result (partial_of fields.new ≡ []) }
+{
+    let e164 = texts.e164.as_str();
+    let international = texts.international.as_str();
+    push_three(fields, e164, international, texts.national.as_str())
+}
+
+/// Puts what is known of a number behind the fields of a record, and an empty field.
+fn push_known(fields: &mut ByteRecord, queried: Queried) -> Result<(), AllocError>
+    requires { partial_of fields.old ≡ [] }
+    ensures { OnOk result (fields_of fields.new ≡ fields_of fields.old ++
+        kind_word queried.kind ∷ region_word queried.region ∷ validity_word queried.is_valid ∷
+        [] ∷ []) }
+{
+    let kind = kind_word(queried.kind);
+    let region = region_word(queried.region);
+    push_three(fields, kind, region, validity_word(queried.is_valid))?;
+    fields.push_field("".as_bytes())
+}

@@ -1,0 +1,20 @@
+//! Tables of customers: the records of a CSV text, each given back with what is known of the phone
+//! number in one of its columns.
+#![tactic(auto)]
+
+mod answer;
+mod header;
+mod names;
+mod options;
+mod region;
+mod rows;
+mod run;
+mod table;
+mod tool;
+mod words;
+
+pub use header::{Column, Columns, column_of, columns_of};
+pub use phone_csv::{FirstError, RunError};
+pub use run::{Asked, TableError, write_table};
+pub use table::Table;
+pub use tool::program;

@@ -1,0 +1,89 @@
+//! The header that is written.
+ghost use Rattle.std.specs.Prelude.{◌≡◌, ◌+◌, ◌++◌, ◌∷◌, [], Err, IfOk, OnOk};
+ghost use Rattle.csv.specs.Records.{fields_of, partial_of};
+ghost use Rattle.phone_csv.specs.Formats.{record_text};
+ghost use Rattle.phone_device.specs.Passing.{Takes, TakesFront};
+ghost use Rattle.phone_table.specs.Headers.{names};
+ghost use Rattle.phone_table.specs.declared.names.HeaderError.TheVariants as error;
+
+use csv::ByteRecord;
+use phone_csv::add_record;
+use phone_device::{ByteSink, write_all};
+use std::alloc::{AllocError, Global};
+
+/// Why a header was not written.
+#[derive(Clone, Copy, PartialEq, Eq, Debug)]
+pub(crate) enum HeaderError {
+    /// The sink failed, or took no byte of some.
+    Output,
+    /// There was no memory.
+    Memory,
+}
+
+/// Puts three fields behind those of a record. Refused only for memory.
+pub(crate) fn push_three(
+    fields: &mut ByteRecord,
+    first: &str,
+    second: &str,
+    third: &str,
+) -> Result<(), AllocError>
+    requires { partial_of fields.old ≡ [] }
+    ensures fields { OnOk result (fields_of fields.new ≡ fields_of fields.old ++
+        first.now ∷ second.now ∷ third.now ∷ []) }
+    ensures partial { OnOk result (partial_of fields.new ≡ []) }
+{
+    fields.push_field(first.as_bytes())?;
+    fields.push_field(second.as_bytes())?;
+    fields.push_field(third.as_bytes())
+}
+
+/// Puts the seven names behind a header. Refused only for memory.
+fn push_names(header: &mut ByteRecord) -> Result<(), AllocError>
+    requires { partial_of header.old ≡ [] }
+    ensures { OnOk result (fields_of header.new ≡ fields_of header.old ++ names) }
+{
+    push_three(header, "e164", "international", "national")?;
+    push_three(header, "type", "region", "validity")?;
+    header.push_field("refusal".as_bytes())
+}
+
+/// The text of a header with the seven names behind its own. Refused only for memory.
+fn header_text(alloc: Global, delimiter: u8, header: ByteRecord) -> Result<Vec<u8>, AllocError>
+    requires { partial_of header ≡ [] }
+    ensures { IfOk result (λ text.
+        text.items ≡ record_text delimiter (fields_of header ++ names)) }
+{
+    let mut header = header;
+    push_names(&mut header)?;
+    let mut text = Vec::new(alloc);
+    add_record(alloc, delimiter, &header, &mut text)?;
+    Ok(text)
+}
+
+/// Writes a header with the seven names behind its own. Refused by `Output` where the sink fails:
+/// then a beginning of it is written. By `Memory`: then nothing is.
+pub(crate) fn write_header<W: ByteSink>(
+    alloc: Global,
+    delimiter: u8,
+    header: ByteRecord,
+    sink: &mut W,
+) -> Result<(), HeaderError>
+    requires { partial_of header ≡ [] }
+    ensures written { OnOk result (Takes (W.taken sink.old)
+        (record_text delimiter (fields_of header ++ names)) (W.taken sink.new)) }
+    ensures beginning { result ≡ Err error.Output → TakesFront (W.taken sink.old)
+        (record_text delimiter (fields_of header ++ names)) (W.taken sink.new) }
+    ensures nothing { result ≡ Err error.Memory → W.taken sink.new ≡ W.taken sink.old }
+    ensures no_fault { OnOk result (W.faults sink.new ≡ W.faults sink.old) }
+    ensures fault { result ≡ Err error.Output → W.faults sink.new ≡ W.faults sink.old + 1 }
+    ensures no_fault_without_memory { result ≡ Err error.Memory →
+        W.faults sink.new ≡ W.faults sink.old }
+{
+    let Ok(text) = header_text(alloc, delimiter, header) else {
+        return Err(HeaderError::Memory);
+    };
+    match write_all(sink, text.as_slice()) {
+        Ok(()) => Ok(()),
+        Err(_) => Err(HeaderError::Output),
+    }
+}

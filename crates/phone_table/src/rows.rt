@@ -1,0 +1,48 @@
+//! The rows of a table behind its header.
+ghost use Rattle.std.specs.Prelude.{◌≡◌, ℕ, List, [], Option, IsNone};
+ghost use Rattle.csv.specs.Records.{fields_of, partial_of};
+ghost use Rattle.phone_csv.specs.Runs.{OfRead};
+ghost use Rattle.phone_device.specs.Passing.{IsAtEnd};
+ghost use Rattle.phone_lines.specs.Ends.{seen};
+ghost use Rattle.phone_table.specs.Ends.{Ends};
+ghost use Rattle.phone_table.specs.Tables.{IsHeader};
+
+use crate::names::{HeaderError, write_header};
+use phone_csv::{Answers, First, RunError, answer_records};
+use phone_device::{ByteSink, ByteSource};
+use std::alloc::Global;
+
+/// Writes a header that was read with the seven names behind it, and then the records that follow
+/// it, each with its answer. Refused as `answer_records` refuses; where memory is refused for the
+/// header nothing is written.
+pub(crate) fn write_rows<A: Answers, S: ByteSource, W: ByteSink>(
+    alloc: Global,
+    answers: &A,
+    delimiter: u8,
+    first: First,
+    source: &mut S,
+    sink: &mut W,
+) -> Result<(), RunError>
+    requires partial { partial_of first.fields ≡ [] }
+    requires end { IsNone first.rest → IsAtEnd (S.to_come source.old) }
+    ensures ends { (before : Option (List ℕ)) → OfRead before (S.to_come source.old) (λ bytes.
+        IsHeader delimiter (fields_of first.fields) first.rest bytes) →
+        Ends (fields_of first.fields) (A.gives answers.now) (A.refuses answers.now) delimiter
+        (seen before (S.faults source.old) (W.taken sink.old) (W.faults sink.old))
+        (seen (S.to_come source.new) (S.faults source.new) (W.taken sink.new) (W.faults sink.new))
+        result }
+{
+    let First { fields, rest } = first;
+    match write_header(alloc, delimiter, fields, sink) {
+        Ok(()) => {}
+        Err(HeaderError::Output) => return Err(RunError::Output),
+        Err(HeaderError::Memory) => return Err(RunError::Memory),
+    }
+    match rest {
+        Some(start) => answer_records(alloc, answers, delimiter, start, source, sink),
+        None => match sink.flush() {
+            Ok(()) => Ok(()),
+            Err(_) => Err(RunError::Output),
+        },
+    }
+}

@@ -1,0 +1,81 @@
+//! The run over a table of customers.
+ghost use Rattle.phone_lines.specs.Ends.{seen};
+ghost use Rattle.phone_table.specs.Runs.{RunEnds};
+
+use crate::header::{Column, columns_of};
+use crate::rows::write_rows;
+use crate::table::Table;
+use csv::ByteRecord;
+use phone_csv::{FirstError, RunError, first_record};
+use phone_device::{ByteSink, ByteSource};
+use phone_number::country::Id;
+use phone_number::metadata::Database;
+
+/// What is asked of a table.
+#[derive(Clone, Copy)]
+pub struct Asked<'a> {
+    /// The name of the column of the numbers.
+    pub number: &'a str,
+    /// The name of the column of the regions, where there is one.
+    pub region: Option<&'a str>,
+    /// The byte between fields.
+    pub delimiter: u8,
+    /// The region under which a record is read that has no region of its own.
+    pub hint: Option<Id>,
+}
+
+/// Why a table was not answered whole.
+#[derive(Drop)]
+pub enum TableError {
+    /// The header was not read.
+    Header(FirstError),
+    /// The header, which stands here, lacks a column.
+    NoColumn(Column, ByteRecord),
+    /// The run over the records ended.
+    Rows(RunError),
+}
+
+/// Gives a table back: its header with seven names behind its own, `e164`, `international`,
+/// `national`, `type`, `region`, `validity` and `refusal`, and then its records in their order,
+/// unchanged, each with its answer behind its fields. The first record is the header, a byte-order
+/// mark in front of it passed over. A record is read under the region whose id stands in its column
+/// of regions, else under the hint. The answer to a number is its texts in three modes, its kind,
+/// the id of its region or `-`, `valid` or `invalid`, and an empty field; that to a refusal are six
+/// empty fields and its words; that to bytes that aren't UTF-8 the same, with `not UTF-8`. What is
+/// read and written is CSV as the kit's `csv` has it, with this delimiter. Nothing in memory grows
+/// with the number of records.
+///
+/// Refused by `Header` where there is no header: then nothing is written. By `NoColumn` where the
+/// header lacks a column: then nothing is written. By `Rows` as `answer_records` refuses, the
+/// header having been written before the records: `Record` at a record with another count of fields
+/// than the header.
+pub fn write_table<S: ByteSource, W: ByteSink>(
+    database: &Database,
+    asked: Asked<'_>,
+    source: &mut S,
+    sink: &mut W,
+) -> Result<(), TableError>
+    ensures ends { RunEnds database.now asked.entry
+        (seen (S.to_come source.old) (S.faults source.old) (W.taken sink.old) (W.faults sink.old))
+        (seen (S.to_come source.new) (S.faults source.new) (W.taken sink.new) (W.faults sink.new))
+        result }
+{
+    let alloc = database.allocator();
+    let first = match first_record(alloc, asked.delimiter, source) {
+        Ok(first) => first,
+        Err(error) => return Err(TableError::Header(error)),
+    };
+    let columns = match columns_of(&first.fields, asked.number, asked.region) {
+        Ok(columns) => columns,
+        Err(column) => return Err(TableError::NoColumn(column, first.fields)),
+    };
+    let table = Table {
+        database,
+        hint: asked.hint,
+        columns,
+    };
+    match write_rows(alloc, &table, asked.delimiter, first, source, sink) {
+        Ok(()) => Ok(()),
+        Err(error) => Err(TableError::Rows(error)),
+    }
+}
