@@ -25,7 +25,7 @@ pub enum Answer {
 }
 
 /// What a field is answered. Refused only for memory.
-pub(crate) fn answer_to(
+pub fn answer_to(
     alloc: Global,
     database: &Database,
     hint: Option<Id>,

@@ -13,8 +13,10 @@ mod table;
 mod tool;
 mod words;
 
+pub use answer::{Answer, answer_to};
 pub use header::{Column, Columns, column_of, columns_of};
 pub use phone_csv::{FirstError, RunError};
 pub use run::{Asked, TableError, write_table};
 pub use table::Table;
 pub use tool::program;
+pub use words::{kind_word, region_word, validity_word};

@@ -1,0 +1,131 @@
+//! The object of a line.
+ghost use Rattle.std.specs.Prelude.{◌≡◌, ℕ, Some, IfOk, string_bytes};
+ghost use Rattle.std.specs.Str.{IsUtf8};
+ghost use Rattle.serde_json.specs.Data.{Data, null, string};
+ghost use Rattle.serde_json.specs.Read.{read};
+ghost use Rattle.serde_json.specs.View.{view};
+ghost use Rattle.serde_json.specs.Written.{compact_text};
+ghost use Rattle.phone_table.specs.Spelled.{spelled};
+ghost use Rattle.phone_objects.specs.Objects.{IsObject, object_of, spelled_by};
+
+use phone_number::country::Id;
+use phone_number::metadata::Database;
+use phone_table::{Answer, answer_to, kind_word, region_word, validity_word};
+use serde_json::{Value, json};
+use std::alloc::{AllocError, Global};
+
+/// The seven fields of an answer.
+#[derive(Clone, Copy)]
+struct Fields<'a> {
+    e164: &'a str,
+    international: &'a str,
+    national: &'a str,
+    kind: &'a str,
+    region: &'a str,
+    validity: &'a str,
+    refusal: &'a str,
+}
+
+/// The JSON text of a line's answer, on one line: an object of the line's number, which the caller
+/// counts, its text, and the fields that a table's answer has (`e164`, `international`, `national`,
+/// `type`, `region`, `validity`, `refusal`), each a text, empty where there is none. The text is
+/// null where the line isn't UTF-8. The line is without its end. Refused only for memory.
+pub fn object_line(
+    alloc: Global,
+    database: &Database,
+    hint: Option<Id>,
+    place: u64,
+    line: &[u8],
+) -> Result<String, AllocError>
+    ensures text { IfOk result (λ s. (d : Data) ×
+        IsObject database.now hint place line.now d × (string_bytes s ≡ compact_text d)) }
+    ensures read_back { IfOk result (λ s. (d : Data) ×
+        IsObject database.now hint place line.now d × (read (string_bytes s) ≡ Some d)) }
+{
+    let object = object(alloc, database, hint, place, line)?;
+    object.to_string(alloc)
+}
+
+/// The object of a line.
+fn object(
+    alloc: Global,
+    database: &Database,
+    hint: Option<Id>,
+    place: u64,
+    line: &[u8],
+) -> Result<Value, AllocError>
+    ensures { IfOk result (λ v. IsObject database.now hint place line.now (view v)) }
+{
+    let answer = answer_to(alloc, database, hint, line)?;
+    let fields = fields_of(&answer);
+    match std::str::from_utf8(line) {
+        Ok(text) => object_of_text(alloc, place, text, fields),
+        Err(_) => object_without_text(alloc, place, fields),
+    }
+}
+
+/// The fields of an answer, as a table has them.
+fn fields_of(answer: &Answer) -> Fields<'_>
+    ensures { spelled_by result ≡ spelled answer.now }
+{
+    match answer {
+        Answer::Number(texts, known) => Fields {
+            e164: texts.e164.as_str(),
+            international: texts.international.as_str(),
+            national: texts.national.as_str(),
+            kind: kind_word(known.kind),
+            region: region_word(known.region),
+            validity: validity_word(known.is_valid),
+            refusal: "",
+        },
+        Answer::Refused(words) => Fields {
+            e164: "",
+            international: "",
+            national: "",
+            kind: "",
+            region: "",
+            validity: "",
+            refusal: *words,
+        },
+    }
+}
+
+/// The object of a text.
+fn object_of_text(
+    alloc: Global,
+    place: u64,
+    text: &str,
+    fields: Fields<'_>,
+) -> Result<Value, AllocError>
+    ensures { IfOk result
+        (λ v. view v ≡ object_of place (string text.now) (spelled_by fields.entry)) }
+{
+    json!(in alloc; {
+        "line": place,
+        "text": text,
+        "e164": fields.e164,
+        "international": fields.international,
+        "national": fields.national,
+        "type": fields.kind,
+        "region": fields.region,
+        "validity": fields.validity,
+        "refusal": fields.refusal,
+    })
+}
+
+/// The object of a line that is no text.
+fn object_without_text(alloc: Global, place: u64, fields: Fields<'_>) -> Result<Value, AllocError>
+    ensures { IfOk result (λ v. view v ≡ object_of place null (spelled_by fields.entry)) }
+{
+    json!(in alloc; {
+        "line": place,
+        "text": null,
+        "e164": fields.e164,
+        "international": fields.international,
+        "national": fields.national,
+        "type": fields.kind,
+        "region": fields.region,
+        "validity": fields.validity,
+        "refusal": fields.refusal,
+    })
+}
