@@ -1,0 +1,37 @@
+//! The calls that ask whether a number is possible: `possible` of one that a line gives by its
+//! parts, `possible-text` of a text under a hint.
+use crate::given::number;
+use anyhow::Result;
+use phone_meta::Database;
+use phone_more::{possible, possible_text};
+use rows::marks::{around, begin};
+use rows::table::Row;
+use rows::words::{hint, refusal};
+use std::alloc::Global;
+
+/// What its length says of a number, as the table writes it; none for any other call. An error
+/// where a line gives a number that is none, and where memory is refused.
+pub fn answer(alloc: Global, row: &Row, db: &Database) -> Result<Option<String>> {
+    let answer = match row.call() {
+        "possible" => of_number(alloc, row, db)?,
+        "possible-text" => of_text(alloc, row, db)?,
+        _ => return Ok(None),
+    };
+    Ok(Some(answer))
+}
+
+/// What is said of a line's number.
+fn of_number(alloc: Global, row: &Row, db: &Database) -> Result<String> {
+    let number = number(row, None)?;
+    let found = around(alloc, begin(alloc), possible(db, &number))??;
+    Ok(format!(in alloc; "{found:?}")?)
+}
+
+/// What is said of a line's text, or the refusal.
+fn of_text(alloc: Global, row: &Row, db: &Database) -> Result<String> {
+    let (hint, text) = (hint(row.argument(1))?, row.argument(2));
+    match around(alloc, begin(alloc), possible_text(db, hint, text))? {
+        Ok(found) => Ok(format!(in alloc; "{found:?}")?),
+        Err(error) => refusal(alloc, &error),
+    }
+}

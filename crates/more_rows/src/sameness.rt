@@ -1,0 +1,22 @@
+//! The call that asks whether two texts are one number.
+use anyhow::Result;
+use phone_meta::Database;
+use phone_more::same;
+use rows::marks::{around, begin};
+use rows::table::Row;
+use rows::words::refusal;
+use std::alloc::Global;
+
+/// How like the numbers of a line's two texts are, or the refusal of one; none for any other call.
+/// An error where memory is refused.
+pub fn answer(alloc: Global, row: &Row, db: &Database) -> Result<Option<String>> {
+    if row.call() != "same" {
+        return Ok(None);
+    }
+    let (a, b) = (row.argument(1), row.argument(2));
+    let answer = match around(alloc, begin(alloc), same(db, a, b))? {
+        Ok(found) => format!(in alloc; "{found:?}")?,
+        Err(error) => refusal(alloc, &error)?,
+    };
+    Ok(Some(answer))
+}
