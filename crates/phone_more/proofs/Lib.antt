@@ -1,3 +1,4 @@
+pub mod CodesBelow
 pub mod Lent
 pub mod ListedLengths
 pub mod Longer

@@ -8,7 +8,7 @@ mod possibilities;
 mod sameness;
 mod sides;
 
-pub use listed::{example, regions};
+pub use listed::{codes, example, regions};
 pub use possibilities::{Possibility, possible, possible_text};
 pub use sameness::{Sameness, same, sameness_of};
 pub use sides::{Side, taken_as};

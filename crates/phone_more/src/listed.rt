@@ -1,7 +1,7 @@
 //! What a database lists: its regions, and example numbers.
-ghost use Rattle.std.specs.Prelude.{◌≡◌, IfOk, filter};
+ghost use Rattle.std.specs.Prelude.{◌≡◌, ◌≤◌, IfOk, filter};
 ghost use Rattle.phone_more.specs.Listed.{AnswersExample, example_text, has_region};
-ghost use Rattle.phone_more.specs.Listed.{listed_regions};
+ghost use Rattle.phone_more.specs.Listed.{codes_below, listed_codes, listed_regions};
 
 use phone_core::country::{ALL, Id};
 use phone_core::{ParseError, Type};
@@ -36,6 +36,30 @@ fn has_region(database: &Database, region: Id) -> bool
     ensures { result ≡ has_region database.now region }
 {
     database.by_id(region.as_str()).is_some()
+}
+
+/// The calling codes that a database has a territory of, each once, ascending. Refused only for
+/// memory.
+pub fn codes(database: &Database) -> Result<Vec<u16>, AllocError>
+    ensures { IfOk result (λ v. v.items ≡ listed_codes database.now) }
+{
+    codes_below(database, 65536)
+}
+
+/// The calling codes below this number that a database has a territory of, ascending. Refused only
+/// for memory.
+fn codes_below(database: &Database, end: u32) -> Result<Vec<u16>, AllocError>
+    requires { end ≤ 65536 }
+    ensures { IfOk result (λ v. v.items ≡ codes_below database.now end) }
+{
+    let mut found = Vec::new(database.allocator());
+    for n in 0..end {
+        let code = n as u16;
+        if database.is_listed(&code) {
+            found.push(code)?;
+        }
+    }
+    Ok(found)
 }
 
 /// The example number of a region and a kind, read with the region as hint; none where the database
