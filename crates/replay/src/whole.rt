@@ -8,7 +8,7 @@ use std::alloc::AllocGlobal;
 use std::fs::{self, Files};
 
 /// The tables, by their files.
-const TABLES: [&str; 15] = [
+const TABLES: [&str; 16] = [
     "calls.tsv",
     "report.tsv",
     "json.tsv",
@@ -24,6 +24,7 @@ const TABLES: [&str; 15] = [
     "numbers.tsv",
     "reports.tsv",
     "books.tsv",
+    "more.tsv",
 ];
 
 /// Prints each line whose answer is another one here, then the counts. Gives whether all lines
