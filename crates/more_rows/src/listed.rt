@@ -1,9 +1,9 @@
-//! The calls that ask what a database lists: its regions, and example numbers.
+//! The calls that ask what a database lists: its regions, its calling codes, and example numbers.
 use anyhow::Result;
 use number_rows::told::parts;
 use phone_core::country::Id;
 use phone_meta::Database;
-use phone_more::{example, regions};
+use phone_more::{codes, example, regions};
 use rows::marks::{around, begin};
 use rows::table::Row;
 use rows::words::{kind, refusal};
@@ -16,6 +16,10 @@ pub fn answer(alloc: Global, row: &Row, db: &Database) -> Result<Option<String>>
         "regions" => {
             let found = around(alloc, begin(alloc), regions(db))??;
             ids(alloc, found.as_slice())?
+        }
+        "codes" => {
+            let found = around(alloc, begin(alloc), codes(db))??;
+            numbers(alloc, found.as_slice())?
         }
         "example" => example_of(alloc, row, db)?,
         _ => return Ok(None),
@@ -31,6 +35,19 @@ fn ids(alloc: Global, found: &[Id]) -> Result<String, AllocError> {
             out.push(' ')?;
         }
         out.push_str(id.as_str())?;
+    }
+    Ok(out)
+}
+
+/// Calling codes parted by spaces, behind an equals sign.
+fn numbers(alloc: Global, found: &[u16]) -> Result<String, AllocError> {
+    let mut out = String::from_str(alloc, "=")?;
+    for (place, code) in found.iter().enumerate() {
+        if place > 0 {
+            out.push(' ')?;
+        }
+        let code = code.to_string(alloc)?;
+        out.push_str(code.as_str())?;
     }
     Ok(out)
 }
