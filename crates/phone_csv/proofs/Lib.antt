@@ -4,3 +4,4 @@ pub mod Progress
 pub mod Ends
 pub mod KitRecords
 pub mod FirstLemmas
+pub mod SpelledLemmas

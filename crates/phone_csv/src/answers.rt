@@ -1,10 +1,11 @@
 //! What answers records, and the text of a record with its answer.
-ghost use Rattle.std.specs.Prelude.{◌≡◌, List, [], ◌++◌, ℕ, Err, IfOk, OnOk, OnErr};
+ghost use Rattle.std.specs.Prelude.{◌≡◌, List, [], ◌++◌, ℕ, Err, OnOk, OnErr};
 ghost use Rattle.csv.specs.Records.{fields_of, partial_of};
 ghost use Rattle.phone_csv.specs.Formats.{Record, record_text};
 ghost use Rattle.phone_csv.specs.declared.answers.Refusal.TheVariants as refusal;
 
-use csv::{ByteRecord, WriterBuilder};
+use crate::spelled::spelled;
+use csv::ByteRecord;
 use std::alloc::{AllocError, Global};
 
 /// Why a record was not answered.
@@ -45,22 +46,6 @@ pub fn add_record(
         text.old.items ++ record_text delimiter (fields_of fields.now)) }
     ensures kept { OnErr result (text.new.items ≡ text.old.items) }
 {
-    let written = written(alloc, delimiter, fields)?;
+    let written = spelled(alloc, delimiter, fields)?;
     text.extend_from_slice(written.as_slice())
-}
-
-/// The text of a record.
-fn written(alloc: Global, delimiter: u8, fields: &ByteRecord) -> Result<Vec<u8>, AllocError>
-    ensures { IfOk result (λ v. v.items ≡ record_text delimiter (fields_of fields.now)) }
-{
-    let mut writer = WriterBuilder::new()
-        .delimiter(delimiter)
-        .from_writer(Vec::new(alloc));
-    let Ok(()) = writer.write_byte_record(fields) else {
-        return Err(AllocError);
-    };
-    match writer.into_inner() {
-        Ok(text) => Ok(text),
-        Err(_) => Err(AllocError),
-    }
 }

@@ -9,6 +9,7 @@ mod first;
 mod front;
 pub mod laws;
 mod machine;
+mod spelled;
 
 pub use answers::{Answers, Refusal, add_record};
 pub use blocks::{RunError, answer_records};
