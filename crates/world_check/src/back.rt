@@ -15,7 +15,7 @@ const PRINTED: u64 = 20;
 /// How many numbers lie within the premises of a mode and how many without, and how many of either
 /// are read back.
 #[derive(Clone, Copy)]
-struct Count {
+pub struct Count {
     within: u64,
     back: u64,
     others: u64,
@@ -23,13 +23,23 @@ struct Count {
 }
 
 impl Count {
+    /// Nothing counted yet.
+    pub fn none() -> Count {
+        Count {
+            within: 0,
+            back: 0,
+            others: 0,
+            others_back: 0,
+        }
+    }
+
     /// How many within the premises aren't read back.
-    fn differences(self) -> u64 {
+    pub fn differences(self) -> u64 {
         self.within.saturating_sub(self.back)
     }
 
     /// The counts with one more number.
-    fn with(self, is_within: bool, is_back: bool) -> Count {
+    pub fn with(self, is_within: bool, is_back: bool) -> Count {
         let mut count = self;
         if is_within {
             count.within = count.within.saturating_add(1);
@@ -50,12 +60,7 @@ fn counted<R: AllocGlobal + Print>(
     mode: Mode,
     numbers: &[PhoneNumber],
 ) -> Result<Count> {
-    let mut count = Count {
-        within: 0,
-        back: 0,
-        others: 0,
-        others_back: 0,
-    };
+    let mut count = Count::none();
     for number in numbers {
         let is_within = premises.hold(mode, number)?;
         let answer = read_back(premises, mode, number);
@@ -104,8 +109,8 @@ fn is_again(
     Ok(has_code && has_extension && again.national() == number.national())
 }
 
-/// Prints what was counted for a mode.
-fn tell<R: AllocGlobal + Print>(rt: &R, name: &str, count: Count) -> Result<()> {
+/// Prints what was counted under a name.
+pub fn tell<R: AllocGlobal + Print>(rt: &R, name: &str, count: Count) -> Result<()> {
     let Count {
         within,
         back,
@@ -121,7 +126,11 @@ fn tell<R: AllocGlobal + Print>(rt: &R, name: &str, count: Count) -> Result<()> 
 }
 
 /// The numbers of the lines that are read as numbers. An error where memory is refused.
-fn numbers(alloc: Global, database: &Database, lines: &[Hinted<'_>]) -> Result<Vec<PhoneNumber>> {
+pub fn numbers(
+    alloc: Global,
+    database: &Database,
+    lines: &[Hinted<'_>],
+) -> Result<Vec<PhoneNumber>> {
     let mut numbers = Vec::new(alloc);
     for (hint, text) in lines {
         match parse_with(database, *hint, text) {
