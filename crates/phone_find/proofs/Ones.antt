@@ -50,7 +50,8 @@ module _ {N : Type 0} (accepts : Accepts N) (text : List ℕ) where
           absurd (k f a.stands a.behind)
       all_same from xs ys (Founds.next _ f rest a later) (Founds.next _ g others b after) =
           let same = first_same from f g a b in
-          let moved = subst (λ (h : Found N). AreFound accepts text h.end others) (sym same) after in
+          let moved =
+          subst (λ (h : Found N). AreFound accepts text h.end others) (sym same) after in
           ap₂ (λ (h : Found N) hs. h ∷ hs) same (all_same f.end rest others later moved)
 
 -- a piece is read as one number
