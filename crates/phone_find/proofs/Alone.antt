@@ -4,7 +4,7 @@ use Rattle.phone_find.specs.Founds
 use Rattle.phone_find.specs.Founds.{Accepts, AreFound, IsFirst, Stands}
 use Rattle.phone_find.specs.declared.search.Found.{Found}
 
-same_found : {N : Type 0} (f g : Found N) → g.start ≡ f.start → g.end ≡ f.end →
+pub same_found : {N : Type 0} (f g : Found N) → g.start ≡ f.start → g.end ≡ f.end →
     g.number ≡ f.number → g ≡ f
 same_found f g a b c =
     ap (λ i. record { start = i; end = g.end; number = g.number }) a

@@ -97,8 +97,9 @@ module _ (db : List Metadata) (hint : Option Id) (l : Leniency) (before piece af
         among.no_opening (and_parts _ _ (candidate_begins text g.start g.end text_utf8 s.some
         s.from_border s.to_border s.accepted.candidate)).0,
     subst (λ i. g.end ≤ i) up_to
-        (piece_before is_digit text (before ++ piece) after g.start g.end whole (IsUtf8-append before
-        piece among.before_utf8 among.piece_utf8) among.after_utf8 text_utf8 s.some
+        (piece_before is_digit text (before ++ piece) after g.start g.end whole
+        (IsUtf8-append before piece among.before_utf8 among.piece_utf8) among.after_utf8
+        text_utf8 s.some
         s.from_border s.to_border among.no_digit
         (candidate_digit (chars (take g.start text)) (chars (slice_range text g.start g.end)) (chars
         (drop g.end text)) s.accepted.candidate)),

@@ -3,6 +3,7 @@ pub mod Begins
 pub mod FoundAlone
 pub mod Lasts
 pub mod Letters
+pub mod Ones
 pub mod Places
 pub mod PrintedFound
 pub mod Searches

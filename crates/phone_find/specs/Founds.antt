@@ -1,6 +1,6 @@
 -- Which pieces of a text are found: of all that are accepted, those that don't overlap an earlier
 -- one. A place is an offset in bytes.
-use Rattle.std.specs.Prelude.{◌≡◌, ℕ, ◌≤◌, ◌<◌, ◌+◌, List, [], ◌∷◌, IsCharBoundary}
+use Rattle.std.specs.Prelude.{◌≡◌, ℕ, ◌≤◌, ◌<◌, ◌+◌, List, [], ◌∷◌, IsCharBoundary, ⊤}
 use Rattle.phone_find.specs.declared.search.Found.{Found}
 
 -- the most bytes that a piece may have
@@ -35,3 +35,19 @@ pub data AreFound {N : Type 0} (accepts : Accepts N) (text : List ℕ) : ℕ →
       AreFound accepts text from []
   next : (from : ℕ) (f : Found N) (others : List (Found N)) → IsFirst accepts text from f →
       AreFound accepts text f.end others → AreFound accepts text from (f ∷ others)
+
+-- a piece begins at `from` or later, on a border of characters, ends behind that, on a border, and
+-- of the others something holds
+pub record IsNext {N : Type 0} (text : List ℕ) (from : ℕ) (f : Found N) (others : Type 0) :
+    Type 0 where
+  pub behind : from ≤ f.start
+  pub some : f.start < f.end
+  pub from_border : IsCharBoundary text f.start
+  pub to_border : IsCharBoundary text f.end
+  pub later : others
+
+-- pieces in order that don't overlap, from a place on: each begins where the one before it ends, or
+-- later
+abbrev pub IsOrdered : {N : Type 0} → (text : List ℕ) → ℕ → List (Found N) → Type 0
+IsOrdered text from [] = ⊤
+IsOrdered text from (f ∷ fs) = IsNext text from f (IsOrdered text f.end fs)

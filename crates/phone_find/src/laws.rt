@@ -11,10 +11,23 @@ ghost use Rattle.phone_records.specs.declared.loader.Metadata as loader;
 ghost use Rattle.phonenumber.specs.Again.{IsSame};
 ghost use Rattle.phonenumber.specs.Plain.{IsPlainInternational};
 ghost use Rattle.phone_find.specs.Alone.{EndsInDigits, IsAmong, IsPlainEnough, IsShaped, placed};
-ghost use Rattle.phone_find.specs.Founds.{most_bytes};
+ghost use Rattle.phone_find.specs.Founds.{IsOrdered, most_bytes};
 ghost use Rattle.phone_find.specs.Numbers.{AreNumbers, IsNumberBetween};
 ghost use Rattle.phone_find.specs.declared.leniency.Leniency.{Leniency};
 ghost use Rattle.phone_find.specs.declared.search.Found.{Found};
+
+/// A text has one answer: what is found in it, database, hint and leniency determine.
+pub fn one_answer()
+    ensures { (db : List loader.Metadata) (hint : Option Id) (l : Leniency) (text : List ℕ)
+        (all others : List (Found Reading)) → AreNumbers db hint l text all →
+        AreNumbers db hint l text others → all ≡ others }
+{}
+
+/// What is found comes in its order, doesn't overlap, and stands on borders of characters.
+pub fn in_order()
+    ensures { (db : List loader.Metadata) (hint : Option Id) (l : Leniency) (text : List ℕ)
+        (all : List (Found Reading)) → AreNumbers db hint l text all → IsOrdered text 0 all }
+{}
 
 /// A number is found, at its place, and alone, where no piece begins in the text before it and the
 /// text behind it has no digit, whatever database, hint and leniency.
