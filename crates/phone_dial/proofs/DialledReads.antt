@@ -51,6 +51,7 @@ use Rattle.phone_dial.specs.Back.{IsAfterPlus, IsAfterPrefix, IsPlainDialled, Is
 use Rattle.phone_dial.specs.Dialled.{dialled_abroad, dialled_by, dialled_text}
 use Rattle.phone_dial.specs.declared.dialling.DialError.TheVariants.{UnknownCode, UnknownRegion}
 use Rattle.phone_dial.proofs.DialledParts.{IsLaid, IsTold, coded_laid, kept_of, laid_text, parted_digits, plain_laid, plain_told}
+use Rattle.phone_dial.proofs.Prefixes.{never_empty}
 use Rattle.phone_dial.proofs.UnsignedParts.{unsigned_parts}
 
 -- how a national part without a reader's prefix is dialled, where its digits and what follows an
@@ -302,8 +303,7 @@ module _ (db : List Metadata) (region : Id) (n : Reading) (bounded : IsBounded n
 
     prefix_split : (t : List ℕ) → p ≡ t → IsFoundBefore p q2 told.told n.extension →
         IsReadUnder db region (p ++ 32 ∷ (q2 ++ told.told)) n Idd
-    prefix_split [] e found =
-        let none : length p ≡ 0 = ap length e in absurd (omega (arith, pre.not_empty, none))
+    prefix_split [] e found = absurd (never_empty h.from (pre.dialled ∙ ap Some e))
     prefix_split (d ∷ ds) e found = prefix_read d ds e found
 
     pub prefix_back : (text : List ℕ) → IsUtf8 text → dialled_text db region n ≡ Ok text →

@@ -1,4 +1,5 @@
 pub mod DialledParts
 pub mod DialledReads
 pub mod DialledTexts
+pub mod Prefixes
 pub mod UnsignedParts

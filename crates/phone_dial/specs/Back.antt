@@ -50,7 +50,6 @@ pub record IsAfterPrefix (from : Metadata) (n : Reading) : Type 0 where
   pub prefix : List ℕ
   pub dialled : dialled_prefix from ≡ Some prefix
   pub digits : list_all is_digit prefix ≡ true
-  pub not_empty : 1 ≤ length prefix
   pub found : found_in from.international_prefix (prefix ++ coded_digits n) ≡
       Some (0, length prefix)
 

@@ -22,10 +22,14 @@ abbrev pub if_digits : List ℕ → Option (List ℕ)
 if_digits pattern = if not (length pattern == 0) && list_all is_digit pattern then Some pattern
     else None
 
--- the international prefix that is dialled in a territory: the preferred one, else the pattern of
--- its prefixes where that is digits alone
+-- a text that isn't empty
+abbrev pub if_some : List ℕ → Option (List ℕ)
+if_some text = if length text == 0 then None else Some text
+
+-- the international prefix that is dialled in a territory: the preferred one, where it isn't empty,
+-- else the pattern of its prefixes where that is digits alone
 abbrev pub dialled_prefix : Metadata → Option (List ℕ)
-dialled_prefix m = option_or m.preferred_international_prefix
+dialled_prefix m = option_or (option_and_then if_some m.preferred_international_prefix)
     (option_and_then if_digits m.international_prefix)
 
 -- what stands before a calling code: that prefix and a space, or a plus sign

@@ -6,7 +6,7 @@ ghost use Rattle.std.specs.Option.{option_and_then, option_copied};
 ghost use Rattle.phone_chars.specs.Characters.{is_digit};
 ghost use Rattle.phone_number.specs.Texts.{printed};
 ghost use Rattle.phone_dial.specs.Dialled.{dialled_prefix, dialled_text, dialling_prefix_of};
-ghost use Rattle.phone_dial.specs.Dialled.{if_digits};
+ghost use Rattle.phone_dial.specs.Dialled.{if_digits, if_some};
 
 use phone_core::Mode;
 use phone_core::country::Id;
@@ -35,9 +35,9 @@ pub enum DialError {
 ///
 /// Where the number has the calling code of the region's territory, its national text. Else an
 /// international prefix and a space, the number's code, a space, the number laid out as in
-/// international text, and its extension. The prefix is the one that the territory prefers, else
-/// its pattern of prefixes where that is digits alone; where there is neither, a plus sign stands
-/// for prefix and space. The extension is printed as in national and international text.
+/// international text, and its extension. The prefix is the one that the territory prefers, if
+/// that isn't empty, else its pattern of prefixes where that is digits alone; where there is
+/// neither, a plus sign stands for prefix and space. The extension is printed as in national and international text.
 ///
 /// `UnknownRegion` exactly where the database has no territory of the region; `UnknownCode` exactly
 /// where it has one of the region, but none of the number's code; `Memory` where memory was
@@ -120,10 +120,26 @@ fn behind_prefix(alloc: Global, prefix: &str, rest: &str) -> Result<String, Allo
 fn dialled_prefix(from: &Metadata) -> Option<&str>
     ensures { option_copied result ≡ dialled_prefix from.entry.now }
 {
-    match from.preferred_international_prefix() {
+    match preferred_prefix(from) {
         Some(preferred) => Some(preferred),
         None => only_prefix(from),
     }
+}
+
+/// The international prefix that a territory prefers, where it isn't empty.
+fn preferred_prefix(from: &Metadata) -> Option<&str>
+    ensures { option_copied result ≡
+        option_and_then if_some from.entry.now.preferred_international_prefix }
+{
+    let preferred = from.preferred_international_prefix()?;
+    some(preferred)
+}
+
+/// A text that isn't empty.
+fn some(text: &str) -> Option<&str>
+    ensures { option_copied result ≡ if_some text.entry.now }
+{
+    if text.is_empty() { None } else { Some(text) }
 }
 
 /// The pattern of a territory's international prefixes, where that is digits alone.

@@ -103,7 +103,10 @@ fn how_told(from: &Metadata, number: &PhoneNumber) -> Told {
 /// The international prefix that is dialled: the preferred one, else the pattern where that is
 /// digits.
 fn prefix(from: &Metadata) -> Option<&str> {
-    match from.preferred_international_prefix() {
+    match from
+        .preferred_international_prefix()
+        .filter(|it| !it.is_empty())
+    {
         Some(preferred) => Some(preferred),
         None => match from.international_prefix_pattern() {
             Some(pattern) => digits(pattern.as_str()),
