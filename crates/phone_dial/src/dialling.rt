@@ -37,7 +37,8 @@ pub enum DialError {
 /// international prefix and a space, the number's code, a space, the number laid out as in
 /// international text, and its extension. The prefix is the one that the territory prefers, if
 /// that isn't empty, else its pattern of prefixes where that is digits alone; where there is
-/// neither, a plus sign stands for prefix and space. The extension is printed as in national and international text.
+/// neither, a plus sign stands for prefix and space. The extension is printed as in national and
+/// international text.
 ///
 /// `UnknownRegion` exactly where the database has no territory of the region; `UnknownCode` exactly
 /// where it has one of the region, but none of the number's code; `Memory` where memory was
