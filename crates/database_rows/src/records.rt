@@ -1,9 +1,9 @@
 //! The records of which a database is made: as serde writes and reads them, and how their refusals
 //! are told in words.
 use anyhow::{Result, anyhow};
-use phone_core::MetadataError;
 use phone_records::LoadMetadata;
 use phone_records::loader::Metadata;
+use phone_texts::MetadataError;
 use rows::marks::{around, begin};
 use rows::table::Row;
 use std::alloc::{AllocError, Global};

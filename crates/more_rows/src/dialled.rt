@@ -1,6 +1,6 @@
 //! The call that asks how a number which a line gives by its parts is dialled from a region.
-use crate::given::{extension, number};
 use anyhow::{Result, anyhow};
+use number_rows::given::extended;
 use phone_core::country::Id;
 use phone_dial::{DialError, dialled_from};
 use phone_meta::Database;
@@ -15,7 +15,7 @@ pub fn answer(alloc: Global, row: &Row, db: &Database) -> Result<Option<String>>
     if row.call() != "dialled-from" {
         return Ok(None);
     }
-    let number = number(row, extension(alloc, row.argument(4))?)?;
+    let number = extended(alloc, row)?;
     let region = row.argument(5).parse::<Id>()?;
     let answer = match around(alloc, begin(alloc), dialled_from(db, region, &number))? {
         Ok(text) => format!(in alloc; "={text}")?,

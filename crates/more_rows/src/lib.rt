@@ -1,9 +1,10 @@
 //! Rows of answers to what users of phone numbers ask besides: whether a number is possible, what a
-//! database lists, whether two texts are one number, and how a number is dialled from a region.
+//! database lists, whether two texts are one number, how a number is dialled from a region, and
+//! which numbers stand in a text.
 #![tactic(auto)]
 
 pub mod dialled;
-mod given;
+pub mod found;
 pub mod listed;
 pub mod possibilities;
 pub mod sameness;
@@ -13,7 +14,8 @@ use phone_meta::Database;
 use rows::table::Row;
 use std::alloc::Global;
 
-/// The answer to a call of `phone_more` or `phone_dial` on a database; none for any other call.
+/// The answer to a call of `phone_more`, `phone_dial` or `phone_find` on a database; none for any
+/// other call.
 pub fn answer(alloc: Global, row: &Row, db: &Database) -> Result<Option<String>> {
     if let Some(found) = possibilities::answer(alloc, row, db)? {
         return Ok(Some(found));
@@ -22,6 +24,9 @@ pub fn answer(alloc: Global, row: &Row, db: &Database) -> Result<Option<String>>
         return Ok(Some(found));
     }
     if let Some(found) = sameness::answer(alloc, row, db)? {
+        return Ok(Some(found));
+    }
+    if let Some(found) = found::answer(alloc, row, db)? {
         return Ok(Some(found));
     }
     dialled::answer(alloc, row, db)

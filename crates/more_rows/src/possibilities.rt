@@ -1,7 +1,7 @@
 //! The calls that ask whether a number is possible: `possible` of one that a line gives by its
 //! parts, `possible-text` of a text under a hint.
-use crate::given::number;
 use anyhow::Result;
+use number_rows::given::number;
 use phone_meta::Database;
 use phone_more::{possible, possible_text};
 use rows::marks::{around, begin};
@@ -22,7 +22,7 @@ pub fn answer(alloc: Global, row: &Row, db: &Database) -> Result<Option<String>>
 
 /// What is said of a line's number.
 fn of_number(alloc: Global, row: &Row, db: &Database) -> Result<String> {
-    let number = number(row, None)?;
+    let number = number(row, 1, None, None)?;
     let found = around(alloc, begin(alloc), possible(db, &number))??;
     Ok(format!(in alloc; "{found:?}")?)
 }

@@ -2,6 +2,7 @@
 //! and a carrier.
 use anyhow::Result;
 use phone_core::country::{Code, Source};
+use phone_core::together::{beside, both};
 use phone_core::{Carrier, Extension, NationalNumber};
 use phonenumber::PhoneNumber;
 use rows::table::Row;
@@ -14,35 +15,47 @@ pub fn number(
     extension: Option<Extension>,
     carrier: Option<Carrier>,
 ) -> Result<PhoneNumber> {
+    let ((code, national), (extension, carrier)) = beside(
+        code_and_national(row, at),
+        (extension, carrier),
+    )?;
+    Ok(PhoneNumber::from_parts(code, national, extension, carrier))
+}
+
+/// The code and the national number that a line gives from an argument on, by code, value and
+/// zeros.
+fn code_and_national(row: &Row, at: usize) -> Result<(Code, NationalNumber)> {
     let code = row.argument(at).parse::<u16>()?;
     let value = row.argument(at.saturating_add(1)).parse::<u64>()?;
     let zeros = row.argument(at.saturating_add(2)).parse::<u8>()?;
     let national = NationalNumber::new(value, zeros)?;
-    let code = Code::new(code, Source::Default);
-    Ok(PhoneNumber::from_parts(code, national, extension, carrier))
+    Ok((Code::new(code, Source::Default), national))
 }
 
 /// The number that a line gives behind its database, with an extension.
 pub fn extended(alloc: Global, row: &Row) -> Result<PhoneNumber> {
-    number(row, 1, extension(alloc, row)?, None)
+    number(row, 1, extension(alloc, row.argument(4))?, None)
 }
 
-/// The number that a line gives behind its database, with an extension and a carrier.
-pub fn whole(alloc: Global, row: &Row) -> Result<PhoneNumber> {
-    number(row, 1, extension(alloc, row)?, carrier(alloc, row)?)
+/// The number that a line gives from an argument on, with an extension and a carrier.
+pub fn whole(alloc: Global, row: &Row, at: usize) -> Result<PhoneNumber> {
+    let extension = extension(alloc, row.argument(at.saturating_add(3)));
+    let carrier = carrier(alloc, row.argument(at.saturating_add(4)));
+    let (extension, carrier) = both(extension, carrier)?;
+    number(row, at, extension, carrier)
 }
 
-/// The extension that a line gives behind database, code, value and zeros; none for a hyphen.
-fn extension(alloc: Global, row: &Row) -> Result<Option<Extension>, AllocError> {
-    match row.argument(4).strip_prefix('=') {
+/// An extension behind an equals sign; none for a hyphen.
+fn extension(alloc: Global, column: &str) -> Result<Option<Extension>, AllocError> {
+    match column.strip_prefix('=') {
         Some(text) => Ok(Some(Extension::from(String::from_str(alloc, text)?))),
         None => Ok(None),
     }
 }
 
-/// The carrier that a line gives behind the extension; none for a hyphen.
-fn carrier(alloc: Global, row: &Row) -> Result<Option<Carrier>, AllocError> {
-    match row.argument(5).strip_prefix('=') {
+/// A carrier behind an equals sign; none for a hyphen.
+fn carrier(alloc: Global, column: &str) -> Result<Option<Carrier>, AllocError> {
+    match column.strip_prefix('=') {
         Some(text) => Ok(Some(Carrier::from(String::from_str(alloc, text)?))),
         None => Ok(None),
     }

@@ -4,7 +4,7 @@
 pub mod back;
 pub mod dialling;
 mod fronts;
-mod given;
+pub mod given;
 mod page;
 pub mod premises;
 pub mod printing;

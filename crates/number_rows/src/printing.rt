@@ -60,7 +60,7 @@ pub fn layouts_of(row: &Row) -> Option<&str> {
 /// The texts of a line's number, perhaps by a layout that the line hands in, and what the database
 /// tells of the number.
 fn format(alloc: Global, row: &Row, db: &Database, layouts: &Database) -> Result<String> {
-    let number = whole(alloc, row)?;
+    let number = whole(alloc, row, 1)?;
     let printer = format_with(db, &number);
     let texts = match row.argument(6) {
         "-" => texts(alloc, printer, "=")?,
@@ -89,7 +89,7 @@ fn layout<'a>(layouts: &'a Database, name: &str) -> Result<&'a Format> {
 /// The text of a line's number in one mode, by the number's own call; `UnknownCode` where it isn't
 /// printed.
 fn format_one(alloc: Global, row: &Row, db: &Database) -> Result<String> {
-    let number = whole(alloc, row)?;
+    let number = whole(alloc, row, 1)?;
     let printer = number.format_with(db).mode(mode(row.argument(6))?);
     match around(alloc, begin(alloc), printer.to_text(alloc))? {
         Ok(text) => Ok(format!(in alloc; "={text}")?),
@@ -100,7 +100,7 @@ fn format_one(alloc: Global, row: &Row, db: &Database) -> Result<String> {
 
 /// What a printer of a line's number in one mode writes as it is displayed.
 fn display(alloc: Global, row: &Row, db: &Database) -> Result<String> {
-    let number = whole(alloc, row)?;
+    let number = whole(alloc, row, 1)?;
     let printer = format_with(db, &number).mode(mode(row.argument(6))?);
     displayed(alloc, db, &number, &printer)
 }

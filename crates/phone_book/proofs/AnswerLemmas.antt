@@ -2,7 +2,7 @@
 use Rattle.std.proofs.Common.{◌≡◌, true, false, List, [], ◌∷◌, ◌++◌, Ok, Err, refl, ap, sym, subst, ◌∙◌}
 use Rattle.std.proofs.lemmas.List.{append_assoc, append-nil}
 use Rattle.phone_records.specs.declared.loader.Metadata.{Metadata}
-use Rattle.phone_read.specs.declared.reading.Reading.{Reading}
+use Rattle.phone_core.specs.declared.reading.Reading.{Reading}
 use Rattle.phone_book.specs.Answers.{Answer, AreAnswered, HasNumbers, HaveNumbers, IsAnswered, Line}
 use Rattle.phone_book.specs.Firsts.{firsts, is_among}
 use Rattle.phone_book.specs.declared.answers.BookError.TheVariants.{Refused, Memory}

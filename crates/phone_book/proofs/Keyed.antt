@@ -14,8 +14,8 @@ use Rattle.indexmap.specs.IndexMap.{IndexMap, insert_entry}
 use Rattle.phone_core.specs.Numbers.{IsHeld, text_of}
 use Rattle.phone_meta.specs.Codes.{is_listed, is_prefix_free}
 use Rattle.phone_records.specs.declared.loader.Metadata.{Metadata}
-use Rattle.phone_read.specs.declared.reading.Reading.{Reading}
-use Rattle.phone_number.specs.Texts.{e164_text}
+use Rattle.phone_core.specs.declared.reading.Reading.{Reading}
+use Rattle.phone_print.specs.Texts.{e164_text}
 use Rattle.phone_book.specs.Books.{AreKept, Entry, IsKept}
 use Rattle.phone_book.specs.Firsts.{firsts, is_among, is_same_number}
 use Rattle.phone_book.proofs.FirstLemmas.{firsts-new, same-parts}

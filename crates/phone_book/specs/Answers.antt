@@ -7,7 +7,7 @@ use Rattle.phone_core.specs.declared.error.ParseError.{ParseError}
 use Rattle.phone_core.specs.declared.error.ParseError.TheVariants as error
 use Rattle.phone_records.specs.declared.loader.Metadata.{Metadata}
 use Rattle.phone_read.specs.Readings.{Reads}
-use Rattle.phone_read.specs.declared.reading.Reading.{Reading}
+use Rattle.phone_core.specs.declared.reading.Reading.{Reading}
 use Rattle.phone_book.specs.Firsts.{is_among, is_same_number}
 use Rattle.phone_book.specs.declared.answers.BookError.{BookError}
 use Rattle.phone_book.specs.declared.answers.BookError.TheVariants.{Refused, Memory}

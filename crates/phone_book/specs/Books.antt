@@ -5,8 +5,8 @@ use Rattle.std.specs.List.{AllByRecursion}
 use Rattle.phone_core.specs.Numbers.{IsHeld}
 use Rattle.phone_meta.specs.Codes.{is_listed}
 use Rattle.phone_records.specs.declared.loader.Metadata.{Metadata}
-use Rattle.phone_read.specs.declared.reading.Reading.{Reading}
-use Rattle.phone_number.specs.Texts.{e164_text}
+use Rattle.phone_core.specs.declared.reading.Reading.{Reading}
+use Rattle.phone_print.specs.Texts.{e164_text}
 
 -- the records of its database, and its numbers in order of arrival
 pub record Contacts : Type 0 where

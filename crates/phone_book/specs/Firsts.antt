@@ -2,7 +2,7 @@
 use Rattle.std.specs.Prelude.{◌==◌, ◌&&◌, not, Bool, List, [], ◌∷◌, filter}
 use Rattle.std.specs.List.{list_any}
 use Rattle.phone_core.specs.Numbers.{National}
-use Rattle.phone_read.specs.declared.reading.Reading.{Reading}
+use Rattle.phone_core.specs.declared.reading.Reading.{Reading}
 
 -- two national numbers are one: the zeros in front and the value
 abbrev pub is_same_national : National → National → Bool

@@ -3,8 +3,8 @@ ghost use Rattle.std.specs.Prelude.{◌≡◌, ◌↔◌, ◌++◌, [], List, fa
 ghost use Rattle.std.specs.Prelude.{string_bytes, IfErr, IfOk, IsErr, OnErr};
 ghost use Rattle.std.specs.Option.{option_copied};
 ghost use Rattle.phone_meta.specs.Codes.{is_listed, is_prefix_free};
-ghost use Rattle.phone_read.specs.declared.reading.Reading.{Reading};
-ghost use Rattle.phone_number.specs.Texts.{e164_text};
+ghost use Rattle.phone_core.specs.declared.reading.Reading.{Reading};
+ghost use Rattle.phone_print.specs.Texts.{e164_text};
 ghost use Rattle.phone_book.specs.Answers.{AreAnswered, HasNumbers, HaveNumbers, IsAnswered};
 ghost use Rattle.phone_book.specs.Answers.{IsPlaced, line_of};
 ghost use Rattle.phone_book.specs.Firsts.{firsts};

@@ -7,7 +7,7 @@ use Rattle.phone_core.specs.declared.error.ParseError.TheVariants.{TooLong, Malf
 use Rattle.phone_core.specs.declared.error.ParseError.TheVariants.{Memory}
 use Rattle.phone_records.specs.declared.loader.Metadata.{Metadata}
 use Rattle.phone_read.specs.Readings.{Reads}
-use Rattle.phone_read.specs.declared.reading.Reading.{Reading}
+use Rattle.phone_core.specs.declared.reading.Reading.{Reading}
 use Rattle.phone_c.specs.Buffers.{IsTooLong, IsWritten}
 use Rattle.phone_c.specs.Hints.{hint_of}
 use Rattle.phone_c.specs.Numbers.{IsNumber, texts_of}

@@ -1,6 +1,6 @@
 //! What a database tells of a number that is given as plain numbers.
 ghost use Rattle.std.specs.Prelude.{◌≡◌, ◌⊎◌, ◌↔◌, if◌then◌else◌, IfOk};
-ghost use Rattle.phone_number.specs.Texts.{e164_text};
+ghost use Rattle.phone_print.specs.Texts.{e164_text};
 ghost use Rattle.std.specs.Prelude.{string_bytes};
 ghost use Rattle.phone_c.specs.Answers.{IsKey, IsKind, IsRegion, IsValidity, kind_number};
 ghost use Rattle.phone_c.specs.Buffers.{IsTooLongA, IsWrittenA};

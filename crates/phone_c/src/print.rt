@@ -1,7 +1,7 @@
 //! The printing of a number that is given as plain numbers.
 ghost use Rattle.std.specs.Prelude.{◌≡◌, ◌↔◌, ◌<◌, Some, None, Err, IfOk, IfSome, IfNone};
 ghost use Rattle.std.specs.Prelude.{string_bytes};
-ghost use Rattle.phone_number.specs.Texts.{printed};
+ghost use Rattle.phone_number.specs.Printed.{printed};
 ghost use Rattle.phone_c.specs.Answers.{IsPrinted, IsUnprinted, mode_number};
 ghost use Rattle.phone_c.specs.Buffers.{IsTooLongA, IsWrittenA};
 ghost use Rattle.phone_c.specs.Numbers.{AreNoNumber};

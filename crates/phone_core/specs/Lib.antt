@@ -1,5 +1,4 @@
 pub mod Codes
-pub mod Errors
 pub mod Ids
 pub mod Nsn
 pub mod Numbers

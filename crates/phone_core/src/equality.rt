@@ -2,12 +2,9 @@
 //! that says so. Those that have a hash have equal ones where they are equal.
 ghost use Rattle.std.specs.Prelude.{◌≡◌, ◌↔◌, IsTrue, fold};
 ghost use Rattle.std.specs.Hash.DefaultHasher as sip;
-ghost use Rattle.phone_core.specs.Errors.{told};
 
 use crate::country::{Code, Id, Source, UnknownId};
-use crate::{
-    Carrier, Extension, MetadataError, Mode, NationalNumber, ParseError, Type, Validation,
-};
+use crate::{Carrier, Extension, Mode, NationalNumber, ParseError, Type, Validation};
 use std::hash::{DefaultHasher, Hash, Hasher};
 
 /// The hash of a value by std's hasher.
@@ -93,12 +90,4 @@ impl SameValue for UnknownId {
     fn is_same(&self, other: &UnknownId) -> bool {
         self == other
     }
-}
-
-/// Whether two errors of territories' records are equal: whether they are of one kind and have the
-/// same texts.
-pub fn equal_record_errors(a: &MetadataError, b: &MetadataError) -> bool
-    ensures { IsTrue result ↔ (told a.now ≡ told b.now) }
-{
-    a == b
 }

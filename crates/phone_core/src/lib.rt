@@ -14,12 +14,15 @@ pub mod laws;
 mod mode;
 mod named;
 mod national_number;
+mod reading;
+pub mod together;
 pub mod validator;
 
 pub use carrier::Carrier;
-pub use error::{MetadataError, ParseError};
+pub use error::ParseError;
 pub use extension::Extension;
 pub use kind::Type;
 pub use mode::Mode;
 pub use national_number::NationalNumber;
+pub use reading::Reading;
 pub use validator::Validation;

@@ -18,14 +18,14 @@ use Rattle.phone_parts.proofs.Ends.{all_wider}
 use Rattle.phone_parts.proofs.PrintedInternational.{international_parts}
 use Rattle.phone_parts.proofs.PrintedTexts.{digit_apart, none_apart, none_append}
 use Rattle.phone_parts.specs.Texts.{ends}
-use Rattle.phone_read.specs.declared.reading.Reading.{Reading}
+use Rattle.phone_core.specs.declared.reading.Reading.{Reading}
 use Rattle.phonenumber.proofs.BackLaws.{IsAnnounced, IsFoundBefore, punctuated}
 use Rattle.phonenumber.proofs.BackNumbers.{list_all-text_of}
 use Rattle.phonenumber.proofs.BackPrefixes.{announced_safely}
 use Rattle.phonenumber.proofs.BackTexts.{IsUtf8-low, announced, chars-low, is_low, low_announced, low_digits}
 use Rattle.phonenumber.proofs.BackViable.{all_from_left, digits_left, indicating, is_parted, no_digits, norm-parted, parted_digit}
 use Rattle.phonenumber.specs.Plain.{IsBenign, IsPlainInternational, has_digits}
-use Rattle.phone_number.specs.Texts.{extension_part, laid_out}
+use Rattle.phone_print.specs.Texts.{extension_part, laid_out}
 
 any_of_left : (p : ℕ → Bool) (t : List ℕ) → 1 ≤ length (filter p t) → list_any p t ≡ true
 any_of_left p [] some = absurd (omega (arith, some))

@@ -33,14 +33,16 @@ use Rattle.phone_parts.specs.Readers.{HasParts}
 use Rattle.phone_parts.specs.Texts.{begins, ends}
 use Rattle.phone_read.proofs.FoundCodes.{code_by-front}
 use Rattle.phone_read.proofs.ListedFronts.{listed_some, more_than_two}
-use Rattle.phone_read.specs.Codes.{Dialled, after_match, code_by, code_by_front, code_of, dialled, dialled_under, found_in, international_prefix_of, source_of, unsigned}
+use Rattle.phone_prefix.specs.Dialling.{Dialled, after_match, dialled, found_in, source_of, unsigned}
+use Rattle.phone_read.specs.Codes.{code_by, code_by_front, code_of, dialled_under, international_prefix_of}
 use Rattle.phone_read.specs.Hints.{Coded, hinted}
 use Rattle.phone_read.specs.Numbering.{reading_of}
 use Rattle.phone_read.specs.Readings
-use Rattle.phone_read.specs.Readings.{Reads, stripped}
-use Rattle.phone_read.specs.declared.reading.Reading.{Reading}
+use Rattle.phone_read.specs.Readings.{Reads}
+use Rattle.phone_prefix.specs.Strips.{stripped}
+use Rattle.phone_core.specs.declared.reading.Reading.{Reading}
 use Rattle.phone_number.specs.Bounds.{IsBounded}
-use Rattle.phone_number.specs.Texts.{extension_part, laid_out}
+use Rattle.phone_print.specs.Texts.{extension_part, laid_out}
 use Rattle.phonenumber.proofs.BackCodes.{shortest-decimal}
 use Rattle.phonenumber.proofs.BackLaws.{IsFoundBefore}
 use Rattle.phonenumber.proofs.BackNumbers.{list_all-decimal, nsn-text_of}

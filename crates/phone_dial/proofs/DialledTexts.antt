@@ -6,8 +6,8 @@ use Rattle.phone_core.specs.declared.mode.Mode.{Mode}
 use Rattle.phone_core.specs.declared.mode.Mode.TheVariants.{International, National}
 use Rattle.phone_territory.specs.Records.{code_of}
 use Rattle.phone_records.specs.declared.loader.Metadata.{Metadata}
-use Rattle.phone_read.specs.declared.reading.Reading.{Reading}
-use Rattle.phone_number.specs.Texts.{international_text, national_text, text_by}
+use Rattle.phone_core.specs.declared.reading.Reading.{Reading}
+use Rattle.phone_print.specs.Texts.{international_text, national_text, text_by}
 use Rattle.phone_dial.specs.Dialled.{dialled_by, dialled_prefix, dialling_prefix_of}
 use Rattle.phone_dial.specs.declared.dialling.DialError.{DialError}
 use Rattle.phone_dial.specs.declared.dialling.DialError.TheVariants.{UnknownCode, UnknownRegion}

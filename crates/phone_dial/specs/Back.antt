@@ -12,10 +12,10 @@ use Rattle.phone_territory.specs.Records.{code_of}
 use Rattle.phone_meta.specs.Codes.{is_prefix_free}
 use Rattle.phone_meta.specs.Records.{last_with}
 use Rattle.phone_records.specs.declared.loader.Metadata.{Metadata}
-use Rattle.phone_read.specs.Codes.{after_match, found_in}
+use Rattle.phone_prefix.specs.Dialling.{after_match, found_in}
 use Rattle.phone_read.specs.Readings.{Reads}
-use Rattle.phone_read.specs.Strips.{strip}
-use Rattle.phone_read.specs.declared.reading.Reading.{Reading}
+use Rattle.phone_prefix.specs.Strips.{strip}
+use Rattle.phone_core.specs.declared.reading.Reading.{Reading}
 use Rattle.phonenumber.specs.Again.{IsSame}
 use Rattle.phonenumber.specs.Plain.{IsBenign, IsPlainInternational}
 use Rattle.phone_dial.specs.Dialled.{dialled_prefix}

@@ -12,8 +12,8 @@ use Rattle.phone_territory.specs.Records.{code_of}
 use Rattle.phone_meta.specs.Codes.{first_of, territories}
 use Rattle.phone_meta.specs.Records.{last_with}
 use Rattle.phone_records.specs.declared.loader.Metadata.{Metadata}
-use Rattle.phone_read.specs.declared.reading.Reading.{Reading}
-use Rattle.phone_number.specs.Texts.{extension_part, laid_out, national_text}
+use Rattle.phone_core.specs.declared.reading.Reading.{Reading}
+use Rattle.phone_print.specs.Texts.{extension_part, laid_out, national_text}
 use Rattle.phone_dial.specs.declared.dialling.DialError.{DialError}
 use Rattle.phone_dial.specs.declared.dialling.DialError.TheVariants.{UnknownCode, UnknownRegion}
 

@@ -4,7 +4,7 @@ ghost use Rattle.std.specs.Prelude.{IfSome, IsNone, codes, string_bytes};
 ghost use Rattle.std.specs.List.{list_all};
 ghost use Rattle.std.specs.Option.{option_and_then, option_copied};
 ghost use Rattle.phone_chars.specs.Characters.{is_digit};
-ghost use Rattle.phone_number.specs.Texts.{printed};
+ghost use Rattle.phone_number.specs.Printed.{printed};
 ghost use Rattle.phone_dial.specs.Dialled.{dialled_prefix, dialled_text, dialling_prefix_of};
 ghost use Rattle.phone_dial.specs.Dialled.{if_digits, if_some};
 

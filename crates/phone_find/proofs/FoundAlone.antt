@@ -13,7 +13,7 @@ use Rattle.phone_parts.specs.Texts.{begins}
 use Rattle.phone_records.specs.declared.loader.Metadata.{Metadata}
 use Rattle.phone_read.proofs.ReadingOnes.{reading_same}
 use Rattle.phone_read.specs.Readings.{Reads}
-use Rattle.phone_read.specs.declared.reading.Reading.{Reading}
+use Rattle.phone_core.specs.declared.reading.Reading.{Reading}
 use Rattle.phone_find.proofs.Alone.{alone}
 use Rattle.phone_find.proofs.Begins.{candidate_begins, candidate_digit, candidate_opening}
 use Rattle.phone_find.proofs.Places.{piece_before, starts_behind}

@@ -5,7 +5,7 @@ use Rattle.std.specs.Str.{chars}
 use Rattle.phone_core.specs.declared.country.Id.{Id}
 use Rattle.phone_records.specs.declared.loader.Metadata.{Metadata}
 use Rattle.phone_read.proofs.ReadingOnes.{reading_same}
-use Rattle.phone_read.specs.declared.reading.Reading.{Reading}
+use Rattle.phone_core.specs.declared.reading.Reading.{Reading}
 use Rattle.phone_find.proofs.Alone.{same_found}
 use Rattle.phone_find.specs.Founds
 use Rattle.phone_find.specs.Founds.{Accepts, AreFound, IsFirst, IsOrdered}

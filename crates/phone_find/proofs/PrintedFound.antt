@@ -18,14 +18,16 @@ use Rattle.phone_meta.specs.Codes.{first_of, territories}
 use Rattle.phone_number.specs.Bounds.{IsBounded}
 use Rattle.phone_more.specs.Possibilities.{possibility_under}
 use Rattle.phone_more.specs.declared.possibilities.Possibility.TheVariants.{UnknownCode}
-use Rattle.phone_number.specs.Texts.{extension_part, international_text, laid_out, printed, text_by}
+use Rattle.phone_print.specs.Texts.{extension_part, international_text, laid_out, text_by}
+use Rattle.phone_number.specs.Printed.{printed}
 use Rattle.phone_parts.proofs.AnnouncedParts.{announced_parts}
 use Rattle.phone_parts.proofs.Cores.{ends-push}
 use Rattle.phone_parts.proofs.PrintedInternational.{all_printed, international_parts, is_printed}
 use Rattle.phone_parts.specs.Texts.{begins, ends}
 use Rattle.phone_records.specs.declared.loader.Metadata.{Metadata}
-use Rattle.phone_read.specs.declared.reading.Reading.{Reading}
-use Rattle.phone_validator.specs.Regions.{home, is_known, type_of}
+use Rattle.phone_core.specs.declared.reading.Reading.{Reading}
+use Rattle.phone_validator.specs.Regions.{home}
+use Rattle.phone_kinds.specs.Kinds.{is_known, type_of}
 use Rattle.phonenumber.proofs.BackLaws.{international_back, punctuated}
 use Rattle.phonenumber.proofs.BackNumbers.{list_all-decimal, list_all-text_of}
 use Rattle.phonenumber.proofs.BackPrefixes.{announced_safely}

@@ -9,7 +9,7 @@ use Rattle.phone_core.specs.declared.error.ParseError.TheVariants.{Memory}
 use Rattle.phone_records.specs.declared.loader.Metadata.{Metadata}
 use Rattle.phone_read.proofs.ReadingOnes.{reading_same}
 use Rattle.phone_read.specs.Readings.{Reads}
-use Rattle.phone_read.specs.declared.reading.Reading.{Reading}
+use Rattle.phone_core.specs.declared.reading.Reading.{Reading}
 use Rattle.phone_find.specs.Candidates.{is_candidate}
 use Rattle.phone_find.specs.Leniencies.{suffices}
 use Rattle.phone_find.specs.Numbers.{IsNumberBetween, IsReadWell}

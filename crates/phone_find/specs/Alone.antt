@@ -6,10 +6,10 @@ use Rattle.phone_chars.specs.Characters.{is_digit}
 use Rattle.phone_core.specs.Numbers.{text_of}
 use Rattle.phone_core.specs.declared.mode.Mode.TheVariants.{International}
 use Rattle.phone_meta.specs.Codes.{is_prefix_free}
-use Rattle.phone_number.specs.Texts.{laid_out}
+use Rattle.phone_print.specs.Texts.{laid_out}
 use Rattle.phone_parts.specs.Texts.{ends}
 use Rattle.phone_records.specs.declared.loader.Metadata.{Metadata}
-use Rattle.phone_read.specs.declared.reading.Reading.{Reading}
+use Rattle.phone_core.specs.declared.reading.Reading.{Reading}
 use Rattle.phonenumber.specs.Plain.{IsBenign, IsIdle, IsPlainInternational}
 use Rattle.phone_find.specs.Candidates.{is_number_shaped, is_opening}
 use Rattle.phone_find.specs.Founds.{most_bytes}

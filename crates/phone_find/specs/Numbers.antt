@@ -4,7 +4,7 @@ use Rattle.std.specs.Prelude.{◌≡◌, ℕ, true, List, Option, Ok, chars, dro
 use Rattle.phone_core.specs.declared.country.Id.{Id}
 use Rattle.phone_records.specs.declared.loader.Metadata.{Metadata}
 use Rattle.phone_read.specs.Readings.{Reads}
-use Rattle.phone_read.specs.declared.reading.Reading.{Reading}
+use Rattle.phone_core.specs.declared.reading.Reading.{Reading}
 use Rattle.phone_find.specs.Candidates.{is_candidate}
 use Rattle.phone_find.specs.Founds.{AreFound}
 use Rattle.phone_find.specs.Leniencies.{suffices}

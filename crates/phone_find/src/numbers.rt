@@ -1,6 +1,6 @@
 //! The numbers of a running text.
 ghost use Rattle.std.specs.Prelude.{◌≡◌, ℕ, IfOk, MatchOption, None, Some, true, if◌then◌else◌};
-ghost use Rattle.phone_read.specs.declared.reading.Reading.{Reading};
+ghost use Rattle.phone_core.specs.declared.reading.Reading.{Reading};
 ghost use Rattle.phone_find.specs.Leniencies.{suffices};
 ghost use Rattle.phone_find.specs.declared.leniency.Leniency.TheVariants as leniency;
 ghost use Rattle.phone_find.specs.Numbers.{AreNumbers, IsNumberBetween, IsReadWell};

@@ -4,8 +4,8 @@ ghost use Rattle.phone_texts.specs.Errors.{told};
 ghost use Rattle.phone_json.specs.Told.{refusal_of};
 
 use crate::steps::both;
-use phone_core::MetadataError;
 use phone_records::LoadMetadata;
+use phone_texts::MetadataError;
 use std::alloc::{AllocError, Global};
 
 /// Why a value is refused.

@@ -4,4 +4,3 @@ pub mod CutLemmas
 pub mod Ends
 pub mod LineLemmas
 pub mod Progress
-pub mod ReportLemmas

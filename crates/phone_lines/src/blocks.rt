@@ -1,13 +1,12 @@
 //! The run over all lines.
-ghost use Rattle.std.specs.Prelude.{◌≡◌, ◌<◌, ℕ, List, Err, IfErr, IfOk, OnOk, vec_len};
-ghost use Rattle.phone_device.specs.Passing.{IsAtEnd};
+ghost use Rattle.std.specs.Prelude.{◌≡◌, [], Err, IfOk, OnErr};
 ghost use Rattle.phone_lines.specs.Ends.{Ends, seen};
 ghost use Rattle.phone_lines.specs.Faults.{number_of};
-ghost use Rattle.phone_lines.specs.Runs.{Leaves, Runs};
+ghost use Rattle.phone_lines.specs.Runs.{Halts};
 
 use crate::answers::Answers;
 use crate::desk::{Desk, Refusal};
-use phone_device::{BLOCK_LENGTH, Block, ByteSink, ByteSource};
+use phone_device::{Block, ByteSink, ByteSource, Fault};
 use std::alloc::Global;
 
 /// Why a run ended before all lines were answered.
@@ -36,56 +35,47 @@ impl RunError {
     }
 }
 
-/// Writes the answers that are held where a run is refused, and gives why it ended: this, or
-/// `Output` where the sink fails.
-fn leave<W: ByteSink>(desk: &Desk, sink: &mut W, error: RunError) -> RunError
-    ensures { Leaves desk.now.answers.items error (W.taken sink.old) (W.taken sink.new)
-        (W.faults sink.old) (W.faults sink.new) result }
-{
-    match desk.write_out(sink) {
-        Ok(()) => error,
-        Err(_) => RunError::Output,
-    }
-}
-
-/// Reads all blocks, and answers the lines that a line feed ends. It gives what it holds then;
-/// where it is refused, the run has ended.
-fn take_blocks<A: Answers, S: ByteSource, W: ByteSink>(
+/// Reads all blocks, and answers all lines. It gives how the run ends once the answers are written
+/// that are held then; it is refused where the sink fails before.
+fn take_all<A: Answers, S: ByteSource, W: ByteSink>(
     alloc: Global,
     answers: &A,
     source: &mut S,
     sink: &mut W,
-) -> Result<Desk, RunError>
-    ensures end { OnOk result (IsAtEnd (S.to_come source.new)) }
-    ensures taken { IfOk result (λ desk. (bytes : List ℕ) × Runs
+    desk: &mut Desk,
+) -> Result<Result<(), RunError>, Fault>
+    requires line { desk.old.line.items ≡ [] }
+    requires answers { desk.old.answers.items ≡ [] }
+    ensures halts { IfOk result (λ end. Halts (A.gives answers.now)
         (seen (S.to_come source.old) (S.faults source.old) (W.taken sink.old) (W.faults sink.old))
         (seen (S.to_come source.new) (S.faults source.new) (W.taken sink.new) (W.faults sink.new))
-        (A.gives answers.now) bytes desk.line.items desk.answers.items) }
-    ensures ends { IfErr result (λ error. Ends (A.gives answers.now)
+        desk.new.answers.items end) }
+    ensures broken { OnErr result (Ends (A.gives answers.now)
         (seen (S.to_come source.old) (S.faults source.old) (W.taken sink.old) (W.faults sink.old))
         (seen (S.to_come source.new) (S.faults source.new) (W.taken sink.new) (W.faults sink.new))
-        (Err error)) }
-    ensures short { IfOk result (λ desk. vec_len desk.answers < BLOCK_LENGTH) }
+        (Err RunError.Output)) }
 {
-    let mut desk = Desk::new(alloc);
     let mut block = Block::new();
     let mut read: u64 = 0;
     'blocks: loop {
         if read == u64::MAX {
-            return Err(leave(&desk, sink, RunError::Input));
+            return Ok(Err(RunError::Input));
         }
         let Ok(()) = block.fill(source, u64::MAX - read) else {
-            return Err(leave(&desk, sink, RunError::Input));
+            return Ok(Err(RunError::Input));
         };
         let bytes = block.bytes();
         if bytes.is_empty() {
-            return Ok(desk);
+            return match desk.take_last(alloc, answers) {
+                Ok(()) => Ok(Ok(())),
+                Err(_) => Ok(Err(RunError::Memory)),
+            };
         }
         read += bytes.len() as u64;
         match desk.take_block(alloc, answers, sink, bytes) {
             Ok(()) => {}
-            Err(Refusal::Fault) => return Err(RunError::Output),
-            Err(Refusal::Memory) => return Err(leave(&desk, sink, RunError::Memory)),
+            Err(Refusal::Fault) => return Err(Fault),
+            Err(Refusal::Memory) => return Ok(Err(RunError::Memory)),
         }
     }
 }
@@ -113,12 +103,12 @@ pub fn answer_lines<A: Answers, S: ByteSource, W: ByteSink>(
         (seen (S.to_come source.new) (S.faults source.new) (W.taken sink.new) (W.faults sink.new))
         result }
 {
-    let mut desk = take_blocks(alloc, answers, source, sink)?;
-    let Ok(()) = desk.take_last(alloc, answers) else {
-        return Err(leave(&desk, sink, RunError::Memory));
+    let mut desk = Desk::new(alloc);
+    let Ok(end) = take_all(alloc, answers, source, sink, &mut desk) else {
+        return Err(RunError::Output);
     };
     let Ok(()) = desk.write_out(sink) else {
         return Err(RunError::Output);
     };
-    Ok(())
+    end
 }

@@ -2,9 +2,9 @@
 ghost use Rattle.std.specs.Prelude.{◌≡◌, ◌+◌, ◌<◌, ◌++◌, ◌∷◌, [], ℕ, List, Option, Err, OnOk};
 ghost use Rattle.std.specs.Prelude.{OnErr, vec_len};
 ghost use Rattle.phone_device.specs.Passing.{Takes, TakesFront};
-ghost use Rattle.phone_lines.specs.Reports.{IsReport, IsReportOnFirst};
+ghost use Rattle.phone_lines.specs.Reports.{IsBeginning, IsReport, IsReportOnFirst, TakesA};
 ghost use Rattle.phone_lines.specs.Faults.{faults_of};
-ghost use Rattle.phone_lines.specs.Runs.{BreaksOff, Holds, IsSoFar, Stands};
+ghost use Rattle.phone_lines.specs.Runs.{Holds, IsSoFar, Stands};
 ghost use Rattle.phone_lines.specs.declared.desk.Refusal.TheVariants as refusal;
 
 use crate::answers::{Answers, add_answer};
@@ -95,6 +95,7 @@ impl Desk {
         sink: &mut W,
         block: &[u8],
     ) -> Result<(), Refusal>
+        requires { vec_len self.old.answers < BLOCK_LENGTH }
         ensures taken { OnOk result ((bytes : List ℕ) (before : Option (List ℕ)) →
             Stands (A.gives answers.now) bytes self.old.line.items self.old.answers.items before
             (W.taken sink.old) → Stands (A.gives answers.now)
@@ -104,13 +105,13 @@ impl Desk {
             Stands (A.gives answers.now) bytes self.old.line.items self.old.answers.items before
             (W.taken sink.old) → Holds (IsReportOnFirst (A.gives answers.now) (bytes ++ block.now))
             self.new.answers.items before (W.taken sink.new) }
-        ensures broken { result ≡ Err refusal.Fault → (bytes : List ℕ) (before : Option (List ℕ)) →
+        ensures broken { result ≡ Err refusal.Fault → (bytes : List ℕ)
+            (before to_come : Option (List ℕ)) →
             Stands (A.gives answers.now) bytes self.old.line.items self.old.answers.items before
-            (W.taken sink.old) → BreaksOff (A.gives answers.now) (bytes ++ block.now) before
-            (W.taken sink.new) }
+            (W.taken sink.old) → TakesA (IsBeginning (A.gives answers.now) to_come
+            (bytes ++ block.now)) before (W.taken sink.new) }
         ensures faults { W.faults sink.new ≡ W.faults sink.old + faults_of result }
-        ensures short { OnOk result (vec_len self.old.answers < BLOCK_LENGTH →
-            vec_len self.new.answers < BLOCK_LENGTH) }
+        ensures short { OnOk result (vec_len self.new.answers < BLOCK_LENGTH) }
     {
         for byte in block {
             let Ok(()) = self.take_byte(alloc, answers, *byte) else {

@@ -13,9 +13,10 @@ use Rattle.phone_territory.specs.Records.{allows_length, matches, pattern_of}
 use Rattle.phone_territory.specs.First.{at_start}
 use Rattle.phone_records.specs.declared.loader.Descriptor.{Descriptor}
 use Rattle.phone_records.specs.declared.loader.Metadata.{Metadata}
-use Rattle.phone_validator.specs.Regions.{is_of}
-use Rattle.phone_validator.specs.Regions.{home, is_known, is_one_pattern, line_or_mobile, tried_kinds, type_of}
-use Rattle.phone_read.specs.declared.reading.Reading.{Reading}
+use Rattle.phone_kinds.specs.Kinds.{is_of}
+use Rattle.phone_validator.specs.Regions.{home}
+use Rattle.phone_kinds.specs.Kinds.{is_known, is_one_pattern, line_or_mobile, tried_kinds, type_of}
+use Rattle.phone_core.specs.declared.reading.Reading.{Reading}
 use Rattle.phone_number.specs.Queries.{is_valid}
 use Rattle.phone_more.specs.Possibilities.{counting_descriptors, has_listed_kind, is_among, kind_descriptors}
 use Rattle.phone_more.specs.Possibilities.{lengths_of, lists_lengths, possibility_of, possibility_under}

@@ -11,7 +11,7 @@ use Rattle.phone_parts.specs.Readers.{HasParts}
 use Rattle.phone_read.proofs.ReadingOnes.{reading_same}
 use Rattle.phone_read.specs.Readings
 use Rattle.phone_read.specs.Readings.{Reads}
-use Rattle.phone_read.specs.declared.reading.Reading.{Reading}
+use Rattle.phone_core.specs.declared.reading.Reading.{Reading}
 use Rattle.phone_records.specs.declared.loader.Metadata.{Metadata}
 use Rattle.phone_more.proofs.Swaps.{sameness_of-one, sameness_of-swap}
 use Rattle.phone_more.specs.Sameness

@@ -11,8 +11,9 @@ use Rattle.phone_meta.specs.Codes.{first_of, territories}
 use Rattle.phone_territory.specs.Kinds.{descriptor_for, kinds_of}
 use Rattle.phone_records.specs.declared.loader.Descriptor.{Descriptor}
 use Rattle.phone_records.specs.declared.loader.Metadata.{Metadata}
-use Rattle.phone_validator.specs.Regions.{home, tried_kinds, type_of}
-use Rattle.phone_read.specs.declared.reading.Reading.{Reading}
+use Rattle.phone_validator.specs.Regions.{home}
+use Rattle.phone_kinds.specs.Kinds.{tried_kinds, type_of}
+use Rattle.phone_core.specs.declared.reading.Reading.{Reading}
 use Rattle.phone_more.specs.declared.possibilities.Possibility.{Possibility}
 use Rattle.phone_more.specs.declared.possibilities.Possibility.TheVariants.{Possible}
 use Rattle.phone_more.specs.declared.possibilities.Possibility.TheVariants.{PossibleLocally}

@@ -7,7 +7,7 @@ ghost use Rattle.std.specs.Option.{option_copied};
 ghost use Rattle.phone_core.specs.Numbers.{text_of};
 ghost use Rattle.phone_core.specs.declared.error.ParseError.{ParseError as Refusal};
 ghost use Rattle.phone_read.specs.Readings.{Reads};
-ghost use Rattle.phone_read.specs.declared.reading.Reading.{Reading};
+ghost use Rattle.phone_core.specs.declared.reading.Reading.{Reading};
 ghost use Rattle.phone_records.specs.declared.loader.Descriptor as loader;
 ghost use Rattle.phone_more.specs.Possibilities.{counting_descriptors, counting_territory};
 ghost use Rattle.phone_more.specs.Possibilities.{is_among, kind_descriptors, lengths_of};

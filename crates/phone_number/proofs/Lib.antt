@@ -1,3 +1,1 @@
-pub mod HyphenTexts
 pub mod SameNumbers
-pub mod TextsLaid

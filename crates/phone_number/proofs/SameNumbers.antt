@@ -9,7 +9,7 @@ use Rattle.phone_core.specs.Numbers.{IsHeld, National, packed}
 use Rattle.phone_core.specs.contracts.country.Source.{the_type}
 use Rattle.phone_core.specs.declared.country.Source.{Source}
 use Rattle.phone_core.proofs.ReadBack.{packed-injective}
-use Rattle.phone_read.specs.declared.reading.Reading.{Reading}
+use Rattle.phone_core.specs.declared.reading.Reading.{Reading}
 
 abbrev same_texts : Option (List ℕ) → Option (List ℕ) → Bool
 same_texts x y = option_eq (pointwise nat_eq) x y

@@ -1,6 +1,5 @@
 pub mod Bounds
-pub mod Layouts
+pub mod Printed
 pub mod Printers
 pub mod Queries
 pub mod Reports
-pub mod Texts

@@ -4,9 +4,9 @@ use Rattle.std.specs.Option.{option_copied}
 use Rattle.phone_core.specs.declared.mode.Mode.{Mode}
 use Rattle.phone_records.specs.declared.loader.Format.{Format}
 use Rattle.phone_records.specs.declared.loader.Metadata.{Metadata}
-use Rattle.phone_read.specs.declared.reading.Reading.{Reading}
-use Rattle.phone_number.specs.Reports.{printed_texts}
-use Rattle.phone_number.specs.Texts.{printed}
+use Rattle.phone_core.specs.declared.reading.Reading.{Reading}
+use Rattle.phone_number.specs.Printed.{printed_texts}
+use Rattle.phone_number.specs.Printed.{printed}
 use Rattle.phone_number.specs.declared.formatter.Formatter.{Formatter}
 
 -- the database of a printer

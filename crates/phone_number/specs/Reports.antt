@@ -1,6 +1,6 @@
 -- What the report says of one line of its input: fields parted by one tab.
-use Rattle.std.specs.Prelude.{◌≡◌, ℕ, Bool, if◌then◌else◌, List, [], ◌∷◌, ◌++◌, chars, codes}
-use Rattle.std.specs.Prelude.{Option, Some, None, Ok, Err, encode_utf8_all, option_map}
+use Rattle.std.specs.Prelude.{◌≡◌, ℕ, Bool, if◌then◌else◌, List, [], ◌∷◌, chars, codes}
+use Rattle.std.specs.Prelude.{Option, Some, None, Ok, Err}
 use Rattle.std.specs.Option.{option_map_or}
 use Rattle.std.specs.Str.{IsUtf8}
 use Rattle.phone_core.specs.Ids.{name}
@@ -21,36 +21,12 @@ use Rattle.phone_core.specs.declared.kind.«Type».TheVariants.{StandardRate, Ca
 use Rattle.phone_core.specs.declared.kind.«Type».TheVariants.{NoInternational, Unknown}
 use Rattle.phone_core.specs.declared.mode.Mode.TheVariants.{E164, International, National, Rfc3966}
 use Rattle.phone_meta.specs.Codes.{first_of, territories}
-use Rattle.phone_records.specs.declared.loader.Format.{Format}
 use Rattle.phone_records.specs.declared.loader.Metadata.{Metadata}
 use Rattle.phone_read.specs.Readings.{Reads}
-use Rattle.phone_read.specs.declared.reading.Reading.{Reading}
+use Rattle.phone_core.specs.declared.reading.Reading.{Reading}
 use Rattle.phone_number.specs.Queries.{region_of_number, kind_of_number, is_valid}
-use Rattle.phone_number.specs.Texts.{extension_parameter, extension_part, hyphenated, text_by}
-
--- the fields, parted by tabs
-abbrev pub tabbed : List (List ℕ) → List ℕ
-tabbed [] = []
-tabbed (field ∷ []) = field
-tabbed (field ∷ next ∷ fields) = field ++ 9 ∷ tabbed (next ∷ fields)
-
--- the texts in the four modes, by a territory
-abbrev pub texts_by : Metadata → Option Format → Reading → List ℕ
-texts_by m own n = tabbed (text_by m E164 own n ∷ text_by m International own n ∷
-    text_by m National own n ∷ text_by m Rfc3966 own n ∷ [])
-
--- the same by the first territory of the number's code; none where the code is not listed
-abbrev pub printed_texts : List Metadata → Option Format → Reading → Option (List ℕ)
-printed_texts db own n = option_map (λ m. texts_by m own n) (first_of (territories n.code.value db))
-
--- the same, of a number whose code and digits are written so, laid out so abroad and at home
-abbrev pub texts_laid : Metadata → Reading → (code digits abroad at_home : List ℕ) → List ℕ
-texts_laid m n code digits abroad at_home = tabbed (
-    (43 ∷ (code ++ digits)) ∷
-    (43 ∷ (code ++ 32 ∷ (abroad ++ extension_part m n.extension))) ∷
-    (at_home ++ extension_part m n.extension) ∷
-    (codes "tel:+" ++ (code ++ 45 ∷ (encode_utf8_all (hyphenated (chars abroad)) ++
-    extension_parameter n.extension))) ∷ [])
+use Rattle.phone_print.specs.Tabbed.{tabbed}
+use Rattle.phone_print.specs.Texts.{text_by}
 
 -- how a code was found, in a word
 abbrev pub source_word : Source → List ℕ

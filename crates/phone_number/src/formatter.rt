@@ -6,12 +6,12 @@ ghost use Rattle.std.specs.Option.{option_copied};
 ghost use Rattle.phone_core.specs.declared.mode.Mode.TheVariants as mode;
 ghost use Rattle.phone_number.specs.Printers.{database_of, layout_of, mode_of, number_of, text_of};
 ghost use Rattle.phone_number.specs.Printers.{texts_of};
-ghost use Rattle.phone_number.specs.Texts.{printed};
+ghost use Rattle.phone_number.specs.Printed.{printed};
 
-use crate::printing::Texts;
-use crate::{PhoneNumber, printing};
+use crate::PhoneNumber;
 use phone_core::Mode;
 use phone_meta::{Database, Format};
+use phone_print::{Texts, printing};
 use std::alloc::Global;
 use std::fmt;
 use thiserror::Error;
@@ -137,7 +137,7 @@ impl<'n, 'd, 'f> Formatter<'n, 'd, 'f> {
             territory,
             self.mode,
             self.format,
-            self.number,
+            &self.number.printable(),
         ) {
             Ok(text) => Ok(text),
             Err(_) => Err(FormatError::Memory),
@@ -169,7 +169,7 @@ impl Formatter<'_, '_, '_> {
             return Err(FormatError::UnknownCode);
         };
         let finder = self.database.first_group_finder();
-        match printing::texts_by(alloc, finder, m, self.format, self.number) {
+        match printing::texts_by(alloc, finder, m, self.format, &self.number.printable()) {
             Ok(texts) => Ok(texts),
             Err(_) => Err(FormatError::Memory),
         }
@@ -195,7 +195,14 @@ impl Formatter<'_, '_, '_> {
         };
         let alloc = self.database.allocator();
         let finder = self.database.first_group_finder();
-        match printing::push_texts(line, alloc, finder, m, self.format, self.number) {
+        match printing::push_texts(
+            line,
+            alloc,
+            finder,
+            m,
+            self.format,
+            &self.number.printable(),
+        ) {
             Ok(()) => Ok(()),
             Err(_) => Err(FormatError::Memory),
         }

@@ -6,6 +6,7 @@ ghost use Rattle.phone_number.specs.Bounds.{IsBounded};
 use phone_core::country::Code;
 use phone_core::equality::SameValue;
 use phone_core::{Carrier, Extension, NationalNumber};
+use phone_print::Printable;
 use serde::{Deserialize, Serialize};
 use std::alloc::AllocError;
 use std::fmt;
@@ -23,7 +24,7 @@ pub struct PhoneNumber {
 }
 
 impl Model for PhoneNumber {
-    ghost use Rattle.phone_read.specs.declared.reading.Reading.{Reading};
+    ghost use Rattle.phone_core.specs.declared.reading.Reading.{Reading};
 
     ghost Value = { Reading };
 
@@ -93,6 +94,13 @@ impl PhoneNumber {
         self.carrier.as_ref()
     }
 
+    /// The number, lent to be printed by a territory.
+    pub(crate) fn printable(&self) -> Printable<'_>
+        ensures { result ≡ self.now }
+    {
+        Printable::new(&self.code, &self.national, self.extension(), self.carrier())
+    }
+
     /// A law, which does nothing: the national number of every number has at most 255 zeros and a
     /// value below 2^56, and its calling code is below 2^16.
     pub fn keeps_bounds(&self)
@@ -133,7 +141,7 @@ impl SameValue for PhoneNumber {
 
 impl fmt::Display for PhoneNumber {
     ghost use Rattle.std.specs.Prelude.{Some};
-    ghost use Rattle.phone_number.specs.Texts.{e164_text};
+    ghost use Rattle.phone_print.specs.Texts.{e164_text};
 
     ghost output = { λ n. Some (e164_text n) };
 

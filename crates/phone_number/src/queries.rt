@@ -3,17 +3,18 @@ ghost use Rattle.std.specs.Prelude.{◌≡◌, IfOk, false};
 ghost use Rattle.std.specs.Option.{option_and_then, option_copied, option_map_or};
 ghost use Rattle.phone_core.specs.Ids.{id_of};
 ghost use Rattle.phone_core.specs.declared.kind.«Type».TheVariants.{Unknown};
-ghost use Rattle.phone_validator.specs.Regions.{home, is_known, type_of};
+ghost use Rattle.phone_validator.specs.Regions.{home};
+ghost use Rattle.phone_kinds.specs.Kinds.{is_known, type_of};
 ghost use Rattle.phone_records.specs.declared.loader.Metadata as loader;
 ghost use Rattle.phone_number.specs.Queries.{is_valid, kind_of_number, region_of_number};
 ghost use Rattle.phone_number.specs.Queries.{territory_of_number};
 
 use crate::PhoneNumber;
-use crate::written::written;
 use itoa::Buffer;
 use phone_core::Type;
 use phone_core::country::{Code, Id};
 use phone_meta::{Database, Metadata};
+use phone_print::written::written;
 use phone_read::validator;
 use std::alloc::AllocError;
 use std::marker::Model;
@@ -36,7 +37,7 @@ pub struct Country<'a> {
 }
 
 impl<'a> Model for Country<'a> {
-    ghost use Rattle.phone_read.specs.declared.reading.Reading.{Reading};
+    ghost use Rattle.phone_core.specs.declared.reading.Reading.{Reading};
 
     ghost Value = { Reading };
 

@@ -1,15 +1,13 @@
 -- What a machine finds in ASCII texts is what the text of its pattern finds there.
-use Rattle.std.proofs.Common.{◌≡◌, ◌<◌, ◌-◌, ◌==◌, ℕ, List, length, false, nat_le, if◌then◌else◌, Option, None, Some, Result, Ok, Err, IfOk, IfSome, String, Global, string_bytes, All, option_map, refl, ap, ap₂, ◌∙◌, arith}
+use Rattle.std.proofs.Common.{◌≡◌, ◌<◌, ◌≤◌, ◌-◌, ◌==◌, ℕ, List, length, false, nat_le, if◌then◌else◌, Option, None, Some, Result, Ok, Err, IfOk, IfSome, String, Global, string_bytes, All, option_map, refl, ap, ap₂, ◌∙◌, arith}
 use Rattle.std.specs.declared.alloc.AllocError.{AllocError}
 use Rattle.std.specs.Option.{option_map_or}
 use Rattle.std.specs.Str.{chars}
-use Rattle.phone_pattern.specs.First.{at_start, captured, captured_by, first_match, first_span, names_in, replaced, verbose, with_first_replaced, Seen, seen_of}
-use Rattle.phone_pattern.specs.Kept.{Serves}
+use Rattle.phone_pattern.specs.First.{at_start, captured, captured_by, first_match, first_span, names_in, replaced, verbose, with_first_replaced, IsCut, Seen, seen_of}
+use Rattle.phone_pattern.specs.Kept.{as_captured, Serves}
 use Rattle.phone_pattern.proofs.Matches.{found, named}
-use Rattle.phone_pattern.specs.declared.pattern.Captured.{Captured}
 use Rattle.phone_search.specs.Finds.{at_front, finds, FindsInAscii, Searcher}
 use Rattle.phone_search.specs.Finds as searched
-use Rattle.phone_search.specs.declared.machine.Captured as held
 use Rattle.phone_search.specs.Templates.{with_match_replaced}
 use Rattle.regex.specs.Patterns.{Match, span}
 use Rattle.regex_hir.specs.Meaning.{meaning}
@@ -39,10 +37,6 @@ front_seen (Some m) = refl
 span_seen : (o : Option Match) → option_map span o ≡ option_map (λ (s : Seen). (s.0, s.1)) (option_map seen_of o)
 span_seen None = refl
 span_seen (Some m) = refl
-
--- a machine's captures as a pattern tells them: without groups there is no first one
-abbrev pub as_captured : ℕ → held.Captured → Captured
-as_captured last c = record { span = c.span; first = if nat_le 1 last then c.first else None; last = c.last }
 
 captured_seen : (last : ℕ) (o : Option Match) →
     option_map (as_captured last) (option_map (searched.captured last) o) ≡ option_map (captured_by last) (option_map seen_of o)
@@ -74,3 +68,12 @@ pub for_names : (want : Names → List ℕ) (names : Names) (out : List ℕ) →
 for_names want names out e (Ok None) h = h
 for_names want names out e (Ok (Some t)) h = h names ∙ e
 for_names want names out e (Err x) h = h
+
+-- a span that lies in a text of ASCII begins and ends between characters
+pub within : (text : List ℕ) (s : ℕ × ℕ) → All (λ x. x < 128) text → s.0 ≤ s.1 → s.1 ≤ length text → IsCut text s
+within text s ok forward inside = (
+  forward,
+  inside,
+  (omega arith, λ here big. let small = ok s.0 0 here in omega arith),
+  (inside, λ here big. let small = ok s.1 0 here in omega arith),
+)

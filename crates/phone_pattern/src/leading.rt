@@ -6,8 +6,8 @@ ghost use Rattle.regex.specs.Strings.{regex_source};
 ghost use Rattle.phone_pattern.specs.First.{led_by, ArePatternsOf, IsPattern};
 ghost use Rattle.phone_pattern.specs.Refusals.{IsPatternRefusal};
 
+use crate::kept::Kept;
 use crate::pattern;
-use crate::warm::Warm;
 use phone_texts::{LoadMetadata, Text};
 use regex::Regex;
 use std::alloc::{AllocError, Global};
@@ -15,10 +15,9 @@ use std::marker::Model;
 
 /// Patterns of digits in front, of which the last decides. Contracts see their texts.
 pub struct Leading {
-    alloc: Global,
     patterns: Vec<Regex>,
     /// What searches for the last of them.
-    led: Warm,
+    kept: Kept,
 }
 
 impl Model for Leading {
@@ -37,13 +36,9 @@ impl Model for Leading {
 /// Drops what was compiled: as a function it is proved once.
 impl Drop for Leading {
     fn drop(self) {
-        let Leading {
-            alloc: _,
-            patterns,
-            led,
-        } = self;
+        let Leading { patterns, kept } = self;
         drop(patterns);
-        drop(led);
+        drop(kept);
     }
 }
 
@@ -56,9 +51,8 @@ impl Leading {
         ensures refused { IfErr result (IsPatternRefusal texts.items) }
     {
         Ok(Leading {
-            alloc,
             patterns: pattern::compile_all(alloc, texts)?,
-            led: Warm::new(alloc),
+            kept: Kept::new(alloc),
         })
     }
 
@@ -92,10 +86,7 @@ impl Leading {
         ensures unsearched { self.now ≡ [] → result ≡ Ok true }
     {
         match self.patterns.split_last() {
-            Some((last, _)) => match self.led.is_at_start(last.as_str(), digits) {
-                Some(is_led) => Ok(is_led),
-                None => pattern::is_at_start(self.alloc, last, digits),
-            },
+            Some((last, _)) => self.kept.is_at_start(last, digits),
             None => Ok(true),
         }
     }

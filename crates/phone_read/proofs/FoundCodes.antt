@@ -14,7 +14,8 @@ use Rattle.phone_core.specs.declared.error.ParseError.TheVariants.{InvalidCountr
 use Rattle.phone_meta.specs.Codes.{is_listed, shortest}
 use Rattle.phone_records.specs.declared.loader.Metadata.{Metadata}
 use Rattle.phone_parts.specs.declared.number.Number.{Number as Parts}
-use Rattle.phone_read.specs.Codes.{IsCoded, code_by, code_by_front, code_by_prefix, code_of, dialled, dialled_under, found_in, international_prefix_of, prefix_of, with_three}
+use Rattle.phone_read.specs.Codes.{IsCoded, code_by, code_by_front, code_by_prefix, code_of, dialled_under, international_prefix_of, prefix_of, with_three}
+use Rattle.phone_prefix.specs.Dialling.{dialled, found_in}
 use Rattle.phone_read.specs.Hints.{Coded, hinted}
 
 -- the code is told by the source and the digits that the way of dialling gives
@@ -37,12 +38,6 @@ plus_by_prefix text None found n p e some = absurd (false≢true some)
 plus_by_prefix text (Some x) found n None e some = cc
 plus_by_prefix text (Some x) found n (Some p) e some = refl
 
--- where the reader gave no prefix there is none
-pub none_before : {X : Type 0} (text : X → List ℕ) (x : Option X) (p : Option (List ℕ)) → option_map text x ≡ option_map norm p → p ≡ None → x ≡ None
-none_before text None p e none = refl
-none_before text (Some x) None e none = cc
-none_before text (Some x) (Some p) e none = cc
-
 -- the prefix of a number by its normalised one
 pub prefix_of-read : (p : Option (List ℕ)) (code : ℕ) → unwrap_or (option_map norm p) (decimal code) ≡ prefix_of p code
 prefix_of-read None code = refl
@@ -55,15 +50,6 @@ code_by-front db m Plus digits other = refl
 code_by-front db m Idd digits other = refl
 code_by-front db m Number digits other = refl
 code_by-front db m Default digits other = absurd (other refl)
-
--- what holds of an answer, told in other words; the same of a refusal
-pub ok_again : {T E : Type 0} (r : Result T E) (P Q : T → Type 0) → ((x : T) → P x → Q x) → IfOk r P → IfOk r Q
-ok_again (Ok x) P Q f h = f x h
-ok_again (Err e) P Q f h = tt
-
-pub err_again : {T E : Type 0} (r : Result T E) (P Q : E → Type 0) → ((e : E) → P e → Q e) → IfErr r P → IfErr r Q
-err_again (Ok x) P Q f h = tt
-err_again (Err e) P Q f h = f e h
 
 pub is_coded_again : (c : Coded) (a b : List ℕ) (x y : Option (List ℕ)) (n m r : Parts) → a ≡ b → x ≡ y → n.carrier ≡ m.carrier → IsCoded c a x n r → IsCoded c b y m r
 is_coded_again c a b x y n m r ea ex en h = record {
@@ -108,9 +94,12 @@ code_of-told db hint n p none =
     let d = dialled_under db hint n p in
     subst (λ m. IsTold (code_by db m (option_map norm p) d.source d.digits)) (sym none) (code_by-told db (option_map norm p) d.source d.digits)
 
--- two answers that are refused alike
-pub refused_as : {S T E : Type 0} (a : Result S E) (b : Result T E) (e : E) → a ≡ Err e → b ≡ Err e → IfErr b (λ e. a ≡ Err e)
-refused_as a b e ae be = subst (λ r. IfErr r (λ e. a ≡ Err e)) (sym be) ae
+-- so no answer is refused for memory that is refused as its code is
+pub not_memory : {T : Type 0} (r : Result T ParseError) (code told : Result Coded ParseError) → IsTold code → code ≡ told →
+    IfErr r (λ e. told ≡ Err e) → ¬ (r ≡ Err Memory)
+not_memory r code told found same refused memory =
+    let by_memory : told ≡ Err Memory = subst (λ r. IfErr r (λ e. told ≡ Err e)) memory refused in
+    subst IsTold (same ∙ by_memory) found refl
 
 -- two answers that one step gave: what is found is found by both, and refused by both
 pub ok_both : {S T E : Type 0} (a : Result S E) (b : Result T E) (r : Result ℕ E) (f : ℕ → S) (g : ℕ → T) (P Q : T → S → Type 0) →

@@ -1,8 +1,6 @@
-pub mod BareParts
-pub mod DecimalFronts
-pub mod DigitTexts
 pub mod FoundCodes
 pub mod HintCodes
+pub mod LentCodes
 pub mod ListedCodes
 pub mod ListedFronts
 pub mod ReadNumbers

@@ -1,10 +1,9 @@
 -- A listed code: at the front of a text, and as the number of a prefix.
-use Rattle.std.proofs.Common.{◌≡◌, ◌⊎◌, inl, inr, ℕ, zero, suc, ◌+◌, ◌<◌, ◌≤◌, ◌&&◌, ◌||◌, Bool, true, false, not, nat_le, nat_lt, if◌then◌else◌, cond, List, [], ◌∷◌, ◌++◌, length, take, drop, filter, reverse, get_or, codes, Option, Some, None, Result, Ok, Err, IsUtf8, IsCharBoundary, refl, ap, sym, subst, ◌∙◌, arith, lt-ltb, leb-true, true≢false, length-append}
+use Rattle.std.proofs.Common.{◌≡◌, ◌⊎◌, inl, inr, ℕ, zero, suc, ◌+◌, ◌<◌, ◌≤◌, ◌&&◌, ◌||◌, Bool, true, false, not, nat_le, nat_lt, if◌then◌else◌, cond, List, [], ◌∷◌, ◌++◌, length, take, drop, filter, reverse, get_or, codes, Option, Some, None, Result, Ok, Err, refl, ap, sym, subst, ◌∙◌, arith, lt-ltb, leb-true, true≢false, length-append}
 use Rattle.std.proofs.lemmas.Bool.{and_parts, cond-true, cond-false, false_from_ne_true}
 use Rattle.std.proofs.lemmas.Fmt.{decimal-digits_value}
 use Rattle.std.proofs.lemmas.List.{length-take, length-reverse, take-append-drop}
 use Rattle.std.proofs.lemmas.Slice.Eq.{bytes_eq-Decides}
-use Rattle.std.proofs.lemmas.Str.{IsCharBoundary-at_seam}
 use Rattle.std.proofs.lemmas.Str.Parse.{IsNumeralModel, digits_value_short, numerals_by_value, tells_all_ascii_digits}
 use Rattle.std.specs.Fmt.{decimal}
 use Rattle.std.specs.List.{list_any}
@@ -15,16 +14,11 @@ use Rattle.phone_core.specs.Numbers.{number_in}
 use Rattle.phone_core.specs.declared.country.Source.TheVariants.{Plus}
 use Rattle.phone_core.specs.declared.error.ParseError.{ParseError}
 use Rattle.phone_core.specs.declared.error.ParseError.TheVariants.{InvalidCountryCode, MalformedInteger}
-use Rattle.phone_chars.proofs.Runs.{IsUtf8-after}
 use Rattle.phone_meta.specs.Codes.{first_of, front_number, is_listed, is_main_of, is_other_of, listed_front, listed_if_some, shortest, territories}
 use Rattle.phone_meta.specs.Records.{has_code}
 use Rattle.phone_records.specs.declared.loader.Metadata.{Metadata}
 use Rattle.phone_read.specs.Codes.{code_by_prefix, with_three}
 use Rattle.phone_read.specs.Hints.{Coded}
-
--- a text may be cut behind a front
-pub border_after : (text front rest : List ℕ) → text ≡ front ++ rest → IsUtf8 text → IsUtf8 front → IsCharBoundary text (length front)
-border_after text front rest e u f = IsCharBoundary-at_seam text front rest e (IsUtf8-after front rest (subst IsUtf8 e u) f)
 
 own : IsNumeralModel (λ ds. all_ascii_digits ds ≡ true) (digits_value 10)
 own = numerals_by_value _ tells_all_ascii_digits

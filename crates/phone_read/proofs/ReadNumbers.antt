@@ -37,16 +37,17 @@ use Rattle.phone_meta.specs.Records.{has_id, last_where, last_with}
 use Rattle.phone_records.specs.declared.loader.Metadata.{Metadata}
 use Rattle.phone_parts.specs.Parts.{Parts}
 use Rattle.phone_parts.specs.Texts.{is_front, without_front}
-use Rattle.phone_read.specs.Codes.{after_match, code_by, code_by_front, code_by_prefix, code_of, dialled, dialled_under, found_in, international_prefix_of, unsigned, with_three}
+use Rattle.phone_prefix.specs.Dialling.{after_match, dialled, found_in, unsigned}
+use Rattle.phone_read.specs.Codes.{code_by, code_by_front, code_by_prefix, code_of, dialled_under, international_prefix_of, with_three}
 use Rattle.phone_read.specs.Hints.{Coded, code_by_hint, hinted, looks_national}
-use Rattle.phone_validator.specs.Regions.{is_of}
+use Rattle.phone_kinds.specs.Kinds.{is_of}
 use Rattle.phone_read.specs.Readings
-use Rattle.phone_read.specs.Readings.{Reads, stripped, stripping_territory, without_zeros}
+use Rattle.phone_read.specs.Readings.{Reads, stripping_territory, without_zeros}
 use Rattle.phone_validator.specs.Regions.{home, region_of, territory_of}
-use Rattle.phone_read.specs.Strips.{Cut, Stripped, anew, by_match, held, left_by, off_prefix, stay, step, strip}
+use Rattle.phone_prefix.specs.Strips.{Cut, Stripped, anew, by_match, held, left_by, off_prefix, stay, step, strip, stripped}
 use Rattle.phone_read.specs.TransformRules.{rules_have_no_plus}
-use Rattle.phone_validator.specs.Verdicts.{is_too_short, verdict}
-use Rattle.phone_read.specs.declared.reading.Reading.{Reading}
+use Rattle.phone_kinds.specs.Verdicts.{is_too_short, verdict}
+use Rattle.phone_core.specs.declared.reading.Reading.{Reading}
 use Rattle.phone_read.proofs.ListedCodes.{code_of-listed}
 
 -- what a number is read from: parts, their code, and the digits after it

@@ -5,10 +5,11 @@ use Rattle.phone_core.specs.declared.error.ParseError.{ParseError}
 use Rattle.phone_chars.specs.Viable.{IsViable}
 use Rattle.phone_records.specs.declared.loader.Metadata.{Metadata}
 use Rattle.phone_read.specs.Readings
-use Rattle.phone_read.specs.Readings.{Reads, stripping_territory, stripped}
+use Rattle.phone_read.specs.Readings.{Reads, stripping_territory}
+use Rattle.phone_prefix.specs.Strips.{stripped}
 use Rattle.phone_parts.specs.Parts.{Parts}
 use Rattle.phone_parts.specs.Readers.{HasParts}
-use Rattle.phone_read.specs.declared.reading.Reading.{Reading}
+use Rattle.phone_core.specs.declared.reading.Reading.{Reading}
 use Rattle.phone_parts.proofs.OneParts.{parts_same}
 
 -- the national parts of one text are one

@@ -21,7 +21,7 @@ use Rattle.phone_read.specs.Samples.{nz}
 use Rattle.phone_parts.specs.Tel
 use Rattle.phone_parts.specs.Tel.{IsTel}
 use Rattle.phone_parts.specs.Texts.{begins}
-use Rattle.phone_read.specs.declared.reading.Reading.{Reading}
+use Rattle.phone_core.specs.declared.reading.Reading.{Reading}
 use Rattle.phone_parts.proofs.CoreRows.{no_mark}
 use Rattle.phone_read.proofs.HintCodes.{code_by_hint-other}
 use Rattle.phone_parts.proofs.NaturalRows.{own_core}

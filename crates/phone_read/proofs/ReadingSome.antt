@@ -11,9 +11,10 @@ use Rattle.phone_read.specs.Hints.{Coded}
 use Rattle.phone_read.specs.Numbering.{reading_of}
 use Rattle.phone_parts.specs.Readers.{HasParts}
 use Rattle.phone_read.specs.Readings
-use Rattle.phone_read.specs.Readings.{Reads, stripping_territory, stripped}
+use Rattle.phone_read.specs.Readings.{Reads, stripping_territory}
+use Rattle.phone_prefix.specs.Strips.{stripped}
 use Rattle.phone_parts.specs.Parts.{Parts}
-use Rattle.phone_read.specs.declared.reading.Reading.{Reading}
+use Rattle.phone_core.specs.declared.reading.Reading.{Reading}
 
 pub some_of_parts : (db : List Metadata) (hint : Option Id) (t : List ℕ) (p : Parts) → HasParts t (Some p) → (viable : Bool) →
     (IsTrue viable ↔ IsViable p.national) → (r : Result Reading ParseError) × Reads db hint t r

@@ -1,8 +1,7 @@
 pub mod Codes
-pub mod HeldCuts
 pub mod Hints
 pub mod Numbering
 pub mod Readings
 pub mod Samples
-pub mod Strips
 pub mod TransformRules
+pub mod WithoutMemory

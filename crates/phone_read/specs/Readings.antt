@@ -13,8 +13,8 @@ use Rattle.phone_read.specs.Codes.{code_of}
 use Rattle.phone_read.specs.Hints.{Coded, hinted}
 use Rattle.phone_read.specs.Numbering.{reading_of}
 use Rattle.phone_validator.specs.Regions.{home}
-use Rattle.phone_read.specs.Strips.{Stripped, strip}
-use Rattle.phone_read.specs.declared.reading.Reading.{Reading}
+use Rattle.phone_prefix.specs.Strips.{stripped}
+use Rattle.phone_core.specs.declared.reading.Reading.{Reading}
 
 -- digits without their leading zeros
 abbrev pub without_zeros : List ℕ → List ℕ
@@ -25,11 +25,6 @@ without_zeros digits = after_front (λ d. d == 48) digits
 abbrev pub stripping_territory : List Metadata → Option Id → Coded → Option Metadata
 stripping_territory db (Some id) c = hinted db (Some id)
 stripping_territory db None c = home db c.value (without_zeros c.rest)
-
--- a territory strips the digits; without one they stay
-abbrev pub stripped : Option Metadata → List ℕ → Stripped
-stripped None digits = record { national = digits; carrier = None }
-stripped (Some m) digits = strip m digits
 
 -- what a text is read as under a database and a hint
 pub data Reads (db : List Metadata) (hint : Option Id) (t : List ℕ) : Result Reading ParseError →

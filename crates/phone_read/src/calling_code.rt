@@ -1,42 +1,48 @@
 //! The calling code of a number, and the digits that follow it.
-ghost use Rattle.std.specs.Prelude.{◌≡◌, ◌⊎◌, ◌&&◌, ℕ, Bool, List, not, true, Ok, Err, drop};
-ghost use Rattle.std.specs.Prelude.{length, IfOk, IfErr, IfSome, IsSome, None, Some, option_map};
+ghost use Rattle.std.specs.Prelude.{◌≡◌, ◌⊎◌, ◌&&◌, ℕ, Bool, List, not, true, false, Ok, Err, drop};
+ghost use Rattle.std.specs.Prelude.{length, IfOk, IfErr, IsSome, None, Some, option_map};
 ghost use Rattle.std.specs.Prelude.{unwrap_or, string_bytes};
 ghost use Rattle.std.specs.Cow.{cow_str_bytes, IsBorrowedStr};
 ghost use Rattle.std.specs.Fmt.{decimal};
-ghost use Rattle.std.specs.Option.{option_and_then, option_copied, option_map_or};
+ghost use Rattle.std.specs.Option.{option_copied, option_map_or};
 ghost use Rattle.std.specs.Result.{result_map_both};
 ghost use Rattle.phone_chars.specs.Norm.{norm};
 ghost use Rattle.phone_core.specs.declared.country.Source.{Source};
-ghost use Rattle.phone_core.specs.declared.country.Source.TheVariants.{Plus, Default};
+ghost use Rattle.phone_core.specs.declared.country.Source.TheVariants.{Plus};
 ghost use Rattle.phone_parts.specs.Parts.{parts_of};
 ghost use Rattle.phone_parts.specs.Texts.{is_front};
-ghost use Rattle.phone_read.specs.Codes.{HasCode, IsCoded, IsLentDigits, code_by, code_by_front};
-ghost use Rattle.phone_read.specs.Codes.{code_by_prefix, code_of, international_prefix_of, is_bare};
-ghost use Rattle.phone_read.specs.Codes.{is_plain, prefix_of, with_three};
+ghost use Rattle.phone_prefix.specs.Lent.{IsLentDigits, KeepsLent};
+ghost use Rattle.phone_read.specs.Codes.{HasCode, IsCoded, KeepsLentCode, code_by, code_by_front};
+ghost use Rattle.phone_read.specs.Codes.{code_by_prefix, code_of, international_prefix_of};
+ghost use Rattle.phone_read.specs.Codes.{prefix_of, with_three};
 ghost use Rattle.phone_read.specs.Hints.{Coded, code_by_hint, hinted, looks_national};
+ghost use Rattle.phone_read.specs.WithoutMemory.{AnswersAtOnce, AnswersWithoutMemory};
 
-use crate::dialled::{OfTerritory, dialled};
 use crate::hints::{hinted, looks_national};
-use crate::together::{beside, instead};
-use crate::trims::{begins_with_number, behind_number, lent_front, trim};
 use phone_core::ParseError;
 use phone_core::consts::MIN_LENGTH_FOR_NSN;
 use phone_core::country::{Id, Source};
+use phone_core::together::{beside, instead};
 use phone_meta::{Database, Metadata, Pattern};
 use phone_parts::Number;
+use phone_prefix::dialled::{OfTerritory, dialled};
+use phone_prefix::trims::{begins_with_number, behind_number, lent_front, trim};
 use std::alloc::{AllocError, Global};
 use std::borrow::CowStr;
 
-/// A number whose calling code is found, and the code.
+/// What reading knows of a number once its calling code is found: how it was dialled, and by whose
+/// rules.
 #[derive(Drop)]
-pub(crate) struct CodedNumber<'a> {
+pub(crate) struct DialledNumber<'a, 'd> {
     /// The calling code.
     pub(crate) code: u16,
 
-    /// Its source, the digits that follow it, and as prefix the reader's one, or the code where it
-    /// was cut off borrowed digits.
+    /// The source of the code, the digits that follow it, the extension, and as prefix the reader's
+    /// one, or the code where it was cut off borrowed digits.
     pub(crate) number: Number<'a>,
+
+    /// The territory of the hint, where there is a hint and a record of it.
+    pub(crate) territory: Option<&'d Metadata>,
 }
 
 /// A number with its calling code: its source, what is left of its digits, and as prefix the
@@ -70,24 +76,16 @@ pub fn country_code<'a>(
     ensures refused { IfErr result (λ e. (e ≡ ParseError.Memory) ⊎
         (code_of db.now hint (parts_of number.entry).national (parts_of number.entry).prefix ≡
         Err e)) }
-    ensures no_memory { international_prefix_of (hinted db.now hint) ≡ None →
-        is_bare (parts_of number.entry).national (parts_of number.entry).prefix
-        (parts_of number.entry).extension ≡ true →
-        IfErr (code_of db.now hint (parts_of number.entry).national (parts_of number.entry).prefix)
-        (λ e. result ≡ Err e) }
-    ensures borrowed { IfOk result (λ n. IsLentDigits number.entry → IsBorrowedStr n.national) }
-    ensures lent_prefix { IfOk result (λ n. IsLentDigits number.entry → number.entry.prefix ≡ None →
-        ¬ (n.country ≡ Default) → IfSome n.prefix (λ p. IsBorrowedStr p)) }
-    ensures never_memory { hinted db.now hint ≡ None → IsBorrowedStr number.entry.national →
-        is_plain (parts_of number.entry).national (parts_of number.entry).prefix
-        (parts_of number.entry).extension ≡ true → ¬ (result ≡ Err ParseError.Memory) }
+    ensures no_memory { AnswersWithoutMemory db.now hint number.entry result }
+    ensures lent { IfOk result (λ n. IsLentDigits number.entry.national →
+        KeepsLent number.entry false n) }
 {
     let coded = coded(db, hint, number)?;
     Ok(prefixed(db.allocator(), coded)?)
 }
 
 /// A number whose code was found; its prefix, where it has none, is the code in decimal.
-fn prefixed<'a>(alloc: Global, coded: CodedNumber<'a>) -> Result<Number<'a>, AllocError>
+fn prefixed<'a>(alloc: Global, coded: DialledNumber<'a, '_>) -> Result<Number<'a>, AllocError>
     ensures kept { IsSome coded.entry.number.prefix → result ≡ Ok coded.entry.number }
     ensures prefix { IfOk result (λ n. option_map cow_str_bytes n.prefix ≡
         Some (unwrap_or (option_map cow_str_bytes coded.entry.number.prefix)
@@ -97,7 +95,7 @@ fn prefixed<'a>(alloc: Global, coded: CodedNumber<'a>) -> Result<Number<'a>, All
     ensures extension { IfOk result (λ n. n.extension ≡ coded.entry.number.extension) }
     ensures carrier { IfOk result (λ n. n.carrier ≡ coded.entry.number.carrier) }
 {
-    let CodedNumber { code, number } = coded;
+    let DialledNumber { code, number, .. } = coded;
     if number.prefix.is_some() {
         return Ok(number);
     }
@@ -116,35 +114,23 @@ fn in_decimal(alloc: Global, code: u16) -> Result<String, AllocError>
 }
 
 /// A number with its calling code, as [`country_code`] has it but for a prefix that would be a
-/// copy, and the code itself.
-pub(crate) fn coded<'a>(
-    db: &Database,
+/// copy, the code itself, and the territory of the hint, which is looked up once.
+pub(crate) fn coded<'a, 'd>(
+    db: &'d Database,
     hint: Option<Id>,
     number: Number<'a>,
-) -> Result<CodedNumber<'a>, ParseError>
+) -> Result<DialledNumber<'a, 'd>, ParseError>
     ensures coded { IfOk result (λ r. (c : Coded) ×
-        (code_of db.now hint (parts_of number.entry).national (parts_of number.entry).prefix ≡
+        (code_of db.entry.now hint (parts_of number.entry).national (parts_of number.entry).prefix ≡
         Ok c) × (r.code ≡ c.value) × IsCoded c (prefix_of (parts_of number.entry).prefix c.value)
         (option_map norm (parts_of number.entry).extension) number.entry r.number) }
+    ensures territory { IfOk result (λ r. option_copied r.territory ≡ hinted db.entry.now hint) }
     ensures refused { IfErr result (λ e. (e ≡ ParseError.Memory) ⊎
-        (code_of db.now hint (parts_of number.entry).national (parts_of number.entry).prefix ≡
+        (code_of db.entry.now hint (parts_of number.entry).national (parts_of number.entry).prefix ≡
         Err e)) }
-    ensures no_memory { international_prefix_of (hinted db.now hint) ≡ None →
-        is_bare (parts_of number.entry).national (parts_of number.entry).prefix
-        (parts_of number.entry).extension ≡ true →
-        IfErr (code_of db.now hint (parts_of number.entry).national (parts_of number.entry).prefix)
-        (λ e. result ≡ Err e) }
-    ensures told { hinted db.now hint ≡ None →
-        is_plain (parts_of number.entry).national (parts_of number.entry).prefix
-        (parts_of number.entry).extension ≡ true →
-        IfErr result (λ e. code_of db.now hint (parts_of number.entry).national
-        (parts_of number.entry).prefix ≡ Err e) }
-    ensures borrowed { IfOk result (λ r. IsLentDigits number.entry →
-        IsBorrowedStr r.number.national) }
-    ensures lent_prefix { IfOk result
-        (λ r. number.entry.prefix ≡ None → IfSome r.number.prefix (λ p. IsBorrowedStr p)) }
-    ensures has_prefix { IfOk result
-        (λ r. IsLentDigits number.entry → ¬ (r.number.country ≡ Default) → IsSome r.number.prefix) }
+    ensures no_memory { AnswersWithoutMemory db.entry.now hint number.entry result }
+    ensures lent { IfOk result (λ r. IsLentDigits number.entry.national →
+        KeepsLentCode number.entry r.number) }
 {
     let territory = hinted(db, hint);
     let finder = OfTerritory {
@@ -156,11 +142,11 @@ pub(crate) fn coded<'a>(
 
 /// A number of which is known how it was dialled, with its code: by its prefix where it has one, by
 /// the hint's territory where nothing else tells it, and else by the front of its digits.
-fn with_code<'a>(
+fn with_code<'a, 'd>(
     db: &Database,
-    territory: Option<&Metadata>,
+    territory: Option<&'d Metadata>,
     number: Number<'a>,
-) -> Result<CodedNumber<'a>, ParseError>
+) -> Result<DialledNumber<'a, 'd>, ParseError>
     requires { IsSome number.prefix → number.country ≡ Plus }
     ensures coded { IfOk result (λ r. (c : Coded) ×
         (code_by db.now (option_copied territory.entry)
@@ -168,44 +154,46 @@ fn with_code<'a>(
         (cow_str_bytes number.entry.national) ≡ Ok c) × (r.code ≡ c.value) ×
         IsCoded c (unwrap_or (option_map cow_str_bytes number.entry.prefix) (decimal c.value))
         (option_map cow_str_bytes number.entry.extension) number.entry r.number) }
+    ensures territory { IfOk result (λ r. r.territory ≡ territory.entry) }
     ensures refused { IfErr result (λ e. (e ≡ ParseError.Memory) ⊎
         (code_by db.now (option_copied territory.entry)
         (option_map cow_str_bytes number.entry.prefix) number.entry.country
         (cow_str_bytes number.entry.national) ≡ Err e)) }
-    ensures at_once { IfErr (code_by db.now (option_copied territory.entry)
+    ensures at_once { AnswersAtOnce (option_copied territory.entry)
+        (code_by db.now (option_copied territory.entry)
         (option_map cow_str_bytes number.entry.prefix) number.entry.country
-        (cow_str_bytes number.entry.national)) (λ e. result ≡ Err e) }
-    ensures told { option_copied territory.entry ≡ None →
-        IfErr result (λ e. code_by db.now (option_copied territory.entry)
-        (option_map cow_str_bytes number.entry.prefix) number.entry.country
-        (cow_str_bytes number.entry.national) ≡ Err e) }
-    ensures borrowed { IfOk result (λ r. IsBorrowedStr number.entry.national →
-        IsBorrowedStr r.number.national) }
-    ensures lent_prefix { IfOk result
-        (λ r. number.entry.prefix ≡ None → IfSome r.number.prefix (λ p. IsBorrowedStr p)) }
-    ensures has_prefix { IfOk result (λ r. IsBorrowedStr number.entry.national →
-        ¬ (r.number.country ≡ Default) → IsSome r.number.prefix) }
+        (cow_str_bytes number.entry.national)) result }
+    ensures lent { IfOk result (λ r. IsBorrowedStr number.entry.national →
+        KeepsLentCode number.entry r.number) }
 {
     if let Some(prefix) = &number.prefix {
         let code = code_by_prefix(db, prefix.as_str(), number.national.as_str());
-        return by_prefix(code, number);
+        return by_prefix(code, territory, number);
     }
     match number.country {
         Source::Default => by_hint(territory, number),
-        _ => by_front(db, number),
+        _ => by_front(db, territory, number),
     }
 }
 
 /// A number with the code of its prefix.
-fn by_prefix<'a>(
+fn by_prefix<'a, 'd>(
     code: Result<u16, ParseError>,
+    territory: Option<&'d Metadata>,
     number: Number<'a>,
-) -> Result<CodedNumber<'a>, ParseError>
-    ensures { result ≡ result_map_both (λ code. record { code = code; number = number.entry })
-        (λ e. e) code }
+) -> Result<DialledNumber<'a, 'd>, ParseError>
+    ensures { result ≡ result_map_both (λ code. record {
+      code = code;
+      number = number.entry;
+      territory = territory.entry;
+    }) (λ e. e) code }
 {
     let (code, number) = beside(code, number)?;
-    Ok(CodedNumber { code, number })
+    Ok(DialledNumber {
+        code,
+        number,
+        territory,
+    })
 }
 
 /// The international prefix of a territory.
@@ -290,48 +278,55 @@ fn counted(digits: &str, found: Result<u16, ParseError>) -> Result<u16, ParseErr
 
 /// An international number with the code at the front of its digits, which is cut off. No memory is
 /// taken.
-fn by_front<'a>(db: &Database, number: Number<'a>) -> Result<CodedNumber<'a>, ParseError>
+fn by_front<'a, 'd>(
+    db: &Database,
+    territory: Option<&'d Metadata>,
+    number: Number<'a>,
+) -> Result<DialledNumber<'a, 'd>, ParseError>
     ensures coded { IfOk result (λ r. (c : Coded) ×
         (with_three (cow_str_bytes number.entry.national)
         (code_by_front db.now number.entry.country (cow_str_bytes number.entry.national)) ≡ Ok c) ×
         (r.code ≡ c.value) × IsCoded c (decimal c.value)
         (option_map cow_str_bytes number.entry.extension) number.entry r.number) }
+    ensures territory { IfOk result (λ r. r.territory ≡ territory.entry) }
     ensures refused { IfErr result (λ e. with_three (cow_str_bytes number.entry.national)
         (code_by_front db.now number.entry.country (cow_str_bytes number.entry.national)) ≡ Err e) }
-    ensures at_once { IfErr (with_three (cow_str_bytes number.entry.national)
-        (code_by_front db.now number.entry.country (cow_str_bytes number.entry.national)))
-        (λ e. result ≡ Err e) }
-    ensures borrowed { IfOk result (λ r. IsBorrowedStr number.entry.national →
-        IsBorrowedStr r.number.national) }
-    ensures lent_prefix { IfOk result (λ r. IfSome r.number.prefix (λ p. IsBorrowedStr p)) }
-    ensures has_prefix { IfOk result (λ r. IsBorrowedStr number.entry.national →
-        IsSome r.number.prefix) }
+    ensures at_once { AnswersAtOnce (option_copied territory.entry)
+        (with_three (cow_str_bytes number.entry.national)
+        (code_by_front db.now number.entry.country (cow_str_bytes number.entry.national))) result }
+    ensures lent { IfOk result (λ r. IsBorrowedStr number.entry.national →
+        KeepsLentCode number.entry r.number) }
 {
     let code = code_by_front(db, number.national.as_str());
     let (code, number) = beside(code, number)?;
     let country = number.country;
-    Ok(cut_off(code, country, number))
+    Ok(cut_off(code, country, territory, number))
 }
 
 /// A number whose digits begin with its code in decimal, which is cut off. Of borrowed digits it
 /// becomes the prefix.
-fn cut_off<'a>(code: u16, country: Source, number: Number<'a>) -> CodedNumber<'a>
+fn cut_off<'a, 'd>(
+    code: u16,
+    country: Source,
+    territory: Option<&'d Metadata>,
+    number: Number<'a>,
+) -> DialledNumber<'a, 'd>
     requires { is_front (decimal code) (cow_str_bytes number.national) ≡ true }
     ensures code { result.code ≡ code }
+    ensures territory { result.territory ≡ territory.entry }
     ensures coded { IsCoded (record {
       source = country;
       value = code;
       rest = drop (length (decimal code)) (cow_str_bytes number.entry.national);
     }) (decimal code)
         (option_map cow_str_bytes number.entry.extension) number.entry result.number }
-    ensures borrowed { IsBorrowedStr number.entry.national → IsBorrowedStr result.number.national }
-    ensures lent_prefix { IfSome result.number.prefix (λ p. IsBorrowedStr p) }
-    ensures has_prefix { IsBorrowedStr number.entry.national → IsSome result.number.prefix }
+    ensures lent { IsBorrowedStr number.entry.national →
+        KeepsLentCode number.entry result.number }
 {
     let at = behind_number(number.national.as_str(), code);
     let prefix = lent_front(&number.national, at);
     let national = trim(number.national, at);
-    CodedNumber {
+    DialledNumber {
         code,
         number: Number {
             country,
@@ -339,30 +334,29 @@ fn cut_off<'a>(code: u16, country: Source, number: Number<'a>) -> CodedNumber<'a
             prefix: instead(number.prefix, prefix),
             ..number
         },
+        territory,
     }
 }
 
 /// A number with the code of the hint's territory.
-fn by_hint<'a>(
-    territory: Option<&Metadata>,
+fn by_hint<'a, 'd>(
+    territory: Option<&'d Metadata>,
     number: Number<'a>,
-) -> Result<CodedNumber<'a>, ParseError>
+) -> Result<DialledNumber<'a, 'd>, ParseError>
     ensures coded { IfOk result (λ r. (c : Coded) ×
         (option_map_or (λ m. Ok (code_by_hint m (cow_str_bytes number.entry.national)))
         (option_copied territory.entry) (Err ParseError.InvalidCountryCode) ≡ Ok c) ×
         (r.code ≡ c.value) × IsCoded c (decimal c.value)
         (option_map cow_str_bytes number.entry.extension) number.entry r.number) }
+    ensures territory { IfOk result (λ r. r.territory ≡ territory.entry) }
     ensures refused { IfErr result (λ e. (e ≡ ParseError.Memory) ⊎
         (option_map_or (λ m. Ok (code_by_hint m (cow_str_bytes number.entry.national)))
         (option_copied territory.entry) (Err ParseError.InvalidCountryCode) ≡ Err e)) }
-    ensures at_once { IfErr (option_map_or
+    ensures at_once { AnswersAtOnce (option_copied territory.entry) (option_map_or
         (λ m. Ok (code_by_hint m (cow_str_bytes number.entry.national)))
-        (option_copied territory.entry) (Err ParseError.InvalidCountryCode)) (λ e. result ≡ Err e) }
-    ensures borrowed { IfOk result (λ r. IsBorrowedStr number.entry.national →
-        IsBorrowedStr r.number.national) }
-    ensures lent_prefix { IfOk result (λ r. IfSome r.number.prefix (λ p. IsBorrowedStr p)) }
-    ensures has_prefix { IfOk result (λ r. IsBorrowedStr number.entry.national →
-        ¬ (r.number.country ≡ Default) → IsSome r.number.prefix) }
+        (option_copied territory.entry) (Err ParseError.InvalidCountryCode)) result }
+    ensures lent { IfOk result (λ r. IsBorrowedStr number.entry.national →
+        KeepsLentCode number.entry r.number) }
 {
     let Some(territory) = territory else {
         return Err(ParseError::InvalidCountryCode);
@@ -371,15 +365,16 @@ fn by_hint<'a>(
     let is_apart = is_code_apart(territory, code, number.national.as_str());
     let (is_apart, number) = beside(is_apart, number)?;
     if is_apart {
-        return Ok(cut_off(code, Source::Number, number));
+        return Ok(cut_off(code, Source::Number, Some(territory), number));
     }
-    Ok(CodedNumber {
+    Ok(DialledNumber {
         code,
         number: Number {
             country: Source::Default,
             prefix: None,
             ..number
         },
+        territory: Some(territory),
     })
 }
 

@@ -5,8 +5,8 @@ ghost use Rattle.phone_read.specs.Hints.{hinted, looks_national};
 
 use phone_core::Type;
 use phone_core::country::Id;
+use phone_kinds::kinds::{is_general, length_of};
 use phone_meta::{Database, Metadata};
-use phone_validator::validator::{is_general, length_of};
 use std::alloc::AllocError;
 
 /// The territory of the hint: the last record with its id.

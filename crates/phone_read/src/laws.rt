@@ -10,7 +10,7 @@ ghost use Rattle.phone_meta.specs.Codes.{is_listed, shortest};
 ghost use Rattle.phone_read.specs.Codes.{code_of};
 ghost use Rattle.phone_read.specs.Hints.{Coded};
 ghost use Rattle.phone_read.specs.Readings.{Reads};
-ghost use Rattle.phone_read.specs.declared.reading.Reading.{Reading};
+ghost use Rattle.phone_core.specs.declared.reading.Reading.{Reading};
 
 use phone_chars::is_viable;
 use phone_parts::parts;

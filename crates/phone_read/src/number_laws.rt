@@ -10,7 +10,7 @@ ghost use Rattle.phone_meta.specs.Codes.{is_listed};
 ghost use Rattle.phone_records.specs.declared.loader.Metadata as loader;
 ghost use Rattle.phone_read.specs.Readings.{Reads};
 ghost use Rattle.phone_read.specs.TransformRules.{rules_have_no_plus};
-ghost use Rattle.phone_read.specs.declared.reading.Reading.{Reading};
+ghost use Rattle.phone_core.specs.declared.reading.Reading.{Reading};
 
 /// The calling code of a number that was read is listed.
 pub fn code_is_listed()

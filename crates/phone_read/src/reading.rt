@@ -7,36 +7,23 @@ ghost use Rattle.phone_core.specs.Nsn.{nsn};
 ghost use Rattle.phone_core.specs.declared.country.Source.{Source};
 ghost use Rattle.phone_read.specs.Hints.{Coded, hinted};
 ghost use Rattle.phone_read.specs.Numbering.{reading_of};
-ghost use Rattle.phone_read.specs.Readings.{Reads, stripped, stripping_territory, without_zeros};
+ghost use Rattle.phone_read.specs.Readings.{Reads, stripping_territory, without_zeros};
+ghost use Rattle.phone_prefix.specs.Strips.{stripped};
 ghost use Rattle.phone_validator.specs.Regions.{home};
 
-use crate::calling_code::{CodedNumber, coded};
-use crate::hints::hinted;
-use crate::stripping::stripped;
-use crate::together::{both, instead};
-use crate::trims::without_zeros;
+use crate::calling_code::{DialledNumber, coded};
 use phone_chars::is_viable;
 use phone_core::consts::{MAX_LENGTH_FOR_NSN, MIN_LENGTH_FOR_NSN};
 use phone_core::country::{Code, Id};
-use phone_core::{Carrier, Extension, NationalNumber, ParseError};
+use phone_core::together::{both, instead};
+use phone_core::{Carrier, Extension, NationalNumber, ParseError, Reading};
 use phone_meta::{Database, Metadata};
 use phone_parts::{Number, parts};
+use phone_prefix::stripping::stripped;
+use phone_prefix::trims::without_zeros;
 use phone_validator::validator::home;
 use std::alloc::{AllocError, Global};
 use std::borrow::CowStr;
-
-/// The parts of a number that was read.
-#[derive(PartialEq, Eq, Debug, Drop)]
-pub struct Reading {
-    /// The calling code, and how it was found.
-    pub code: Code,
-    /// The national number, with its leading zeros.
-    pub national: NationalNumber,
-    /// The extension, where one was written; it may be empty.
-    pub extension: Option<Extension>,
-    /// The carrier's selection code, where one was dialled.
-    pub carrier: Option<Carrier>,
-}
 
 /// Reads a text as a number under a database. The hint is the region whose international prefix
 /// counts, whose calling code counts where the text doesn't tell one, and by whose rules the
@@ -64,12 +51,13 @@ pub fn read(db: &Database, hint: Option<Id>, text: &str) -> Result<Reading, Pars
 
 /// The territory whose rules strip the digits: the hint's, or without a hint the one that the
 /// digits without their leading zeros belong to.
-fn stripping_territory<'a>(
-    db: &'a Database,
+fn stripping_territory<'d>(
+    db: &'d Database,
     hint: Option<Id>,
-    coded: &CodedNumber<'_>,
-) -> Result<Option<&'a Metadata>, AllocError>
-    ensures { (source : Source) → IfOk result
+    coded: &DialledNumber<'_, 'd>,
+) -> Result<Option<&'d Metadata>, AllocError>
+    ensures { (source : Source) →
+        option_copied coded.now.territory ≡ hinted db.entry.now hint → IfOk result
         (λ m. option_copied m ≡ stripping_territory db.entry.now hint
         (record {
           source = source;
@@ -78,7 +66,7 @@ fn stripping_territory<'a>(
         })) }
 {
     if hint.is_some() {
-        return Ok(hinted(db, hint));
+        return Ok(coded.territory);
     }
     home(
         db,
@@ -91,7 +79,7 @@ fn stripping_territory<'a>(
 fn numbered(
     alloc: Global,
     territory: Option<&Metadata>,
-    coded: CodedNumber<'_>,
+    coded: DialledNumber<'_, '_>,
 ) -> Result<Reading, ParseError>
     ensures { (result ≡ Err ParseError.Memory) ⊎
         (result ≡ reading_of (record {
@@ -102,7 +90,7 @@ fn numbered(
         (option_map cow_str_bytes coded.entry.number.extension)
         (stripped (option_copied territory.entry) (cow_str_bytes coded.entry.number.national))) }
 {
-    let CodedNumber { code, number } = coded;
+    let DialledNumber { code, number, .. } = coded;
     let Number {
         country,
         national,

@@ -3,11 +3,13 @@ use Rattle.std.proofs.Common.{◌≡◌, ℕ, List, [], ◌∷◌, ◌++◌, Opt
 use Rattle.std.proofs.Common.{option_map, append_assoc, refl, sym, ap, ◌∙◌}
 use Rattle.std.proofs.lemmas.Option.{none-some, same_Some}
 use Rattle.phone_core.specs.declared.mode.Mode.TheVariants.{E164, International, National, Rfc3966}
-use Rattle.phone_read.specs.declared.reading.Reading.{Reading}
+use Rattle.phone_core.specs.declared.reading.Reading.{Reading}
 use Rattle.phone_records.specs.declared.loader.Format.{Format}
 use Rattle.phone_records.specs.declared.loader.Metadata.{Metadata}
-use Rattle.phone_number.specs.Reports.{number_line, printed_texts, tabbed, texts_by}
-use Rattle.phone_number.specs.Texts.{text_by}
+use Rattle.phone_number.specs.Reports.{number_line}
+use Rattle.phone_number.specs.Printed.{printed_texts}
+use Rattle.phone_print.specs.Tabbed.{tabbed, texts_by}
+use Rattle.phone_print.specs.Texts.{text_by}
 use Rattle.phone_report.specs.Lines.{known_words}
 
 -- what a printer of a number under a database, without a layout of its own, prints

@@ -11,7 +11,7 @@ use Rattle.phone_read.proofs.ListedFronts.{listed_none}
 use Rattle.phone_read.proofs.ReadNumbers.{number-listed}
 use Rattle.phone_read.proofs.ReadingOnes.{reading_same}
 use Rattle.phone_read.specs.Readings.{Reads}
-use Rattle.phone_read.specs.declared.reading.Reading.{Reading}
+use Rattle.phone_core.specs.declared.reading.Reading.{Reading}
 use Rattle.phone_records.specs.declared.loader.Metadata.{Metadata}
 use Rattle.phone_number.specs.Reports.{IsReportLine, number_line, refusal_line}
 use Rattle.phone_number.specs.Reports.IsReportLine.{no_text, refused, read}

@@ -1,9 +1,10 @@
 -- The end of a number's report line.
 use Rattle.std.specs.Prelude.{ℕ, List, [], ◌∷◌}
 use Rattle.phone_records.specs.declared.loader.Metadata.{Metadata}
-use Rattle.phone_read.specs.declared.reading.Reading.{Reading}
+use Rattle.phone_core.specs.declared.reading.Reading.{Reading}
 use Rattle.phone_number.specs.Queries.{region_of_number, kind_of_number, is_valid}
-use Rattle.phone_number.specs.Reports.{kind_word, region_word, source_word, tabbed, validity_word}
+use Rattle.phone_number.specs.Reports.{kind_word, region_word, source_word, validity_word}
+use Rattle.phone_print.specs.Tabbed.{tabbed}
 
 -- what is known of a number, in four words
 abbrev pub known_words : List Metadata → Reading → List ℕ

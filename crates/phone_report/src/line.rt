@@ -4,7 +4,8 @@ ghost use Rattle.std.specs.Prelude.{IfOk, OnOk, codes, string_bytes};
 ghost use Rattle.phone_meta.specs.Codes.{first_of, territories};
 ghost use Rattle.phone_records.specs.declared.loader.Metadata.{Metadata};
 ghost use Rattle.phone_report.specs.Lines.{known_words};
-ghost use Rattle.phone_number.specs.Reports.{number_line, tabbed, texts_by};
+ghost use Rattle.phone_number.specs.Reports.{number_line};
+ghost use Rattle.phone_print.specs.Tabbed.{tabbed, texts_by};
 
 use crate::words::{kind_word, refusal_line, region_word, source_word, validity_word};
 use phone_lines::Answers;

@@ -10,10 +10,11 @@ use Rattle.phone_meta.specs.Codes.{first_of, territories}
 use Rattle.phone_read.proofs.ListedFronts.{listed_none}
 use Rattle.phone_read.proofs.ReadNumbers.{number-listed}
 use Rattle.phone_read.specs.Readings.{Reads}
-use Rattle.phone_read.specs.declared.reading.Reading.{Reading}
+use Rattle.phone_core.specs.declared.reading.Reading.{Reading}
 use Rattle.phone_records.specs.declared.loader.Format.{Format}
 use Rattle.phone_records.specs.declared.loader.Metadata.{Metadata}
-use Rattle.phone_number.specs.Texts.{printed, text_by}
+use Rattle.phone_number.specs.Printed.{printed}
+use Rattle.phone_print.specs.Texts.{text_by}
 
 -- a result is no `Ok` and `Err` at once
 pub no_both : {T E : Type 0} (x : T) (e : E) → ◌≡◌ {A = Result T E} (Ok x) (Err e) → ⊥

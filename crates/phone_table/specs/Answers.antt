@@ -12,10 +12,10 @@ use Rattle.phone_csv.specs.Formats.{Record}
 use Rattle.phone_meta.specs.Codes.{first_of, territories}
 use Rattle.phone_records.specs.declared.loader.Metadata.{Metadata}
 use Rattle.phone_read.specs.Readings.{Reads}
-use Rattle.phone_read.specs.declared.reading.Reading.{Reading}
+use Rattle.phone_core.specs.declared.reading.Reading.{Reading}
 use Rattle.phone_number.specs.Queries.{is_valid, kind_of_number, region_of_number}
 use Rattle.phone_number.specs.Reports.{kind_word, refusal_fields, region_word, validity_word}
-use Rattle.phone_number.specs.Texts.{text_by}
+use Rattle.phone_print.specs.Texts.{text_by}
 use Rattle.phone_table.specs.declared.header.Columns.{Columns}
 
 -- a number of a listed code: its texts in three modes, what is known of it, and no refusal
@@ -51,13 +51,21 @@ abbrev pub own_region : Option ℕ → Record → Option Id
 own_region None fields = None
 own_region (Some column) fields = id_of (field_in fields column)
 
--- what a record is answered: the answer to its field of a number, under its own region, else under
--- the hint
-abbrev pub IsAnswer : List Metadata → Columns → Option Id → Record → Record → Type 0
-IsAnswer db columns hint fields answer =
+-- what a record's number is answered: its field's answer, under its own region, else under the hint
+abbrev pub IsNumberAnswer : List Metadata → Columns → Option Id → Record → Record → Type 0
+IsNumberAnswer db columns hint fields answer =
     IsFieldAnswer db (option_or (own_region columns.region fields) hint)
     (field_in fields columns.number) answer
 
+-- a record has as many fields as the header
+abbrev pub IsOfWidth : Columns → Record → Type 0
+IsOfWidth columns fields = length fields ≡ columns.width
+
+-- what a record is answered, which has as many fields as the header
+abbrev pub IsAnswer : List Metadata → Columns → Option Id → Record → Record → Type 0
+IsAnswer db columns hint fields answer =
+    IsOfWidth columns fields × IsNumberAnswer db columns hint fields answer
+
 -- a record with another count of fields than the header has isn't answered
 abbrev pub IsOfOtherWidth : Columns → Record → Type 0
-IsOfOtherWidth columns fields = ¬ (length fields ≡ columns.width)
+IsOfOtherWidth columns fields = ¬ (IsOfWidth columns fields)

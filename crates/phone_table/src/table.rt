@@ -2,7 +2,7 @@
 ghost use Rattle.std.specs.Prelude.{◌≡◌, IfOk};
 ghost use Rattle.std.specs.Option.{option_or};
 ghost use Rattle.csv.specs.Records.{fields_of};
-ghost use Rattle.phone_table.specs.Answers.{IsAnswer, field_in, own_region};
+ghost use Rattle.phone_table.specs.Answers.{IsNumberAnswer, field_in, own_region};
 ghost use Rattle.phone_table.specs.Spelled.{spelled};
 
 use crate::answer::{Answer, answer_to, push_answer};
@@ -40,8 +40,8 @@ impl<'d> Table<'d> {
 
     /// The answer to a record. Refused only for memory.
     fn answer_to_record(&self, alloc: Global, fields: &ByteRecord) -> Result<Answer, AllocError>
-        ensures { IfOk result (λ a. IsAnswer self.now.database.now self.now.columns self.now.hint
-            (fields_of fields.now) (spelled a)) }
+        ensures { IfOk result (λ a. IsNumberAnswer self.now.database.now self.now.columns
+            self.now.hint (fields_of fields.now) (spelled a)) }
     {
         let field = field_in(fields, self.columns.number);
         answer_to(alloc, self.database, self.hint_for(fields), field)

@@ -1,3 +1,2 @@
 pub mod Complete
-pub mod Marks
 pub mod Refused

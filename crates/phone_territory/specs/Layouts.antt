@@ -1,11 +1,9 @@
 -- How one layout lays digits out: after the original's `formatter`.
-use Rattle.std.specs.Prelude.{ℕ, ◌-◌, ◌==◌, ◌&&◌, Bool, true, if◌then◌else◌, List, [], ◌∷◌, ◌++◌}
-use Rattle.std.specs.Prelude.{take, drop, reverse, Option, None, Some, option_map, unwrap_or}
+use Rattle.std.specs.Prelude.{ℕ, ◌&&◌, Bool, true, List, [], ◌∷◌, reverse}
+use Rattle.std.specs.Prelude.{Option, None, Some, option_map, unwrap_or}
 use Rattle.std.specs.Option.{option_or, option_map_or}
-use Rattle.phone_territory.specs.First.{Seen, at_start, first_match, is_whole_match, names_in}
-use Rattle.phone_territory.specs.First.{replaced}
-use Rattle.phone_territory.specs.First.{with_first_replaced}
-use Rattle.phone_territory.specs.Records.{first_group_pattern}
+use Rattle.phone_territory.specs.First.{at_start, is_whole_match, replaced}
+use Rattle.phone_rules.specs.Rules.{ruled_template}
 use Rattle.phone_records.specs.declared.loader.Format.{Format}
 
 -- the text of a layout's pattern
@@ -26,33 +24,6 @@ suits_by digits pattern (last ∷ others) = at_start last digits && is_whole_mat
 -- their front and its pattern matches them whole
 abbrev pub suits : List ℕ → Format → Bool
 suits digits f = suits_by digits (layout_pattern f) (reverse f.leading_digits)
-
--- each `$` with these two letters after it becomes the text, from the left
-abbrev pub with_mark : ℕ → ℕ → List ℕ → List ℕ → List ℕ
-with_mark a b text [] = []
-with_mark a b text (x ∷ []) = x ∷ []
-with_mark a b text (x ∷ y ∷ []) = x ∷ y ∷ []
-with_mark a b text (x ∷ y ∷ z ∷ rest) =
-    if (x == 36) && ((y == a) && (z == b)) then text ++ with_mark a b text rest
-    else x ∷ with_mark a b text (y ∷ z ∷ rest)
-
--- a rule with its marks filled: $NP by the national prefix, $FG by the template's first group as a
--- literal, $CC by the carrier
-abbrev pub filled_rule : List ℕ → List ℕ → List ℕ → List ℕ → List ℕ
-filled_rule rule prefix group carrier = with_mark 67 67 carrier
-    (with_mark 70 71 (36 ∷ group) (with_mark 78 80 prefix rule))
-
--- the template with this match, of its first group, written by the rule
-abbrev pub ruled_at : List ℕ → List ℕ → List ℕ → List ℕ → Option Seen → List ℕ
-ruled_at template rule prefix carrier None = template
-ruled_at template rule prefix carrier (Some s) =
-    with_first_replaced (names_in first_group_pattern)
-    (filled_rule rule prefix (take (s.1 - s.0) (drop s.0 template)) carrier) template (Some s)
-
--- the template with its first group written by the rule; a template without a group stays
-abbrev pub ruled_template : List ℕ → List ℕ → List ℕ → List ℕ → List ℕ
-ruled_template template rule prefix carrier = ruled_at template rule prefix carrier
-    (first_match first_group_pattern template)
 
 -- the rule of national text and what its $CC stands for: the carrier rule where there are a carrier
 -- and such a rule, else the prefix rule and nothing

@@ -1,6 +1,5 @@
 -- What contracts see of a territory: its record. After the original's `metadata`.
 use Rattle.std.specs.Prelude.{ℕ, ◌==◌, ◌&&◌, ◌||◌, Bool, List, [], length, reverse, unwrap_or}
-use Rattle.std.specs.Prelude.{codes}
 use Rattle.std.specs.List.{list_any}
 use Rattle.phone_territory.specs.First.{at_start, led_by}
 use Rattle.phone_records.specs.declared.loader.Descriptor.{Descriptor}
@@ -31,7 +30,3 @@ id_of m = unwrap_or m.id []
 -- its calling code, which every territory of a database has as well
 abbrev pub code_of : Metadata → ℕ
 code_of m = unwrap_or m.country_code 0
-
--- the pattern of the first group that a template names: a `$` and a digit
-abbrev pub first_group_pattern : List ℕ
-first_group_pattern = codes "(\\$\\d)"

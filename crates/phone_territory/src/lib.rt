@@ -10,8 +10,6 @@ pub mod loader;
 mod metadata;
 mod patterns;
 mod prefixes;
-mod ruled;
-mod rules;
 mod territory_id;
 pub mod together;
 
@@ -21,4 +19,4 @@ pub use format::Format;
 pub use metadata::{Metadata, compile_all};
 pub use phone_pattern::{Captured, Pattern};
 pub use phone_records::LoadMetadata;
-pub use rules::FirstGroup;
+pub use phone_rules::FirstGroup;

@@ -1,9 +1,9 @@
 -- What the refusal of a database tells: after the original's `error`, with refusals of JSON in
 -- place of XML.
 use Rattle.std.specs.Prelude.{ℕ, List, [], ◌∷◌, string_bytes}
-use Rattle.phone_core.specs.Errors.{told as told_of_record}
-use Rattle.phone_core.specs.declared.error.MetadataError.{MetadataError}
-use Rattle.phone_core.specs.declared.error.MetadataError.TheVariants as fault
+use Rattle.phone_texts.specs.Faults.{told as told_of_record}
+use Rattle.phone_texts.specs.declared.fault.MetadataError.{MetadataError}
+use Rattle.phone_texts.specs.declared.fault.MetadataError.TheVariants as fault
 use Rattle.phone_texts.specs.declared.error.LoadMetadata.{LoadMetadata}
 use Rattle.phone_texts.specs.declared.error.LoadMetadata.TheVariants as error
 

@@ -2,7 +2,7 @@
 ghost use Rattle.std.specs.Prelude.{◌≡◌};
 ghost use Rattle.phone_texts.specs.Errors.{told};
 
-use phone_core::MetadataError;
+use crate::fault::MetadataError;
 use std::alloc::{AllocError, AllocFailed};
 use thiserror::Error;
 

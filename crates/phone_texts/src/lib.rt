@@ -3,9 +3,11 @@
 #![tactic(auto)]
 
 pub mod error;
+pub mod fault;
 pub mod items;
 pub mod text;
 
 pub use error::LoadMetadata;
+pub use fault::MetadataError;
 pub use items::{Items, TryCopy};
 pub use text::Text;

@@ -16,7 +16,7 @@ use Rattle.phone_meta.specs.Codes.{first_of, is_main_of, is_other_of, regions, t
 use Rattle.phone_meta.specs.Lasts.{with_last}
 use Rattle.phone_territory.specs.Records.{id_of}
 use Rattle.phone_meta.specs.Records.{has_code, last_with}
-use Rattle.phone_validator.proofs.TriedKinds.{find-map}
+use Rattle.phone_kinds.proofs.TriedKinds.{find-map}
 use Rattle.phone_validator.specs.Regions.{is_of_last, is_of_region, region_among, region_named, region_of, territory_of, with_territory}
 use Rattle.phone_records.specs.declared.loader.Metadata.{Metadata}
 

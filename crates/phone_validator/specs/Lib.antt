@@ -1,3 +1,2 @@
 pub mod Origins
 pub mod Regions
-pub mod Verdicts

@@ -6,9 +6,10 @@ use Rattle.phone_core.specs.declared.mode.Mode.{Mode}
 use Rattle.phone_meta.specs.Codes.{first_of, territories}
 use Rattle.phone_records.specs.declared.loader.Metadata.{Metadata}
 use Rattle.phone_read.proofs.ReadingOnes.{reading_same}
-use Rattle.phone_read.specs.declared.reading.Reading.{Reading}
+use Rattle.phone_core.specs.declared.reading.Reading.{Reading}
 use Rattle.phonenumber.specs.Again.{IsAgain, IsReadAs, IsReadOfPrinted}
-use Rattle.phone_number.specs.Texts.{printed, text_by}
+use Rattle.phone_number.specs.Printed.{printed}
+use Rattle.phone_print.specs.Texts.{text_by}
 
 -- what is read of the text is the number, as a text has one reading
 pub again_by : (db : List Metadata) (mode : Mode) (n : Reading) (m : Metadata) (e : Option (List ℕ)) (r : Result Reading ParseError) → first_of (territories n.code.value db) ≡ Some m →

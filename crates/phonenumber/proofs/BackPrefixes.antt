@@ -14,9 +14,9 @@ use Rattle.phone_records.specs.declared.loader.Metadata.{Metadata}
 use Rattle.phone_parts.specs.Announcements.{IsAnnouncement, is_space}
 use Rattle.phone_parts.specs.Suffixes.{indicators, is_mark}
 use Rattle.phone_parts.specs.Texts.{ends, is_like}
-use Rattle.phone_read.specs.declared.reading.Reading.{Reading}
+use Rattle.phone_core.specs.declared.reading.Reading.{Reading}
 use Rattle.phonenumber.specs.Plain.{IsBenign}
-use Rattle.phone_number.specs.Texts.{laid_out}
+use Rattle.phone_print.specs.Texts.{laid_out}
 use Rattle.phonenumber.proofs.BackLaws.{IsAnnounced}
 use Rattle.phonenumber.proofs.BackTexts.{IsUtf8-low, chars-low, is_low}
 

@@ -25,11 +25,11 @@ use Rattle.phone_read.specs.Codes.{code_by_front, code_by_prefix, code_of, with_
 use Rattle.phone_read.specs.Hints.{Coded}
 use Rattle.phone_read.specs.Numbering.{reading_of}
 use Rattle.phone_read.specs.Readings
-use Rattle.phone_read.specs.Readings.{Reads, stripped, without_zeros}
+use Rattle.phone_read.specs.Readings.{Reads, without_zeros}
 use Rattle.phone_validator.specs.Regions.{home}
-use Rattle.phone_read.specs.Strips.{Stripped}
+use Rattle.phone_prefix.specs.Strips.{Stripped, stripped}
 use Rattle.phone_read.specs.TransformRules.{rules_have_no_plus}
-use Rattle.phone_read.specs.declared.reading.Reading.{Reading}
+use Rattle.phone_core.specs.declared.reading.Reading.{Reading}
 use Rattle.phonenumber.specs.Again.{IsReadAs}
 use Rattle.phonenumber.specs.Plain.{IsIdle}
 use Rattle.phonenumber.proofs.BackCodes.{number_in-decimal, shortest-decimal}

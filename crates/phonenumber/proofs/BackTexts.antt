@@ -16,10 +16,10 @@ use Rattle.phone_records.specs.declared.loader.Format.{Format}
 use Rattle.phone_records.specs.declared.loader.Metadata.{Metadata}
 use Rattle.phone_parts.proofs.Ends.{all_wider}
 use Rattle.phone_parts.specs.Texts.{begins}
-use Rattle.phone_read.specs.declared.reading.Reading.{Reading}
-use Rattle.phone_number.specs.Layouts.{laid, layout_for}
+use Rattle.phone_core.specs.declared.reading.Reading.{Reading}
+use Rattle.phone_print.specs.Layouts.{laid, layout_for}
 use Rattle.phonenumber.specs.Plain.{has_digits}
-use Rattle.phone_number.specs.Texts.{e164_text, extension_parameter, extension_part, hyphenated, international_text, laid_out, rfc3966_text}
+use Rattle.phone_print.specs.Texts.{e164_text, extension_parameter, extension_part, hyphenated, international_text, laid_out, rfc3966_text}
 use Rattle.phonenumber.proofs.BackNumbers.{list_all-decimal, list_all-text_of}
 use Rattle.phonenumber.proofs.BackViable.{is_parted}
 

@@ -12,8 +12,8 @@ use Rattle.phone_meta.specs.Codes.{begins, is_listed, is_prefix_free}
 use Rattle.phone_territory.specs.Records.{code_of}
 use Rattle.phone_meta.specs.Records.{has_code}
 use Rattle.phone_records.specs.declared.loader.Metadata.{Metadata}
-use Rattle.phone_read.specs.declared.reading.Reading.{Reading}
-use Rattle.phone_number.specs.Texts.{e164_text}
+use Rattle.phone_core.specs.declared.reading.Reading.{Reading}
+use Rattle.phone_print.specs.Texts.{e164_text}
 
 -- what holds of all of a list, of which one passes, holds of one that passes
 one_of_all : (p q : Metadata → Bool) (ms : List Metadata) → list_any p ms ≡ true → list_all q ms ≡ true → (m : Metadata) × (p m ≡ true) × (q m ≡ true)

@@ -15,11 +15,11 @@ use Rattle.phone_read.proofs.ListedFronts.{listed_none}
 use Rattle.phone_read.proofs.ReadNumbers.{national-digits, number-listed}
 use Rattle.phone_read.specs.Readings.{Reads}
 use Rattle.phone_read.specs.TransformRules.{rules_have_no_plus}
-use Rattle.phone_read.specs.declared.reading.Reading.{Reading}
-use Rattle.phone_number.specs.Layouts.{laid, layout_for}
+use Rattle.phone_core.specs.declared.reading.Reading.{Reading}
+use Rattle.phone_print.specs.Layouts.{laid, layout_for}
 use Rattle.phone_number.specs.Bounds.{IsBounded}
 use Rattle.phonenumber.specs.Plain.{IsPlainE164, IsPlainInternational, IsPlainRfc3966, has_digits}
-use Rattle.phone_number.specs.Texts.{laid_out}
+use Rattle.phone_print.specs.Texts.{laid_out}
 use Rattle.phonenumber.proofs.BackLaws.{between_digits, punctuated}
 use Rattle.phonenumber.proofs.BackNumbers.{list_all-text_of}
 use Rattle.phonenumber.proofs.BackTexts.{chars-low, low_digits}

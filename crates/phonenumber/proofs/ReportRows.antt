@@ -19,16 +19,18 @@ use Rattle.phone_core.proofs.Texts.{id_of-name}
 use Rattle.phone_chars.proofs.ViableRows.{not_viable}
 use Rattle.phone_read.specs.Hints.{code_by_hint}
 use Rattle.phone_read.specs.Readings.{Reads}
-use Rattle.phone_validator.specs.Regions.{home, type_of, is_known}
+use Rattle.phone_validator.specs.Regions.{home}
+use Rattle.phone_kinds.specs.Kinds.{type_of, is_known}
 use Rattle.phone_read.specs.Samples.{nz}
 use Rattle.phone_parts.specs.Texts.{begins}
-use Rattle.phone_read.specs.declared.reading.Reading.{Reading}
-use Rattle.phone_read.proofs.DigitTexts.{encode_utf8_all-digits}
+use Rattle.phone_core.specs.declared.reading.Reading.{Reading}
+use Rattle.phone_prefix.proofs.DigitTexts.{encode_utf8_all-digits}
 use Rattle.phone_read.proofs.HintCodes.{code_by_hint-other}
 use Rattle.phone_number.specs.Reports
 use Rattle.phone_number.specs.Queries.{kind_of_number, region_of_number, is_valid}
-use Rattle.phone_number.specs.Reports.{IsReportLine, number_line, tabbed, kind_word, region_word, validity_word}
-use Rattle.phone_number.specs.Texts.{text_by}
+use Rattle.phone_number.specs.Reports.{IsReportLine, number_line, kind_word, region_word, validity_word}
+use Rattle.phone_print.specs.Tabbed.{tabbed}
+use Rattle.phone_print.specs.Texts.{text_by}
 use Rattle.phonenumber.specs.Thin
 use Rattle.phonenumber.specs.Thin.{IsThinDatabase, thin_reading}
 use Rattle.phonenumber.proofs.ThinReadings.{thin_reads}

@@ -13,9 +13,9 @@ use Rattle.phone_parts.specs.Texts.{ends}
 use Rattle.phone_records.specs.declared.loader.Metadata.{Metadata}
 use Rattle.phone_read.specs.Readings.{without_zeros}
 use Rattle.phone_validator.specs.Regions.{home}
-use Rattle.phone_read.specs.Strips.{strip}
-use Rattle.phone_read.specs.declared.reading.Reading.{Reading}
-use Rattle.phone_number.specs.Texts.{laid_out}
+use Rattle.phone_prefix.specs.Strips.{strip}
+use Rattle.phone_core.specs.declared.reading.Reading.{Reading}
+use Rattle.phone_print.specs.Texts.{laid_out}
 
 -- the code is listed, with m as its first territory, the value is not 0, and the national text has
 -- `least` to 17 digits

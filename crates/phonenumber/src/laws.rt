@@ -13,13 +13,14 @@ ghost use Rattle.phone_meta.specs.Codes.{is_listed, is_prefix_free};
 ghost use Rattle.phone_records.specs.declared.loader.Metadata as loader;
 ghost use Rattle.phone_read.specs.Readings.{Reads};
 ghost use Rattle.phone_read.specs.TransformRules.{rules_have_no_plus};
-ghost use Rattle.phone_read.specs.declared.reading.Reading.{Reading};
+ghost use Rattle.phone_core.specs.declared.reading.Reading.{Reading};
 ghost use Rattle.phonenumber.specs.Again.{IsReadAs};
-ghost use Rattle.phone_number.specs.Layouts.{layout_for};
+ghost use Rattle.phone_print.specs.Layouts.{layout_for};
 ghost use Rattle.phone_number.specs.Bounds.{IsBounded};
 ghost use Rattle.phonenumber.specs.Plain.{IsAnnouncedByWord, IsBenign, IsIdle};
 ghost use Rattle.phonenumber.specs.Plain.{IsPlainE164, IsPlainInternational, IsPlainRfc3966};
-ghost use Rattle.phone_number.specs.Texts.{e164_text, hyphenated, printed};
+ghost use Rattle.phone_print.specs.Texts.{e164_text, hyphenated};
+ghost use Rattle.phone_number.specs.Printed.{printed};
 ghost use Rattle.phonenumber.specs.Thin.{IsThinDatabase, ThinReads, is_thin};
 
 use phone_core::equality;

@@ -13,9 +13,9 @@ use Rattle.phone_meta.specs.Codes.{first_of, territories}
 use Rattle.phone_territory.specs.Prefixes.{is_benign_prefix}
 use Rattle.phone_parts.specs.Texts.{ends}
 use Rattle.phone_records.specs.declared.loader.Metadata.{Metadata}
-use Rattle.phone_read.specs.declared.reading.Reading.{Reading}
+use Rattle.phone_core.specs.declared.reading.Reading.{Reading}
 use Rattle.phonenumber.specs.Plain.{has_digits, IsBenign, IsPlain, IsPlainInternational, IsPlainRfc3966}
-use Rattle.phone_number.specs.Texts.{laid_out}
+use Rattle.phone_print.specs.Texts.{laid_out}
 
 -- the value isn't 0, and there are so many digits
 abbrev pub counts : Reading → ℕ → Bool

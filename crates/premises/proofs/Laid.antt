@@ -10,8 +10,8 @@ use Rattle.regex.specs.Patterns.{Re, find_str}
 use Rattle.phone_core.specs.declared.mode.Mode.TheVariants.{International}
 use Rattle.phone_territory.specs.First.{Seen, at_start, first_match, is_whole_match, names_in, replaced}
 use Rattle.phone_territory.specs.First.{seen_of, verbose, with_first_replaced}
-use Rattle.phone_number.specs.Layouts.{laid}
-use Rattle.phone_number.specs.Texts.{laid_out}
+use Rattle.phone_print.specs.Layouts.{laid}
+use Rattle.phone_print.specs.Texts.{laid_out}
 use Rattle.premises.proofs.Digits.{digit, groups, nd_ranges, read_groups-groups, run, runs}
 use Rattle.premises.proofs.Searches.{searching, first_match-as_read}
 use Rattle.premises.specs.Samples.{ad, ad_by_x, al_by_e, am, am_by_anexo, at, at_by_x, number}

@@ -5,7 +5,7 @@ use Rattle.phone_records.specs.Empty.{no_descriptor, no_format, no_metadata}
 use Rattle.phone_records.specs.declared.loader.Descriptor.{Descriptor}
 use Rattle.phone_records.specs.declared.loader.Format.{Format}
 use Rattle.phone_records.specs.declared.loader.Metadata.{Metadata}
-use Rattle.phone_read.specs.declared.reading.Reading.{Reading}
+use Rattle.phone_core.specs.declared.reading.Reading.{Reading}
 
 -- numbers of a pattern, and of so many digits
 abbrev pub numbers : List ℕ → ℕ → Descriptor

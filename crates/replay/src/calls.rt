@@ -21,6 +21,9 @@ fn without_database<R: Files + AllocGlobal>(rt: &R, row: &Row) -> Result<Option<
     if let Some(found) = number_rows::without_database(rt.alloc(), row)? {
         return Ok(Some(found));
     }
+    if let Some(found) = value_rows::answer(rt.alloc(), row)? {
+        return Ok(Some(found));
+    }
     books::answer(rt, row)
 }
 

@@ -8,7 +8,7 @@ use std::alloc::AllocGlobal;
 use std::fs::{self, Files};
 
 /// The tables, by their files.
-const TABLES: [&str; 16] = [
+const TABLES: [&str; 18] = [
     "calls.tsv",
     "report.tsv",
     "json.tsv",
@@ -25,6 +25,8 @@ const TABLES: [&str; 16] = [
     "reports.tsv",
     "books.tsv",
     "more.tsv",
+    "found.tsv",
+    "values.tsv",
 ];
 
 /// Prints each line whose answer is another one here, then the counts. Gives whether all lines

@@ -1,5 +1,4 @@
-use Rattle.phone_lines.proofs.AnswerLemmas.{same_lines}
-use Rattle.phone_lines.proofs.ReportLemmas.{some_lines}
+use Rattle.phone_lines.proofs.AnswerLemmas.{same_lines, some_lines}
 use Rattle.phone_lines.proofs.laws.lines.Goals as goal
 
 pub returns-clause-some : goal.returns-clause-some

@@ -1,4 +1,4 @@
-use Rattle.phone_lines.proofs.ReportLemmas.{some_report}
+use Rattle.phone_lines.proofs.AnswerLemmas.{some_report}
 use Rattle.phone_lines.proofs.laws.some_report.Goals as goal
 
 pub returns : goal.returns

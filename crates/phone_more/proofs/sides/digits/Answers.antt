@@ -1,7 +1,7 @@
 use Rattle.std.proofs.Common.{◌∙◌}
 use Rattle.std.specs.Str.{chars}
-use Rattle.phone_read.proofs.DigitTexts.{encode_utf8_all-norm}
-use Rattle.phone_read.proofs.FoundCodes.{ok_again}
+use Rattle.phone_prefix.proofs.DigitTexts.{encode_utf8_all-norm}
+use Rattle.phone_prefix.proofs.Results.{ok_again}
 use Rattle.phone_more.proofs.sides.digits.Goals as goal
 
 pub returns : goal.returns

@@ -1,9 +1,12 @@
-use Rattle.std.proofs.Common.{◌≡◌, ℕ, Bool, List, ◌&&◌, not, None, Result, Ok, Err, IfOk, IfErr, option_map, drop, length, refl, ap, sym, subst, ◌∙◌}
+use Rattle.std.proofs.Common.{rules, ◌≡◌, ℕ, Bool, List, ◌&&◌, not, Option, Some, None, Result, Ok, Err, IfOk, IfErr, option_map, drop, length, refl, ap, sym, subst, ◌∙◌}
+use Rattle.std.specs.Borrow.{Bor}
 use Rattle.std.specs.Cow.{cow_str_bytes}
 use Rattle.std.specs.Fmt.{decimal}
 use Rattle.std.specs.Option.{option_copied, option_map_or}
 use Rattle.phone_core.specs.declared.country.Source.TheVariants.{Number, Default}
+use Rattle.phone_core.specs.declared.error.ParseError.{ParseError}
 use Rattle.phone_core.specs.declared.error.ParseError.TheVariants.{InvalidCountryCode}
+use Rattle.phone_records.specs.declared.loader.Metadata.{Metadata}
 use Rattle.phone_parts.specs.Texts.{is_front}
 use Rattle.phone_parts.specs.declared.number.Number.{Number as Parts}
 use Rattle.phone_read.specs.Codes.{IsCoded}
@@ -61,14 +64,44 @@ returns-clause-coded c =
       },
     )
 
+-- a territory's code is never refused
+some_told : {T : Type 0} (o : Option (Bor Metadata)) (m : Bor Metadata) (digits : List ℕ) (r : Result T ParseError) → o ≡ Some m →
+    IfErr (option_map_or (λ m. Ok (code_by_hint m digits)) (option_copied o) (Err InvalidCountryCode)) (λ e. r ≡ Err e)
+some_told o m digits r is = subst (λ o. IfErr (option_map_or (λ m. Ok (code_by_hint m digits)) (option_copied o) (Err InvalidCountryCode)) (λ e. r ≡ Err e)) (sym is) tt
+
+not_none : (o : Option (Bor Metadata)) (m : Bor Metadata) → o ≡ Some m → ¬ (option_copied o ≡ None)
+not_none o m is none = let same : Some m.now ≡ None = ap option_copied (sym is) ∙ none in cc
+
+pub returns-in_default-clause-at_once : goal.returns-in_default-clause-at_once
+returns-in_default-clause-at_once c = record {
+  refusals = search rules;
+  no_other = λ none. search rules;
+}
+
 pub returns-in_err-is_apart-clause-at_once : goal.returns-in_err-is_apart-clause-at_once
-returns-in_err-is_apart-clause-at_once c =
-    let digits = cow_str_bytes c.args.number.national in
-    subst (λ o. IfErr (option_map_or (λ m. Ok (code_by_hint m digits)) (option_copied o) (Err InvalidCountryCode)) (λ e. c.from_residual.result ≡ Err e))
-    (sym c.in-Some.is) tt
+returns-in_err-is_apart-clause-at_once c = record {
+  refusals = some_told _ _ (cow_str_bytes c.args.number.national) _ c.in-Some.is;
+  no_other = λ none. absurd (not_none _ _ c.in-Some.is none);
+}
 
 pub returns-then-is_apart-clause-at_once : goal.returns-then-is_apart-clause-at_once
-returns-then-is_apart-clause-at_once c =
-    let digits = cow_str_bytes c.args.number.national in
-    subst (λ o. IfErr (option_map_or (λ m. Ok (code_by_hint m digits)) (option_copied o) (Err InvalidCountryCode)) (λ e. Ok c.cut_off.result ≡ Err e))
-    (sym c.in-Some.is) tt
+returns-then-is_apart-clause-at_once c = record {
+  refusals = some_told _ _ (cow_str_bytes c.args.number.national) _ c.in-Some.is;
+  no_other = λ none. tt;
+}
+
+pub returns-clause-at_once : goal.returns-clause-at_once
+returns-clause-at_once c = record {
+  refusals = some_told _ _ (cow_str_bytes c.args.number.national) _ c.in-Some.is;
+  no_other = λ none. tt;
+}
+
+pub returns-clause-lent : goal.returns-clause-lent
+returns-clause-lent c lent = record {
+  kept = record {
+    national = λ same. search rules;
+    prefix = λ none other. absurd (other refl);
+    carrier = search rules;
+  };
+  has_prefix = λ other. absurd (other refl);
+}

@@ -5,9 +5,13 @@ use Rattle.std.specs.Cow.{cow_str_bytes}
 use Rattle.std.specs.Fmt.{decimal}
 use Rattle.std.specs.Option.{option_copied, option_map_or}
 use Rattle.std.specs.Str.{chars}
-use Rattle.phone_read.specs.Codes.{found_in, international_prefix_of}
-use Rattle.phone_read.proofs.BareParts.{bare_plain}
-use Rattle.phone_read.proofs.FoundCodes.{code_of-dialled, plus_by_prefix, prefix_of-read, none_before, ok_again, err_again, is_coded_again}
+use Rattle.phone_prefix.specs.Dialling.{found_in}
+use Rattle.phone_read.specs.Codes.{international_prefix_of}
+use Rattle.phone_prefix.proofs.BareParts.{bare_plain}
+use Rattle.phone_read.proofs.FoundCodes.{code_of-dialled, plus_by_prefix, prefix_of-read, not_memory, code_of-told, is_coded_again}
+use Rattle.phone_read.proofs.LentCodes.{keeps_again}
+use Rattle.phone_prefix.proofs.LentParts.{no_prefix}
+use Rattle.phone_prefix.proofs.Results.{ok_again, err_again}
 use Rattle.phone_read.proofs.calling_code.coded.Goals as goal
 
 -- no pattern has nothing to find
@@ -16,12 +20,16 @@ idle None e = refl
 idle (Some p) e = cc
 
 pub returns-in_err-number-clause-no_memory : goal.returns-in_err-number-clause-no_memory
-returns-in_err-number-clause-no_memory c none bare =
+returns-in_err-number-clause-no_memory c =
     let n = chars (cow_str_bytes c.args.number.national) in
     let p = option_map (λ p. chars (cow_str_bytes p)) c.args.number.prefix in
     let e = option_map (λ e. chars (cow_str_bytes e)) c.args.number.extension in
-    absurd (false≢true (c.in_err-number.ensures.no_memory
-    (idle c.prefix_pattern.result (c.prefix_pattern.ensures ∙ ap international_prefix_of c.hinted-territory.ensures ∙ none)) (bare_plain n p e bare)))
+    let no_pattern = c.prefix_pattern.ensures ∙ ap international_prefix_of c.hinted-territory.ensures in
+    record {
+      refusals = λ none bare. absurd (false≢true (c.in_err-number.ensures.no_memory (idle c.prefix_pattern.result (no_pattern ∙ none)) (bare_plain n p e bare)));
+      answers = λ none lent plain memory.
+          absurd (false≢true (c.in_err-number.ensures.no_memory (idle c.prefix_pattern.result (no_pattern ∙ ap international_prefix_of none)) plain));
+    }
 
 pub with_code-requires : goal.with_code-requires
 with_code-requires c =
@@ -49,12 +57,15 @@ returns c =
                 c.in_ok-number.ensures.extension c.in_ok-number.ensures.carrier h.3,
           ))
           c.with_code.ensures.coded;
+      territory = ok_again c.with_code.result _ _ (λ r h. ap option_copied h ∙ c.hinted-territory.ensures) c.with_code.ensures.territory;
       refused = err_again c.with_code.result _ _ (λ e h. ⊎_elim (λ f. inl f) (λ f. inr (told ∙ f)) h) c.with_code.ensures.refused;
-      no_memory = λ none bare. subst (λ r. IfErr r (λ e. c.with_code.result ≡ Err e)) (sym told) c.with_code.ensures.at_once;
-      told = λ no_hint plain. err_again c.with_code.result _ _ (λ e f. told ∙ f) (c.with_code.ensures.told (c.hinted-territory.ensures ∙ no_hint));
-      borrowed = ok_again c.with_code.result _ _ (λ r h lent. h (c.in_ok-number.ensures.borrowed lent)) c.with_code.ensures.borrowed;
-      lent_prefix = ok_again c.with_code.result _ _
-          (λ r h none. h (none_before cow_str_bytes number.prefix p c.in_ok-number.ensures.prefix (ap (option_map (λ p. chars (cow_str_bytes p))) none)))
-          c.with_code.ensures.lent_prefix;
-      has_prefix = ok_again c.with_code.result _ _ (λ r h lent other. h (c.in_ok-number.ensures.borrowed lent) other) c.with_code.ensures.has_prefix;
+      no_memory = record {
+        refusals = λ none bare. subst (λ r. IfErr r (λ e. c.with_code.result ≡ Err e)) (sym told) c.with_code.ensures.at_once.refusals;
+        answers = λ none lent plain.
+            not_memory c.with_code.result _ _ (code_of-told c.args.db.now c.args.hint n p none) told (c.with_code.ensures.at_once.no_other (c.hinted-territory.ensures ∙ none));
+      };
+      lent = ok_again c.with_code.result _ _
+          (λ r h lent. keeps_again number c.args.number r.number (no_prefix c.args.number number c.in_ok-number.ensures.prefix) c.in_ok-number.ensures.carrier
+          (h ((c.in_ok-number.ensures.lent lent).national refl)))
+          c.with_code.ensures.lent;
     }

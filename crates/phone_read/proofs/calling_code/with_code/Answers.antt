@@ -4,10 +4,11 @@ use Rattle.std.specs.Fmt.{decimal}
 use Rattle.std.specs.Option.{option_copied}
 use Rattle.std.specs.Result.{result_map_both}
 use Rattle.phone_core.specs.declared.country.Source.TheVariants.{Plus, Default}
-use Rattle.phone_core.specs.declared.error.ParseError.TheVariants.{InvalidCountryCode}
-use Rattle.phone_read.specs.Codes.{IsCoded, code_by, code_by_prefix, with_three}
+use Rattle.phone_read.specs.Codes.{IsCoded, KeepsLentCode, code_by, code_by_prefix, with_three}
 use Rattle.phone_read.specs.Hints.{Coded}
-use Rattle.phone_read.proofs.FoundCodes.{code_by-front, ok_again, err_again, ok_both, err_both, ok_made, refused_as}
+use Rattle.phone_prefix.proofs.Results.{ok_again, err_again}
+use Rattle.phone_read.proofs.FoundCodes.{code_by-front, ok_both, err_both, ok_made}
+use Rattle.phone_read.specs.WithoutMemory.{AnswersAtOnce}
 use Rattle.phone_read.proofs.calling_code.with_code.Goals as goal
 
 pub returns-in-Some : goal.returns-in-Some
@@ -34,13 +35,20 @@ returns-in-Some c =
             extension = refl;
             carrier = refl;
           });
+      territory = ok_made c.by_prefix.result c.code_by_prefix-code.result _ (λ r. r.territory ≡ c.args.territory) made (λ code. refl);
       refused = err_again c.by_prefix.result _ _ (λ e f. inr f) (err_both c.by_prefix.result _ c.code_by_prefix-code.result _ at made told);
-      at_once = err_both _ c.by_prefix.result c.code_by_prefix-code.result at _ told made;
-      told = λ m. err_both c.by_prefix.result _ c.code_by_prefix-code.result _ at made told;
-      borrowed = ok_made c.by_prefix.result c.code_by_prefix-code.result _ (λ r. IsBorrowedStr number.national → IsBorrowedStr r.number.national) made (λ code lent. lent);
-      lent_prefix = ok_made c.by_prefix.result c.code_by_prefix-code.result _ (λ r. number.prefix ≡ None → IfSome r.number.prefix (λ p. IsBorrowedStr p)) made (λ code e. absurd (none e));
-      has_prefix = ok_made c.by_prefix.result c.code_by_prefix-code.result _ (λ r. IsBorrowedStr number.national → ¬ (r.number.country ≡ Default) → IsSome r.number.prefix)
-          made (λ code lent other. subst IsSome (sym c.in-Some.is) refl);
+      at_once = record {
+        refusals = err_both _ c.by_prefix.result c.code_by_prefix-code.result at _ told made;
+        no_other = λ m. err_both c.by_prefix.result _ c.code_by_prefix-code.result _ at made told;
+      };
+      lent = ok_made c.by_prefix.result c.code_by_prefix-code.result _ (λ r. IsBorrowedStr number.national → KeepsLentCode number r.number) made (λ code lent. record {
+        kept = record {
+          national = λ same. lent;
+          prefix = λ e other. absurd (none e);
+          carrier = inl refl;
+        };
+        has_prefix = λ other. subst IsSome (sym c.in-Some.is) refl;
+      });
     }
 
 pub returns-in_default-country : goal.returns-in_default-country
@@ -55,12 +63,10 @@ returns-in_default-country c =
       coded = ok_again c.by_front.result _ _
           (λ r h. (h.0, told ∙ h.1, h.2, subst (λ o. IsCoded h.0 (unwrap_or o (decimal h.0.value)) (option_map cow_str_bytes number.extension) number r.number) (sym none) h.3))
           c.by_front.ensures.coded;
+      territory = c.by_front.ensures.territory;
       refused = err_again c.by_front.result _ _ (λ e f. inr (told ∙ f)) c.by_front.ensures.refused;
-      at_once = subst (λ r. IfErr r (λ e. c.by_front.result ≡ Err e)) (sym told) c.by_front.ensures.at_once;
-      told = λ m. err_again c.by_front.result _ _ (λ e f. told ∙ f) c.by_front.ensures.refused;
-      borrowed = c.by_front.ensures.borrowed;
-      lent_prefix = ok_again c.by_front.result _ _ (λ r h none. h) c.by_front.ensures.lent_prefix;
-      has_prefix = ok_again c.by_front.result _ _ (λ r h lent other. h lent) c.by_front.ensures.has_prefix;
+      at_once = subst (λ t. AnswersAtOnce m t c.by_front.result) (sym told) c.by_front.ensures.at_once;
+      lent = c.by_front.ensures.lent;
     }
 
 pub returns-in-Default : goal.returns-in-Default
@@ -71,19 +77,12 @@ returns-in-Default c =
     let none : option_map cow_str_bytes number.prefix ≡ None = ap (option_map cow_str_bytes) c.in_default.is in
     let told =
     ap (λ o. code_by c.args.db.now m o number.country digits) none ∙ ap (λ s. code_by c.args.db.now m None s digits) c.in-Default.is in
-    let at_once : IfErr (code_by c.args.db.now m (option_map cow_str_bytes number.prefix) number.country digits) (λ e. c.by_hint.result ≡ Err e) =
-    subst (λ r. IfErr r (λ e. c.by_hint.result ≡ Err e)) (sym told) c.by_hint.ensures.at_once in
     record {
       coded = ok_again c.by_hint.result _ _
           (λ r h. (h.0, told ∙ h.1, h.2, subst (λ o. IsCoded h.0 (unwrap_or o (decimal h.0.value)) (option_map cow_str_bytes number.extension) number r.number) (sym none) h.3))
           c.by_hint.ensures.coded;
+      territory = c.by_hint.ensures.territory;
       refused = err_again c.by_hint.result _ _ (λ e h. ⊎_elim (λ f. inl f) (λ f. inr (told ∙ f)) h) c.by_hint.ensures.refused;
-      at_once = at_once;
-      told = λ without.
-          refused_as _ c.by_hint.result InvalidCountryCode
-          (told ∙ ap (λ o. code_by c.args.db.now o None Default digits) without)
-          (subst (λ o. IfErr (code_by c.args.db.now o None Default digits) (λ e. c.by_hint.result ≡ Err e)) without c.by_hint.ensures.at_once);
-      borrowed = c.by_hint.ensures.borrowed;
-      lent_prefix = ok_again c.by_hint.result _ _ (λ r h none. h) c.by_hint.ensures.lent_prefix;
-      has_prefix = c.by_hint.ensures.has_prefix;
+      at_once = subst (λ t. AnswersAtOnce m t c.by_hint.result) (sym told) c.by_hint.ensures.at_once;
+      lent = c.by_hint.ensures.lent;
     }

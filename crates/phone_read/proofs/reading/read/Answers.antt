@@ -11,7 +11,8 @@ use Rattle.phone_parts.specs.Parts.{parts_of}
 use Rattle.phone_read.specs.Hints.{Coded}
 use Rattle.phone_read.specs.Numbering.{reading_of}
 use Rattle.phone_read.specs.Readings
-use Rattle.phone_read.specs.Readings.{Reads, stripped, stripping_territory}
+use Rattle.phone_read.specs.Readings.{Reads, stripping_territory}
+use Rattle.phone_prefix.specs.Strips.{stripped}
 use Rattle.phone_read.proofs.reading.read.Goals as goal
 
 pub returns-in_default : goal.returns-in_default
@@ -50,7 +51,7 @@ returns c =
     let same =
     same_reading c.args.db.now c.args.hint found.0 (option_copied c.in_ok-territory.territory) number.country c.in_ok-coded.coded.code
     (cow_str_bytes number.national) (option_map cow_str_bytes number.extension) (option_map norm parts.extension)
-    found.3.country found.2 found.3.national found.3.extension (c.in_ok-territory.ensures number.country) in
+    found.3.country found.2 found.3.national found.3.extension (c.in_ok-territory.ensures number.country c.in_ok-coded.ensures.territory) in
     ⊎_elim (λ f. inl f)
     (λ f. inr (subst (Reads c.args.db.now c.args.hint (chars c.args.text.now)) (sym (f ∙ same)) (Readings.coded parts found.0 c.in-Some.ensures.read viable found.1)))
     c.numbered.ensures

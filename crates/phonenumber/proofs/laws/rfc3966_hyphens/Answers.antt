@@ -1,4 +1,4 @@
-use Rattle.phone_number.proofs.HyphenTexts.{hyphens_alone, hyphens_apart}
+use Rattle.phone_print.proofs.HyphenTexts.{hyphens_alone, hyphens_apart}
 use Rattle.phonenumber.proofs.laws.rfc3966_hyphens.Goals as goal
 
 pub returns-clause-alone : goal.returns-clause-alone

@@ -2,7 +2,7 @@ use Rattle.std.proofs.Common.{◌≡◌, ⊎_elim, length, codes, refl, sym, ap,
 use Rattle.std.proofs.lemmas.Option.{none-some, same_Some}
 use Rattle.std.specs.Fmt.{digits}
 use Rattle.phone_core.specs.Ids.{id_of}
-use Rattle.phone_read.specs.Strips.{strip}
+use Rattle.phone_prefix.specs.Strips.{strip}
 use Rattle.phonenumber.specs.Plain.{IsIdle}
 use Rattle.premises.proofs.ByText.{is_plain}
 use Rattle.premises.specs.Samples.{db_b, nz}

@@ -1,6 +1,6 @@
 use Rattle.std.proofs.Common.{◌≡◌, inl, inr, Ok, chars, sym, subst}
 use Rattle.phone_read.specs.Readings.{Reads}
-use Rattle.phone_read.specs.declared.reading.Reading.{Reading}
+use Rattle.phone_core.specs.declared.reading.Reading.{Reading}
 use Rattle.phone_book.specs.Firsts.{firsts}
 use Rattle.phone_book.proofs.AnswerLemmas.{line-firsts}
 use Rattle.phone_book.proofs.book.Book.add.Goals as goal

@@ -2,7 +2,7 @@ use Rattle.std.proofs.Common.{◌≡◌, ℕ, ◌+◌, ◌∷◌, ◌++◌, [], 
 use Rattle.std.proofs.Math.Seq.{take-length}
 use Rattle.std.proofs.lemmas.List.{length_push, map-append, take_more}
 use Rattle.phone_core.specs.declared.country.Id.{Id}
-use Rattle.phone_read.specs.declared.reading.Reading.{Reading}
+use Rattle.phone_core.specs.declared.reading.Reading.{Reading}
 use Rattle.phone_book.specs.Answers.{AreAnswered, HaveNumbers, IsAnswered, line_of}
 use Rattle.phone_book.specs.Firsts.{firsts}
 use Rattle.phone_book.proofs.AnswerLemmas.{answered-push, lines-firsts}

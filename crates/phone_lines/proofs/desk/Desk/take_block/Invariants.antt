@@ -7,6 +7,6 @@ invariant-loop-byte g l = record {
   on : (bytes : List ℕ) (before : Option (List ℕ)) →
       Stands (g.A.Answers.gives l.answers) bytes l.initial.self.line.items l.initial.self.answers.items before (g.W.ByteSink.taken l.initial.sink) →
       Stands (g.A.Answers.gives l.answers) (bytes ++ take l.byte-index l.block) l.self.line.items l.self.answers.items before (g.W.ByteSink.taken l.sink);
-  short : vec_len l.initial.self.answers < 8192 → vec_len l.self.answers < 8192;
+  short : vec_len l.self.answers < 8192;
   same_faults : g.W.ByteSink.faults l.sink ≡ g.W.ByteSink.faults l.initial.sink;
 }

@@ -1,0 +1,71 @@
+//! The call that asks which numbers stand in a text.
+use anyhow::{Result, anyhow};
+use phone_find::{Found, found};
+use phone_meta::Database;
+use phonenumber::PhoneNumber;
+use rows::marks::{around, begin};
+use rows::table::Row;
+use rows::words::hint;
+use std::alloc::{AllocError, Global};
+
+/// The numbers in a line's text, as the table writes them; none for any other call. An error where
+/// memory is refused.
+pub fn answer(alloc: Global, row: &Row, db: &Database) -> Result<Option<String>> {
+    if row.call() != "found" {
+        return Ok(None);
+    }
+    let (hint, text) = (hint(row.argument(1))?, row.argument(2));
+    let all = around(alloc, begin(alloc), found(db, hint, text))??;
+    Ok(Some(told(alloc, text, all.as_slice())?))
+}
+
+/// A text with each piece that is a number in braces, and the numbers, each behind a tab.
+fn told(alloc: Global, text: &str, all: &[Found<PhoneNumber>]) -> Result<String> {
+    let mut out = String::new(alloc);
+    push_marked(&mut out, text, all)?;
+    push_numbers(alloc, &mut out, all)?;
+    Ok(out)
+}
+
+/// Writes a text with each piece that is a number in braces.
+fn push_marked(out: &mut String, text: &str, all: &[Found<PhoneNumber>]) -> Result<()> {
+    let mut from = 0;
+    for found in all {
+        let before = between(text, from, found.start)?;
+        push_parts(out, before, between(text, found.start, found.end)?)?;
+        from = found.end;
+    }
+    out.push_str(between(text, from, text.len())?)?;
+    Ok(())
+}
+
+/// What stands in a text between two places. An error where one of them is within a character or
+/// outside of the text.
+fn between(text: &str, from: usize, to: usize) -> Result<&str> {
+    match text.get(from..to) {
+        Some(part) => Ok(part),
+        None => Err(anyhow!("a number outside of the text")),
+    }
+}
+
+/// Writes what stands before a piece, and the piece in braces.
+fn push_parts(out: &mut String, before: &str, piece: &str) -> Result<(), AllocError> {
+    out.push_str(before)?;
+    out.push('{')?;
+    out.push_str(piece)?;
+    out.push('}')
+}
+
+/// Writes numbers, each behind a tab.
+fn push_numbers(
+    alloc: Global,
+    out: &mut String,
+    all: &[Found<PhoneNumber>],
+) -> Result<(), AllocError> {
+    for found in all {
+        let number = found.number.to_string(alloc)?;
+        out.push('\t')?;
+        out.push_str(number.as_str())?;
+    }
+    Ok(())
+}

@@ -1,0 +1,5 @@
+pub mod BareParts
+pub mod DecimalFronts
+pub mod DigitTexts
+pub mod LentParts
+pub mod Results

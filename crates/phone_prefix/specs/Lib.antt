@@ -1,0 +1,4 @@
+pub mod Dialling
+pub mod HeldCuts
+pub mod Lent
+pub mod Strips

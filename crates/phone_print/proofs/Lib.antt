@@ -1,0 +1,2 @@
+pub mod HyphenTexts
+pub mod TextsLaid

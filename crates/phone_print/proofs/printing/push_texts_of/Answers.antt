@@ -1,0 +1,32 @@
+use Rattle.std.proofs.Common.{◌≡◌, ◌∷◌, ◌++◌, OnOk, string_bytes, option_copied, sym, ap, subst, ◌∙◌}
+use Rattle.phone_core.specs.declared.mode.Mode.TheVariants.{International, National}
+use Rattle.phone_print.specs.Layouts.{layout_for}
+use Rattle.phone_print.proofs.TextsLaid.{laid-laid_out, texts_laid-texts_by}
+use Rattle.phone_print.proofs.printing.push_texts_of.Goals as goal
+
+pub returns-then-is_laid_alike : goal.returns-then-is_laid_alike
+returns-then-is_laid_alike c =
+    let m = c.args.m.now in
+    let n = c.args.number.now in
+    let digits = c.args.digits.now in
+    let own = option_copied c.args.own in
+    let layouts = c.in_ok-layouts.ensures in
+    let abroad = laid-laid_out m International own _ n digits _ c.requires layouts.abroad
+    (c.as_str-laid.ensures.value ∙ c.in_ok-abroad.ensures) in
+    subst (λ t. OnOk c.push_laid.result (string_bytes c.push_laid.new.line ≡ string_bytes c.args.line.now ++ 9 ∷ t))
+    (texts_laid-texts_by m own n digits _ _ c.requires abroad
+    (abroad ∙ sym (c.is_laid_alike.ensures c.if-is_laid_alike.true own (layouts.abroad ∙ ap (layout_for m International own) c.requires))))
+    c.push_laid.ensures
+
+pub returns : goal.returns
+returns c =
+    let m = c.args.m.now in
+    let n = c.args.number.now in
+    let digits = c.args.digits.now in
+    let own = option_copied c.args.own in
+    let layouts = c.in_ok-layouts.ensures in
+    subst (λ t. OnOk c.push_laid-2.result (string_bytes c.push_laid-2.new.line ≡ string_bytes c.args.line.now ++ 9 ∷ t))
+    (texts_laid-texts_by m own n digits _ _ c.requires
+    (laid-laid_out m International own _ n digits _ c.requires layouts.abroad (c.as_str-laid.ensures.value ∙ c.in_ok-abroad.ensures))
+    (laid-laid_out m National own _ n digits _ c.requires layouts.at_home (c.as_str.ensures.value ∙ c.in_ok-at_home.ensures)))
+    c.push_laid-2.ensures

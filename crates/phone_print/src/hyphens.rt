@@ -1,0 +1,37 @@
+//! Separators made hyphens, as texts of RFC 3966 have them.
+ghost use Rattle.std.specs.Prelude.{◌≡◌, ◌++◌, chars, encode_utf8_all, string_bytes, OnOk};
+ghost use Rattle.phone_chars.specs.Characters.{is_separator};
+ghost use Rattle.phone_parts.specs.Texts.{begins};
+ghost use Rattle.phone_print.specs.Texts.{hyphenated};
+
+use phone_chars::chars::is_separator;
+use phone_chars::cuts::split_first;
+use std::alloc::AllocError;
+
+/// Whether the first character of a text is a separator.
+fn begins_apart(text: &str) -> bool
+    ensures { result ≡ begins is_separator (chars text.now) }
+{
+    match split_first(text) {
+        Some((c, _)) => is_separator(c),
+        None => false,
+    }
+}
+
+/// Puts a text behind another, with each longest run of separators made one hyphen; all other
+/// characters stay in their order. Refused only for memory; then some of it may stand there.
+pub(crate) fn push_hyphenated(out: &mut String, text: &str) -> Result<(), AllocError>
+    ensures { OnOk result (string_bytes out.new ≡ string_bytes out.old ++
+        encode_utf8_all (hyphenated (chars text.now))) }
+{
+    let mut rest = text;
+    while let Some((c, after)) = split_first(rest) {
+        if !is_separator(c) {
+            out.push(c)?;
+        } else if !begins_apart(after) {
+            out.push('-')?;
+        }
+        rest = after;
+    }
+    Ok(())
+}

@@ -1,0 +1,464 @@
+//! The printed text of a number, by a territory.
+ghost use Rattle.std.specs.Prelude.{◌≡◌, ◌∷◌, ◌++◌, IfOk, OnOk, IsTrue, Ok, Option, chars, codes};
+ghost use Rattle.std.specs.Prelude.{encode_utf8_all, string_bytes};
+ghost use Rattle.std.specs.Fmt.{decimal};
+ghost use Rattle.std.specs.List.{find};
+ghost use Rattle.std.specs.Option.{option_copied};
+ghost use Rattle.phone_core.specs.declared.mode.Mode.TheVariants as mode;
+ghost use Rattle.phone_territory.specs.Layouts.{suits};
+ghost use Rattle.phone_print.specs.Layouts.{laid, layout_for, layouts_for};
+ghost use Rattle.phone_core.specs.Numbers.{text_of};
+ghost use Rattle.phone_records.specs.declared.loader.Format as loader;
+ghost use Rattle.phone_print.specs.Tabbed.{texts_by, texts_laid};
+ghost use Rattle.phone_print.specs.Texts.{e164_text, extension_parameter, extension_part};
+ghost use Rattle.phone_print.specs.Texts.{hyphenated, laid_out, text_by};
+
+use crate::Printable;
+use crate::appending::{
+    push_e164, push_extension, push_international, push_national, push_rfc3966,
+};
+use crate::written::{ROOM, written};
+use itoa::Buffer;
+use phone_core::Mode;
+use phone_core::together::both;
+use phone_territory::{FirstGroup, Format, Metadata};
+use std::alloc::{AllocError, Global};
+
+/// The text in a mode, by a territory.
+pub fn text_by(
+    alloc: Global,
+    finder: &FirstGroup,
+    m: &Metadata,
+    mode: Mode,
+    own: Option<&Format>,
+    number: &Printable<'_>,
+) -> Result<String, AllocError>
+    ensures { IfOk result (λ t. string_bytes t ≡
+        text_by m.now mode (option_copied own.entry) number.now) }
+{
+    if let Mode::E164 = mode {
+        return written(alloc, format_args!("{number}"));
+    }
+    let laid = laid_out(alloc, finder, m, mode, own, number)?;
+    match mode {
+        Mode::National => with_extension(laid, m, number),
+        Mode::Rfc3966 => rfc3966(alloc, laid.as_str(), number),
+        _ => international(alloc, laid.as_str(), m, number),
+    }
+}
+
+/// A number's texts in the four modes.
+#[derive(Clone, PartialEq, Eq, Debug, Drop)]
+pub struct Texts {
+    /// The E.164 text.
+    pub e164: String,
+    /// The international text.
+    pub international: String,
+    /// The national text.
+    pub national: String,
+    /// The text of RFC 3966.
+    pub rfc3966: String,
+}
+
+/// The texts in all modes, by a territory. The digits are written once, and each layout is looked
+/// for once.
+pub fn texts_by(
+    alloc: Global,
+    finder: &FirstGroup,
+    m: &Metadata,
+    own: Option<&Format>,
+    number: &Printable<'_>,
+) -> Result<Texts, AllocError>
+    ensures e164 { IfOk result (λ t. string_bytes t.e164 ≡
+        text_by m.now mode.E164 (option_copied own.entry) number.now) }
+    ensures international { IfOk result
+        (λ t. string_bytes t.international ≡
+        text_by m.now mode.International (option_copied own.entry) number.now) }
+    ensures national { IfOk result (λ t. string_bytes t.national ≡
+        text_by m.now mode.National (option_copied own.entry) number.now) }
+    ensures rfc3966 { IfOk result (λ t. string_bytes t.rfc3966 ≡
+        text_by m.now mode.Rfc3966 (option_copied own.entry) number.now) }
+{
+    let national = number.national();
+    let digits = written(alloc, format_args!("{national}"))?;
+    texts_of(alloc, finder, m, own, number, digits.as_str())
+}
+
+/// The texts in all modes of a number whose national digits are these.
+fn texts_of(
+    alloc: Global,
+    finder: &FirstGroup,
+    m: &Metadata,
+    own: Option<&Format>,
+    number: &Printable<'_>,
+    digits: &str,
+) -> Result<Texts, AllocError>
+    requires { digits.now ≡ text_of number.now.national }
+    ensures e164 { IfOk result (λ t. string_bytes t.e164 ≡
+        text_by m.now mode.E164 (option_copied own.entry) number.now) }
+    ensures international { IfOk result (λ t. string_bytes t.international ≡
+        text_by m.now mode.International (option_copied own.entry) number.now) }
+    ensures national { IfOk result (λ t. string_bytes t.national ≡
+        text_by m.now mode.National (option_copied own.entry) number.now) }
+    ensures rfc3966 { IfOk result (λ t. string_bytes t.rfc3966 ≡
+        text_by m.now mode.Rfc3966 (option_copied own.entry) number.now) }
+{
+    let layouts = layouts_of(m, own, digits)?;
+    let (abroad, at_home) = (layouts.abroad, layouts.at_home);
+    let (abroad, at_home) = both(
+        laid_by(
+            alloc,
+            finder,
+            m,
+            Mode::International,
+            abroad,
+            number,
+            digits,
+        ),
+        laid_by(alloc, finder, m, Mode::National, at_home, number, digits),
+    )?;
+    texts_laid(alloc, abroad.as_str(), at_home, m, number)
+}
+
+/// The texts in all modes of a number that is laid out so, abroad and at home.
+fn texts_laid(
+    alloc: Global,
+    abroad: &str,
+    at_home: String,
+    m: &Metadata,
+    number: &Printable<'_>,
+) -> Result<Texts, AllocError>
+    ensures e164 { IfOk result (λ t. string_bytes t.e164 ≡ e164_text number.now) }
+    ensures international { IfOk result (λ t. string_bytes t.international ≡
+        43 ∷ (decimal number.now.code.value ++
+        32 ∷ (abroad.now ++ extension_part m.now number.now.extension))) }
+    ensures national { IfOk result (λ t. string_bytes t.national ≡
+        string_bytes at_home ++ extension_part m.now number.now.extension) }
+    ensures rfc3966 { IfOk result (λ t. string_bytes t.rfc3966 ≡
+        codes "tel:+" ++ (decimal number.now.code.value ++
+        45 ∷ (encode_utf8_all (hyphenated (chars abroad.now)) ++
+        extension_parameter number.now.extension))) }
+{
+    let ((e164, international), (national, rfc3966)) = both(
+        both(
+            written(alloc, format_args!("{number}")),
+            international(alloc, abroad, m, number),
+        ),
+        both(
+            with_extension(at_home, m, number),
+            rfc3966(alloc, abroad, number),
+        ),
+    )?;
+    Ok(Texts {
+        e164,
+        international,
+        national,
+        rfc3966,
+    })
+}
+
+/// Puts the texts in all modes behind a line, by a territory, each after one tab. Refused only for
+/// memory; then some of them may stand there. The digits of a number without leading zeros take no
+/// memory.
+pub fn push_texts(
+    line: &mut String,
+    alloc: Global,
+    finder: &FirstGroup,
+    m: &Metadata,
+    own: Option<&Format>,
+    number: &Printable<'_>,
+) -> Result<(), AllocError>
+    ensures { OnOk result (string_bytes line.new ≡ string_bytes line.old ++
+        9 ∷ texts_by m.now (option_copied own.entry) number.now) }
+{
+    let national = number.national();
+    if national.zeros() == 0 {
+        let mut buffer = Buffer::new();
+        let digits = buffer.format(national.value());
+        return push_texts_of(line, alloc, finder, m, own, number, digits);
+    }
+    let digits = written(alloc, format_args!("{national}"))?;
+    push_texts_of(line, alloc, finder, m, own, number, digits.as_str())
+}
+
+/// The same of a number whose national digits are these. It is laid out once where national text
+/// is laid out as the others are.
+fn push_texts_of(
+    line: &mut String,
+    alloc: Global,
+    finder: &FirstGroup,
+    m: &Metadata,
+    own: Option<&Format>,
+    number: &Printable<'_>,
+    digits: &str,
+) -> Result<(), AllocError>
+    requires { digits.now ≡ text_of number.now.national }
+    ensures { OnOk result (string_bytes line.new ≡ string_bytes line.old ++
+        9 ∷ texts_by m.now (option_copied own.entry) number.now) }
+{
+    let layouts = layouts_of(m, own, digits)?;
+    let mode = Mode::International;
+    let abroad = laid_by(alloc, finder, m, mode, layouts.abroad, number, digits)?;
+    let laid = abroad.as_str();
+    if is_laid_alike(m, layouts.abroad, number) {
+        return push_laid(line, m, number, digits, laid, laid);
+    }
+    let mode = Mode::National;
+    let at_home = laid_by(alloc, finder, m, mode, layouts.at_home, number, digits)?;
+    push_laid(line, m, number, digits, laid, at_home.as_str())
+}
+
+/// Whether it is certain that a number is laid out at home as it is abroad, by this layout: the
+/// territory has no layouts for abroad alone, no carrier was dialled, and the layout has no rule.
+fn is_laid_alike(m: &Metadata, abroad: Option<&Format>, number: &Printable<'_>) -> bool
+    ensures { IsTrue result → (own : Option loader.Format) → option_copied abroad.entry ≡
+        layout_for m.now mode.International own (text_of number.now.national) →
+        laid_out m.now mode.National own number.now ≡
+        laid_out m.now mode.International own number.now }
+{
+    if !m.international_formats().is_empty() {
+        return false;
+    }
+    match (number.carrier(), abroad) {
+        (None, Some(layout)) => layout.national_prefix().is_none(),
+        (None, None) => true,
+        _ => false,
+    }
+}
+
+/// Puts the texts in all modes behind a line, each after one tab, of a number that has these digits
+/// and is laid out so, abroad and at home.
+fn push_laid(
+    line: &mut String,
+    m: &Metadata,
+    number: &Printable<'_>,
+    digits: &str,
+    abroad: &str,
+    at_home: &str,
+) -> Result<(), AllocError>
+    ensures { OnOk result (string_bytes line.new ≡ string_bytes line.old ++ 9 ∷ texts_laid m.now
+        number.now (decimal number.now.code.value) digits.now abroad.now at_home.now) }
+{
+    let mut buffer = Buffer::new();
+    let code = buffer.format(number.code().value());
+    push_coded(line, m, number, code, digits, abroad, at_home)
+}
+
+/// The same where the code is this.
+fn push_coded(
+    line: &mut String,
+    m: &Metadata,
+    number: &Printable<'_>,
+    code: &str,
+    digits: &str,
+    abroad: &str,
+    at_home: &str,
+) -> Result<(), AllocError>
+    ensures { OnOk result (string_bytes line.new ≡ string_bytes line.old ++
+        9 ∷ texts_laid m.now number.now code.now digits.now abroad.now at_home.now) }
+{
+    line.push('\t')?;
+    push_e164(line, code, digits)?;
+    line.push('\t')?;
+    push_international(line, code, abroad, m, number)?;
+    line.push('\t')?;
+    push_national(line, at_home, m, number)?;
+    line.push('\t')?;
+    push_rfc3966(line, code, abroad, number)
+}
+
+/// The international text of a number that is laid out so.
+fn international(
+    alloc: Global,
+    laid: &str,
+    m: &Metadata,
+    number: &Printable<'_>,
+) -> Result<String, AllocError>
+    ensures { IfOk result (λ t. string_bytes t ≡
+        43 ∷ (decimal number.now.code.value ++ 32 ∷
+        (laid.now ++ extension_part m.now number.now.extension))) }
+{
+    let mut buffer = Buffer::new();
+    let code = buffer.format(number.code().value());
+    let mut text = String::with_capacity(alloc, ROOM)?;
+    push_international(&mut text, code, laid, m, number)?;
+    Ok(text)
+}
+
+/// The text of RFC 3966 of a number that is laid out so.
+fn rfc3966(alloc: Global, laid: &str, number: &Printable<'_>) -> Result<String, AllocError>
+    ensures { IfOk result (λ t. string_bytes t ≡ codes "tel:+" ++
+        (decimal number.now.code.value ++ 45 ∷
+        (encode_utf8_all (hyphenated (chars laid.now)) ++
+        extension_parameter number.now.extension))) }
+{
+    let mut buffer = Buffer::new();
+    let code = buffer.format(number.code().value());
+    let mut text = String::with_capacity(alloc, ROOM)?;
+    push_rfc3966(&mut text, code, laid, number)?;
+    Ok(text)
+}
+
+/// A text and the extension after it, announced by the territory's preferred prefix, else by ` ext.
+/// `.
+fn with_extension(text: String, m: &Metadata, number: &Printable<'_>) -> Result<String, AllocError>
+    ensures { IfOk result (λ t. string_bytes t ≡ string_bytes text ++
+        extension_part m.now number.now.extension) }
+{
+    let mut text = text;
+    push_extension(&mut text, m, number)?;
+    Ok(text)
+}
+
+/// The national number, laid out by the layout that counts; its digits where there is none.
+fn laid_out(
+    alloc: Global,
+    finder: &FirstGroup,
+    m: &Metadata,
+    mode: Mode,
+    own: Option<&Format>,
+    number: &Printable<'_>,
+) -> Result<String, AllocError>
+    ensures { IfOk result (λ t. string_bytes t ≡
+        laid_out m.now mode (option_copied own.entry) number.now) }
+{
+    let national = number.national();
+    let digits = written(alloc, format_args!("{national}"))?;
+    laid_in_mode(alloc, finder, m, mode, own, number, digits.as_str())
+}
+
+/// Digits of a number, laid out by the layout that counts; the digits where there is none.
+fn laid_in_mode(
+    alloc: Global,
+    finder: &FirstGroup,
+    m: &Metadata,
+    mode: Mode,
+    own: Option<&Format>,
+    number: &Printable<'_>,
+    digits: &str,
+) -> Result<String, AllocError>
+    ensures { IfOk result (λ t. string_bytes t ≡
+        laid (layout_for m.now mode (option_copied own.entry) digits.now)
+        m.now mode number.now.carrier digits.now) }
+{
+    let layout = layout_for(m, mode, own, digits)?;
+    laid_by(alloc, finder, m, mode, layout, number, digits)
+}
+
+/// Digits of a number, laid out by a layout; the digits themselves where there is none.
+fn laid_by(
+    alloc: Global,
+    finder: &FirstGroup,
+    m: &Metadata,
+    mode: Mode,
+    layout: Option<&Format>,
+    number: &Printable<'_>,
+    digits: &str,
+) -> Result<String, AllocError>
+    ensures { IfOk result (λ t. string_bytes t ≡
+        laid (option_copied layout.entry) m.now mode number.now.carrier digits.now) }
+{
+    let Some(layout) = layout else {
+        return String::from_str(alloc, digits);
+    };
+    match mode {
+        Mode::National => {
+            let prefix = m.national_prefix();
+            layout.lay_out_nationally(finder, prefix, carrier_of(number), digits)
+        }
+        _ => layout.lay_out(digits),
+    }
+}
+
+/// The carrier that was dialled with a number.
+fn carrier_of<'n>(number: &Printable<'n>) -> Option<&'n str>
+    ensures { option_copied result ≡ number.entry.now.carrier }
+{
+    match number.carrier() {
+        Some(carrier) => Some(carrier.as_str()),
+        None => None,
+    }
+}
+
+/// The layouts of a number: at home, for national text, and abroad, for all other.
+#[derive(Clone, Copy)]
+struct Layouts<'a> {
+    abroad: Option<&'a Format>,
+    at_home: Option<&'a Format>,
+}
+
+/// The layouts that count for digits. They are looked for once where national text and other text
+/// have the same ones.
+fn layouts_of<'a>(
+    m: &'a Metadata,
+    own: Option<&'a Format>,
+    digits: &str,
+) -> Result<Layouts<'a>, AllocError>
+    ensures abroad { IfOk result (λ l. option_copied l.abroad ≡
+        layout_for m.entry.now mode.International (option_copied own.entry) digits.now) }
+    ensures at_home { IfOk result (λ l. option_copied l.at_home ≡
+        layout_for m.entry.now mode.National (option_copied own.entry) digits.now) }
+{
+    let abroad = layout_for(m, Mode::International, own, digits)?;
+    let at_home = at_home(m, own, digits, abroad)?;
+    Ok(Layouts { abroad, at_home })
+}
+
+/// The layout at home, where the one abroad is known: it is the same, unless the territory has
+/// layouts for abroad alone.
+fn at_home<'a>(
+    m: &'a Metadata,
+    own: Option<&'a Format>,
+    digits: &str,
+    abroad: Option<&'a Format>,
+) -> Result<Option<&'a Format>, AllocError>
+    requires { option_copied abroad ≡
+        layout_for m.now mode.International (option_copied own) digits.now }
+    ensures { IfOk result (λ f. option_copied f ≡
+        layout_for m.entry.now mode.National (option_copied own.entry) digits.now) }
+{
+    if m.international_formats().is_empty() {
+        return Ok(abroad);
+    }
+    layout_for(m, Mode::National, own, digits)
+}
+
+/// The layout that was handed in, else the first of the territory's that suits the digits.
+fn layout_for<'a>(
+    m: &'a Metadata,
+    mode: Mode,
+    own: Option<&'a Format>,
+    digits: &str,
+) -> Result<Option<&'a Format>, AllocError>
+    ensures { IfOk result (λ f. option_copied f ≡
+        layout_for m.entry.now mode (option_copied own.entry) digits.now) }
+{
+    match own {
+        Some(own) => Ok(Some(own)),
+        None => first_suiting(layouts_for(m, mode), digits),
+    }
+}
+
+/// The layouts that a territory has for a mode.
+fn layouts_for(m: &Metadata, mode: Mode) -> &[Format]
+    ensures { result.now ≡ layouts_for m.now mode }
+{
+    let others = m.international_formats();
+    match mode {
+        Mode::National => m.formats(),
+        _ if others.is_empty() => m.formats(),
+        _ => others,
+    }
+}
+
+/// The first of these layouts that suits the digits.
+fn first_suiting<'a>(layouts: &'a [Format], digits: &str) -> Result<Option<&'a Format>, AllocError>
+    ensures { IfOk result (λ f. option_copied f ≡ find (suits digits.now) layouts.entry.now) }
+{
+    for layout in layouts {
+        if layout.suits(digits)? {
+            return Ok(Some(layout));
+        }
+    }
+    Ok(None)
+}

@@ -1,0 +1,80 @@
+//! Copies: whether a value that was copied is equal to its copy, and has the same hash.
+use anyhow::Result;
+use number_rows::given::whole;
+use phone_core::equality::{SameValue, hash_of};
+use phone_core::{Carrier, Extension};
+use phonenumber::country::Id;
+use phonenumber::metadata::Database;
+use phonenumber::{PhoneNumber, Texts, format_with, laws, parse_with};
+use rows::marks::{around, begin};
+use rows::table::Row;
+use rows::words::{hint, truth};
+use std::alloc::{AllocError, Global};
+use std::hash::Hash;
+
+/// What a copy is beside its value, as the table writes it; none for any other call. An error where
+/// a line gives a number that is none, and where memory is refused.
+pub fn answer(alloc: Global, row: &Row) -> Result<Option<String>> {
+    let answer = match row.call() {
+        "copied-extension" => truth(alloc, is_extension_copied(alloc, row.argument(0))?)?,
+        "copied-carrier" => truth(alloc, is_carrier_copied(alloc, row.argument(0))?)?,
+        "copied-number" => truth(alloc, is_number_copied(alloc, &whole(alloc, row, 0)?)?)?,
+        "copied-texts" => texts(alloc, row)?,
+        _ => return Ok(None),
+    };
+    Ok(Some(answer))
+}
+
+/// Whether two values are equal in each way to ask it, and have equal hashes.
+fn are_alike<T: PartialEq + SameValue + Hash>(a: &T, b: &T) -> bool {
+    a == b && a.is_same(b) && hash_of(a) == hash_of(b)
+}
+
+/// Whether the extension of a text and its copy are alike.
+fn is_extension_copied(alloc: Global, text: &str) -> Result<bool> {
+    let extension = Extension::from(String::from_str(alloc, text)?);
+    let copy = around(alloc, begin(alloc), extension.clone())??;
+    Ok(are_alike(&extension, &copy))
+}
+
+/// Whether the carrier of a text and its copy are alike.
+fn is_carrier_copied(alloc: Global, text: &str) -> Result<bool> {
+    let carrier = Carrier::from(String::from_str(alloc, text)?);
+    let copy = around(alloc, begin(alloc), carrier.clone())??;
+    Ok(are_alike(&carrier, &copy))
+}
+
+/// Whether a number and its copy are alike.
+fn is_number_copied(alloc: Global, number: &PhoneNumber) -> Result<bool> {
+    let copy = around(alloc, begin(alloc), number.clone())??;
+    let (first, second) = laws::hashes(number, &copy);
+    Ok(are_alike(number, &copy) && first == second)
+}
+
+/// The RFC 3966 text of what a line's text is read as by the records of a database text, which were
+/// written and read again; and whether a copy of the number's texts is equal to them.
+fn texts(alloc: Global, row: &Row) -> Result<String> {
+    let database = written_again(alloc, row.argument(0))?;
+    let texts = texts_under(alloc, &database, hint(row.argument(1))?, row.argument(2))?;
+    let copy = around(alloc, begin(alloc), again(&texts))??;
+    let (text, is_equal) = (texts.rfc3966.as_str(), texts == copy);
+    Ok(format!(in alloc; "={text}\t{is_equal}")?)
+}
+
+/// These texts again.
+fn again(texts: &Texts) -> Result<Texts, AllocError> {
+    Ok(texts.clone()?)
+}
+
+/// The database of the records of a text, as serde writes them.
+fn written_again(alloc: Global, text: &str) -> Result<Database> {
+    let records = phone_json::records(alloc, text)?;
+    let text = serde_json::to_string(alloc, &records)?;
+    Ok(Database::parse(alloc, text.as_str())?)
+}
+
+/// The texts of the number that a text is read as.
+fn texts_under(alloc: Global, database: &Database, hint: Option<Id>, text: &str) -> Result<Texts> {
+    let number = parse_with(database, hint, text)?;
+    Ok(format_with(database, &number).to_texts(alloc)?)
+}
