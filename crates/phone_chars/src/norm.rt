@@ -25,7 +25,9 @@ fn digit_of(c: char) -> Option<char>
 fn digits(alloc: Global, text: &str) -> Result<String, AllocError>
     ensures { IfOk result (λ s. string_bytes s ≡ encode_utf8_all (norm (chars text.now))) }
 {
-    text.chars().filter_map(digit_of).collect(alloc)
+    let mut out = String::with_capacity(alloc, text.len())?;
+    out.extend(text.chars().filter_map(digit_of))?;
+    Ok(out)
 }
 
 /// Whether each character of a text is a digit from `0` to `9`.

@@ -20,6 +20,16 @@ fn after(bytes: &[u8], count: usize) -> &[u8]
     &bytes[count..]
 }
 
+/// Appends bytes, where there are any: mostly nothing stands before and behind a match.
+fn push_all(out: &mut Vec<u8>, bytes: &[u8]) -> Result<(), AllocError>
+    ensures { IfOk result (λ done. out.new.items ≡ out.old.items ++ bytes.now) }
+{
+    if bytes.is_empty() {
+        return Ok(());
+    }
+    out.extend_from_slice(bytes)
+}
+
 /// Whether a `$` stands before these bytes twice.
 fn is_doubled(rest: &[u8]) -> bool
     ensures { IsTrue result → (0 < length rest.now) × (slice_index rest.now 0 ≡ 36) }
@@ -123,11 +133,11 @@ pub(crate) fn replaced(
     }
     let room = bytes.len().saturating_add(template.len());
     let mut out = Vec::with_capacity(alloc, room)?;
-    out.extend_from_slice(&bytes[..start])?;
+    push_all(&mut out, &bytes[..start])?;
     if !push_written(&mut out, template.as_bytes(), bytes, span, cells)? {
         return Ok(None);
     }
-    out.extend_from_slice(after(bytes, end))?;
+    push_all(&mut out, after(bytes, end))?;
     match String::from_utf8(out) {
         Ok(text) => Ok(Some(text)),
         Err(_) => Ok(None),
