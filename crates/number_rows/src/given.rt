@@ -2,8 +2,8 @@
 //! and a carrier.
 use anyhow::Result;
 use phone_core::country::{Code, Source};
-use phone_core::together::{beside, both};
 use phone_core::{Carrier, Extension, NationalNumber};
+use phone_texts::together::{beside, both};
 use phonenumber::PhoneNumber;
 use rows::table::Row;
 use std::alloc::{AllocError, Global};

@@ -15,7 +15,6 @@ mod mode;
 mod named;
 mod national_number;
 mod reading;
-pub mod together;
 pub mod validator;
 
 pub use carrier::Carrier;

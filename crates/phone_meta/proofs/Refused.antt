@@ -2,7 +2,7 @@
 use Rattle.std.proofs.Common.{MatchOption, inl, ◌≡◌, List, [], ◌∷◌, None, subst, sym}
 use Rattle.std.specs.List.{flat_map}
 use Rattle.phone_records.specs.Missing.{first_missing}
-use Rattle.phone_rules.specs.Rules.{first_group_pattern}
+use Rattle.phone_pattern.specs.Rules.{first_group_pattern}
 use Rattle.phone_territory.specs.Refusals.{IsPatternRefusal, patterns_in}
 use Rattle.phone_meta.specs.Refusals.{IsRefusalOf, TellsMissing, patterns}
 use Rattle.phone_pattern.proofs.Refused.{ArePatterns, refused-left, refused-right}

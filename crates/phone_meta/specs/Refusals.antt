@@ -5,7 +5,7 @@ use Rattle.phone_texts.specs.Errors.{told}
 use Rattle.phone_records.specs.Missing.{first_missing, phase_of, name_of}
 use Rattle.phone_records.specs.declared.loader.Metadata.{Metadata}
 use Rattle.phone_records.specs.declared.missing.Missing.{Missing}
-use Rattle.phone_rules.specs.Rules.{first_group_pattern}
+use Rattle.phone_pattern.specs.Rules.{first_group_pattern}
 use Rattle.phone_territory.specs.Refusals.{IsPatternRefusal, patterns_in}
 use Rattle.phone_texts.specs.declared.error.LoadMetadata.{LoadMetadata}
 use Rattle.phone_texts.specs.declared.error.LoadMetadata.TheVariants as error

@@ -23,7 +23,7 @@ ghost use Rattle.phone_records.specs.Missing.{first_missing};
 ghost use Rattle.phone_records.specs.declared.loader.Metadata as loader;
 ghost use Rattle.phone_territory.specs.First.{IsPattern, IsPatternOf};
 ghost use Rattle.phone_territory.specs.Records.{code_of, id_of};
-ghost use Rattle.phone_rules.specs.Rules.{first_group_pattern};
+ghost use Rattle.phone_pattern.specs.Rules.{first_group_pattern};
 ghost use Rattle.phone_texts.specs.declared.error.LoadMetadata.TheVariants as error;
 ghost use Rattle.phone_index.specs.ListedCodes.{is_in};
 

@@ -14,7 +14,7 @@ use Rattle.phone_territory.specs.First.{at_start}
 use Rattle.phone_records.specs.declared.loader.Descriptor.{Descriptor}
 use Rattle.phone_records.specs.declared.loader.Metadata.{Metadata}
 use Rattle.phone_kinds.specs.Kinds.{is_of}
-use Rattle.phone_validator.specs.Regions.{home}
+use Rattle.phone_read.specs.Regions.{home}
 use Rattle.phone_kinds.specs.Kinds.{is_known, is_one_pattern, line_or_mobile, tried_kinds, type_of}
 use Rattle.phone_core.specs.declared.reading.Reading.{Reading}
 use Rattle.phone_number.specs.Queries.{is_valid}

@@ -11,7 +11,7 @@ use Rattle.phone_meta.specs.Codes.{first_of, territories}
 use Rattle.phone_territory.specs.Kinds.{descriptor_for, kinds_of}
 use Rattle.phone_records.specs.declared.loader.Descriptor.{Descriptor}
 use Rattle.phone_records.specs.declared.loader.Metadata.{Metadata}
-use Rattle.phone_validator.specs.Regions.{home}
+use Rattle.phone_read.specs.Regions.{home}
 use Rattle.phone_kinds.specs.Kinds.{tried_kinds, type_of}
 use Rattle.phone_core.specs.declared.reading.Reading.{Reading}
 use Rattle.phone_more.specs.declared.possibilities.Possibility.{Possibility}

@@ -3,7 +3,7 @@ ghost use Rattle.std.specs.Prelude.{◌≡◌, IfOk, false};
 ghost use Rattle.std.specs.Option.{option_and_then, option_copied, option_map_or};
 ghost use Rattle.phone_core.specs.Ids.{id_of};
 ghost use Rattle.phone_core.specs.declared.kind.«Type».TheVariants.{Unknown};
-ghost use Rattle.phone_validator.specs.Regions.{home};
+ghost use Rattle.phone_read.specs.Regions.{home};
 ghost use Rattle.phone_kinds.specs.Kinds.{is_known, type_of};
 ghost use Rattle.phone_records.specs.declared.loader.Metadata as loader;
 ghost use Rattle.phone_number.specs.Queries.{is_valid, kind_of_number, region_of_number};

@@ -1,3 +1,4 @@
+pub mod Marks
 pub mod Matches
 pub mod Refused
 pub mod Serving

@@ -1,3 +1,4 @@
 pub mod First
 pub mod Kept
 pub mod Refusals
+pub mod Rules

@@ -13,11 +13,11 @@ ghost use Rattle.phone_prefix.specs.Strips.{Stripped, by_match, cut_of, held, is
 ghost use Rattle.phone_prefix.specs.Strips.{step, strip, stripped};
 
 use crate::trims::{part, trim, without_front};
-use phone_core::together::{beside, instead};
 use phone_core::{Type, Validation};
 use phone_kinds::kinds::{is_general, length_of};
 use phone_parts::Number;
 use phone_territory::{Captured, Metadata, Pattern};
+use phone_texts::together::{beside, instead};
 use std::alloc::{AllocError, Global};
 use std::borrow::CowStr;
 

@@ -9,7 +9,7 @@ use Rattle.phone_core.specs.Numbers.{text_of}
 use Rattle.phone_core.specs.declared.mode.Mode.{Mode}
 use Rattle.phone_core.specs.declared.mode.Mode.TheVariants.{International, National, Rfc3966}
 use Rattle.phone_territory.specs.Layouts.{laid_by, layout_template, national_template, suits}
-use Rattle.phone_rules.specs.Rules.{ruled_template}
+use Rattle.phone_pattern.specs.Rules.{ruled_template}
 use Rattle.phone_core.specs.declared.reading.Reading.{Reading}
 use Rattle.phone_records.specs.declared.loader.Format.{Format}
 use Rattle.phone_records.specs.declared.loader.Metadata.{Metadata}

@@ -20,8 +20,8 @@ use crate::appending::{
 use crate::written::{ROOM, written};
 use itoa::Buffer;
 use phone_core::Mode;
-use phone_core::together::both;
 use phone_territory::{FirstGroup, Format, Metadata};
+use phone_texts::together::both;
 use std::alloc::{AllocError, Global};
 
 /// The text in a mode, by a territory.

@@ -7,3 +7,4 @@ pub mod ReadNumbers
 pub mod ReadingOnes
 pub mod ReadingRows
 pub mod ReadingSome
+pub mod Regional

@@ -43,7 +43,7 @@ use Rattle.phone_read.specs.Hints.{Coded, code_by_hint, hinted, looks_national}
 use Rattle.phone_kinds.specs.Kinds.{is_of}
 use Rattle.phone_read.specs.Readings
 use Rattle.phone_read.specs.Readings.{Reads, stripping_territory, without_zeros}
-use Rattle.phone_validator.specs.Regions.{home, region_of, territory_of}
+use Rattle.phone_read.specs.Regions.{home, region_of, territory_of}
 use Rattle.phone_prefix.specs.Strips.{Cut, Stripped, anew, by_match, held, left_by, off_prefix, stay, step, strip, stripped}
 use Rattle.phone_read.specs.TransformRules.{rules_have_no_plus}
 use Rattle.phone_kinds.specs.Verdicts.{is_too_short, verdict}

@@ -1,7 +1,9 @@
 pub mod Codes
 pub mod Hints
 pub mod Numbering
+pub mod Origins
 pub mod Readings
+pub mod Regions
 pub mod Samples
 pub mod TransformRules
 pub mod WithoutMemory

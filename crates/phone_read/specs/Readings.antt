@@ -12,7 +12,7 @@ use Rattle.phone_parts.specs.Readers.{HasParts}
 use Rattle.phone_read.specs.Codes.{code_of}
 use Rattle.phone_read.specs.Hints.{Coded, hinted}
 use Rattle.phone_read.specs.Numbering.{reading_of}
-use Rattle.phone_validator.specs.Regions.{home}
+use Rattle.phone_read.specs.Regions.{home}
 use Rattle.phone_prefix.specs.Strips.{stripped}
 use Rattle.phone_core.specs.declared.reading.Reading.{Reading}
 

@@ -22,11 +22,11 @@ use crate::hints::{hinted, looks_national};
 use phone_core::ParseError;
 use phone_core::consts::MIN_LENGTH_FOR_NSN;
 use phone_core::country::{Id, Source};
-use phone_core::together::{beside, instead};
 use phone_meta::{Database, Metadata, Pattern};
 use phone_parts::Number;
 use phone_prefix::dialled::{OfTerritory, dialled};
 use phone_prefix::trims::{begins_with_number, behind_number, lent_front, trim};
+use phone_texts::together::{beside, instead};
 use std::alloc::{AllocError, Global};
 use std::borrow::CowStr;
 

@@ -1,4 +1,5 @@
-//! Reading: from a text to calling code, national number, extension and carrier.
+//! Reading: from a text to calling code, national number, extension and carrier; and which region a
+//! number belongs to.
 #![tactic(auto)]
 
 mod calling_code;
@@ -8,8 +9,8 @@ pub mod laws;
 pub mod number_laws;
 mod reading;
 pub mod rows;
+pub mod validator;
 
 pub use phone_core::Reading;
 pub use phone_parts::{Number, natural, rfc3966};
-pub use phone_validator::validator;
 pub use reading::read;

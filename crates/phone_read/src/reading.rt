@@ -9,19 +9,19 @@ ghost use Rattle.phone_read.specs.Hints.{Coded, hinted};
 ghost use Rattle.phone_read.specs.Numbering.{reading_of};
 ghost use Rattle.phone_read.specs.Readings.{Reads, stripping_territory, without_zeros};
 ghost use Rattle.phone_prefix.specs.Strips.{stripped};
-ghost use Rattle.phone_validator.specs.Regions.{home};
+ghost use Rattle.phone_read.specs.Regions.{home};
 
 use crate::calling_code::{DialledNumber, coded};
+use crate::validator::home;
 use phone_chars::is_viable;
 use phone_core::consts::{MAX_LENGTH_FOR_NSN, MIN_LENGTH_FOR_NSN};
 use phone_core::country::{Code, Id};
-use phone_core::together::{both, instead};
 use phone_core::{Carrier, Extension, NationalNumber, ParseError, Reading};
 use phone_meta::{Database, Metadata};
 use phone_parts::{Number, parts};
 use phone_prefix::stripping::stripped;
 use phone_prefix::trims::without_zeros;
-use phone_validator::validator::home;
+use phone_texts::together::{both, instead};
 use std::alloc::{AllocError, Global};
 use std::borrow::CowStr;
 

@@ -3,7 +3,7 @@ use Rattle.std.specs.Prelude.{ℕ, ◌&&◌, Bool, true, List, [], ◌∷◌, re
 use Rattle.std.specs.Prelude.{Option, None, Some, option_map, unwrap_or}
 use Rattle.std.specs.Option.{option_or, option_map_or}
 use Rattle.phone_territory.specs.First.{at_start, is_whole_match, replaced}
-use Rattle.phone_rules.specs.Rules.{ruled_template}
+use Rattle.phone_pattern.specs.Rules.{ruled_template}
 use Rattle.phone_records.specs.declared.loader.Format.{Format}
 
 -- the text of a layout's pattern

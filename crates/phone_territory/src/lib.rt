@@ -17,6 +17,5 @@ pub use descriptor::Descriptor;
 pub use descriptors::Descriptors;
 pub use format::Format;
 pub use metadata::{Metadata, compile_all};
-pub use phone_pattern::{Captured, Pattern};
+pub use phone_pattern::{Captured, FirstGroup, Pattern};
 pub use phone_records::LoadMetadata;
-pub use phone_rules::FirstGroup;

@@ -1,11 +1,12 @@
-//! Texts and lists as records hold them, and why a database is refused: what the patterns of a
-//! database stand on, without its records.
+//! Texts and lists as records hold them, why a database is refused, and values that go on together:
+//! what the patterns of a database stand on, without its records.
 #![tactic(auto)]
 
 pub mod error;
 pub mod fault;
 pub mod items;
 pub mod text;
+pub mod together;
 
 pub use error::LoadMetadata;
 pub use fault::MetadataError;

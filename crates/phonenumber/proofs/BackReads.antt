@@ -26,7 +26,7 @@ use Rattle.phone_read.specs.Hints.{Coded}
 use Rattle.phone_read.specs.Numbering.{reading_of}
 use Rattle.phone_read.specs.Readings
 use Rattle.phone_read.specs.Readings.{Reads, without_zeros}
-use Rattle.phone_validator.specs.Regions.{home}
+use Rattle.phone_read.specs.Regions.{home}
 use Rattle.phone_prefix.specs.Strips.{Stripped, stripped}
 use Rattle.phone_read.specs.TransformRules.{rules_have_no_plus}
 use Rattle.phone_core.specs.declared.reading.Reading.{Reading}

@@ -19,7 +19,7 @@ use Rattle.phone_core.proofs.Texts.{id_of-name}
 use Rattle.phone_chars.proofs.ViableRows.{not_viable}
 use Rattle.phone_read.specs.Hints.{code_by_hint}
 use Rattle.phone_read.specs.Readings.{Reads}
-use Rattle.phone_validator.specs.Regions.{home}
+use Rattle.phone_read.specs.Regions.{home}
 use Rattle.phone_kinds.specs.Kinds.{type_of, is_known}
 use Rattle.phone_read.specs.Samples.{nz}
 use Rattle.phone_parts.specs.Texts.{begins}

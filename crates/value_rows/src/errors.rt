@@ -2,8 +2,8 @@
 use anyhow::{Result, anyhow};
 use phone_book::{BookError, BookNewError};
 use phone_core::country::UnknownId;
-use phone_core::together::both;
 use phone_texts::MetadataError;
+use phone_texts::together::both;
 use phonenumber::{FormatError, ParseError};
 use rows::marks::{around, begin};
 use rows::table::Row;

@@ -2,7 +2,7 @@ use Rattle.std.proofs.Common.{◌≡◌, None, Some, Ok, IfOk, [], ◌∷◌, re
 use Rattle.std.specs.List.{flat_map}
 use Rattle.phone_records.specs.Missing.{first_missing}
 use Rattle.phone_meta.specs.Index.{IsIndexOf}
-use Rattle.phone_rules.specs.Rules.{first_group_pattern}
+use Rattle.phone_pattern.specs.Rules.{first_group_pattern}
 use Rattle.phone_territory.specs.Refusals.{patterns_in}
 use Rattle.phone_territory.proofs.Refused.{one-read}
 use Rattle.phone_meta.proofs.Refused.{refused-first_group, refused-territories}

@@ -1,0 +1,168 @@
+//! The place in which a layout keeps its template of national text from one number to the next.
+ghost use Rattle.std.specs.Prelude.{◌≡◌, IfOk, IfSome, string_bytes};
+ghost use Rattle.phone_pattern.specs.First.{replaced};
+ghost use Rattle.phone_pattern.specs.Rules.{ruled_template};
+
+use crate::pattern::Pattern;
+use phone_texts::together::both;
+use std::alloc::{AllocError, Global};
+use std::cell::RefCell;
+use std::marker::Model;
+
+/// A template whose first group a rule has written, and the texts of which it was made: the
+/// layout's template, the rule, the national prefix and the carrier. Contracts see the template.
+struct Ruled {
+    template: String,
+    text: String,
+    rule: String,
+    prefix: String,
+    carrier: String,
+}
+
+impl Model for Ruled {
+    ghost use Rattle.std.specs.Prelude.{◌≡◌, ℕ, List, string_bytes};
+    ghost use Rattle.phone_pattern.specs.Rules.{ruled_template};
+
+    ghost Value = { List ℕ };
+
+    ghost view = { λ r. string_bytes r.template };
+
+    ghost invariant = { λ r. string_bytes r.template ≡ ruled_template (string_bytes r.text)
+        (string_bytes r.rule) (string_bytes r.prefix) (string_bytes r.carrier) };
+}
+
+/// Drops the texts: as a function it is proved once.
+impl Drop for Ruled {
+    fn drop(self) {
+        let Ruled {
+            template,
+            text,
+            rule,
+            prefix,
+            carrier,
+        } = self;
+        drop(template);
+        drop(text);
+        drop(rule);
+        drop(prefix);
+        drop(carrier);
+    }
+}
+
+impl Ruled {
+    /// A template with copies of the texts of which it was made. Refused only for memory.
+    fn new(
+        alloc: Global,
+        template: String,
+        text: &str,
+        rule: &str,
+        prefix: &str,
+        carrier: &str,
+    ) -> Result<Ruled, AllocError>
+        requires { string_bytes template ≡
+            ruled_template text.now rule.now prefix.now carrier.now }
+    {
+        let front = both(String::from_str(alloc, text), String::from_str(alloc, rule));
+        let back = both(
+            String::from_str(alloc, prefix),
+            String::from_str(alloc, carrier),
+        );
+        let (front, back) = both(front, back)?;
+        Ok(Ruled {
+            template,
+            text: front.0,
+            rule: front.1,
+            prefix: back.0,
+            carrier: back.1,
+        })
+    }
+
+    /// The template, if it was made of these texts.
+    fn made_of(&self, text: &str, rule: &str, prefix: &str, carrier: &str) -> Option<&str>
+        ensures { IfSome result (λ t. t.now ≡
+            ruled_template text.now rule.now prefix.now carrier.now) }
+    {
+        let is_same = self.text.as_str() == text
+            && self.rule.as_str() == rule
+            && self.prefix.as_str() == prefix
+            && self.carrier.as_str() == carrier;
+        if is_same {
+            Some(self.template.as_str())
+        } else {
+            None
+        }
+    }
+}
+
+/// Keeps the template of national text that a layout made last. Of what a cell holds nothing is
+/// known, so each use names the texts of which the template is to be made, and one of other texts
+/// doesn't serve.
+pub struct KeptRuled {
+    alloc: Global,
+    slot: RefCell<Option<Box<Ruled>>>,
+}
+
+/// Drops what is kept: as a function it is proved once.
+impl Drop for KeptRuled {
+    fn drop(self) {
+        let KeptRuled { alloc: _, slot } = self;
+        drop(slot);
+    }
+}
+
+impl KeptRuled {
+    /// Nothing is kept yet.
+    pub fn new(alloc: Global) -> KeptRuled {
+        KeptRuled {
+            alloc,
+            slot: RefCell::new(None),
+        }
+    }
+
+    /// Digits with the first match of a pattern replaced by the template that is made of these
+    /// texts. None where another template is kept, or none. Refused only for memory.
+    pub fn laid(
+        &self,
+        pattern: &Pattern,
+        text: &str,
+        rule: &str,
+        prefix: &str,
+        carrier: &str,
+        digits: &str,
+    ) -> Result<Option<String>, AllocError>
+        ensures { IfOk result (λ found. IfSome found (λ t. string_bytes t ≡ replaced pattern.now
+            (ruled_template text.now rule.now prefix.now carrier.now) digits.now)) }
+    {
+        let Ok(slot) = self.slot.try_borrow() else {
+            return Ok(None);
+        };
+        let Some(ruled) = &*slot else {
+            return Ok(None);
+        };
+        match ruled.made_of(text, rule, prefix, carrier) {
+            Some(template) => Ok(Some(pattern.replaced(template, digits)?)),
+            None => Ok(None),
+        }
+    }
+
+    /// Keeps a template with the texts of which it was made, for the next number. Where memory for
+    /// it is refused it is dropped.
+    pub fn keep(&self, template: String, text: &str, rule: &str, prefix: &str, carrier: &str)
+        requires { string_bytes template ≡
+            ruled_template text.now rule.now prefix.now carrier.now }
+    {
+        if let Ok(ruled) = Ruled::new(self.alloc, template, text, rule, prefix, carrier) {
+            self.put(ruled);
+        }
+    }
+
+    /// Puts a template in its place.
+    fn put(&self, ruled: Ruled) {
+        let Ok(ruled) = Box::new(self.alloc, ruled) else {
+            return;
+        };
+        if let Ok(mut slot) = self.slot.try_borrow_mut() {
+            *slot = Some(ruled);
+        }
+    }
+}
