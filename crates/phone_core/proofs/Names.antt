@@ -8,6 +8,7 @@ use Rattle.phone_core.specs.declared.country.TheConstants.{NAMES}
 use Rattle.phone_core.specs.Ids.{name}
 
 pub name_at_tag : (id : Id) → get_or (map (λ n. n.now) NAMES) (tag_of the_type id) [] ≡ name id
+unfolding name
 name_at_tag AC = refl
 name_at_tag AD = refl
 name_at_tag AE = refl

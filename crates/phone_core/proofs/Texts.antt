@@ -16,7 +16,7 @@ name-id_of t i e =
     sym ((bytes_eq-Decides (name i) t).0 found.0)
 
 pub id_of-name : (id : Id) → id_of (name id) ≡ Some id
-unfolding id_of
+unfolding id_of name
 id_of-name AC = refl
 id_of-name AD = refl
 id_of-name AE = refl

@@ -31,7 +31,7 @@ use Rattle.phone_core.specs.declared.country.Id.TheVariants.{YE, YT, ZA, ZM, ZW}
 use Rattle.phone_core.specs.declared.country.TheConstants.{ALL}
 
 -- an id is written as its name
-abbrev pub name : Id → List ℕ
+unfoldable pub name : Id → List ℕ
 name AC = codes "AC"
 name AD = codes "AD"
 name AE = codes "AE"

@@ -5,6 +5,7 @@ use Rattle.std.specs.Fmt.{decimal}
 use Rattle.ucd_case.proofs.Computing.{ucd_case}
 use Rattle.ucd_category.proofs.Computing.{ucd_category}
 use Rattle.phone_chars.specs.Viable.{IsViable}
+use Rattle.phone_core.specs.Ids.{name}
 use Rattle.phone_core.specs.declared.country.Id.TheVariants.{NZ}
 use Rattle.phone_core.specs.declared.country.Source.{Source}
 use Rattle.phone_core.specs.declared.country.Source.TheVariants.{Plus, Default}
@@ -55,11 +56,11 @@ home_coded : Coded
 home_coded = record { source = Default; value = 64; rest = codes "033316005" }
 
 home_code : code_of (nz ∷ []) (Some NZ) (codes "03-331 6005") None ≡ Ok home_coded
-unfolding home_coded
+unfolding home_coded name
 home_code = ap Ok (code_by_hint-other nz (codes "033316005") (codes "64") 64 refl (sym decimal_64) (λ rest e. true≢false (sym (ap (begins (λ c. c == 54)) e))))
 
 pub by_hint : Reads (nz ∷ []) (Some NZ) (codes "03-331 6005") (Ok (sample Default))
-unfolding home_coded
+unfolding home_coded name
 by_hint = Readings.coded (record { national = codes "03-331 6005"; prefix = None; extension = None }) home_coded home_parts home_viable home_code
 
 tel_text : IsTel (codes "tel:+64-3-331-6005") (record { national = codes "-3-331-6005"; prefix = Some (codes "64"); extension = None })
@@ -90,11 +91,11 @@ tel_coded : Coded
 tel_coded = record { source = Plus; value = 64; rest = codes "33316005" }
 
 tel_code : code_of (nz ∷ []) (Some NZ) (codes "-3-331-6005") (Some (codes "64")) ≡ Ok tel_coded
-unfolding tel_coded
+unfolding tel_coded name
 tel_code = refl
 
 pub by_prefix : Reads (nz ∷ []) (Some NZ) (codes "tel:+64-3-331-6005") (Ok (sample Plus))
-unfolding tel_coded
+unfolding tel_coded name
 by_prefix =
     Readings.coded (record { national = codes "-3-331-6005"; prefix = Some (codes "64"); extension = None }) tel_coded
     (Readers.as_tel _ tel_text) tel_viable tel_code

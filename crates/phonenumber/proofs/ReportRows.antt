@@ -5,7 +5,7 @@ use Rattle.std.proofs.lemmas.Str.{IsUtf8-from_is_utf8, is_utf8-from_IsUtf8}
 use Rattle.std.specs.Fmt.{decimal}
 use Rattle.std.specs.Option.{option_and_then, option_map_or}
 use Rattle.std.specs.Str.{chars, is_utf8}
-use Rattle.phone_core.specs.Ids.{id_of}
+use Rattle.phone_core.specs.Ids.{id_of, name}
 use Rattle.phone_chars.specs.Viable.{IsViable}
 use Rattle.phone_core.specs.declared.country.Id.{Id}
 use Rattle.phone_core.specs.declared.country.Id.TheVariants.{NZ}
@@ -54,6 +54,7 @@ one_too_few : ¬ (IsViable (codes "1"))
 one_too_few = not_viable (codes "1") (λ e. cc) refl
 
 pub refused : IsReportLine (nz ∷ []) (Some NZ) (codes "1") (codes "error\t1\tnot a number")
+unfolding name
 refused =
     Reports.refused NoNumber one_utf8
     (subst (λ t. Reads (nz ∷ []) (Some NZ) t (Err NoNumber)) (sym one_chars)
@@ -66,6 +67,7 @@ decimal_12 : decimal 12 ≡ codes "12"
 decimal_12 = decimal_step 12 (omega arith) (omega arith) ∙ ap (λ t. t ++ 50 ∷ []) (decimal_digit 1 (omega arith))
 
 id_nz : id_of (codes "NZ") ≡ Some NZ
+unfolding name
 id_nz = id_of-name NZ
 
 -- 12 of New Zealand, by the hint
@@ -87,25 +89,26 @@ twelve_code : code_by_hint nz (codes "12") ≡ record { source = Default; value 
 twelve_code = code_by_hint-other nz (codes "12") (codes "64") 64 refl (sym decimal_64) (λ rest e. true≢false (sym (ap (begins (λ c. c == 54)) e)))
 
 reads_twelve : Reads (nz ∷ []) (Some NZ) (codes "12") (Ok twelve)
-unfolding twelve
+unfolding twelve name
 reads_twelve =
     subst (λ r. Reads (nz ∷ []) (Some NZ) (codes "12") r) (ap (thin_reading nz) twelve_code)
     (thin_reads (nz ∷ []) nz_is_thin (Some NZ) (codes "12") refl _ (Thin.by_hint nz twelve_viable refl))
 
 -- every number of 64 is of New Zealand
 home_nz : (digits : List ℕ) → home (nz ∷ []) 64 digits ≡ Some nz
+unfolding name
 home_nz digits = rw id_nz
 
 kind_of_twelve : kind_of_number (nz ∷ []) twelve ≡ Unknown
-unfolding twelve
+unfolding twelve name
 kind_of_twelve = ap (λ o. option_map_or (λ (m : Metadata). type_of m (decimal 12)) o Unknown) (home_nz (decimal 12)) ∙ rw decimal_12
 
 region_of_twelve : region_of_number (nz ∷ []) twelve ≡ Some NZ
-unfolding twelve
+unfolding twelve name
 region_of_twelve = ap (λ o. option_and_then (λ (m : Metadata). option_and_then id_of m.id) o) (home_nz (decimal 12)) ∙ id_nz
 
 twelve_invalid : is_valid (nz ∷ []) twelve ≡ false
-unfolding twelve
+unfolding twelve name
 twelve_invalid = ap (λ o. option_map_or (λ (m : Metadata). is_known (type_of m (decimal 12))) o false) (home_nz (decimal 12)) ∙ rw decimal_12
 
 -- the line of a number by its fields
@@ -114,23 +117,23 @@ line_with e i n r k region valid =
     tabbed (codes "ok" ∷ e ∷ i ∷ n ∷ r ∷ codes "default" ∷ kind_word k ∷ region_word region ∷ validity_word valid ∷ [])
 
 e164 : text_by nz E164 None twelve ≡ codes "+6412"
-unfolding twelve
+unfolding twelve name
 e164 = rw (decimal_64, decimal_12)
 
 international : text_by nz International None twelve ≡ codes "+64 12"
-unfolding twelve
+unfolding twelve name
 international = rw (decimal_64, decimal_12)
 
 national : text_by nz National None twelve ≡ codes "12"
-unfolding twelve
+unfolding twelve name
 national = rw decimal_12
 
 rfc3966 : text_by nz Rfc3966 None twelve ≡ codes "tel:+64-12"
-unfolding twelve
+unfolding twelve name
 rfc3966 = rw (decimal_64, decimal_12, twelve_chars, encode_utf8_all-digits (codes "12") refl)
 
 line_of_twelve : number_line (nz ∷ []) nz twelve ≡ codes "ok\t+6412\t+64 12\t12\ttel:+64-12\tdefault\tUnknown\tNZ\tinvalid"
-unfolding twelve
+unfolding twelve name
 line_of_twelve =
     let k = kind_of_number (nz ∷ []) twelve in
     let o = region_of_number (nz ∷ []) twelve in
@@ -147,7 +150,7 @@ line_of_twelve =
     ∙ ap (λ x. line_with (codes "+6412") (codes "+64 12") (codes "12") (codes "tel:+64-12") Unknown (Some NZ) x) twelve_invalid
 
 pub read : IsReportLine (nz ∷ []) (Some NZ) (codes "12") (codes "ok\t+6412\t+64 12\t12\ttel:+64-12\tdefault\tUnknown\tNZ\tinvalid")
-unfolding twelve
+unfolding twelve name
 read =
     subst (λ l. IsReportLine (nz ∷ []) (Some NZ) (codes "12") l) line_of_twelve
     (Reports.read twelve nz twelve_utf8 (subst (λ t. Reads (nz ∷ []) (Some NZ) t (Ok twelve)) (sym twelve_chars) reads_twelve) refl)

@@ -1,14 +1,14 @@
 use Rattle.std.proofs.Common.{None, refl, inr}
 use Rattle.std.specs.Fmt.{digits}
 use Rattle.std.specs.Str.{chars}
-use Rattle.phone_core.specs.Ids.{id_of}
+use Rattle.phone_core.specs.Ids.{id_of, name}
 use Rattle.premises.proofs.ByText.{announced, is_plain, rfc3966}
 use Rattle.premises.proofs.Laid.{at_laid}
 use Rattle.premises.specs.Samples.{at, db_c, number}
 use Rattle.premises.proofs.needed.announced_by_layout.Goals as goal
 
 pub returns : goal.returns
-unfolding digits chars id_of
+unfolding digits chars id_of name
 returns c = record {
   e164 = (at, is_plain refl refl);
   rfc3966 = rfc3966 at at_laid (is_plain refl refl) refl refl;

@@ -1,14 +1,14 @@
 use Rattle.std.proofs.Common.{codes, Some, refl, arith, inr}
 use Rattle.std.specs.Fmt.{digits}
 use Rattle.std.specs.Str.{chars}
-use Rattle.phone_core.specs.Ids.{id_of}
+use Rattle.phone_core.specs.Ids.{id_of, name}
 use Rattle.premises.proofs.ByText.{international, is_plain, not_behind_digit, not_known}
 use Rattle.premises.proofs.Laid.{al_by_e_laid, at_by_x_laid}
 use Rattle.premises.specs.Samples.{al_by_e, at_by_x, number}
 use Rattle.premises.proofs.needed.announced_otherwise.Goals as goal
 
 pub returns : goal.returns
-unfolding digits chars id_of
+unfolding digits chars id_of name
 returns c = record {
   by_a_letter = not_known al_by_e (number 355 0 123456 (Some (codes "5"))) refl;
   by_a_letter_plain =

@@ -1,13 +1,13 @@
 use Rattle.std.proofs.Common.{refl, inr}
 use Rattle.std.specs.Fmt.{digits}
-use Rattle.phone_core.specs.Ids.{id_of}
+use Rattle.phone_core.specs.Ids.{id_of, name}
 use Rattle.phone_meta.specs.Codes.{begins}
 use Rattle.premises.proofs.ByText.{is_plain}
 use Rattle.premises.specs.Samples.{ar, bare_ad}
 use Rattle.premises.proofs.needed.codes_apart.Goals as goal
 
 pub returns : goal.returns
-unfolding digits id_of begins
+unfolding digits id_of name begins
 returns c = record {
   prefix_free = refl;
   plain = (bare_ad, is_plain refl refl);

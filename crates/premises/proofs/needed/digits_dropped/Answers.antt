@@ -1,7 +1,7 @@
 use Rattle.std.proofs.Common.{◌≡◌, ℕ, List, length, codes, None, refl, ap, arith, inr}
 use Rattle.std.specs.Fmt.{digits}
 use Rattle.std.specs.Str.{chars}
-use Rattle.phone_core.specs.Ids.{id_of}
+use Rattle.phone_core.specs.Ids.{id_of, name}
 use Rattle.premises.proofs.ByText.{is_plain, not_international, not_rfc3966}
 use Rattle.premises.proofs.Laid.{am_laid}
 use Rattle.premises.specs.Samples.{am, db_c, number}
@@ -11,7 +11,7 @@ other : ¬ (codes "number" ≡ codes "12345678")
 other e = let six : 6 ≡ 8 = ap (λ (t : List ℕ). length t) e in omega (arith, six)
 
 pub returns : goal.returns
-unfolding digits chars id_of
+unfolding digits chars id_of name
 returns c = record {
   e164 = (am, is_plain refl refl);
   rfc3966 = not_rfc3966 db_c (number 374 0 12345678 None) am refl _ am_laid other;

@@ -1,7 +1,7 @@
 use Rattle.std.proofs.Common.{◌≡◌, ⊎_elim, length, codes, refl, sym, ap, ◌∙◌, arith}
 use Rattle.std.proofs.lemmas.Option.{none-some, same_Some}
 use Rattle.std.specs.Fmt.{digits}
-use Rattle.phone_core.specs.Ids.{id_of}
+use Rattle.phone_core.specs.Ids.{id_of, name}
 use Rattle.phone_prefix.specs.Strips.{strip}
 use Rattle.phonenumber.specs.Plain.{IsIdle}
 use Rattle.premises.proofs.ByText.{is_plain}
@@ -9,7 +9,7 @@ use Rattle.premises.specs.Samples.{db_b, nz}
 use Rattle.premises.proofs.needed.prefix_stripped.Goals as goal
 
 not_idle : ¬ (IsIdle db_b 64 (codes "033316005"))
-unfolding id_of
+unfolding id_of name
 not_idle =
     ⊎_elim (λ e. none-some nz (sym e)) (λ h.
     let left = ap (λ m. length (strip m (codes "033316005")).national) (same_Some nz h.0 h.1) in

@@ -1,14 +1,14 @@
 use Rattle.std.proofs.Common.{◌≤◌, refl, arith, inr}
 use Rattle.std.specs.Fmt.{digits}
 use Rattle.std.specs.Str.{chars}
-use Rattle.phone_core.specs.Ids.{id_of}
+use Rattle.phone_core.specs.Ids.{id_of, name}
 use Rattle.premises.proofs.ByText.{international, is_plain}
 use Rattle.premises.proofs.Laid.{ad_short}
 use Rattle.premises.specs.Samples.{ad}
 use Rattle.premises.proofs.needed.two_digits.Goals as goal
 
 pub returns : goal.returns
-unfolding digits chars id_of
+unfolding digits chars id_of name
 returns c = record {
   e164 = (ad, is_plain refl refl);
   rfc3966 = λ h. let short : 3 ≤ 2 = h.plain.long_enough in omega (arith, short);

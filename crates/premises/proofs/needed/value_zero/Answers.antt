@@ -1,5 +1,5 @@
 use Rattle.std.proofs.Common.{◌<◌, refl, arith, inr}
-use Rattle.phone_core.specs.Ids.{id_of}
+use Rattle.phone_core.specs.Ids.{id_of, name}
 use Rattle.premises.specs.Samples.{ad}
 use Rattle.premises.proofs.needed.value_zero.Goals as goal
 
@@ -7,7 +7,7 @@ none_below : ¬ (0 < 0)
 none_below h = omega (arith, h)
 
 pub returns : goal.returns
-unfolding id_of
+unfolding id_of name
 returns c = record {
   e164 = λ h. none_below h.1.not_zero;
   rfc3966 = λ h. none_below h.plain.not_zero;

@@ -1,14 +1,14 @@
 use Rattle.std.proofs.Common.{refl, arith, inl, inr}
 use Rattle.std.specs.Fmt.{digits}
 use Rattle.std.specs.Str.{chars}
-use Rattle.phone_core.specs.Ids.{id_of}
+use Rattle.phone_core.specs.Ids.{id_of, name}
 use Rattle.premises.proofs.ByText.{international, is_plain, rfc3966}
 use Rattle.premises.proofs.Laid.{us_laid}
 use Rattle.premises.specs.Samples.{us}
 use Rattle.premises.proofs.plain.with_empty_extension.Goals as goal
 
 pub returns : goal.returns
-unfolding digits chars id_of
+unfolding digits chars id_of name
 returns c = record {
   e164 = (us, is_plain refl refl);
   rfc3966 = rfc3966 us us_laid (is_plain refl refl) refl refl;
