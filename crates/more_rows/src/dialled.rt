@@ -1,27 +1,70 @@
-//! The call that asks how a number which a line gives by its parts is dialled from a region.
+//! The calls that ask how a number which a line gives by its parts is dialled from a region, and
+//! whether it lies within the premises of being read back there.
+use crate::premises::{how_told, is_within};
 use anyhow::{Result, anyhow};
 use number_rows::given::extended;
 use phone_core::country::Id;
 use phone_dial::{DialError, dialled_from};
-use phone_meta::Database;
+use phone_meta::{Database, Metadata};
+use phonenumber::PhoneNumber;
 use rows::marks::{around, begin};
 use rows::table::Row;
 use std::alloc::Global;
 
-/// The text that is dialled, `UnknownRegion` or `UnknownCode`; none for any other call. An error
-/// where a line names a region that isn't there or gives a number that is none, and where memory is
-/// refused.
+/// The text that is dialled, `UnknownRegion` or `UnknownCode`; of `dial-premises` how the code is
+/// told in that text and whether the premises hold; none for any other call. An error where a line
+/// names a region that isn't there or gives a number that is none, and where memory is refused.
 pub fn answer(alloc: Global, row: &Row, db: &Database) -> Result<Option<String>> {
-    if row.call() != "dialled-from" {
-        return Ok(None);
+    match row.call() {
+        "dialled-from" => Ok(Some(of_text(alloc, row, db)?)),
+        "dial-premises" => Ok(Some(of_premises(alloc, row, db)?)),
+        _ => Ok(None),
     }
+}
+
+/// How a line's number is dialled.
+fn of_text(alloc: Global, row: &Row, db: &Database) -> Result<String> {
     let number = extended(alloc, row)?;
+    dialled(alloc, row, db, &number)
+}
+
+/// How a number is dialled from a line's region.
+fn dialled(alloc: Global, row: &Row, db: &Database, number: &PhoneNumber) -> Result<String> {
     let region = row.argument(5).parse::<Id>()?;
-    let answer = match around(alloc, begin(alloc), dialled_from(db, region, &number))? {
-        Ok(text) => format!(in alloc; "={text}")?,
-        Err(DialError::UnknownRegion) => String::from_str(alloc, "UnknownRegion")?,
-        Err(DialError::UnknownCode) => String::from_str(alloc, "UnknownCode")?,
-        Err(DialError::Memory) => return Err(anyhow!("out of memory")),
-    };
-    Ok(Some(answer))
+    let dialled = around(alloc, begin(alloc), dialled_from(db, region, number))?;
+    text(alloc, &dialled)
+}
+
+/// The text that is dialled behind an equals sign, or why there is none. An error where memory was
+/// refused.
+fn text(alloc: Global, dialled: &Result<String, DialError>) -> Result<String> {
+    match dialled {
+        Ok(text) => Ok(format!(in alloc; "={text}")?),
+        Err(DialError::UnknownRegion) => Ok(String::from_str(alloc, "UnknownRegion")?),
+        Err(DialError::UnknownCode) => Ok(String::from_str(alloc, "UnknownCode")?),
+        Err(DialError::Memory) => Err(anyhow!("out of memory")),
+    }
+}
+
+/// How the code of a line's number is told, and whether the premises hold.
+fn of_premises(alloc: Global, row: &Row, db: &Database) -> Result<String> {
+    let number = extended(alloc, row)?;
+    premises(alloc, row, db, &number)
+}
+
+/// How the code of a number is told that is dialled from a line's region, and whether the premises
+/// hold.
+fn premises(alloc: Global, row: &Row, db: &Database, number: &PhoneNumber) -> Result<String> {
+    let from = territory(row, db)?;
+    let holds = is_within(db, from, number)?;
+    let told = how_told(from, number);
+    Ok(format!(in alloc; "{told}\t{holds}")?)
+}
+
+/// The territory of a line's region. An error where the database has none.
+fn territory<'a>(row: &Row, db: &'a Database) -> Result<&'a Metadata> {
+    match db.by_id(row.argument(5)) {
+        Some(territory) => Ok(territory),
+        None => Err(anyhow!("the database has no territory of the region")),
+    }
 }

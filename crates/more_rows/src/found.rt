@@ -14,17 +14,33 @@ pub fn answer(alloc: Global, row: &Row, db: &Database) -> Result<Option<String>>
     if row.call() != "found" {
         return Ok(None);
     }
+    Ok(Some(of_text(alloc, row, db)?))
+}
+
+/// The numbers in a line's text.
+fn of_text(alloc: Global, row: &Row, db: &Database) -> Result<String> {
     let (hint, text) = (hint(row.argument(1))?, row.argument(2));
     let all = around(alloc, begin(alloc), found(db, hint, text))??;
-    Ok(Some(told(alloc, text, all.as_slice())?))
+    told(alloc, text, all.as_slice())
 }
 
 /// A text with each piece that is a number in braces, and the numbers, each behind a tab.
 fn told(alloc: Global, text: &str, all: &[Found<PhoneNumber>]) -> Result<String> {
     let mut out = String::new(alloc);
-    push_marked(&mut out, text, all)?;
-    push_numbers(alloc, &mut out, all)?;
+    push_told(alloc, &mut out, text, all)?;
     Ok(out)
+}
+
+/// Writes the same.
+fn push_told(
+    alloc: Global,
+    out: &mut String,
+    text: &str,
+    all: &[Found<PhoneNumber>],
+) -> Result<()> {
+    push_marked(out, text, all)?;
+    push_numbers(alloc, out, all)?;
+    Ok(())
 }
 
 /// Writes a text with each piece that is a number in braces.
@@ -63,9 +79,14 @@ fn push_numbers(
     all: &[Found<PhoneNumber>],
 ) -> Result<(), AllocError> {
     for found in all {
-        let number = found.number.to_string(alloc)?;
         out.push('\t')?;
-        out.push_str(number.as_str())?;
+        push_number(alloc, out, &found.number)?;
     }
     Ok(())
+}
+
+/// Writes a number.
+fn push_number(alloc: Global, out: &mut String, number: &PhoneNumber) -> Result<(), AllocError> {
+    let number = number.to_string(alloc)?;
+    out.push_str(number.as_str())
 }

@@ -7,6 +7,7 @@ pub mod dialled;
 pub mod found;
 pub mod listed;
 pub mod possibilities;
+mod premises;
 pub mod sameness;
 
 use anyhow::Result;

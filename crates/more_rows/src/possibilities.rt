@@ -4,6 +4,7 @@ use anyhow::Result;
 use number_rows::given::number;
 use phone_meta::Database;
 use phone_more::{possible, possible_text};
+use phonenumber::PhoneNumber;
 use rows::marks::{around, begin};
 use rows::table::Row;
 use rows::words::{hint, refusal};
@@ -12,18 +13,22 @@ use std::alloc::Global;
 /// What its length says of a number, as the table writes it; none for any other call. An error
 /// where a line gives a number that is none, and where memory is refused.
 pub fn answer(alloc: Global, row: &Row, db: &Database) -> Result<Option<String>> {
-    let answer = match row.call() {
-        "possible" => of_number(alloc, row, db)?,
-        "possible-text" => of_text(alloc, row, db)?,
-        _ => return Ok(None),
-    };
-    Ok(Some(answer))
+    match row.call() {
+        "possible" => Ok(Some(of_number(alloc, row, db)?)),
+        "possible-text" => Ok(Some(of_text(alloc, row, db)?)),
+        _ => Ok(None),
+    }
 }
 
 /// What is said of a line's number.
 fn of_number(alloc: Global, row: &Row, db: &Database) -> Result<String> {
     let number = number(row, 1, None, None)?;
-    let found = around(alloc, begin(alloc), possible(db, &number))??;
+    said(alloc, db, &number)
+}
+
+/// What is said of a number.
+fn said(alloc: Global, db: &Database, number: &PhoneNumber) -> Result<String> {
+    let found = around(alloc, begin(alloc), possible(db, number))??;
     Ok(format!(in alloc; "{found:?}")?)
 }
 

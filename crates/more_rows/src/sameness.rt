@@ -14,9 +14,8 @@ pub fn answer(alloc: Global, row: &Row, db: &Database) -> Result<Option<String>>
         return Ok(None);
     }
     let (a, b) = (row.argument(1), row.argument(2));
-    let answer = match around(alloc, begin(alloc), same(db, a, b))? {
-        Ok(found) => format!(in alloc; "{found:?}")?,
-        Err(error) => refusal(alloc, &error)?,
-    };
-    Ok(Some(answer))
+    match around(alloc, begin(alloc), same(db, a, b))? {
+        Ok(found) => Ok(Some(format!(in alloc; "{found:?}")?)),
+        Err(error) => Ok(Some(refusal(alloc, &error)?)),
+    }
 }

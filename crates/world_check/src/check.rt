@@ -5,16 +5,14 @@
 //! hint; the nine territories whose id is `001` can't be a hint, so of theirs no national text is
 //! read. Then the example should be valid, and of the kind that it is an example of, or of
 //! `FixedLineOrMobile` where that is a fixed line or a mobile.
+use crate::back::is_read_back;
 use crate::counts::{Count, tell};
 use crate::examples::{Example, KINDS, territories};
-use crate::reasons::{kind_reason, other_reading};
-use anyhow::{Result, anyhow};
-use phonenumber::country::Id;
+use crate::reasons::kind_reason;
+use anyhow::Result;
 use phonenumber::metadata::{Database, Metadata};
-use phonenumber::{
-    FormatError, Mode, ParseError, PhoneNumber, Queried, Type, format_with, parse_with,
-};
-use std::alloc::{AllocGlobal, Global};
+use phonenumber::{Mode, Queried, Type};
+use std::alloc::AllocGlobal;
 use std::fs::Files;
 
 /// Checks the examples of the database in a file. Prints each exception with its reason, behind
@@ -37,17 +35,23 @@ fn of_territories<R: AllocGlobal + Print>(
     territories: &[&Metadata],
 ) -> Result<()> {
     let mut all = Count::none();
-    for kind in KINDS {
-        let count = checked(rt, database, territories, kind)?;
-        if count.examples > 0 {
-            let name = format!(in rt.alloc(); "{kind:?}")?;
-            tell(rt, name.as_str(), count)?;
-        }
+    for kind in KINDS.iter() {
+        let count = checked(rt, database, territories, *kind)?;
+        tell_kind(rt, *kind, count)?;
         all = all.plus(count);
     }
     let territories = territories.len();
     println!(rt; "{territories} territories")?;
     tell(rt, "all kinds", all)
+}
+
+/// Prints what was counted of a kind, if there is an example of it.
+fn tell_kind<R: AllocGlobal + Print>(rt: &R, kind: Type, count: Count) -> Result<()> {
+    if count.examples == 0 {
+        return Ok(());
+    }
+    let name = format!(in rt.alloc(); "{kind:?}")?;
+    tell(rt, name.as_str(), count)
 }
 
 /// Checks the examples that territories give of a kind, and prints the exceptions.
@@ -59,11 +63,22 @@ fn checked<R: AllocGlobal + Print>(
 ) -> Result<Count> {
     let mut count = Count::none();
     for territory in territories {
-        if let Some(example) = Example::given(territory, kind)? {
-            count = count.plus(one(rt, database, &example)?);
-        }
+        count = count.plus(given(rt, database, territory, kind)?);
     }
     Ok(count)
+}
+
+/// Checks the example that a territory gives of a kind, if it does, and prints its exceptions.
+fn given<R: AllocGlobal + Print>(
+    rt: &R,
+    database: &Database,
+    territory: &Metadata,
+    kind: Type,
+) -> Result<Count> {
+    match Example::given(territory, kind)? {
+        Some(example) => one(rt, database, &example),
+        None => Ok(Count::none()),
+    }
 }
 
 /// Checks an example, and prints its exceptions.
@@ -77,14 +92,12 @@ fn one<R: AllocGlobal + Print>(
     let national = hint.is_some() && is_read_back(rt, database, example, Mode::National, hint)?;
     let Queried { kind, is_valid, .. } = example.number.queried(database)?;
     if !is_valid {
-        print(rt, example, "is not valid")?;
+        example.tell(rt, "is not valid")?;
     }
-    let is_either = kind == Type::FixedLineOrMobile
-        && (example.kind == Type::FixedLine || example.kind == Type::Mobile);
+    let is_either = is_either(example.kind, kind);
     let fits = is_either || kind == example.kind;
     if !fits {
-        let reason = kind_reason(rt.alloc(), database, example, kind)?;
-        print(rt, example, reason.as_str())?;
+        tell_kind_reason(rt, database, example, kind)?;
     }
     let is_back = international && (national || hint.is_none());
     Ok(Count {
@@ -99,51 +112,18 @@ fn one<R: AllocGlobal + Print>(
     })
 }
 
-/// Whether an example is read back from its text in a mode under a hint; prints the exception where
-/// it isn't.
-fn is_read_back<R: AllocGlobal + Print>(
+/// Whether a fixed line or a mobile is of the kind that may be either.
+fn is_either(wanted: Type, kind: Type) -> bool {
+    kind == Type::FixedLineOrMobile && (wanted == Type::FixedLine || wanted == Type::Mobile)
+}
+
+/// Prints of which kind an example is that isn't of its own, and why.
+fn tell_kind_reason<R: AllocGlobal + Print>(
     rt: &R,
     database: &Database,
     example: &Example<'_>,
-    mode: Mode,
-    hint: Option<Id>,
-) -> Result<bool> {
-    let alloc = rt.alloc();
-    let text = text(alloc, database, example, mode)?;
-    let text = text.as_str();
-    let answer = match parse_with(database, hint, text) {
-        Ok(again) if is_again(&example.number, &again) => return Ok(true),
-        Ok(again) => other_reading(alloc, text, &example.number, &again)?,
-        Err(ParseError::Memory) => return Err(anyhow!("out of memory")),
-        Err(error) => format!(in alloc; "is refused: {error}")?,
-    };
-    let answer = format!(in alloc; "{mode:?} text {text} {answer}")?;
-    print(rt, example, answer.as_str())?;
-    Ok(false)
-}
-
-/// The text of an example in a mode.
-fn text(alloc: Global, database: &Database, example: &Example<'_>, mode: Mode) -> Result<String> {
-    match format_with(database, &example.number)
-        .mode(mode)
-        .to_text(alloc)
-    {
-        Ok(text) => Ok(text),
-        Err(FormatError::UnknownCode) => Err(anyhow!("a territory's code isn't listed")),
-        Err(FormatError::Memory) => Err(anyhow!("out of memory")),
-    }
-}
-
-/// Whether a number that was read is the example again: its code and its national number.
-fn is_again(number: &PhoneNumber, again: &PhoneNumber) -> bool {
-    let has_code = again.code().value() == number.code().value();
-    has_code && again.national() == number.national()
-}
-
-/// Prints an exception.
-fn print<R: Print>(rt: &R, example: &Example<'_>, exception: &str) -> Result<()> {
-    let (id, kind) = (example.territory.id(), example.kind);
-    let number = &example.number;
-    println!(rt; "{number} ({id}, {kind:?}): {exception}")?;
-    Ok(())
+    kind: Type,
+) -> Result<()> {
+    let reason = kind_reason(rt.alloc(), database, example, kind)?;
+    example.tell(rt, reason.as_str())
 }

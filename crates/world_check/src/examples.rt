@@ -30,12 +30,28 @@ const GREATEST_CODE: u16 = 999;
 /// The territories of a database, by their calling codes. Refused only for memory.
 pub fn territories(database: &Database) -> Result<Vec<&Metadata>, AllocError> {
     let mut found = Vec::new(database.allocator());
-    for code in 1..=GREATEST_CODE {
-        if let Some(mut territories) = database.by_code(&code)? {
-            found.append(&mut territories)?;
-        }
-    }
+    push_all(&mut found, database)?;
     Ok(found)
+}
+
+/// Pushes the territories of a database.
+fn push_all<'a>(found: &mut Vec<&'a Metadata>, database: &'a Database) -> Result<(), AllocError> {
+    for code in 1..=GREATEST_CODE {
+        push_of_code(found, database, code)?;
+    }
+    Ok(())
+}
+
+/// Pushes the territories of a calling code.
+fn push_of_code<'a>(
+    found: &mut Vec<&'a Metadata>,
+    database: &'a Database,
+    code: u16,
+) -> Result<(), AllocError> {
+    match database.by_code(&code)? {
+        Some(mut territories) => found.append(&mut territories),
+        None => Ok(()),
+    }
 }
 
 /// A number that a territory gives as an example of a kind.
@@ -67,6 +83,13 @@ impl<'a> Example<'a> {
 
     /// The hint that the example's territory is; none where its id is no region's.
     pub fn hint(&self) -> Option<Id> {
-        self.territory.id().parse::<Id>().ok()
+        self.territory.region()
+    }
+
+    /// Prints an exception of the example.
+    pub fn tell<R: Print>(&self, rt: &R, exception: &str) -> Result<()> {
+        let (id, kind, number) = (self.territory.id(), self.kind, &self.number);
+        println!(rt; "{number} ({id}, {kind:?}): {exception}")?;
+        Ok(())
     }
 }

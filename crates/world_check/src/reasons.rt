@@ -15,8 +15,7 @@ pub fn other_reading(
     again: &PhoneNumber,
 ) -> Result<String, AllocError> {
     let digits = laid_out_digits(alloc, text, number)?;
-    let reason = reading_reason(alloc, digits.as_str(), number, again)?;
-    format!(in alloc; "is read as {again}: {reason}")
+    reading_of_digits(alloc, digits.as_str(), number, again)
 }
 
 /// The digits of a text behind the plus sign and the calling code, if it has them.
@@ -27,6 +26,17 @@ fn laid_out_digits(alloc: Global, text: &str, number: &PhoneNumber) -> Result<St
     laid.chars().filter(|c| is_digit(*c)).collect(alloc)
 }
 
+/// What these digits of a number are read as, and why.
+fn reading_of_digits(
+    alloc: Global,
+    digits: &str,
+    number: &PhoneNumber,
+    again: &PhoneNumber,
+) -> Result<String, AllocError> {
+    let reason = reading_reason(alloc, digits, number, again)?;
+    format!(in alloc; "is read as {again}: {reason}")
+}
+
 /// Why these digits of a number are read as another number.
 fn reading_reason(
     alloc: Global,
@@ -34,13 +44,27 @@ fn reading_reason(
     number: &PhoneNumber,
     again: &PhoneNumber,
 ) -> Result<String, AllocError> {
-    let (national, left) = (number.national(), again.national());
-    let national = format!(in alloc; "{national}")?;
-    let left = format!(in alloc; "{left}")?;
-    if !digits.ends_with(national.as_str()) {
-        return String::from_str(alloc, "the layout doesn't write all its digits");
+    let national = number.national().to_string(alloc)?;
+    if digits.ends_with(national.as_str()) {
+        stripping_reason(alloc, digits, again)
+    } else {
+        String::from_str(alloc, "the layout doesn't write all its digits")
     }
-    match digits.strip_suffix(left.as_str()) {
+}
+
+/// Why these digits, which are all that a number has, are read as another number.
+fn stripping_reason(
+    alloc: Global,
+    digits: &str,
+    again: &PhoneNumber,
+) -> Result<String, AllocError> {
+    let left = again.national().to_string(alloc)?;
+    cut_reason(alloc, digits.strip_suffix(left.as_str()), again)
+}
+
+/// Why digits whose front was cut off, if they were left behind it, are read as another number.
+fn cut_reason(alloc: Global, cut: Option<&str>, again: &PhoneNumber) -> Result<String, AllocError> {
+    match cut {
         Some(cut) if again.code().source() == Source::Number => {
             format!(in alloc; "{cut} at its front is taken for the calling code")
         }
