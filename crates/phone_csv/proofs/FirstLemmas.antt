@@ -16,8 +16,7 @@ use Rattle.phone_csv.specs.Formats.{Record, reading, state_of}
 use Rattle.phone_csv.specs.declared.cutter.Cutter.{Cutter}
 use Rattle.phone_csv.specs.declared.front.Mark.{Mark}
 use Rattle.phone_csv.specs.declared.front.Mark.TheVariants as mark
-use Rattle.phone_csv.proofs.KitRecords.{feeds_next}
-use Rattle.phone_csv.proofs.Progress.{Steps, at_start, feeds_rest}
+use Rattle.phone_csv.proofs.Progress.{Steps, at_start, feeds_rest, feeds_then}
 
 -- the part behind a mark, after one more byte
 abbrev pub part_after : Mark → List ℕ → ℕ → List ℕ
@@ -136,24 +135,17 @@ ends d st.AfterQuote x e = after_quote_ends (x == 34) (x == d) ((x == 13) || (x 
 ends d st.InComment x e = comment_ends (x == 10) _ e
 ends d st.AfterCr x e = after_return_ends (x == 10) (x == 34) (x == d) ((x == 13) || (x == 10)) _ e
 
--- such a byte is none of a mark
+-- a byte that is none of a mark
+not_of_mark : (m : Mark) (x : ℕ) → (x == 239) ≡ false → (x == 187) ≡ false → (x == 191) ≡ false → mark_after m x ≡ mark.Past
+not_of_mark mark.Start x first second third = rw first refl
+not_of_mark mark.One x first second third = rw second refl
+not_of_mark mark.Two x first second third = rw third refl
+not_of_mark mark.Whole x first second third = refl
+not_of_mark mark.Past x first second third = refl
+
 mark_past : (m : Mark) (x : ℕ) (r l : Bool) → (x == 13) ≡ r → (x == 10) ≡ l → (r || l) ≡ true → mark_after m x ≡ mark.Past
-mark_past m x true l e f h = rw (eqb-true x 13 e) (of_return m)
-  where
-    of_return : (m : Mark) → mark_after m 13 ≡ mark.Past
-    of_return mark.Start = refl
-    of_return mark.One = refl
-    of_return mark.Two = refl
-    of_return mark.Whole = refl
-    of_return mark.Past = refl
-mark_past m x false true e f h = rw (eqb-true x 10 f) (of_feed m)
-  where
-    of_feed : (m : Mark) → mark_after m 10 ≡ mark.Past
-    of_feed mark.Start = refl
-    of_feed mark.One = refl
-    of_feed mark.Two = refl
-    of_feed mark.Whole = refl
-    of_feed mark.Past = refl
+mark_past m x true l e f h = rw (eqb-true x 13 e) (not_of_mark m 13 refl refl refl)
+mark_past m x false true e f h = rw (eqb-true x 10 f) (not_of_mark m 10 refl refl refl)
 mark_past m x false false e f h = cc h
 
 pub ends_past : (d : ℕ) (s : State) (m : Mark) (x : ℕ) → is_end (step (reading d) s x).1 ≡ true → mark_after m x ≡ mark.Past
@@ -196,8 +188,8 @@ IsFront-ended m bytes c c' x f on e more =
     subst (λ k. IsBehind k (bytes ++ x ∷ []) (part_after k f.part x)) past (behind_next m bytes f.part x f.behind) in
     let fed = feeds-push (reading c.delimiter) st.StartRecord (state_of c.place) [] (fields_of c.fields) [] c.field.items f.part x f.fed in
     ap (λ t. next_record (reading c.delimiter) st.StartRecord [] [] t) (behind more)
-    ∙ feeds_next (reading c.delimiter) st.StartRecord (state_of c'.place) [] (fields_of c'.fields) [] (field_after (step (reading c.delimiter) (state_of c.place) x).1 x c.field.items) (f.part ++ x ∷ []) more
-    (rw (on.place, on.fields) (rw e at fed))
+    ∙ feeds_then (reading c.delimiter) st.StartRecord (state_of c'.place) [] (fields_of c'.fields) [] (field_after (step (reading c.delimiter) (state_of c.place) x).1 x c.field.items) (f.part ++ x ∷ []) more
+    true (rw (on.place, on.fields) (rw e at fed))
 
 at_end : (cfg : Config) (s : State) (f : Record) (p : List ℕ) (b : Bool) → ends_at_end s ≡ b →
     next_record cfg s f p [] ≡ if b then Some (f ++ p ∷ [], st.StartRecord, []) else None

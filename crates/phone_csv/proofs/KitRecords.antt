@@ -1,8 +1,7 @@
 -- The records of a text are those that the kit reads it as.
 use Rattle.std.proofs.Common.{◌≡◌, Bool, Some, None, ℕ, List, [], ◌∷◌, ◌++◌, true, false, refl, ap, ◌∙◌}
 use Rattle.std.proofs.lemmas.List.{append-nil}
-use Rattle.std.specs.Bool.{MatchBool}
-use Rattle.csv.specs.Machine.{Feeds, Read, ends_at_end, field_after, fields_after, is_end, next_record, step}
+use Rattle.csv.specs.Machine.{Read, ends_at_end, next_record}
 use Rattle.csv.specs.Reading.{AreRecords, Reached, records_next}
 use Rattle.csv.specs.declared.parser.Config.{Config}
 use Rattle.csv.specs.declared.parser.State.{State}
@@ -11,24 +10,7 @@ use Rattle.phone_csv.specs.Formats.{Record, reading}
 use Rattle.phone_csv.specs.Records.{AreCut}
 use Rattle.phone_csv.specs.Records.AreCut.{none, next}
 use Rattle.phone_csv.specs.Reports.{AreAll}
-use Rattle.phone_csv.proofs.Progress.{feeds_rest}
-
--- a record that its last byte ends is the next one of each text that begins with it
-pub feeds_next : (cfg : Config) (s s2 : State) (f f2 : Record) (p p2 x more : List ℕ) → Feeds cfg s f p x s2 f2 p2 true →
-    next_record cfg s f p (x ++ more) ≡ Some (f2, s2, more)
-unfolding Feeds next_record
-feeds_next cfg s s2 f f2 p p2 [] more h = cc h.3
-feeds_next cfg s s2 f f2 p p2 (c ∷ x) more h = by (is_end (step cfg s c).1) refl h (feeds_next cfg (step cfg s c).0 s2 _ f2 _ p2 x more)
-  where
-    by : (b : Bool) → is_end (step cfg s c).1 ≡ b
-        → MatchBool (is_end (step cfg s c).1)
-        ((x ≡ []) × (s2 ≡ (step cfg s c).0) × (f2 ≡ fields_after (step cfg s c).1 f p) × (p2 ≡ field_after (step cfg s c).1 c p) × (true ≡ true))
-        (Feeds cfg (step cfg s c).0 (fields_after (step cfg s c).1 f p) (field_after (step cfg s c).1 c p) x s2 f2 p2 true)
-        → (Feeds cfg (step cfg s c).0 (fields_after (step cfg s c).1 f p) (field_after (step cfg s c).1 c p) x s2 f2 p2 true →
-        next_record cfg (step cfg s c).0 (fields_after (step cfg s c).1 f p) (field_after (step cfg s c).1 c p) (x ++ more) ≡ Some (f2, s2, more))
-        → next_record cfg s f p ((c ∷ x) ++ more) ≡ Some (f2, s2, more)
-    by true e q then = let d = rw e at q in rw (e, d.0, d.1, d.2) refl
-    by false e q then = rw e (then (rw e at q))
+use Rattle.phone_csv.proofs.Progress.{feeds_rest, feeds_then}
 
 -- the records that are ended are reached
 reached : (d : ℕ) (start state : State) (bytes rest : List ℕ) (records : List Record) → AreCut d start bytes records state rest →
@@ -37,7 +19,7 @@ unfolding Reached
 reached d start state bytes rest records (none s r) = (refl, refl)
 reached d start state bytes rest records (next b m a part more r fields others is cut) = (
   (fields, m, more),
-  feeds_next (reading d) start m [] fields [] is.0 part more is.1,
+  feeds_then (reading d) start m [] fields [] is.0 part more true is.1,
   refl,
   reached d m state more rest others cut,
 )

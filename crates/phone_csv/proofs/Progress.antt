@@ -27,21 +27,27 @@ pub both_ok : {T E P Q S : Type 0} (r : Result T E) → OnOk r P → OnOk r Q �
 both_ok (Ok x) p q f = f p q
 both_ok (Err x) p q f = tt
 
--- bytes that end no record, and then the end of the text
-pub feeds_rest : (cfg : Config) (s s2 : State) (f f2 : Record) (p p2 x : List ℕ) → Feeds cfg s f p x s2 f2 p2 false → next_record cfg s f p x ≡ next_record cfg s2 f2 p2 []
+-- the next record of a text that begins with these bytes: they end it, or it goes on behind them
+pub feeds_then : (cfg : Config) (s s2 : State) (f f2 : Record) (p p2 x more : List ℕ) (done : Bool) → Feeds cfg s f p x s2 f2 p2 done →
+    next_record cfg s f p (x ++ more) ≡ if done then Some (f2, s2, more) else next_record cfg s2 f2 p2 more
 unfolding Feeds next_record
-feeds_rest cfg s s2 f f2 p p2 [] h = rw (h.0, h.1, h.2) refl
-feeds_rest cfg s s2 f f2 p p2 (c ∷ x) h = by (is_end (step cfg s c).1) refl h (feeds_rest cfg (step cfg s c).0 s2 _ f2 _ p2 x)
+feeds_then cfg s s2 f f2 p p2 [] more done h = rw (h.0, h.1, h.2, h.3) refl
+feeds_then cfg s s2 f f2 p p2 (c ∷ x) more done h = by (is_end (step cfg s c).1) refl h (feeds_then cfg (step cfg s c).0 s2 _ f2 _ p2 x more done)
   where
     by : (b : Bool) → is_end (step cfg s c).1 ≡ b
         → MatchBool (is_end (step cfg s c).1)
-        ((x ≡ []) × (s2 ≡ (step cfg s c).0) × (f2 ≡ fields_after (step cfg s c).1 f p) × (p2 ≡ field_after (step cfg s c).1 c p) × (false ≡ true))
-        (Feeds cfg (step cfg s c).0 (fields_after (step cfg s c).1 f p) (field_after (step cfg s c).1 c p) x s2 f2 p2 false)
-        → (Feeds cfg (step cfg s c).0 (fields_after (step cfg s c).1 f p) (field_after (step cfg s c).1 c p) x s2 f2 p2 false →
-        next_record cfg (step cfg s c).0 (fields_after (step cfg s c).1 f p) (field_after (step cfg s c).1 c p) x ≡ next_record cfg s2 f2 p2 [])
-        → next_record cfg s f p (c ∷ x) ≡ next_record cfg s2 f2 p2 []
-    by true e q more = cc (rw e at q).4
-    by false e q more = rw e (more (rw e at q))
+        ((x ≡ []) × (s2 ≡ (step cfg s c).0) × (f2 ≡ fields_after (step cfg s c).1 f p) × (p2 ≡ field_after (step cfg s c).1 c p) × (done ≡ true))
+        (Feeds cfg (step cfg s c).0 (fields_after (step cfg s c).1 f p) (field_after (step cfg s c).1 c p) x s2 f2 p2 done)
+        → (Feeds cfg (step cfg s c).0 (fields_after (step cfg s c).1 f p) (field_after (step cfg s c).1 c p) x s2 f2 p2 done →
+        next_record cfg (step cfg s c).0 (fields_after (step cfg s c).1 f p) (field_after (step cfg s c).1 c p) (x ++ more)
+        ≡ if done then Some (f2, s2, more) else next_record cfg s2 f2 p2 more)
+        → next_record cfg s f p ((c ∷ x) ++ more) ≡ if done then Some (f2, s2, more) else next_record cfg s2 f2 p2 more
+    by true e q rest = let d = rw e at q in rw (e, d.0, d.1, d.2, d.4) refl
+    by false e q rest = rw e (rest (rw e at q))
+
+-- bytes that end no record, and then the end of the text
+pub feeds_rest : (cfg : Config) (s s2 : State) (f f2 : Record) (p p2 x : List ℕ) → Feeds cfg s f p x s2 f2 p2 false → next_record cfg s f p x ≡ next_record cfg s2 f2 p2 []
+feeds_rest cfg s s2 f f2 p p2 x h = ap (next_record cfg s f p) (sym (append-nil x)) ∙ feeds_then cfg s s2 f f2 p p2 x [] false h
 
 -- what the end of the text leaves of a record that isn't ended yet
 at_end : (cfg : Config) (s : State) (f : Record) (p : List ℕ) (b : Bool) → ends_at_end s ≡ b →
@@ -167,21 +173,18 @@ Stands-handed gives start bytes c held more held' before middle after s e t = re
   so_far = subst (λ r. IsSoFar gives start bytes c r) (ap (λ r. s.written ++ r) e ∙ sym (append_assoc s.written more held')) s.so_far;
 }
 
--- where a run stops in front of the rest of the bytes, it has answered some first records
+-- where a run stops, this holds of what it answered
+pub Stands-holds : (gives : Gives) (start : State) (bytes : List ℕ) (c : Cutter) (held : List ℕ) (before after : Option (List ℕ)) (is_text : List ℕ → Type 0) →
+    Stands gives start bytes c held before after → ((written : List ℕ) → IsSoFar gives start bytes c (written ++ held) → is_text (written ++ held)) →
+    Holds is_text held before after
+Stands-holds gives start bytes c held before after is_text s on = record { written = s.written; taken = s.taken; text = on s.written s.so_far }
+
+-- in front of the rest of the bytes it has answered some first records
 pub Stands-first : (gives : Gives) (start : State) (bytes rest : List ℕ) (c : Cutter) (held : List ℕ) (before after : Option (List ℕ)) →
     Stands gives start bytes c held before after → Holds (IsReportOnFirst gives c.delimiter start (bytes ++ rest)) held before after
 Stands-first gives start bytes rest c held before after s =
-    let f = s.so_far in record {
-      written = s.written;
-      taken = s.taken;
-      text = (f.records, f.state, f.rest ++ rest, AreCut-grown c.delimiter start f.state bytes f.rest rest f.records f.cut, f.answered);
-    }
-
--- and where it stops at a record that is refused, those in front of it
-pub Stands-refused : (gives : Gives) (start : State) (bytes : List ℕ) (c : Cutter) (held : List ℕ) (before after : Option (List ℕ)) (is_text : List ℕ → Type 0) →
-    Stands gives start bytes c held before after → ((written : List ℕ) → IsSoFar gives start bytes c (written ++ held) → is_text (written ++ held)) →
-    Holds is_text held before after
-Stands-refused gives start bytes c held before after is_text s on = record { written = s.written; taken = s.taken; text = on s.written s.so_far }
+    Stands-holds gives start bytes c held before after (IsReportOnFirst gives c.delimiter start (bytes ++ rest)) s
+    (λ written f. (f.records, f.state, f.rest ++ rest, AreCut-grown c.delimiter start f.state bytes f.rest rest f.records f.cut, f.answered))
 
 front_then : (before middle after : Option (List ℕ)) (written held : List ℕ) → Takes before written middle → TakesFront middle held after →
     TakesFront before (written ++ held) after
@@ -219,22 +222,18 @@ Holds-out is_text held before middle after h t = (h.written ++ held, h.text, tak
 pub Stands-whole : (gives : Gives) (start : State) (bytes : List ℕ) (c : Cutter) (held : List ℕ) (before after : Option (List ℕ)) →
     ends_at_end (state_of c.place) ≡ false → Stands gives start bytes c held before after → Holds (IsReport gives c.delimiter start bytes) held before after
 Stands-whole gives start bytes c held before after e s =
-    let f = s.so_far in record {
-      written = s.written;
-      taken = s.taken;
-      text = (
+    Stands-holds gives start bytes c held before after (IsReport gives c.delimiter start bytes) s (λ written f. (
+      f.records,
+      (
         f.records,
-        (
-          f.records,
-          f.state,
-          f.rest,
-          f.cut,
-          (state_of c.place, fields_of c.fields, c.field.items, f.fed),
-          sym (ap (λ l. f.records ++ l) (IsSoFar-last gives start bytes c (s.written ++ held) f false e) ∙ append-nil f.records),
-        ),
-        f.answered,
-      );
-    }
+        f.state,
+        f.rest,
+        f.cut,
+        (state_of c.place, fields_of c.fields, c.field.items, f.fed),
+        sym (ap (λ l. f.records ++ l) (IsSoFar-last gives start bytes c (written ++ held) f false e) ∙ append-nil f.records),
+      ),
+      f.answered,
+    ))
 
 -- and where one record does, and was answered
 pub Stands-last : (gives : Gives) (start : State) (bytes : List ℕ) (c : Cutter) (held : List ℕ) (fields given : Record) (before after : Option (List ℕ)) →
@@ -264,20 +263,16 @@ pub Stands-last-refused : (gives : Gives) (refuses : Record → Type 0) (start :
     (before after to_come : Option (List ℕ)) → ends_at_end (state_of c.place) ≡ true → fields ≡ fields_of c.fields ++ c.field.items ∷ [] → IsAtEnd to_come →
     Stands gives start bytes c held before after → refuses fields → Holds (IsReportBefore gives refuses c.delimiter start to_come bytes) held before after
 Stands-last-refused gives refuses start bytes c held fields before after to_come e is end s on =
-    let f = s.so_far in record {
-      written = s.written;
-      taken = s.taken;
-      text = (
-        f.records,
-        f.state,
-        f.rest,
-        fields,
-        f.cut,
-        inr (end, IsSoFar-last gives start bytes c (s.written ++ held) f true e ∙ ap (λ r. r ∷ []) (sym is)),
-        on,
-        f.answered,
-      );
-    }
+    Stands-holds gives start bytes c held before after (IsReportBefore gives refuses c.delimiter start to_come bytes) s (λ written f. (
+      f.records,
+      f.state,
+      f.rest,
+      fields,
+      f.cut,
+      inr (end, IsSoFar-last gives start bytes c (written ++ held) f true e ∙ ap (λ r. r ∷ []) (sym is)),
+      on,
+      f.answered,
+    ))
 
 -- nothing was read yet
 pub Stands-nothing : (gives : Gives) (start : State) (c : Cutter) (held : List ℕ) (a : Option (List ℕ)) → state_of c.place ≡ start → fields_of c.fields ≡ [] →
@@ -299,11 +294,8 @@ Stands-nothing gives start c held a place fields field empty = record {
 pub Stands-ended : (gives : Gives) (start : State) (bytes : List ℕ) (c : Cutter) (held : List ℕ) (before after : Option (List ℕ)) →
     Stands gives start bytes c held before after → Holds (IsReportOnEnded gives c.delimiter start bytes) held before after
 Stands-ended gives start bytes c held before after s =
-    let f = s.so_far in record {
-      written = s.written;
-      taken = s.taken;
-      text = (f.records, f.state, f.rest, f.cut, (state_of c.place, fields_of c.fields, c.field.items, f.fed), f.answered);
-    }
+    Stands-holds gives start bytes c held before after (IsReportOnEnded gives c.delimiter start bytes) s
+    (λ written f. (f.records, f.state, f.rest, f.cut, (state_of c.place, fields_of c.fields, c.field.items, f.fed), f.answered))
 
 -- where a sink fails in the middle of what is held, it took a beginning of the report
 pub Holds-begins : (gives : Gives) (d : ℕ) (start : State) (to_come : Option (List ℕ)) (bytes held : List ℕ) (is_text : List ℕ → Type 0)

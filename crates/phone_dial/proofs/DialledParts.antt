@@ -1,6 +1,6 @@
 -- What the readers find in a dialled number: a number and what announces its extension.
 use Rattle.std.proofs.Common.{◌≡◌, ◌⊎◌, inl, inr, ℕ, ◌≤◌, ◌||◌, Bool, true, false, if◌then◌else◌, List, [], ◌∷◌, ◌++◌, codes, length, filter, Option, None, Some, IsUtf8, unwrap_or, refl, ap, sym, subst, ◌∙◌, append-nil, arith}
-use Rattle.std.proofs.lemmas.Bool.{and_from, and_parts, not_from_false, or_cases, or_left, or_parts, or_right}
+use Rattle.std.proofs.lemmas.Bool.{and_from, and_parts, or_left, or_right}
 use Rattle.std.proofs.lemmas.List.Elements.{filter_map-append}
 use Rattle.std.proofs.lemmas.List.Folds.{list_all-append}
 use Rattle.std.proofs.lemmas.Str.{IsUtf8-append, chars-append}
@@ -19,11 +19,11 @@ use Rattle.phone_parts.proofs.PrintedInternational.{international_parts}
 use Rattle.phone_parts.proofs.PrintedTexts.{digit_apart, none_apart, none_append}
 use Rattle.phone_parts.specs.Texts.{ends}
 use Rattle.phone_core.specs.declared.reading.Reading.{Reading}
-use Rattle.phonenumber.proofs.BackLaws.{IsAnnounced, IsFoundBefore, punctuated}
+use Rattle.phonenumber.proofs.BackLaws.{IsAnnounced, IsFoundBefore, punctuated, quiet_between}
 use Rattle.phonenumber.proofs.BackNumbers.{list_all-text_of}
 use Rattle.phonenumber.proofs.BackPrefixes.{announced_safely}
 use Rattle.phonenumber.proofs.BackTexts.{IsUtf8-low, announced, chars-low, is_low, low_announced, low_digits}
-use Rattle.phonenumber.proofs.BackViable.{all_from_left, digits_left, indicating, is_parted, no_digits, norm-parted, parted_digit}
+use Rattle.phonenumber.proofs.BackViable.{all_from_left, digits_left, indicating, is_parted, no_digits, norm-parted}
 use Rattle.phonenumber.specs.Plain.{IsBenign, IsPlainInternational, has_digits}
 use Rattle.phone_print.specs.Texts.{extension_part, laid_out}
 
@@ -36,29 +36,12 @@ any_of_left p (c ∷ cs) some = at (p c) some (any_of_left p cs)
     at true some more = refl
     at false some more = more some
 
-pub parted_digits : (t : List ℕ) → list_all is_digit t ≡ true → list_all is_parted t ≡ true
-parted_digits t h = all_wider is_digit is_parted parted_digit t h
-
 -- a laid-out number: digits, and punctuation between them that announces nothing
 pub record IsLaid (q digits : List ℕ) : Type 0 where
   pub only : list_all (λ c. is_digit c || is_punctuation c) q ≡ true
   pub quiet : list_any (is_one_of indicating) q ≡ false
   pub digit : list_any is_digit q ≡ true
   pub left : filter is_digit q ≡ digits
-
--- what is between its digits is quiet
-quiet_between : (t : List ℕ) → list_all (λ c. is_digit c || is_punctuation c) t ≡ true →
-    list_any (is_one_of indicating) t ≡ false → list_all is_parted t ≡ true
-quiet_between [] h none = refl
-quiet_between (c ∷ cs) h none =
-    let both = and_parts (is_digit c || is_punctuation c)
-    (list_all (λ c. is_digit c || is_punctuation c) cs) h in
-    let parts = or_parts (is_one_of indicating c) (list_any (is_one_of indicating) cs) none in
-    let here : is_parted c ≡ true = elim (or_cases (is_digit c) (is_punctuation c) both.0) [
-      | inl digit ↦ or_left _ _ digit
-      | inr there ↦ or_right _ _ (and_from _ _ there (not_from_false (is_one_of indicating c) parts.0))
-    ] in
-    and_from _ _ here (quiet_between cs both.1 parts.1)
 
 -- what is kept of such a text, where punctuation is cut off its end
 pub record IsKept (kept digits : List ℕ) : Type 0 where

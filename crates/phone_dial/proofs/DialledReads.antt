@@ -44,7 +44,7 @@ use Rattle.phone_core.specs.declared.reading.Reading.{Reading}
 use Rattle.phone_number.specs.Bounds.{IsBounded}
 use Rattle.phone_print.specs.Texts.{extension_part, laid_out}
 use Rattle.phonenumber.proofs.BackCodes.{shortest-decimal}
-use Rattle.phonenumber.proofs.BackLaws.{IsFoundBefore}
+use Rattle.phonenumber.proofs.BackLaws.{IsFoundBefore, parted_digits}
 use Rattle.phonenumber.proofs.BackNumbers.{list_all-decimal, nsn-text_of}
 use Rattle.phonenumber.proofs.BackTexts.{IsUtf8-low, chars-international_text, chars-low, is_low, low_digits}
 use Rattle.phonenumber.proofs.BackViable.{all_allowed, is_parted, viable-parted}
@@ -52,7 +52,7 @@ use Rattle.phonenumber.specs.Plain.{has_digits}
 use Rattle.phone_dial.specs.Back.{IsAfterPlus, IsAfterPrefix, IsPlainDialled, IsReadUnder}
 use Rattle.phone_dial.specs.Dialled.{dialled_abroad, dialled_by, dialled_text}
 use Rattle.phone_dial.specs.declared.dialling.DialError.TheVariants.{UnknownCode, UnknownRegion}
-use Rattle.phone_dial.proofs.DialledParts.{IsLaid, IsTold, coded_laid, kept_of, laid_text, parted_digits, plain_laid, plain_told}
+use Rattle.phone_dial.proofs.DialledParts.{IsLaid, IsTold, coded_laid, kept_of, laid_text, plain_laid, plain_told}
 use Rattle.phone_dial.proofs.Prefixes.{never_empty}
 use Rattle.phone_dial.proofs.UnsignedParts.{unsigned_parts}
 

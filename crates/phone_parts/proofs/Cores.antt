@@ -132,20 +132,26 @@ core_unique text a b g h =
 pub undivided : (text : List ℕ) → ((k : ℕ) → k < length text → begins_second_number (drop k text) ≡ false) → IsBeforeSecondNumber text text
 undivided text none = record { after = []; whole = sym (append-nil text); ended = inl refl; earliest = none }
 
--- a text from its start on, up to the last character in which a number may end, is the core if it is all before a second number
-pub kept_core : (kept trailing : List ℕ) → begins is_start (kept ++ trailing) ≡ true → ends is_last kept ≡ true → list_any is_last trailing ≡ false →
-    IsBeforeSecondNumber kept kept → IsCore (kept ++ trailing) kept
-kept_core kept trailing starts last none first = record {
-  before = [];
+-- a core: what stands before the first start is cut, and what stands behind the last character in which a number may end, and the rest from a second number on
+pub core_of : (before kept trailing core : List ℕ) → list_any is_start before ≡ false → begins is_start (kept ++ trailing) ≡ true → ends is_last kept ≡ true →
+    list_any is_last trailing ≡ false → IsBeforeSecondNumber kept core → ¬ (core ≡ []) → IsCore (before ++ (kept ++ trailing)) core
+core_of before kept trailing core no_start starts last none first some = record {
+  before = before;
   from = kept ++ trailing;
   kept = kept;
   whole = refl;
-  no_start = refl;
+  no_start = no_start;
   starts = starts;
   trimmed = record { trailing = trailing; whole = refl; no_last = none; trimmed = inr last };
   first = first;
-  not_empty = λ e. true≢false (sym last ∙ ap (ends is_last) e);
+  not_empty = some;
 }
+
+-- a text from its start on, up to the last character in which a number may end, is the core if it is all before a second number
+pub kept_core : (kept trailing : List ℕ) → begins is_start (kept ++ trailing) ≡ true → ends is_last kept ≡ true → list_any is_last trailing ≡ false →
+    IsBeforeSecondNumber kept kept → IsCore (kept ++ trailing) kept
+kept_core kept trailing starts last none first =
+    core_of [] kept trailing kept refl starts last none first (λ e. true≢false (sym last ∙ ap (ends is_last) e))
 
 -- so a text behind which nothing is cut off is its own core
 pub whole_core : (text : List ℕ) → begins is_start text ≡ true → ends is_last text ≡ true → IsBeforeSecondNumber text text → IsCore text text

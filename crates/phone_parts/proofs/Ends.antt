@@ -21,6 +21,11 @@ ends_wider p q wider [] e = absurd (true≢false (sym e))
 ends_wider p q wider (x ∷ []) e = wider x e
 ends_wider p q wider (x ∷ y ∷ xs) e = ends_wider p q wider (y ∷ xs) e
 
+-- a text begins as its front does, where that has a character
+pub begins_of_front : (p : ℕ → Bool) (a b : List ℕ) → begins p a ≡ true → begins p (a ++ b) ≡ true
+begins_of_front p [] b e = absurd (true≢false (sym e))
+begins_of_front p (x ∷ a) b e = e
+
 -- where all pass none fails
 pub none_fails : (p : ℕ → Bool) (xs : List ℕ) → list_all p xs ≡ true → list_any (λ c. not (p c)) xs ≡ false
 none_fails p [] all = refl

@@ -1,5 +1,5 @@
 -- Sets that simple folding keeps, and how texts that are like a word begin and end. Decimal digits have no case: each folds to itself.
-use Rattle.std.proofs.Common.{◌≡◌, ℕ, suc, ◌==◌, Bool, true, false, not, ◌||◌, List, [], ◌∷◌, length, slice_index_or, refl, ap, sym, ◌∙◌, true≢false, eqb-true}
+use Rattle.std.proofs.Common.{◌≡◌, ℕ, suc, ◌==◌, Bool, true, false, not, ◌||◌, List, [], ◌∷◌, ◌++◌, length, slice_index_or, refl, ap, sym, ◌∙◌, true≢false, eqb-true}
 use Rattle.std.proofs.lemmas.Bool.{and_parts, false_from_ne_true}
 use Rattle.std.proofs.lemmas.List.{nil_from_length}
 use Rattle.std.specs.List.{list_any, list_all}
@@ -15,7 +15,7 @@ use Rattle.ucd_table.proofs.Facts.{Stepped-everywhere}
 use Rattle.ucd_table.proofs.Stepped.{zip_stepped}
 use Rattle.phone_chars.specs.Characters.{is_nd, same_fold}
 use Rattle.phone_parts.specs.Texts.{begins, ends, is_like}
-use Rattle.phone_parts.proofs.Ends.{begins_wider, ends_wider}
+use Rattle.phone_parts.proofs.Ends.{begins_of_front, begins_wider, ends_wider}
 
 -- a digit has no folding, computed over all characters
 digits_unfolded : (c : ℕ) → (not (is_nd c) || (length (simple_folding c) == 0)) ≡ true
@@ -91,3 +91,13 @@ like_one q name (w ∷ ws) h all = at_head (is_like name w) refl h (and_parts (q
         (list_any (is_like name) ws ≡ true → list_all q ws ≡ true → IsLikeOne q name) → IsLikeOne q name
     at_head true e f parts g = record { word = w; like = e; holds = parts.0 }
     at_head false e f parts g = g f parts.1
+
+-- so what follows a text that is like one of some words begins as they do, where they all begin with a character whose folding is in the set
+pub like_begins : (p : ℕ → Bool) (name word rest : List ℕ) → is_like name word ≡ true → begins (λ c. p (simple_fold c)) word ≡ true →
+    begins (λ c. p (simple_fold c)) (name ++ rest) ≡ true
+like_begins p name word rest like first = begins_of_front (λ c. p (simple_fold c)) name rest (begins-folded p name word like ∙ first)
+
+pub any_like_begins : (p : ℕ → Bool) (name : List ℕ) (words : List (List ℕ)) (rest : List ℕ) → list_any (is_like name) words ≡ true →
+    list_all (begins (λ c. p (simple_fold c))) words ≡ true → begins (λ c. p (simple_fold c)) (name ++ rest) ≡ true
+any_like_begins p name words rest any all =
+    let one = like_one (begins (λ c. p (simple_fold c))) name words any all in like_begins p name one.word rest one.like one.holds

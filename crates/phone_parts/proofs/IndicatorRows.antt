@@ -1,5 +1,5 @@
 -- Each indicator announces an extension.
-use Rattle.std.proofs.Common.{◌≡◌, ℕ, Bool, true, false, ◌||◌, List, [], ◌∷◌, ◌++◌, map, codes, refl, ap, arith}
+use Rattle.std.proofs.Common.{◌≡◌, ℕ, Bool, true, false, ◌||◌, List, [], ◌∷◌, ◌++◌, map, codes, refl, ap}
 use Rattle.std.proofs.lemmas.Bool.{or_left, or_right}
 use Rattle.std.proofs.lemmas.Slice.Eq.{bytes_eq-Decides}
 use Rattle.std.specs.List.{list_any}
@@ -9,7 +9,7 @@ use Rattle.ucd_category.proofs.Computing.{ucd_category}
 use Rattle.phone_parts.specs.Suffixes.{IsSuffix, indicators}
 use Rattle.phone_parts.specs.Texts.{is_like}
 use Rattle.phone_parts.specs.declared.suffix.Form.TheVariants.{Indicated}
-use Rattle.phone_parts.proofs.NaturalRows.{indicated_row}
+use Rattle.phone_parts.proofs.NaturalRows.{indicated_of}
 
 -- a text is like itself
 like_same : (a b : List ℕ) → bytes_eq a b ≡ true → is_like a b ≡ true
@@ -28,7 +28,7 @@ any_like_same w (v ∷ vs) any = at_head (bytes_eq w v) refl any (any_like_same 
 pub like_indicator : (w : List ℕ) → list_any (is_like w) indicators ≡ true → IsSuffix (w ++ codes "5") Indicated (codes "5")
 unfolding ucd_category
 like_indicator w announces =
-    indicated_row [] w [] [] (codes "5") [] refl announces refl (omega arith) refl refl (omega arith) refl (omega arith)
+    indicated_of [] w [] [] (codes "5") [] refl announces refl refl refl refl
 
 pub each_indicator : (w : List ℕ) → list_any (bytes_eq w) indicators ≡ true → IsSuffix (w ++ codes "5") Indicated (codes "5")
 each_indicator w member = like_indicator w (any_like_same w indicators member)

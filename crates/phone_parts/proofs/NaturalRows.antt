@@ -1,26 +1,31 @@
--- Extensions, and readings of free text, computed on their definitions.
-use Rattle.std.proofs.Common.{◌≡◌, ℕ, ◌≤◌, true, List, [], ◌∷◌, ◌++◌, length, codes, Some, None, Ok, Err, refl, arith}
+-- Extensions, and readings of free text, put together from their parts.
+use Rattle.std.proofs.Common.{◌≡◌, ℕ, ◌≤◌, Bool, true, ◌&&◌, nat_le, List, [], ◌∷◌, ◌++◌, length, codes, Some, None, Ok, refl}
+use Rattle.std.proofs.lemmas.Bool.{and_parts, leb-true}
 use Rattle.std.specs.List.{list_any, list_all}
-use Rattle.ucd_case.proofs.Computing.{ucd_case}
-use Rattle.ucd_category.proofs.Computing.{ucd_category}
 use Rattle.ucd_table.proofs.TrieCheck.{all_below}
 use Rattle.phone_chars.specs.Characters.{is_nd}
 use Rattle.phone_parts.specs.Cores.{IsCore, is_start, is_last}
 use Rattle.phone_parts.specs.Naturals
 use Rattle.phone_parts.specs.Naturals.{IsNatural}
-use Rattle.phone_parts.specs.Suffixes.{IsSuffix, IsSomeSuffix, indicators, is_lead, is_mark, is_gap, is_sign, is_dash}
+use Rattle.phone_parts.specs.Suffixes.{IsFew, IsSuffix, IsSomeSuffix, indicators, is_lead, is_mark, is_gap, is_sign, is_dash}
 use Rattle.phone_parts.specs.Texts.{begins, ends, is_like}
-use Rattle.phone_parts.specs.declared.natural.NoReading.TheVariants.{Error}
 use Rattle.phone_parts.specs.declared.suffix.Form.TheVariants.{Parameter, Indicated, NumberSign}
-use Rattle.phone_parts.proofs.CoreRows.{no_second, no_mark, no_start, sign_alone}
+use Rattle.phone_parts.proofs.CoreRows.{no_mark, no_second}
 use Rattle.phone_parts.proofs.Cores.{whole_core}
 use Rattle.phone_parts.proofs.SuffixTests.{fails_at, no_suffix, no_suffix_before}
 
--- an extension of the indicated form, put together
-pub indicated_row : (lead word mark gap d sign : List ℕ) → list_all is_lead lead ≡ true → list_any (is_like word) indicators ≡ true →
-    list_all is_mark mark ≡ true → length mark ≤ 1 → list_all is_gap gap ≡ true → list_all is_nd d ≡ true → length d ≤ 7 →
-    list_all is_sign sign ≡ true → length sign ≤ 1 → IsSuffix (lead ++ (word ++ (mark ++ (gap ++ (d ++ sign))))) Indicated d
-indicated_row lead word mark gap d sign leads announces marks one_mark gaps digits few signs one_sign = record {
+-- at most n characters, all of the set, as a test
+abbrev pub are_few : (ℕ → Bool) → ℕ → List ℕ → Bool
+are_few p n t = list_all p t && nat_le (length t) n
+
+few : (p : ℕ → Bool) (n : ℕ) (t : List ℕ) → are_few p n t ≡ true → IsFew p n t
+few p n t h = let parts = and_parts (list_all p t) (nat_le (length t) n) h in record { only = parts.0; few = leb-true (length t) n parts.1 }
+
+-- an extension of each of the three forms, put together
+pub indicated_of : (lead word mark gap d sign : List ℕ) → list_all is_lead lead ≡ true → list_any (is_like word) indicators ≡ true →
+    are_few is_mark 1 mark ≡ true → list_all is_gap gap ≡ true → are_few is_nd 7 d ≡ true → are_few is_sign 1 sign ≡ true →
+    IsSuffix (lead ++ (word ++ (mark ++ (gap ++ (d ++ sign))))) Indicated d
+indicated_of lead word mark gap d sign leads announces marks gaps digits signs = record {
   lead = lead;
   rest = word ++ (mark ++ (gap ++ (d ++ sign)));
   whole = refl;
@@ -35,153 +40,35 @@ indicated_row lead word mark gap d sign leads announces marks one_mark gaps digi
       gap = gap;
       sign = sign;
       whole = refl;
-      marks = record { only = marks; few = one_mark };
+      marks = few is_mark 1 mark marks;
       gaps = gaps;
-      digits = record { only = digits; few = few };
-      signs = record { only = signs; few = one_sign };
+      digits = few is_nd 7 d digits;
+      signs = few is_sign 1 sign signs;
     };
   };
 }
 
--- an extension of each of the two other forms
-parameter_row : (name d : List ℕ) → is_like name (codes ";ext=") ≡ true →
-    list_all is_nd d ≡ true → length d ≤ 7 → IsSuffix (name ++ d) Parameter d
-parameter_row name d named digits few = record {
-  name = name;
-  whole = refl;
-  named = named;
-  digits = record { only = digits; few = few };
-}
+pub parameter_of : (name d : List ℕ) → is_like name (codes ";ext=") ≡ true → are_few is_nd 7 d ≡ true → IsSuffix (name ++ d) Parameter d
+parameter_of name d named digits = record { name = name; whole = refl; named = named; digits = few is_nd 7 d digits }
 
-signed_row : (lead d : List ℕ) → list_all is_dash lead ≡ true → 1 ≤ length lead →
-    list_all is_nd d ≡ true → 1 ≤ length d → length d ≤ 5 →
+pub signed_of : (lead d : List ℕ) → list_all is_dash lead ≡ true → 1 ≤ length lead → are_few is_nd 5 d ≡ true → 1 ≤ length d →
     IsSuffix (lead ++ (d ++ 35 ∷ [])) NumberSign d
-signed_row lead d leads some_lead digits some_digits few = record {
-  lead = lead;
-  whole = refl;
-  leads = leads;
-  some_lead = some_lead;
-  digits = record { only = digits; few = few };
-  some_digits = some_digits;
-}
-
-pub parameter : IsSuffix (codes ";EXT=12") Parameter (codes "12")
-unfolding ucd_case ucd_category
-parameter = parameter_row (codes ";EXT=") (codes "12") refl refl (omega arith)
-
-pub number_signed : IsSuffix (codes " - 12#") NumberSign (codes "12")
-unfolding ucd_category
-number_signed =
-    signed_row (codes " - ") (codes "12") refl (omega arith) refl (omega arith) (omega arith)
-
-pub word : IsSuffix (codes ", Exten" ++ 0x17F ∷ codes "ion. 12#") Indicated (codes "12")
-unfolding ucd_case ucd_category
-word =
-    indicated_row (codes ", ") (codes "Exten" ++ 0x17F ∷ codes "ion") (codes ".") (codes " ") (codes "12") (codes "#")
-    refl refl refl (omega arith) refl refl (omega arith) refl (omega arith)
-
-pub wide_word : IsSuffix (0xFF38 ∷ 0xFF34 ∷ 0xFF4E ∷ 0x661 ∷ []) Indicated (0x661 ∷ [])
-unfolding ucd_case ucd_category
-wide_word = indicated_row [] (0xFF38 ∷ 0xFF34 ∷ 0xFF4E ∷ []) [] [] (0x661 ∷ []) [] refl refl refl (omega arith) refl refl (omega arith) refl (omega arith)
-
-pub sign : IsSuffix (codes ",;") Indicated []
-unfolding ucd_case ucd_category
-sign = indicated_row (codes ",") (codes ";") [] [] [] [] refl refl refl (omega arith) refl refl (omega arith) refl (omega arith)
-
-pub other_word : IsSuffix (codes "anexo:-7") Indicated (codes "7")
-unfolding ucd_case ucd_category
-other_word = indicated_row [] (codes "anexo") (codes ":") (codes "-") (codes "7") [] refl refl refl (omega arith) refl refl (omega arith) refl (omega arith)
+signed_of lead d leads some_lead digits some_digits =
+    record { lead = lead; whole = refl; leads = leads; some_lead = some_lead; digits = few is_nd 5 d digits; some_digits = some_digits }
 
 -- a text that is its own core
-pub own_core : (text : List ℕ) → begins is_start text ≡ true → ends is_last text ≡ true → all_below (no_mark text) (length text) ≡ true → ¬ (text ≡ []) → IsCore text text
-own_core text starts last none _ = whole_core text starts last (no_second text none)
+own_core : (text : List ℕ) → begins is_start text ≡ true → ends is_last text ≡ true → all_below (no_mark text) (length text) ≡ true → IsCore text text
+own_core text starts last none = whole_core text starts last (no_second text none)
 
-pub whole_text : IsNatural (codes "650253") (Ok (record { national = codes "650253"; prefix = None; extension = None }))
-unfolding ucd_case ucd_category no_mark fails_at
-whole_text = Naturals.plain (codes "650253") (own_core (codes "650253") refl refl refl (λ e. cc)) (no_suffix (codes "650253") refl)
+-- such a text without an extension
+pub plain_of : (text : List ℕ) → begins is_start text ≡ true → ends is_last text ≡ true → all_below (no_mark text) (length text) ≡ true →
+    all_below (fails_at text) (length text) ≡ true → IsNatural text (Ok (record { national = text; prefix = None; extension = None }))
+plain_of text starts last none no_end = Naturals.plain text (own_core text starts last none) (no_suffix text no_end)
 
--- a text that is its own core, parted before an extension that is its longest
-parted_row : (national suffix d : List ℕ) → IsCore (national ++ suffix) (national ++ suffix) →
-    IsSomeSuffix suffix d → all_below (fails_at (national ++ suffix)) (length national) ≡ true →
-    IsNatural (national ++ suffix)
-    (Ok (record { national = national; prefix = None; extension = Some d }))
-parted_row national suffix d core extension none =
-    Naturals.extended (national ++ suffix) national d core (record {
-      suffix = suffix;
-      whole = refl;
-      is_suffix = extension;
-      longest = no_suffix_before (national ++ suffix) (length national) none;
-    })
-
-pub extended : IsNatural (codes "+64331x12")
-    (Ok (record { national = codes "+64331"; prefix = None; extension = Some (codes "12") }))
-unfolding ucd_case ucd_category no_mark fails_at
-extended =
-    parted_row (codes "+64331") (codes "x12") (codes "12")
-    (own_core (codes "+64331x12") refl refl refl (λ e. cc)) (
-      Indicated,
-      indicated_row [] (codes "x") [] [] (codes "12") []
-          refl refl refl (omega arith) refl refl (omega arith) refl (omega arith),
-    )
-    refl
-
-pub spaced : IsNatural (codes "650 253 0000 extn. 4567")
-    (Ok (record { national = codes "650 253 0000"; prefix = None; extension = Some (codes "4567") }))
-unfolding ucd_case ucd_category no_mark fails_at
-spaced =
-    parted_row (codes "650 253 0000") (codes " extn. 4567") (codes "4567")
-    (own_core (codes "650 253 0000 extn. 4567") refl refl refl (λ e. cc)) (
-      Indicated,
-      indicated_row (codes " ") (codes "extn") (codes ".") (codes " ") (codes "4567") []
-          refl refl refl (omega arith) refl refl (omega arith) refl (omega arith),
-    )
-    refl
-
-pub no_digits : IsNatural (codes "+64 3 331 6005x")
-    (Ok (record { national = codes "+64 3 331 6005"; prefix = None; extension = Some [] }))
-unfolding ucd_case ucd_category no_mark fails_at
-no_digits =
-    parted_row (codes "+64 3 331 6005") (codes "x") []
-    (own_core (codes "+64 3 331 6005x") refl refl refl (λ e. cc)) (
-      Indicated,
-      indicated_row [] (codes "x") [] [] [] []
-          refl refl refl (omega arith) refl refl (omega arith) refl (omega arith),
-    )
-    refl
-
-pub with_parameter : IsNatural (codes "650;ext=5")
-    (Ok (record { national = codes "650"; prefix = None; extension = Some (codes "5") }))
-unfolding ucd_case ucd_category no_mark fails_at
-with_parameter =
-    parted_row (codes "650") (codes ";ext=5") (codes "5")
-    (own_core (codes "650;ext=5") refl refl refl (λ e. cc))
-    (Parameter, parameter_row (codes ";ext=") (codes "5") refl refl (omega arith))
-    refl
-
-pub with_sign : IsNatural (codes "650 5#")
-    (Ok (record { national = codes "650"; prefix = None; extension = Some (codes "5") }))
-unfolding ucd_case ucd_category no_mark fails_at
-with_sign =
-    parted_row (codes "650") (codes " 5#") (codes "5")
-    (own_core (codes "650 5#") refl refl refl (λ e. cc)) (
-      NumberSign,
-      signed_row (codes " ") (codes "5") refl (omega arith) refl (omega arith) (omega arith),
-    )
-    refl
-
-pub longer_sign : IsNatural (codes "+64 3 331 6005#")
-    (Ok (record { national = codes "+64 3 331"; prefix = None; extension = Some (codes "6005") }))
-unfolding ucd_case ucd_category no_mark fails_at
-longer_sign =
-    parted_row (codes "+64 3 331") (codes " 6005#") (codes "6005")
-    (own_core (codes "+64 3 331 6005#") refl refl refl (λ e. cc)) (
-      NumberSign,
-      signed_row (codes " ") (codes "6005") refl (omega arith) refl (omega arith) (omega arith),
-    )
-    refl
-
-pub no_number : IsNatural (codes "Num-....") (Err Error)
-no_number = Naturals.nothing no_start
-
-pub no_digit : IsNatural (codes "+") (Err Error)
-no_digit = Naturals.nothing sign_alone
+-- and one that is parted before its longest extension
+pub parted_of : (national suffix d : List ℕ) → begins is_start (national ++ suffix) ≡ true → ends is_last (national ++ suffix) ≡ true →
+    all_below (no_mark (national ++ suffix)) (length (national ++ suffix)) ≡ true → all_below (fails_at (national ++ suffix)) (length national) ≡ true →
+    IsSomeSuffix suffix d → IsNatural (national ++ suffix) (Ok (record { national = national; prefix = None; extension = Some d }))
+parted_of national suffix d starts last none no_longer extension =
+    Naturals.extended (national ++ suffix) national d (own_core (national ++ suffix) starts last none)
+    (record { suffix = suffix; whole = refl; is_suffix = extension; longest = no_suffix_before (national ++ suffix) (length national) no_longer })

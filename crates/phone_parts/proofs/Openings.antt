@@ -1,16 +1,16 @@
 -- Which characters every extension has: without them a text has none.
-use Rattle.std.proofs.Common.{◌≡◌, ℕ, Bool, true, false, ◌||◌, zero, suc, List, [], ◌∷◌, ◌++◌, drop, codes, eqb-true, refl, ap, sym, ◌∙◌, true≢false}
-use Rattle.std.proofs.lemmas.Bool.{and_parts, or_parts, or_right}
+use Rattle.std.proofs.Common.{◌≡◌, ℕ, Bool, true, false, ◌||◌, zero, suc, List, [], ◌∷◌, ◌++◌, drop, codes, refl, ap, sym, ◌∙◌, true≢false}
+use Rattle.std.proofs.lemmas.Bool.{or_left, or_parts, or_right}
 use Rattle.std.proofs.lemmas.List.Folds.{list_any-append}
 use Rattle.std.specs.List.{list_any, list_all}
 use Rattle.ucd_case.proofs.Computing.{ucd_case}
 use Rattle.ucd_case.specs.CaseFolding.{simple_fold}
-use Rattle.phone_chars.specs.Characters.{is_one_of, same_fold}
-use Rattle.phone_parts.specs.Suffixes.{IsSuffix, HasNoSuffix, indicators}
+use Rattle.phone_chars.specs.Characters.{is_one_of}
+use Rattle.phone_parts.specs.Suffixes.{IsAnnounced, IsParameter, IsSuffix, HasNoSuffix, indicators}
 use Rattle.phone_parts.specs.declared.suffix.Form.{Form}
 use Rattle.phone_parts.specs.declared.suffix.Form.TheVariants.{Parameter, Indicated, NumberSign}
-use Rattle.phone_parts.specs.Texts.{begins, is_like}
-use Rattle.phone_parts.proofs.Foldings.{like_one}
+use Rattle.phone_parts.specs.Texts.{begins}
+use Rattle.phone_parts.proofs.Foldings.{any_like_begins, like_begins}
 
 -- what an indicator begins with: `,`, `;`, `#`, `~`, `x`, `e`, `i`, `a`, and the fullwidth `#`, `~`, `x`, `e`, `i`
 abbrev pub openings : List ℕ
@@ -24,9 +24,9 @@ pub indicators_open : list_all (begins is_opening) indicators ≡ true
 unfolding ucd_case
 indicators_open = refl
 
-parameter_opens : begins is_opening (codes ";ext=") ≡ true
+ext_opens : begins is_opening (codes ";ext=") ≡ true
 unfolding ucd_case
-parameter_opens = refl
+ext_opens = refl
 
 sign_opens : is_opening 35 ≡ true
 unfolding ucd_case
@@ -36,26 +36,23 @@ sign_opens = refl
 any_after : (p : ℕ → Bool) (xs ys : List ℕ) → list_any p ys ≡ true → list_any p (xs ++ ys) ≡ true
 any_after p xs ys h = list_any-append p xs ys ∙ or_right (list_any p xs) (list_any p ys) h
 
--- a text that is like a word that begins so has one
-like_opens : (name word rest : List ℕ) → is_like name word ≡ true → begins is_opening word ≡ true → list_any is_opening (name ++ rest) ≡ true
-like_opens [] [] rest h b = absurd (true≢false (sym b))
-like_opens [] (w ∷ ws) rest h b = absurd (true≢false (sym h))
-like_opens (c ∷ cs) [] rest h b = absurd (true≢false (sym b))
-like_opens (c ∷ cs) (w ∷ ws) rest h b =
-    ap (λ x. x || list_any is_opening (cs ++ rest))
-    (ap (is_one_of openings) (eqb-true (simple_fold c) (simple_fold w) (and_parts (same_fold c w) (is_like cs ws) h).0) ∙ b)
+-- a text that begins with such a character has one
+any_at_front : (p : ℕ → Bool) (xs : List ℕ) → begins p xs ≡ true → list_any p xs ≡ true
+any_at_front p [] h = absurd (true≢false (sym h))
+any_at_front p (x ∷ xs) h = or_left (p x) (list_any p xs) h
 
-any_like_opens : (name : List ℕ) (words : List (List ℕ)) (rest : List ℕ) → list_any (is_like name) words ≡ true →
-    list_all (begins is_opening) words ≡ true → list_any is_opening (name ++ rest) ≡ true
-any_like_opens name words rest h all = let one = like_one (begins is_opening) name words h all in like_opens name one.word rest one.like one.holds
+pub announced_opens : (w d : List ℕ) → IsAnnounced indicators w d → begins is_opening w ≡ true
+announced_opens w d h =
+    ap (begins is_opening) h.whole ∙ any_like_begins (is_one_of openings) h.word indicators h.ending h.announces indicators_open
+
+pub parameter_opens : (w d : List ℕ) → IsParameter w d → begins is_opening w ≡ true
+parameter_opens w d h = ap (begins is_opening) h.whole ∙ like_begins (is_one_of openings) h.name (codes ";ext=") d h.named ext_opens
 
 -- every extension has one
 pub suffix_opens : (w : List ℕ) (f : Form) (d : List ℕ) → IsSuffix w f d → list_any is_opening w ≡ true
-suffix_opens w Parameter d h = ap (list_any is_opening) h.whole ∙ like_opens h.name (codes ";ext=") d h.named parameter_opens
+suffix_opens w Parameter d h = any_at_front is_opening w (parameter_opens w d h)
 suffix_opens w Indicated d h =
-    ap (list_any is_opening) h.whole
-    ∙ any_after is_opening h.lead h.rest
-    (ap (list_any is_opening) h.announced.whole ∙ any_like_opens h.announced.word indicators h.announced.ending h.announced.announces indicators_open)
+    ap (list_any is_opening) h.whole ∙ any_after is_opening h.lead h.rest (any_at_front is_opening h.rest (announced_opens h.rest d h.announced))
 suffix_opens w NumberSign d h =
     ap (list_any is_opening) h.whole ∙ any_after is_opening h.lead _ (any_after is_opening d (35 ∷ []) (ap (λ b. b || false) sign_opens))
 

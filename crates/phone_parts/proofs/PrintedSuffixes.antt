@@ -1,39 +1,17 @@
 -- The longest extension of a text whose part before it has no character that an indicator begins with.
-use Rattle.std.proofs.Common.{◌≡◌, ℕ, ◌<◌, Bool, true, false, not, zero, suc, List, [], ◌∷◌, ◌++◌, length, drop, codes, refl, ap, sym, subst, ◌∙◌, true≢false, arith}
+use Rattle.std.proofs.Common.{◌≡◌, ℕ, ◌<◌, Bool, true, false, not, zero, suc, List, [], ◌∷◌, ◌++◌, length, drop, refl, ap, sym, subst, ◌∙◌, true≢false, arith}
 use Rattle.std.proofs.lemmas.Bool.{and_parts, or_parts, or_right, not-true}
 use Rattle.std.proofs.lemmas.List.Folds.{list_any-append}
 use Rattle.std.specs.List.{list_any, list_all}
-use Rattle.ucd_case.proofs.Computing.{ucd_case}
-use Rattle.phone_chars.specs.Characters.{is_one_of}
-use Rattle.phone_parts.specs.Suffixes.{IsAnnounced, IsSuffix, HasLongestSuffix, indicators, is_lead, is_sign}
+use Rattle.phone_parts.specs.Suffixes.{IsSuffix, HasLongestSuffix, is_lead, is_sign}
 use Rattle.phone_parts.specs.declared.suffix.Form.{Form}
 use Rattle.phone_parts.specs.declared.suffix.Form.TheVariants.{Parameter, Indicated, NumberSign}
-use Rattle.phone_parts.specs.Texts.{begins, ends, is_like}
-use Rattle.phone_parts.proofs.Foldings.{begins-folded, like_one}
-use Rattle.phone_parts.proofs.Openings.{openings, is_opening, indicators_open}
-
--- a text begins as its front does, where that has a character
-begins_of_front : (p : ℕ → Bool) (a b : List ℕ) → begins p a ≡ true → begins p (a ++ b) ≡ true
-begins_of_front p [] b e = absurd (true≢false (sym e))
-begins_of_front p (x ∷ a) b e = e
+use Rattle.phone_parts.specs.Texts.{begins, ends}
+use Rattle.phone_parts.proofs.Openings.{is_opening, announced_opens, parameter_opens}
 
 none_begins : (p q : ℕ → Bool) (a b : List ℕ) → list_any p a ≡ false → ends q a ≡ true → begins p (a ++ b) ≡ false
 none_begins p q [] b none last = absurd (true≢false (sym last))
 none_begins p q (x ∷ a) b none last = (or_parts (p x) (list_any p a) none).0
-
-parameter_opens : begins is_opening (codes ";ext=") ≡ true
-unfolding ucd_case
-parameter_opens = refl
-
--- a text that is like a word begins as the word does
-like_opens : (name word rest : List ℕ) → is_like name word ≡ true → begins is_opening word ≡ true → begins is_opening (name ++ rest) ≡ true
-like_opens name word rest like opens =
-    begins_of_front is_opening name rest (begins-folded (is_one_of openings) name word like ∙ opens)
-
-announced_opens : (w d : List ℕ) → IsAnnounced indicators w d → begins is_opening w ≡ true
-announced_opens w d h =
-    let one = like_one (begins is_opening) h.word indicators h.announces indicators_open in
-    ap (begins is_opening) h.whole ∙ like_opens h.word one.word h.ending one.like one.holds
 
 -- a lead and an indicator don't begin in a text without what an indicator begins with, unless all behind is lead
 no_lead_before : (lead rest before suffix : List ℕ) → before ++ suffix ≡ lead ++ rest → list_all is_lead lead ≡ true → begins is_opening rest ≡ true →
@@ -53,8 +31,7 @@ no_lead_before (l ∷ lead) rest (x ∷ y ∷ before) suffix e leads opens none 
 not_suffix : (before suffix : List ℕ) → list_any is_opening before ≡ false → ends (λ c. not (is_lead c)) before ≡ true →
     list_any is_sign (before ++ suffix) ≡ false → (f : Form) (d : List ℕ) → ¬ (IsSuffix (before ++ suffix) f d)
 not_suffix before suffix none last no_sign Parameter d h =
-    true≢false (sym (like_opens h.name (codes ";ext=") d h.named parameter_opens) ∙ ap (begins is_opening) (sym h.whole)
-    ∙ none_begins is_opening (λ c. not (is_lead c)) before suffix none last)
+    true≢false (sym (parameter_opens (before ++ suffix) d h) ∙ none_begins is_opening (λ c. not (is_lead c)) before suffix none last)
 not_suffix before suffix none last no_sign Indicated d h =
     no_lead_before h.lead h.rest before suffix h.whole h.leads (announced_opens h.rest d h.announced) none last
 not_suffix before suffix none last no_sign NumberSign d h =

@@ -1,28 +1,15 @@
 -- What an extension begins with.
-use Rattle.std.proofs.Common.{◌≡◌, ℕ, Bool, true, List, [], ◌∷◌, ◌++◌, length, codes, eqb-true, refl, ap, sym, subst, ◌∙◌, true≢false, arith}
+use Rattle.std.proofs.Common.{◌≡◌, ℕ, Bool, true, List, [], ◌∷◌, ◌++◌, length, codes, refl, ap, sym, subst, ◌∙◌, true≢false, arith}
 use Rattle.std.proofs.lemmas.Bool.{and_parts}
-use Rattle.std.specs.List.{list_any, list_all}
+use Rattle.std.specs.List.{list_all}
 use Rattle.ucd_case.proofs.Computing.{ucd_case}
-use Rattle.ucd_case.specs.CaseFolding.{simple_fold}
-use Rattle.phone_chars.specs.Characters.{is_one_of, same_fold}
+use Rattle.phone_chars.specs.Characters.{is_one_of}
 use Rattle.phone_parts.specs.Suffixes.{IsAnnounced, IsIndicated, IsSuffix, is_lead, is_dash, is_suffix_start, suffix_starts, indicators}
 use Rattle.phone_parts.specs.declared.suffix.Form.{Form}
 use Rattle.phone_parts.specs.declared.suffix.Form.TheVariants.{Parameter, Indicated, NumberSign}
-use Rattle.phone_parts.specs.Texts.{begins, is_like}
+use Rattle.phone_parts.specs.Texts.{begins}
 use Rattle.phone_parts.proofs.Endings.{member_passes}
-use Rattle.phone_parts.proofs.Foldings.{like_one}
-
--- a text that is like a word begins as the word does
-like_begins : (name word rest : List ℕ) → is_like name word ≡ true → begins is_suffix_start word ≡ true → begins is_suffix_start (name ++ rest) ≡ true
-like_begins [] [] rest h b = absurd (true≢false (sym b))
-like_begins [] (w ∷ ws) rest h b = absurd (true≢false (sym h))
-like_begins (c ∷ cs) [] rest h b = absurd (true≢false (sym b))
-like_begins (c ∷ cs) (w ∷ ws) rest h b =
-    ap (is_one_of suffix_starts) (eqb-true (simple_fold c) (simple_fold w) (and_parts (same_fold c w) (is_like cs ws) h).0) ∙ b
-
-any_like_begins : (name : List ℕ) (words : List (List ℕ)) (rest : List ℕ) → list_any (is_like name) words ≡ true →
-    list_all (begins is_suffix_start) words ≡ true → begins is_suffix_start (name ++ rest) ≡ true
-any_like_begins name words rest h all = let one = like_one (begins is_suffix_start) name words h all in like_begins name one.word rest one.like one.holds
+use Rattle.phone_parts.proofs.Foldings.{any_like_begins, like_begins}
 
 indicators_begin : list_all (begins is_suffix_start) indicators ≡ true
 unfolding ucd_case
@@ -41,7 +28,8 @@ unfolding ucd_case
 dashes_begin = refl
 
 announced_begins : (w d : List ℕ) → IsAnnounced indicators w d → begins is_suffix_start w ≡ true
-announced_begins w d h = ap (begins is_suffix_start) h.whole ∙ any_like_begins h.word indicators h.ending h.announces indicators_begin
+announced_begins w d h =
+    ap (begins is_suffix_start) h.whole ∙ any_like_begins (is_one_of suffix_starts) h.word indicators h.ending h.announces indicators_begin
 
 -- nothing is not announced
 pub not_announced_nil : (d : List ℕ) → ¬ (IsAnnounced indicators [] d)
@@ -54,7 +42,8 @@ run_start p (x ∷ run) rest members all h = members x (and_parts (p x) (list_al
 
 -- an extension begins with one of its starts
 pub suffix_begins : (w : List ℕ) (f : Form) (d : List ℕ) → IsSuffix w f d → begins is_suffix_start w ≡ true
-suffix_begins w Parameter d h = ap (begins is_suffix_start) h.whole ∙ like_begins h.name (codes ";ext=") d h.named parameter_begins
+suffix_begins w Parameter d h =
+    ap (begins is_suffix_start) h.whole ∙ like_begins (is_one_of suffix_starts) h.name (codes ";ext=") d h.named parameter_begins
 suffix_begins w Indicated d h =
     ap (begins is_suffix_start) h.whole
     ∙ run_start is_lead h.lead h.rest (λ c. member_passes is_suffix_start (32 ∷ 0xA0 ∷ 9 ∷ 44 ∷ []) c leads_begin) h.leads (λ _. announced_begins h.rest d h.announced)

@@ -1,149 +1,47 @@
--- Readings of `tel:` texts, computed on their definition.
-use Rattle.std.proofs.Common.{◌≡◌, inl, inr, ℕ, true, false, List, [], ◌∷◌, ◌++◌, Some, None, codes, refl}
-use Rattle.std.specs.List.{list_all}
-use Rattle.ucd_case.proofs.Computing.{ucd_case}
+-- Readings of `tel:` texts, put together from their parts.
+use Rattle.std.proofs.Common.{◌≡◌, ◌⊎◌, ℕ, ◌==◌, true, false, List, [], ◌∷◌, ◌++◌, Option, codes, refl}
+use Rattle.std.specs.List.{list_any, list_all}
+use Rattle.std.specs.Option.{option_or, option_map}
 use Rattle.phone_parts.specs.Tel
-use Rattle.phone_parts.specs.Tel.{IsTel, Parameter, BeginsWith, HasParameters, is_name_char, is_value_char}
-use Rattle.phone_parts.specs.Texts.{begins}
+use Rattle.phone_parts.specs.Tel.{IsTel, Parameter, IsSignedRun, HasParameters, is_name_char, is_phonedigit, is_value_char, value_of, without_plus}
+use Rattle.phone_parts.specs.Texts.{begins, is_like}
 
 pub no_parameters : HasParameters [] []
 no_parameters = Tel.no_more [] (λ p rest h. let e : [] ≡ 59 ∷ (p.name ++ 61 ∷ (p.value ++ rest)) = h.whole in cc)
 
 -- a parameter, and more of them
-and_more : (name value rest : List ℕ) (ps : List Parameter) → list_all is_name_char name ≡ true → list_all is_value_char value ≡ true →
-    begins is_value_char rest ≡ false → HasParameters rest ps → HasParameters (59 ∷ (name ++ 61 ∷ (value ++ rest))) (record { name = name; value = value } ∷ ps)
-and_more name value rest ps named valued longest more =
+pub and_more : {rest : List ℕ} {ps : List Parameter} (name value : List ℕ) → HasParameters rest ps → list_all is_name_char name ≡ true →
+    list_all is_value_char value ≡ true → begins is_value_char rest ≡ false →
+    HasParameters (59 ∷ (name ++ 61 ∷ (value ++ rest))) (record { name = name; value = value } ∷ ps)
+and_more {rest = rest} {ps = ps} name value more named valued longest =
     Tel.one_more (record { name = name; value = value }) ps (59 ∷ (name ++ 61 ∷ (value ++ rest))) rest
     (record { whole = refl; named = named; valued = valued; longest = longest }) more
 
-param : List ℕ → List ℕ → Parameter
-param n v = record { name = n; value = v }
-
-pub context : IsTel (codes "tel:2034567890;ext=456;phone-context=+44") (record { national = codes "2034567890"; prefix = Some (codes "44"); extension = Some (codes "456") })
-unfolding ucd_case param
-context = record {
-  scheme = codes "tel:";
-  signed_run = [];
-  run = None;
-  tail = codes ";ext=456;phone-context=+44";
-  parameters = param (codes "ext") (codes "456") ∷ param (codes "phone-context") (codes "+44") ∷ [];
-  no_space = refl;
+-- scheme, plus sign and run, national part and parameters
+pub tel_of : {signs tail : List ℕ} {run : Option (List ℕ)} {ps : List Parameter} (scheme national : List ℕ) →
+    (scheme ≡ []) ⊎ (is_like scheme (codes "tel:") ≡ true) → HasParameters tail ps → (tail ≡ []) ⊎ (begins (λ c. c == 59) tail ≡ true) →
+    IsSignedRun (national ++ tail) signs run → list_any (λ c. c == 32) (scheme ++ (signs ++ (national ++ tail))) ≡ false →
+    begins is_phonedigit national ≡ true → list_all is_phonedigit national ≡ true → begins is_phonedigit tail ≡ false →
+    IsTel (scheme ++ (signs ++ (national ++ tail))) (record {
+      national = national;
+      prefix = option_or run (option_map without_plus (value_of (codes "phone-context") ps));
+      extension = value_of (codes "ext") ps;
+    })
+tel_of {signs = signs} {tail = tail} {run = run} {ps = ps} scheme national is_scheme has_parameters is_tail is_run no_space some all longest = record {
+  scheme = scheme;
+  signed_run = signs;
+  run = run;
+  tail = tail;
+  parameters = ps;
+  no_space = no_space;
   whole = refl;
-  is_scheme = inr refl;
-  is_run = Tel.unsigned refl;
-  some_national = refl;
-  all_national = refl;
-  longest = refl;
-  is_tail = inr refl;
-  has_parameters = and_more (codes "ext") (codes "456") (codes ";phone-context=+44") _ refl refl refl (and_more (codes "phone-context") (codes "+44") [] [] refl refl refl no_parameters);
-  prefix = refl;
-  extension = refl;
-}
-
-pub plus : IsTel (codes "tel:+64-3-331-6005;ext=1235") (record { national = codes "-3-331-6005"; prefix = Some (codes "64"); extension = Some (codes "1235") })
-unfolding ucd_case param
-plus = record {
-  scheme = codes "tel:";
-  signed_run = codes "+64";
-  run = Some (codes "64");
-  tail = codes ";ext=1235";
-  parameters = param (codes "ext") (codes "1235") ∷ [];
-  no_space = refl;
-  whole = refl;
-  is_scheme = inr refl;
-  is_run = Tel.signed (codes "64") refl refl refl;
-  some_national = refl;
-  all_national = refl;
-  longest = refl;
-  is_tail = inr refl;
-  has_parameters = and_more (codes "ext") (codes "1235") [] [] refl refl refl no_parameters;
-  prefix = refl;
-  extension = refl;
-}
-
-not_at_percent : HasParameters (codes "%A1") []
-not_at_percent = Tel.no_more (codes "%A1") (λ p rest h. let e : codes "%A1" ≡ 59 ∷ (p.name ++ 61 ∷ (p.value ++ rest)) = h.whole in cc)
-
-pub ignored : IsTel (codes "03-331-6005;phone-context=+64;a=%A1") (record { national = codes "03-331-6005"; prefix = Some (codes "64"); extension = None })
-unfolding ucd_case param
-ignored = record {
-  scheme = [];
-  signed_run = [];
-  run = None;
-  tail = codes ";phone-context=+64;a=%A1";
-  parameters = param (codes "phone-context") (codes "+64") ∷ param (codes "a") [] ∷ [];
-  no_space = refl;
-  whole = refl;
-  is_scheme = inl refl;
-  is_run = Tel.unsigned refl;
-  some_national = refl;
-  all_national = refl;
-  longest = refl;
-  is_tail = inr refl;
-  has_parameters = and_more (codes "phone-context") (codes "+64") (codes ";a=%A1") _ refl refl refl (and_more (codes "a") [] (codes "%A1") [] refl refl refl not_at_percent);
-  prefix = refl;
-  extension = refl;
-}
-
-pub any_case : IsTel (codes "TEL:12") (record { national = codes "12"; prefix = None; extension = None })
-unfolding ucd_case
-any_case = record {
-  scheme = codes "TEL:";
-  signed_run = [];
-  run = None;
-  tail = [];
-  parameters = [];
-  no_space = refl;
-  whole = refl;
-  is_scheme = inr refl;
-  is_run = Tel.unsigned refl;
-  some_national = refl;
-  all_national = refl;
-  longest = refl;
-  is_tail = inl refl;
-  has_parameters = no_parameters;
-  prefix = refl;
-  extension = refl;
-}
-
-pub last_counts : IsTel (codes "12;ext=1;ext=2") (record { national = codes "12"; prefix = None; extension = Some (codes "2") })
-unfolding param
-last_counts = record {
-  scheme = [];
-  signed_run = [];
-  run = None;
-  tail = codes ";ext=1;ext=2";
-  parameters = param (codes "ext") (codes "1") ∷ param (codes "ext") (codes "2") ∷ [];
-  no_space = refl;
-  whole = refl;
-  is_scheme = inl refl;
-  is_run = Tel.unsigned refl;
-  some_national = refl;
-  all_national = refl;
-  longest = refl;
-  is_tail = inr refl;
-  has_parameters = and_more (codes "ext") (codes "1") (codes ";ext=2") _ refl refl refl (and_more (codes "ext") (codes "2") [] [] refl refl refl no_parameters);
-  prefix = refl;
-  extension = refl;
-}
-
-pub exact_names : IsTel (codes "12;ext=1;Ext=3") (record { national = codes "12"; prefix = None; extension = Some (codes "1") })
-unfolding param
-exact_names = record {
-  scheme = [];
-  signed_run = [];
-  run = None;
-  tail = codes ";ext=1;Ext=3";
-  parameters = param (codes "ext") (codes "1") ∷ param (codes "Ext") (codes "3") ∷ [];
-  no_space = refl;
-  whole = refl;
-  is_scheme = inl refl;
-  is_run = Tel.unsigned refl;
-  some_national = refl;
-  all_national = refl;
-  longest = refl;
-  is_tail = inr refl;
-  has_parameters = and_more (codes "ext") (codes "1") (codes ";Ext=3") _ refl refl refl (and_more (codes "Ext") (codes "3") [] [] refl refl refl no_parameters);
+  is_scheme = is_scheme;
+  is_run = is_run;
+  some_national = some;
+  all_national = all;
+  longest = longest;
+  is_tail = is_tail;
+  has_parameters = has_parameters;
   prefix = refl;
   extension = refl;
 }

@@ -1,5 +1,5 @@
 -- What holds of every number that is read, whatever the text.
-use Rattle.std.proofs.Common.{◌≡◌, ◌≢◌, inl, inr, ℕ, zero, suc, ◌<◌, ◌≤◌, ◌^◌, ◌==◌, ◌&&◌, not, nat_lt, nat_le, Bool, true, false, if◌then◌else◌, List, [], ◌∷◌, ◌++◌, length, take, drop, filter, reverse, replicate, get_or, All, slice_index, Option, Some, None, IfSome, option_map, unwrap_or, Result, Ok, Err, IfOk, refl, ap, ap₂, sym, subst, ◌∙◌, arith, eqb-true, ne_eqb, leb-true, ltb-true}
+use Rattle.std.proofs.Common.{◌≡◌, ◌≢◌, ◌⊎◌, inl, inr, ℕ, zero, suc, ◌<◌, ◌≤◌, ◌^◌, ◌==◌, ◌&&◌, not, nat_lt, nat_le, Bool, true, false, if◌then◌else◌, List, [], ◌∷◌, ◌++◌, length, take, drop, filter, reverse, replicate, get_or, All, slice_index, Option, Some, None, IfSome, option_map, unwrap_or, Result, Ok, Err, IfOk, refl, ap, ap₂, sym, subst, ◌∙◌, true≢false, chars, arith, eqb-true, ne_eqb, leb-true, ltb-true}
 use Rattle.std.proofs.lemmas.Bool.{and_parts, cases_lt, cond_both, eqb-false, ltb-false, not-false, not-true}
 use Rattle.std.proofs.lemmas.Fmt.{decimal_digit, decimal-digits_value}
 use Rattle.std.proofs.lemmas.List.Elements.{All-append, All-cons, All-drop, All-filter, All-head, All-nil, All-tail, All-take, All-weaker}
@@ -49,6 +49,7 @@ use Rattle.phone_read.specs.TransformRules.{rules_have_no_plus}
 use Rattle.phone_kinds.specs.Verdicts.{is_too_short, verdict}
 use Rattle.phone_core.specs.declared.reading.Reading.{Reading}
 use Rattle.phone_read.proofs.ListedCodes.{code_of-listed}
+use Rattle.phone_read.proofs.ListedFronts.{listed_none}
 
 -- what a number is read from: parts, their code, and the digits after it
 pub record IsReadFrom (db : List Metadata) (hint : Option Id) (n : Reading) : Type 0 where
@@ -79,6 +80,16 @@ pub number-listed : (db : List Metadata) (hint : Option Id) (t : List ℕ) (n : 
 number-listed db hint t n h =
     let from = read_from db hint t n h in
     ap (λ v. is_listed v db) from.value ∙ code_of-listed db hint from.parts.national from.parts.prefix from.code from.coded
+
+-- so there is a first territory of it
+pub has_territory : (db : List Metadata) (hint : Option Id) (t : List ℕ) (n : Reading) → Reads db hint t (Ok n) → ¬ (first_of (territories n.code.value db) ≡ None)
+has_territory db hint t n h none = true≢false (sym (number-listed db hint t n h) ∙ listed_none n.code.value db (sym none))
+
+-- a reader that may refuse for memory answers a number, of a text with these bytes
+pub number_reads : {db : List Metadata} {hint : Option Id} {bytes text : List ℕ} {n : Reading} {e : ParseError} → text ≡ bytes →
+    (◌≡◌ {A = Result Reading ParseError} (Ok n) (Err e)) ⊎ Reads db hint (chars text) (Ok n) → Reads db hint (chars bytes) (Ok n)
+number_reads same (inl other) = absurd (cc)
+number_reads {db = db} {hint = hint} {n = n} same (inr h) = subst (λ t. Reads db hint (chars t) (Ok n)) same h
 
 norm_if_some : (o : Option (List ℕ)) → option_map_or (list_all is_digit) (option_map norm o) true ≡ true
 norm_if_some None = refl

@@ -12,7 +12,6 @@ use Rattle.phone_core.specs.declared.country.Source.TheVariants.{Plus, Default}
 use Rattle.phone_chars.proofs.Signed.{signed_of_walk}
 use Rattle.phone_read.specs.Codes.{code_of}
 use Rattle.phone_read.specs.Hints.{Coded}
-use Rattle.phone_parts.specs.Naturals
 use Rattle.phone_parts.specs.Naturals.{IsNatural}
 use Rattle.phone_parts.specs.Readers
 use Rattle.phone_parts.specs.Readers.{HasParts}
@@ -25,12 +24,12 @@ use Rattle.phone_parts.specs.Texts.{begins}
 use Rattle.phone_core.specs.declared.reading.Reading.{Reading}
 use Rattle.phone_parts.proofs.CoreRows.{no_mark}
 use Rattle.phone_read.proofs.HintCodes.{code_by_hint-other}
-use Rattle.phone_parts.proofs.NaturalRows.{own_core}
-use Rattle.phone_parts.proofs.SuffixTests.{fails_at, no_suffix}
+use Rattle.phone_parts.proofs.NaturalRows.{plain_of}
+use Rattle.phone_parts.proofs.SuffixTests.{fails_at}
 use Rattle.phone_parts.proofs.TelRefusals.{spaced}
-use Rattle.phone_parts.proofs.TelRows.{no_parameters}
+use Rattle.phone_parts.proofs.TelRows.{no_parameters, tel_of}
 
-decimal_64 : decimal 64 ≡ codes "64"
+pub decimal_64 : decimal 64 ≡ codes "64"
 decimal_64 = decimal_step 64 (omega arith) (omega arith) ∙ ap (λ t. t ++ 52 ∷ []) (decimal_digit 6 (omega arith))
 
 -- 33316005 of New Zealand, by its source
@@ -44,7 +43,7 @@ sample source = record {
 
 home_text : IsNatural (codes "03-331 6005") (Ok (record { national = codes "03-331 6005"; prefix = None; extension = None }))
 unfolding ucd_case ucd_category no_mark fails_at
-home_text = Naturals.plain (codes "03-331 6005") (own_core (codes "03-331 6005") refl refl refl (λ e. cc)) (no_suffix (codes "03-331 6005") refl)
+home_text = plain_of (codes "03-331 6005") refl refl refl refl
 
 home_parts : HasParts (codes "03-331 6005") (Some (record { national = codes "03-331 6005"; prefix = None; extension = None }))
 home_parts = Readers.as_natural (record { national = codes "03-331 6005"; prefix = None; extension = None }) (spaced (codes "03-331 6005") refl) home_text
@@ -65,24 +64,8 @@ by_hint = Readings.coded (record { national = codes "03-331 6005"; prefix = None
 
 tel_text : IsTel (codes "tel:+64-3-331-6005") (record { national = codes "-3-331-6005"; prefix = Some (codes "64"); extension = None })
 unfolding ucd_case
-tel_text = record {
-  scheme = codes "tel:";
-  signed_run = codes "+64";
-  run = Some (codes "64");
-  tail = [];
-  parameters = [];
-  no_space = refl;
-  whole = refl;
-  is_scheme = inr refl;
-  is_run = Tel.signed (codes "64") refl refl refl;
-  some_national = refl;
-  all_national = refl;
-  longest = refl;
-  is_tail = inl refl;
-  has_parameters = no_parameters;
-  prefix = refl;
-  extension = refl;
-}
+tel_text =
+    tel_of (codes "tel:") (codes "-3-331-6005") (inr refl) no_parameters (inl refl) (Tel.signed (codes "64") refl refl refl) refl refl refl refl
 
 tel_viable : IsViable (codes "-3-331-6005")
 tel_viable = inr (signed_of_walk (codes "-3-331-6005") refl)

@@ -17,6 +17,8 @@ use Rattle.phone_meta.specs.Lasts.{with_last}
 use Rattle.phone_territory.specs.Records.{id_of}
 use Rattle.phone_meta.specs.Records.{has_code, last_with}
 use Rattle.phone_kinds.proofs.TriedKinds.{find-map}
+use Rattle.phone_read.specs.Origins.{told}
+use Rattle.phone_read.specs.declared.validator.Origin.{Origin}
 use Rattle.phone_read.specs.Regions.{is_of_last, is_of_region, region_among, region_named, region_of, territory_of, with_territory}
 use Rattle.phone_records.specs.declared.loader.Metadata.{Metadata}
 
@@ -63,14 +65,24 @@ several db code digits (id ∷ other ∷ ids) h = refl
 -- ---- an answer with its territory
 
 -- the region of an answer, and its territory
-pub region-with_territory : (db : List Metadata) (o : Option (Either Id ℕ)) → option_map (λ (r : Either Id ℕ × Option Metadata). r.0) (option_map (with_territory db) o) ≡ o
+region-with_territory : (db : List Metadata) (o : Option (Either Id ℕ)) → option_map (λ (r : Either Id ℕ × Option Metadata). r.0) (option_map (with_territory db) o) ≡ o
 region-with_territory db None = refl
 region-with_territory db (Some r) = refl
 
-pub territory-with_territory : (db : List Metadata) (o : Option (Either Id ℕ)) →
+territory-with_territory : (db : List Metadata) (o : Option (Either Id ℕ)) →
     option_and_then (λ (r : Either Id ℕ × Option Metadata). r.1) (option_map (with_territory db) o) ≡ option_and_then (territory_of db) o
 territory-with_territory db None = refl
 territory-with_territory db (Some r) = refl
+
+-- so they are told of what was found, at what it is
+pub region_told : (db : List Metadata) (r : Option (Either Id ℕ)) (origin o : Option Origin) → option_map told origin ≡ option_map (with_territory db) r → origin ≡ o →
+    option_map (λ (r : Either Id ℕ × Option Metadata). r.0) (option_map told o) ≡ r
+region_told db r origin o found is = ap (option_map (λ (r : Either Id ℕ × Option Metadata). r.0)) (ap (option_map told) (sym is) ∙ found) ∙ region-with_territory db r
+
+pub territory_told : (db : List Metadata) (r : Option (Either Id ℕ)) (origin o : Option Origin) → option_map told origin ≡ option_map (with_territory db) r → origin ≡ o →
+    option_and_then (λ (r : Either Id ℕ × Option Metadata). r.1) (option_map told o) ≡ option_and_then (territory_of db) r
+territory_told db r origin o found is =
+    ap (option_and_then (λ (r : Either Id ℕ × Option Metadata). r.1)) (ap (option_map told) (sym is) ∙ found) ∙ territory-with_territory db r
 
 -- a region that an id names has the last territory of that id
 named-with_territory : (db : List Metadata) (id : List ℕ) → option_map (λ (r : Either Id ℕ). (r, last_with id db)) (region_named id) ≡ option_map (with_territory db) (region_named id)
@@ -192,13 +204,19 @@ abbrev pub last_main : (Given → Bool) → List Given → Option Given → Opti
 last_main p ts found = option_or (find p (reverse (filter is_main ts))) found
 
 -- a turn of the loop that looks for it
-pub last_main-next : (p : Given → Bool) (t : Given) (ts : List Given) (found : Option Given) (b : Bool) → b ≡ (t.0.main_country_for_code && p t) →
+last_main-next : (p : Given → Bool) (t : Given) (ts : List Given) (found : Option Given) (b : Bool) → b ≡ (t.0.main_country_for_code && p t) →
     last_main p (t ∷ ts) found ≡ last_main p ts (cond b (Some t) found)
 last_main-next p t ts found b e = step (is_main t) ∙ ap (λ b. last_main p ts (cond b (Some t) found)) (sym e)
   where
     step : (main : Bool) → option_or (find p (reverse (cond main (t ∷ filter is_main ts) (filter is_main ts)))) found ≡ last_main p ts (cond (main && p t) (Some t) found)
     step true = later_main p t (filter is_main ts) found
     step false = refl
+
+-- and by the answer to the question that the turn asks
+pub last_main-turn : (p : Given → Bool) (t : Given) (all ts : List Given) (found start : Option Given) (b answer : Bool) → start ≡ last_main p all found → all ≡ t ∷ ts →
+    b ≡ (t.0.main_country_for_code && p t) → b ≡ answer → start ≡ last_main p ts (cond answer (Some t) found)
+last_main-turn p t all ts found start b answer was steps asked is =
+    was ∙ ap (λ ts. last_main p ts found) steps ∙ last_main-next p t ts found b asked ∙ ap (λ b. last_main p ts (cond b (Some t) found)) is
 
 -- the first other one that passes, of those still to come
 abbrev pub first_other : (Given → Bool) → List Given → Option Given

@@ -1,14 +1,13 @@
 -- A line has one report line, and a number that was read has a territory.
-use Rattle.std.proofs.Common.{◌≡◌, ℕ, List, Option, None, Some, Result, Ok, Err, chars, refl, sym, ap, ap₂, ◌∙◌, subst, true≢false}
+use Rattle.std.proofs.Common.{◌≡◌, ℕ, List, Option, None, Some, Result, Ok, Err, chars, refl, sym, ap, ap₂, ◌∙◌}
 use Rattle.std.specs.Prelude.{⊤}
 use Rattle.std.specs.Str.{IsUtf8}
-use Rattle.std.proofs.lemmas.Option.{none-some, same_Some}
+use Rattle.std.proofs.lemmas.Option.{same_Some}
 use Rattle.std.proofs.lemmas.Result.{IfErr-at_err, IfOk-at_ok, MatchResult-at_err}
 use Rattle.phone_core.specs.declared.country.Id.{Id}
 use Rattle.phone_core.specs.declared.error.ParseError.{ParseError}
 use Rattle.phone_meta.specs.Codes.{first_of, territories}
-use Rattle.phone_read.proofs.ListedFronts.{listed_none}
-use Rattle.phone_read.proofs.ReadNumbers.{number-listed}
+use Rattle.phone_read.proofs.ReadNumbers.{has_territory}
 use Rattle.phone_read.proofs.ReadingOnes.{reading_same}
 use Rattle.phone_read.specs.Readings.{Reads}
 use Rattle.phone_core.specs.declared.reading.Reading.{Reading}
@@ -17,7 +16,7 @@ use Rattle.phone_number.specs.Reports.{IsReportLine, number_line, refusal_line}
 use Rattle.phone_number.specs.Reports.IsReportLine.{no_text, refused, read}
 
 -- a result is no `Ok` and `Err` at once
-pub no_both : {T E : Type 0} (x : T) (e : E) → ◌≡◌ {A = Result T E} (Ok x) (Err e) → ⊥
+no_both : {T E : Type 0} (x : T) (e : E) → ◌≡◌ {A = Result T E} (Ok x) (Err e) → ⊥
 no_both x e is = MatchResult-at_err {r = Ok x} (λ _. ⊤) (λ _. ⊥) e is tt
 
 same_number : (db : List Metadata) (n k : Reading) (m l : Metadata) → n ≡ k → first_of (territories n.code.value db) ≡ Some m → first_of (territories k.code.value db) ≡ Some l →
@@ -37,10 +36,6 @@ one_report_line db hint line _ _ (read k m u r f) (no_text n) = absurd (n u)
 one_report_line db hint line _ _ (read k m u r f) (refused e u' r') = absurd (no_both k e (reading_same db hint (chars line) (Ok k) (Err e) r r'))
 one_report_line db hint line _ _ (read k m u r f) (read k' m' u' r' f') =
     same_number db k k' m m' (IfOk-at_ok (λ x. k ≡ x) (reading_same db hint (chars line) (Ok k) (Ok k') r r') refl) f f'
-
--- the code of a number that was read is listed, so it has a first territory
-pub has_territory : (db : List Metadata) (hint : Option Id) (text : List ℕ) (n : Reading) → Reads db hint text (Ok n) → first_of (territories n.code.value db) ≡ None → ⊥
-has_territory db hint text n r none = true≢false (sym (number-listed db hint text n r) ∙ listed_none n.code.value db (sym none))
 
 line_of_number : (db : List Metadata) (hint : Option Id) (line : List ℕ) (n : Reading)
     (o : Option Metadata) → first_of (territories n.code.value db) ≡ o →

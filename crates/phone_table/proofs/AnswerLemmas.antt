@@ -1,28 +1,13 @@
 -- The answer to a number that was read.
-use Rattle.std.proofs.Common.{◌≡◌, ℕ, List, Option, None, Some, Result, Ok, Err, option_map, refl, sym, ap, ap₂, ◌∙◌, true≢false, [], ◌∷◌}
-use Rattle.std.specs.Prelude.{⊤}
+use Rattle.std.proofs.Common.{◌≡◌, ℕ, List, Option, None, Some, option_map, refl, sym, ap, ap₂, ◌∙◌, [], ◌∷◌}
 use Rattle.std.proofs.lemmas.Option.{none-some, same_Some}
-use Rattle.std.proofs.lemmas.Result.{MatchResult-at_err}
-use Rattle.phone_core.specs.declared.country.Id.{Id}
 use Rattle.phone_core.specs.declared.mode.Mode.{Mode}
 use Rattle.phone_core.specs.declared.mode.Mode.TheVariants.{E164, International, National}
-use Rattle.phone_meta.specs.Codes.{first_of, territories}
-use Rattle.phone_read.proofs.ListedFronts.{listed_none}
-use Rattle.phone_read.proofs.ReadNumbers.{number-listed}
-use Rattle.phone_read.specs.Readings.{Reads}
 use Rattle.phone_core.specs.declared.reading.Reading.{Reading}
 use Rattle.phone_records.specs.declared.loader.Format.{Format}
 use Rattle.phone_records.specs.declared.loader.Metadata.{Metadata}
 use Rattle.phone_number.specs.Printed.{printed}
 use Rattle.phone_print.specs.Texts.{text_by}
-
--- a result is no `Ok` and `Err` at once
-pub no_both : {T E : Type 0} (x : T) (e : E) → ◌≡◌ {A = Result T E} (Ok x) (Err e) → ⊥
-no_both x e is = MatchResult-at_err {r = Ok x} (λ _. ⊤) (λ _. ⊥) e is tt
-
--- the code of a number that was read is listed, so it has a first territory
-pub has_territory : (db : List Metadata) (hint : Option Id) (text : List ℕ) (n : Reading) → Reads db hint text (Ok n) → first_of (territories n.code.value db) ≡ None → ⊥
-has_territory db hint text n r none = true≢false (sym (number-listed db hint text n r) ∙ listed_none n.code.value db (sym none))
 
 -- the texts of a number in three modes, by one territory
 pub record HaveTexts (o : Option Metadata) (n : Reading) (a b c : List ℕ) : Type 0 where

@@ -1,15 +1,17 @@
 -- What the reading of a header says of a run.
-use Rattle.std.proofs.Common.{◌≡◌, ◌⊎◌, inl, inr, ℕ, ◌+◌, List, [], length, Option, Some, None, Result, Err, IfSome, IsNone, option_map, refl}
+use Rattle.std.proofs.Common.{◌≡◌, ◌⊎◌, inl, inr, ℕ, ◌+◌, List, [], length, Option, Some, None, Result, Err, IfSome, IsNone, option_map, refl, subst}
+use Rattle.std.specs.Prelude.{⊤}
 use Rattle.csv.specs.declared.parser.State.TheVariants as st
 use Rattle.phone_device.specs.Passing.{IsAtEnd}
 use Rattle.phone_csv.specs.Firsts.{IsFirst, first_in}
 use Rattle.phone_csv.specs.Formats.{Record, state_of}
 use Rattle.phone_csv.specs.Runs.{OfRead, most_bytes}
+use Rattle.phone_csv.specs.declared.blocks.RunError.{RunError}
 use Rattle.phone_csv.specs.declared.cutter.Start.{Start}
 use Rattle.phone_csv.specs.declared.first.FirstError.{FirstError}
 use Rattle.phone_csv.specs.declared.first.FirstError.TheVariants.{Absent, Input, Memory}
-use Rattle.phone_lines.specs.Ends.{Devices}
-use Rattle.phone_table.specs.Ends.{SourceFails}
+use Rattle.phone_lines.specs.Ends.{Devices, seen}
+use Rattle.phone_table.specs.Ends.{Ends, SourceFails}
 use Rattle.phone_table.specs.Headers.{column_of, region_column}
 use Rattle.phone_table.specs.Runs.{Lacks, NoHeader}
 use Rattle.phone_table.specs.Runs.NoHeader.{absent, input, memory}
@@ -48,3 +50,9 @@ pub lacks_by : {T : Type 0} (asked : Asked) (column : Column) (header : Record) 
     Lacks asked column header
 lacks_by asked Number header number region = number refl
 lacks_by asked Region header number region = region refl
+
+-- a run that begins where the reading of the header ended, which counted no fault
+pub ends_from : {header : Record} {gives : Record → Record → Type 0} {refuses : Record → Type 0} {d : ℕ} {to_come taken : Option (List ℕ)} {n m faults : ℕ} {after : Devices}
+    {r : Result ⊤ RunError} → n ≡ m → Ends header gives refuses d (seen to_come n taken faults) after r → Ends header gives refuses d (seen to_come m taken faults) after r
+ends_from {header = header} {gives = gives} {refuses = refuses} {d = d} {to_come = to_come} {taken = taken} {faults = faults} {after = after} {r = r} same h =
+    subst (λ n. Ends header gives refuses d (seen to_come n taken faults) after r) same h

@@ -92,7 +92,7 @@ norm_extension (Some e) h = ap Some (norm_digits e h)
 no_sign : (t : List ℕ) → list_all is_parted t ≡ true → after_front is_plus t ≡ t
 no_sign t parted = after_front-append [] t refl (all_allowed t parted)
 
-parted_digits : (t : List ℕ) → list_all is_digit t ≡ true → list_all is_parted t ≡ true
+pub parted_digits : (t : List ℕ) → list_all is_digit t ≡ true → list_all is_parted t ≡ true
 parted_digits t h = all_wider is_digit is_parted parted_digit t h
 
 pub between_digits : (c : ℕ) → is_digit c ≡ true → is_separator c ≡ false
@@ -102,7 +102,7 @@ pub punctuated : (c : ℕ) → is_digit c ≡ true → is_punctuation c ≡ fals
 punctuated c digit = (or_parts (is_punctuation c) (c == 0xFF0E) (between_digits c digit)).0
 
 -- with punctuation that announces nothing alone, what is between digits is quiet
-quiet_between : (t : List ℕ) → list_all (λ c. is_digit c || is_punctuation c) t ≡ true → list_any (is_one_of indicating) t ≡ false → list_all is_parted t ≡ true
+pub quiet_between : (t : List ℕ) → list_all (λ c. is_digit c || is_punctuation c) t ≡ true → list_any (is_one_of indicating) t ≡ false → list_all is_parted t ≡ true
 quiet_between [] h none = refl
 quiet_between (c ∷ cs) h none =
     let both = and_parts (is_digit c || is_punctuation c) (list_all (λ c. is_digit c || is_punctuation c) cs) h in

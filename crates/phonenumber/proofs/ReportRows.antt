@@ -1,7 +1,7 @@
 -- Lines of the report, computed on their definition.
-use Rattle.std.proofs.Common.{◌≡◌, inl, ℕ, Bool, false, Option, List, [], ◌∷◌, ◌++◌, codes, Some, None, Ok, Err, refl, ap, sym, subst, ◌∙◌, true≢false, arith, IsUtf8, ◌==◌}
+use Rattle.std.proofs.Common.{◌≡◌, inl, ℕ, Bool, false, Option, List, [], ◌∷◌, ◌++◌, codes, Some, None, Ok, Err, refl, ap, sym, subst, ◌∙◌, true≢false, arith, ◌==◌}
 use Rattle.std.proofs.lemmas.Fmt.{decimal_digit, decimal_step}
-use Rattle.std.proofs.lemmas.Str.{IsUtf8-from_is_utf8, is_utf8-from_IsUtf8}
+use Rattle.std.proofs.lemmas.Str.{is_utf8-from_IsUtf8}
 use Rattle.std.specs.Fmt.{decimal}
 use Rattle.std.specs.Option.{option_and_then, option_map_or}
 use Rattle.std.specs.Str.{chars, is_utf8}
@@ -26,6 +26,7 @@ use Rattle.phone_parts.specs.Texts.{begins}
 use Rattle.phone_core.specs.declared.reading.Reading.{Reading}
 use Rattle.phone_prefix.proofs.DigitTexts.{encode_utf8_all-digits}
 use Rattle.phone_read.proofs.HintCodes.{code_by_hint-other}
+use Rattle.phone_read.proofs.ReadingRows.{decimal_64}
 use Rattle.phone_number.specs.Reports
 use Rattle.phone_number.specs.Queries.{kind_of_number, region_of_number, is_valid}
 use Rattle.phone_number.specs.Reports.{IsReportLine, number_line, kind_word, region_word, validity_word}
@@ -33,6 +34,7 @@ use Rattle.phone_print.specs.Tabbed.{tabbed}
 use Rattle.phone_print.specs.Texts.{text_by}
 use Rattle.phonenumber.specs.Thin
 use Rattle.phonenumber.specs.Thin.{IsThinDatabase, thin_reading}
+use Rattle.phonenumber.proofs.BackTexts.{IsUtf8-low, chars-low}
 use Rattle.phonenumber.proofs.ThinReadings.{thin_reads}
 
 pub no_text : IsReportLine (nz ∷ []) (Some NZ) (0xFF ∷ []) (codes "error\t0\tnot UTF-8")
@@ -42,26 +44,15 @@ no_text = Reports.no_text (λ h. true≢false (sym (is_utf8-from_IsUtf8 (0xFF �
 nz_is_thin : IsThinDatabase (nz ∷ [])
 nz_is_thin = record { general = _; id = _; code = _; national_prefix = _; whole = refl }
 
-one_utf8 : IsUtf8 (codes "1")
-unfolding is_utf8 chars lib.Utf8.encode
-one_utf8 = IsUtf8-from_is_utf8 (codes "1") refl
-
-one_chars : chars (codes "1") ≡ codes "1"
-unfolding chars
-one_chars = refl
-
 one_too_few : ¬ (IsViable (codes "1"))
 one_too_few = not_viable (codes "1") (λ e. cc) refl
 
 pub refused : IsReportLine (nz ∷ []) (Some NZ) (codes "1") (codes "error\t1\tnot a number")
 unfolding name
 refused =
-    Reports.refused NoNumber one_utf8
-    (subst (λ t. Reads (nz ∷ []) (Some NZ) t (Err NoNumber)) (sym one_chars)
+    Reports.refused NoNumber (IsUtf8-low (codes "1") refl)
+    (subst (λ t. Reads (nz ∷ []) (Some NZ) t (Err NoNumber)) (sym (chars-low (codes "1") refl))
     (thin_reads (nz ∷ []) nz_is_thin (Some NZ) (codes "1") refl (Err NoNumber) (Thin.not_viable one_too_few)))
-
-decimal_64 : decimal 64 ≡ codes "64"
-decimal_64 = decimal_step 64 (omega arith) (omega arith) ∙ ap (λ t. t ++ 52 ∷ []) (decimal_digit 6 (omega arith))
 
 decimal_12 : decimal 12 ≡ codes "12"
 decimal_12 = decimal_step 12 (omega arith) (omega arith) ∙ ap (λ t. t ++ 50 ∷ []) (decimal_digit 1 (omega arith))
@@ -73,14 +64,6 @@ id_nz = id_of-name NZ
 -- 12 of New Zealand, by the hint
 twelve : Reading
 twelve = record { code = record { value = 64; source = Default }; national = record { zeros = 0; value = 12 }; extension = None; carrier = None }
-
-twelve_utf8 : IsUtf8 (codes "12")
-unfolding is_utf8 chars lib.Utf8.encode
-twelve_utf8 = IsUtf8-from_is_utf8 (codes "12") refl
-
-twelve_chars : chars (codes "12") ≡ codes "12"
-unfolding chars
-twelve_chars = refl
 
 twelve_viable : IsViable (codes "12")
 twelve_viable = inl (record { two = refl; digits = refl })
@@ -130,7 +113,7 @@ national = rw decimal_12
 
 rfc3966 : text_by nz Rfc3966 None twelve ≡ codes "tel:+64-12"
 unfolding twelve name
-rfc3966 = rw (decimal_64, decimal_12, twelve_chars, encode_utf8_all-digits (codes "12") refl)
+rfc3966 = rw (decimal_64, decimal_12, chars-low (codes "12") refl, encode_utf8_all-digits (codes "12") refl)
 
 line_of_twelve : number_line (nz ∷ []) nz twelve ≡ codes "ok\t+6412\t+64 12\t12\ttel:+64-12\tdefault\tUnknown\tNZ\tinvalid"
 unfolding twelve name
@@ -153,4 +136,4 @@ pub read : IsReportLine (nz ∷ []) (Some NZ) (codes "12") (codes "ok\t+6412\t+6
 unfolding twelve name
 read =
     subst (λ l. IsReportLine (nz ∷ []) (Some NZ) (codes "12") l) line_of_twelve
-    (Reports.read twelve nz twelve_utf8 (subst (λ t. Reads (nz ∷ []) (Some NZ) t (Ok twelve)) (sym twelve_chars) reads_twelve) refl)
+    (Reports.read twelve nz (IsUtf8-low (codes "12") refl) (subst (λ t. Reads (nz ∷ []) (Some NZ) t (Ok twelve)) (sym (chars-low (codes "12") refl)) reads_twelve) refl)

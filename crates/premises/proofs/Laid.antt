@@ -14,7 +14,7 @@ use Rattle.phone_print.specs.Layouts.{laid}
 use Rattle.phone_print.specs.Texts.{laid_out}
 use Rattle.premises.proofs.Digits.{digit, groups, nd_ranges, read_groups-groups, run, runs}
 use Rattle.premises.proofs.Searches.{searching, first_match-as_read}
-use Rattle.premises.specs.Samples.{ad, ad_by_x, al_by_e, am, am_by_anexo, at, at_by_x, number}
+use Rattle.premises.specs.Samples.{ad, am, announcing, at, at_by_x, number}
 use Rattle.premises.specs.Samples.{nz, nz_layout, us}
 
 -- a pattern's text is read as a tree with so many groups, none of which has a name
@@ -101,21 +101,13 @@ pub am_laid : laid_out am International None (number 374 0 12345678 None) ≡ co
 unfolding searching nd_ranges digits
 am_laid = replaced-as_read am_tree (codes "number") (codes "12345678") (codes "number") refl refl
 
-pub ad_by_x_laid : (e : Option (List ℕ)) →
-    laid_out ad_by_x International None (number 376 0 123456 e) ≡ codes "123 456"
+-- in halves with a space between them, whatever announces an extension
+pub spaced_laid : (id : List ℕ) (code : ℕ) (prefix : List ℕ) (e : Option (List ℕ)) →
+    laid_out (announcing id code (codes "$1 $2") prefix) International None
+    (number code 0 123456 e) ≡ codes "123 456"
 unfolding searching nd_ranges digits
-ad_by_x_laid e = replaced-as_read halves (codes "$1 $2") (codes "123456") (codes "123 456") refl refl
-
-pub am_by_anexo_laid : (e : Option (List ℕ)) →
-    laid_out am_by_anexo International None (number 374 0 123456 e) ≡ codes "123 456"
-unfolding searching nd_ranges digits
-am_by_anexo_laid e =
+spaced_laid id code prefix e =
     replaced-as_read halves (codes "$1 $2") (codes "123456") (codes "123 456") refl refl
-
-pub al_by_e_laid : (e : Option (List ℕ)) →
-    laid_out al_by_e International None (number 355 0 123456 e) ≡ codes "123 456"
-unfolding searching nd_ranges digits
-al_by_e_laid e = replaced-as_read halves (codes "$1 $2") (codes "123456") (codes "123 456") refl refl
 
 pub at_by_x_laid : (e : Option (List ℕ)) →
     laid_out at_by_x International None (number 43 0 123456 e) ≡ codes "123/456/"

@@ -2,28 +2,33 @@ use Rattle.std.proofs.Common.{Ok, ap, inl, inr}
 use Rattle.phone_device.specs.Passing.{IsAtEnd}
 use Rattle.phone_csv.specs.Formats.{state_of}
 use Rattle.phone_csv.specs.Reports.{IsBeginning, IsReport, IsReportBefore, IsReportOnEnded, IsReportOnFirst}
-use Rattle.phone_csv.specs.Runs.{Holds, OfRead, TakesA}
+use Rattle.phone_csv.specs.Runs.{Holds, IsFresh, OfRead, TakesA}
 use Rattle.phone_csv.proofs.Ends.{by_end}
 use Rattle.phone_csv.proofs.Progress.{BreaksOff-begins, Holds-begins, Holds-out, Stands-nothing}
 use Rattle.phone_csv.proofs.blocks.answer_records.Goals as goal
+use Rattle.phone_csv.proofs.blocks.answer_records.Goals.{After-new-desk}
+
+-- nothing was read yet at the desk that is made
+fresh : (g : _) (c : After-new-desk g) → IsFresh (g.A.Answers.gives c.args.answers.now) (state_of c.args.start.place) c.new-desk.result.cutter c.new-desk.result.answers.items
+    (g.W.ByteSink.taken c.args.sink.now)
+fresh g c =
+    let n = c.new-desk.ensures in
+    Stands-nothing (g.A.Answers.gives c.args.answers.now) (state_of c.args.start.place) c.new-desk.result.cutter c.new-desk.result.answers.items
+    (g.W.ByteSink.taken c.args.sink.now) (ap state_of n.place) n.fields n.field n.answers
 
 pub returns-in_default-clause-beginning : goal.returns-in_default-clause-beginning
 returns-in_default-clause-beginning g c is =
     let gives = g.A.Answers.gives c.args.answers.now in
-    let d = c.args.delimiter in
     let start = state_of c.args.start.place in
-    let n = c.new-desk.ensures in
-    let fresh = Stands-nothing gives start c.new-desk.result.cutter c.new-desk.result.answers.items (g.W.ByteSink.taken c.args.sink.now) (ap state_of n.place) n.fields n.field n.answers in
-    let b = rw n.delimiter at (c.in_default.ensures.broken start fresh) in
-    (b.0, b.1, BreaksOff-begins gives d start (g.S.ByteSource.to_come c.take_all.new.source) b.0 _ _ b.2)
+    let b = rw c.new-desk.ensures.delimiter at (c.in_default.ensures.broken start (fresh g (goal.at.returns-in_default-clause-beginning g c).After-new-desk)) in
+    (b.0, b.1, BreaksOff-begins gives c.args.delimiter start (g.S.ByteSource.to_come c.take_all.new.source) b.0 _ _ b.2)
 
 pub returns-in_default-write_out-clause-beginning : goal.returns-in_default-write_out-clause-beginning
 returns-in_default-write_out-clause-beginning g c is =
     let gives = g.A.Answers.gives c.args.answers.now in
     let d = c.args.delimiter in
     let start = state_of c.args.start.place in
-    let n = c.new-desk.ensures in
-    let fresh = Stands-nothing gives start c.new-desk.result.cutter c.new-desk.result.answers.items (g.W.ByteSink.taken c.args.sink.now) (ap state_of n.place) n.fields n.field n.answers in
+    let nothing = fresh g (goal.at.returns-in_default-write_out-clause-beginning g c).After-new-desk in
     let refuses = g.A.Answers.refuses c.args.answers.now in
     let before = g.S.ByteSource.to_come c.args.source.now in
     let after = g.S.ByteSource.to_come c.take_all.new.source in
@@ -37,10 +42,10 @@ returns-in_default-write_out-clause-beginning g c is =
     {D = OfRead before after (λ bytes. Holds (IsReportOnFirst gives d start bytes) held taken middle)}
     {Q = OfRead before after (λ bytes. TakesA (IsBeginning gives d start after bytes) taken (g.W.ByteSink.taken c.write_out.new.sink))}
     c.in-Ok.end
-    (λ e. (c.in-Ok.ensures.end (ap Ok e), rw n.delimiter at (c.in-Ok.ensures.taken (ap Ok e) start fresh)))
-    (λ e. rw n.delimiter at (c.in-Ok.ensures.input (ap Ok e) start fresh))
-    (λ e. rw n.delimiter at (c.in-Ok.ensures.refused (ap Ok e) start fresh))
-    (λ e. rw n.delimiter at (c.in-Ok.ensures.memory (ap Ok e) start fresh))
+    (λ e. (c.in-Ok.ensures.end (ap Ok e), rw c.new-desk.ensures.delimiter at (c.in-Ok.ensures.taken (ap Ok e) start nothing)))
+    (λ e. rw c.new-desk.ensures.delimiter at (c.in-Ok.ensures.input (ap Ok e) start nothing))
+    (λ e. rw c.new-desk.ensures.delimiter at (c.in-Ok.ensures.refused (ap Ok e) start nothing))
+    (λ e. rw c.new-desk.ensures.delimiter at (c.in-Ok.ensures.memory (ap Ok e) start nothing))
     (λ (end, r). (r.0, r.1, Holds-begins gives d start after r.0 held (IsReport gives d start r.0) taken middle _ (λ text whole. inr (end, whole)) r.2 front))
     (λ r. (r.0, r.1, Holds-begins gives d start after r.0 held (IsReportOnEnded gives d start r.0) taken middle _ (λ text (records, state, rest, cut, unended, answers). inl (records, state, rest, cut, answers)) r.2 front))
     (λ r. (
@@ -53,40 +58,20 @@ returns-in_default-write_out-clause-beginning g c is =
 
 pub returns-in-Whole-clause-report : goal.returns-in-Whole-clause-report
 returns-in-Whole-clause-report g c =
-    let gives = g.A.Answers.gives c.args.answers.now in
-    let d = c.args.delimiter in
-    let start = state_of c.args.start.place in
-    let n = c.new-desk.ensures in
-    let fresh = Stands-nothing gives start c.new-desk.result.cutter c.new-desk.result.answers.items (g.W.ByteSink.taken c.args.sink.now) (ap state_of n.place) n.fields n.field n.answers in
-    let r = rw n.delimiter at (c.in-Ok.ensures.taken (ap Ok c.in-Whole.is) start fresh) in
-    (r.0, r.1, Holds-out (IsReport gives d start r.0) c.take_all.new.desk.answers.items _ _ _ r.2 c.in-Ok-write_out.ensures.all)
+    let r = rw c.new-desk.ensures.delimiter at (c.in-Ok.ensures.taken (ap Ok c.in-Whole.is) _ (fresh g (goal.at.returns-in-Whole-clause-report g c).After-new-desk)) in
+    (r.0, r.1, Holds-out _ c.take_all.new.desk.answers.items _ _ _ r.2 c.in-Ok-write_out.ensures.all)
 
 pub returns-in-Input-clause-ended : goal.returns-in-Input-clause-ended
 returns-in-Input-clause-ended g c is =
-    let gives = g.A.Answers.gives c.args.answers.now in
-    let d = c.args.delimiter in
-    let start = state_of c.args.start.place in
-    let n = c.new-desk.ensures in
-    let fresh = Stands-nothing gives start c.new-desk.result.cutter c.new-desk.result.answers.items (g.W.ByteSink.taken c.args.sink.now) (ap state_of n.place) n.fields n.field n.answers in
-    let r = rw n.delimiter at (c.in-Ok.ensures.input (ap Ok c.in-Input.is) start fresh) in
-    (r.0, r.1, Holds-out (IsReportOnEnded gives d start r.0) c.take_all.new.desk.answers.items _ _ _ r.2 c.in-Ok-write_out.ensures.all)
+    let r = rw c.new-desk.ensures.delimiter at (c.in-Ok.ensures.input (ap Ok c.in-Input.is) _ (fresh g (goal.at.returns-in-Input-clause-ended g c).After-new-desk)) in
+    (r.0, r.1, Holds-out (IsReportOnEnded (g.A.Answers.gives c.args.answers.now) c.args.delimiter (state_of c.args.start.place) r.0) c.take_all.new.desk.answers.items _ _ _ r.2 c.in-Ok-write_out.ensures.all)
 
 pub returns-in-Record-clause-before : goal.returns-in-Record-clause-before
 returns-in-Record-clause-before g c feeds is =
-    let gives = g.A.Answers.gives c.args.answers.now in
-    let d = c.args.delimiter in
-    let start = state_of c.args.start.place in
-    let n = c.new-desk.ensures in
-    let fresh = Stands-nothing gives start c.new-desk.result.cutter c.new-desk.result.answers.items (g.W.ByteSink.taken c.args.sink.now) (ap state_of n.place) n.fields n.field n.answers in
-    let r = rw n.delimiter at (c.in-Ok.ensures.refused (ap Ok c.in-Record.is) start fresh) in
-    (r.0, r.1, Holds-out (IsReportBefore gives (g.A.Answers.refuses c.args.answers.now) d start (g.S.ByteSource.to_come c.take_all.new.source) r.0) c.take_all.new.desk.answers.items _ _ _ r.2 c.in-Ok-write_out.ensures.all)
+    let r = rw c.new-desk.ensures.delimiter at (c.in-Ok.ensures.refused (ap Ok c.in-Record.is) _ (fresh g (goal.at.returns-in-Record-clause-before g c).After-new-desk)) in
+    (r.0, r.1, Holds-out _ c.take_all.new.desk.answers.items _ _ _ r.2 c.in-Ok-write_out.ensures.all)
 
 pub returns-clause-first : goal.returns-clause-first
 returns-clause-first g c is =
-    let gives = g.A.Answers.gives c.args.answers.now in
-    let d = c.args.delimiter in
-    let start = state_of c.args.start.place in
-    let n = c.new-desk.ensures in
-    let fresh = Stands-nothing gives start c.new-desk.result.cutter c.new-desk.result.answers.items (g.W.ByteSink.taken c.args.sink.now) (ap state_of n.place) n.fields n.field n.answers in
-    let r = rw n.delimiter at (c.in-Ok.ensures.memory (ap Ok c.in-Memory.is) start fresh) in
-    (r.0, r.1, Holds-out (IsReportOnFirst gives d start r.0) c.take_all.new.desk.answers.items _ _ _ r.2 c.in-Ok-write_out.ensures.all)
+    let r = rw c.new-desk.ensures.delimiter at (c.in-Ok.ensures.memory (ap Ok c.in-Memory.is) _ (fresh g (goal.at.returns-clause-first g c).After-new-desk)) in
+    (r.0, r.1, Holds-out _ c.take_all.new.desk.answers.items _ _ _ r.2 c.in-Ok-write_out.ensures.all)

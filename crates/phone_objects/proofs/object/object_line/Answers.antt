@@ -3,16 +3,11 @@ use Rattle.serde_json.specs.View.{view}
 use Rattle.phone_objects.proofs.Plain.{no_float, shallow}
 use Rattle.phone_objects.proofs.object.object_line.Goals as goal
 
-pub returns-clause-text : goal.returns-clause-text
-returns-clause-text c =
+pub returns : goal.returns
+returns c =
     let d = view c.in_ok-object.object in
     let is = c.in_ok-object.ensures in
-    IfOk-weaker c.to_string.result _ _ (λ s text. (d, is, text (no_float _ _ _ _ d is)))
-    c.to_string.ensures.text
-
-pub returns-clause-read_back : goal.returns-clause-read_back
-returns-clause-read_back c =
-    let d = view c.in_ok-object.object in
-    let is = c.in_ok-object.ensures in
-    IfOk-weaker c.to_string.result _ _ (λ s back. (d, is, back (shallow _ _ _ _ d is)))
-    c.to_string.ensures.reads_back
+    record {
+      text = IfOk-weaker c.to_string.result _ _ (λ s text. (d, is, text (no_float _ _ _ _ d is))) c.to_string.ensures.text;
+      read_back = IfOk-weaker c.to_string.result _ _ (λ s back. (d, is, back (shallow _ _ _ _ d is))) c.to_string.ensures.reads_back;
+    }

@@ -13,56 +13,52 @@ use Rattle.phone_read.specs.Codes.{IsCoded}
 use Rattle.phone_read.specs.Hints.{Coded, code_by_hint, looks_national}
 use Rattle.phone_read.proofs.HintCodes.{code_by_hint-apart, code_by_hint-kept}
 use Rattle.phone_read.proofs.calling_code.by_hint.Goals as goal
+use Rattle.phone_read.proofs.calling_code.by_hint.Goals.{In_ok-is_apart}
 
 -- what was asked of one number's digits, told of another's that are the same
 told : {E : Type 0} (f : List ℕ → Bool) (r : Result Bool E) (b : Bool) (t : List ℕ) (n m : Parts) →
     IfOk r (λ b. b ≡ f t) → r ≡ Ok b → t ≡ cow_str_bytes n.national → n ≡ m → b ≡ f (cow_str_bytes m.national)
 told f r b t n m asked made text same = subst (λ r. IfOk r (λ b. b ≡ f t)) made asked ∙ ap f (text ∙ ap (λ (n : Parts). cow_str_bytes n.national) same)
 
+module _ (c : In_ok-is_apart) where
+  abbrev digits : List ℕ
+  digits = cow_str_bytes c.in_ok-is_apart.number.national
+
+  abbrev code : ℕ
+  code = c.country_code-code.result
+
+  -- whether the code stands apart is told of the number's own digits
+  apart_is : c.in_ok-is_apart.is_apart ≡ (is_front (decimal code) digits && not (looks_national c.in-Some.territory.now digits))
+  apart_is =
+      told (λ d. is_front (decimal code) d && not (looks_national c.in-Some.territory.now d)) c.is_code_apart-is_apart.result c.in_ok-is_apart.is_apart c.as_str.result.now
+      c.args.number c.in_ok-is_apart.number c.is_code_apart-is_apart.ensures c.in_ok-is_apart.ensures.made.0 c.as_str.ensures.value c.in_ok-is_apart.ensures.made.1
+
+  -- what the hint's rule gives is the answer for the number that was given
+  coded : (x : Coded) (value : ℕ) (left : Parts) → code_by_hint c.in-Some.territory.now digits ≡ x → value ≡ x.value →
+      IsCoded x (decimal x.value) (option_map cow_str_bytes c.in_ok-is_apart.number.extension) c.in_ok-is_apart.number left →
+      (x : Coded) × (option_map_or (λ m. Ok (code_by_hint m (cow_str_bytes c.args.number.national))) (option_copied c.args.territory) (Err InvalidCountryCode) ≡ Ok x)
+      × (value ≡ x.value) × IsCoded x (decimal x.value) (option_map cow_str_bytes c.args.number.extension) c.args.number left
+  coded x value left found same is =
+      subst (λ (n : Parts). (x : Coded) × (option_map_or (λ m. Ok (code_by_hint m (cow_str_bytes n.national))) (option_copied c.args.territory) (Err InvalidCountryCode) ≡ Ok x)
+      × (value ≡ x.value) × IsCoded x (decimal x.value) (option_map cow_str_bytes n.extension) n left)
+      (sym c.in_ok-is_apart.ensures.made.1)
+      (x, ap (λ o. option_map_or (λ m. Ok (code_by_hint m digits)) (option_copied o) (Err InvalidCountryCode)) c.in-Some.is ∙ ap Ok found, same, is)
+
 pub returns-then-is_apart-clause-coded : goal.returns-then-is_apart-clause-coded
 returns-then-is_apart-clause-coded c =
-    let m = c.in-Some.territory.now in
-    let number = c.in_ok-is_apart.number in
-    let digits = cow_str_bytes number.national in
-    let code = c.country_code-code.result in
-    let apart = sym c.if-is_apart.true
-    ∙ told (λ d. is_front (decimal code) d && not (looks_national m d)) c.is_code_apart-is_apart.result c.in_ok-is_apart.is_apart c.as_str.result.now c.args.number number
-    c.is_code_apart-is_apart.ensures c.in_ok-is_apart.ensures.made.0 c.as_str.ensures.value c.in_ok-is_apart.ensures.made.1 in
-    subst (λ (n : Parts). (x : Coded) × (option_map_or (λ m. Ok (code_by_hint m (cow_str_bytes n.national))) (option_copied c.args.territory) (Err InvalidCountryCode) ≡ Ok x)
-    × (c.cut_off.result.code ≡ x.value) × IsCoded x (decimal x.value) (option_map cow_str_bytes n.extension) n c.cut_off.result.number)
-    (sym c.in_ok-is_apart.ensures.made.1) (
-      record { source = Number; value = code; rest = drop (length (decimal code)) digits },
-      ap (λ o. option_map_or (λ m. Ok (code_by_hint m digits)) (option_copied o) (Err InvalidCountryCode)) c.in-Some.is
-          ∙ ap Ok (code_by_hint-apart m digits (decimal code) code c.country_code-code.ensures refl apart),
-      c.cut_off.ensures.code,
-      c.cut_off.ensures.coded,
-    )
+    let arm = (goal.at.returns-then-is_apart-clause-coded c).In_ok-is_apart in
+    coded arm (record { source = Number; value = code arm; rest = drop (length (decimal (code arm))) (digits arm) }) c.cut_off.result.code c.cut_off.result.number
+    (code_by_hint-apart c.in-Some.territory.now (digits arm) (decimal (code arm)) (code arm) c.country_code-code.ensures refl (sym c.if-is_apart.true ∙ apart_is arm))
+    c.cut_off.ensures.code c.cut_off.ensures.coded
 
 pub returns-clause-coded : goal.returns-clause-coded
 returns-clause-coded c =
-    let m = c.in-Some.territory.now in
+    let arm = (goal.at.returns-clause-coded c).In_ok-is_apart in
     let number = c.in_ok-is_apart.number in
-    let digits = cow_str_bytes number.national in
-    let code = c.country_code-code.result in
-    let kept = sym c.if-is_apart.false
-    ∙ told (λ d. is_front (decimal code) d && not (looks_national m d)) c.is_code_apart-is_apart.result c.in_ok-is_apart.is_apart c.as_str.result.now c.args.number number
-    c.is_code_apart-is_apart.ensures c.in_ok-is_apart.ensures.made.0 c.as_str.ensures.value c.in_ok-is_apart.ensures.made.1 in
-    let left : Parts = record { country = Default; national = number.national; prefix = None; extension = number.extension; carrier = number.carrier } in
-    subst (λ (n : Parts). (x : Coded) × (option_map_or (λ m. Ok (code_by_hint m (cow_str_bytes n.national))) (option_copied c.args.territory) (Err InvalidCountryCode) ≡ Ok x)
-    × (code ≡ x.value) × IsCoded x (decimal x.value) (option_map cow_str_bytes n.extension) n left)
-    (sym c.in_ok-is_apart.ensures.made.1) (
-      record { source = Default; value = code; rest = digits },
-      ap (λ o. option_map_or (λ m. Ok (code_by_hint m digits)) (option_copied o) (Err InvalidCountryCode)) c.in-Some.is
-          ∙ ap Ok (code_by_hint-kept m digits (decimal code) code c.country_code-code.ensures refl kept),
-      refl,
-      record {
-        country = refl;
-        national = refl;
-        prefix = refl;
-        extension = refl;
-        carrier = refl;
-      },
-    )
+    coded arm (record { source = Default; value = code arm; rest = digits arm }) (code arm)
+    (record { country = Default; national = number.national; prefix = None; extension = number.extension; carrier = number.carrier })
+    (code_by_hint-kept c.in-Some.territory.now (digits arm) (decimal (code arm)) (code arm) c.country_code-code.ensures refl (sym c.if-is_apart.false ∙ apart_is arm))
+    refl (record { country = refl; national = refl; prefix = refl; extension = refl; carrier = refl })
 
 -- a territory's code is never refused
 some_told : {T : Type 0} (o : Option (Bor Metadata)) (m : Bor Metadata) (digits : List ℕ) (r : Result T ParseError) → o ≡ Some m →

@@ -1,15 +1,18 @@
-use Rattle.std.proofs.Common.{◌≡◌, ℕ, inl, inr, ⊎_elim, Some, None, option_map, unwrap_or, Err, IfErr, IfSome, IsSome, refl, ap, sym, subst, ◌∙◌}
+use Rattle.std.proofs.Common.{◌≡◌, ℕ, inl, inr, ⊎_elim, Some, None, option_map, unwrap_or, Result, Ok, IfOk, IsSome, refl, ap, sym, subst, ◌∙◌}
 use Rattle.std.specs.Cow.{cow_str_bytes, IsBorrowedStr}
 use Rattle.std.specs.Fmt.{decimal}
 use Rattle.std.specs.Option.{option_copied}
 use Rattle.std.specs.Result.{result_map_both}
-use Rattle.phone_core.specs.declared.country.Source.TheVariants.{Plus, Default}
+use Rattle.phone_core.specs.declared.country.Source.TheVariants.{Plus}
+use Rattle.phone_core.specs.declared.error.ParseError.{ParseError}
+use Rattle.phone_parts.specs.declared.number.Number.{Number as Parts}
 use Rattle.phone_read.specs.Codes.{IsCoded, KeepsLentCode, code_by, code_by_prefix, with_three}
 use Rattle.phone_read.specs.Hints.{Coded}
 use Rattle.phone_prefix.proofs.Results.{ok_again, err_again}
 use Rattle.phone_read.proofs.FoundCodes.{code_by-front, ok_both, err_both, ok_made}
 use Rattle.phone_read.specs.WithoutMemory.{AnswersAtOnce}
 use Rattle.phone_read.proofs.calling_code.with_code.Goals as goal
+use Rattle.phone_read.proofs.calling_code.with_code.Goals.{In_default}
 
 pub returns-in-Some : goal.returns-in-Some
 returns-in-Some c =
@@ -51,38 +54,48 @@ returns-in-Some c =
       });
     }
 
+-- without a prefix
+module _ (c : In_default) where
+  none : option_map cow_str_bytes c.args.number.prefix ≡ None
+  none = ap (option_map cow_str_bytes) c.in_default.is
+
+  abbrev told_code : Result Coded ParseError
+  told_code = code_by c.args.db.now (option_copied c.args.territory) (option_map cow_str_bytes c.args.number.prefix) c.args.number.country (cow_str_bytes c.args.number.national)
+
+  -- the code is told by the source and the digits
+  by_source : told_code ≡ code_by c.args.db.now (option_copied c.args.territory) None c.args.number.country (cow_str_bytes c.args.number.national)
+  by_source = ap (λ o. code_by c.args.db.now (option_copied c.args.territory) o c.args.number.country (cow_str_bytes c.args.number.national)) none
+
+  -- and a number with it has it as prefix
+  coded : {T : Type 0} (r : Result T ParseError) (code : T → ℕ) (number : T → Parts) (found : Result Coded ParseError) → told_code ≡ found →
+      IfOk r (λ r. (h : Coded) × (found ≡ Ok h) × (code r ≡ h.value) × IsCoded h (decimal h.value) (option_map cow_str_bytes c.args.number.extension) c.args.number (number r)) →
+      IfOk r (λ r. (h : Coded) × (told_code ≡ Ok h) × (code r ≡ h.value)
+      × IsCoded h (unwrap_or (option_map cow_str_bytes c.args.number.prefix) (decimal h.value)) (option_map cow_str_bytes c.args.number.extension) c.args.number (number r))
+  coded r code number found told is =
+      ok_again r _ _
+      (λ r h. (h.0, told ∙ h.1, h.2, subst (λ o. IsCoded h.0 (unwrap_or o (decimal h.0.value)) (option_map cow_str_bytes c.args.number.extension) c.args.number (number r)) (sym none) h.3))
+      is
+
 pub returns-in_default-country : goal.returns-in_default-country
 returns-in_default-country c =
-    let number = c.args.number in
-    let digits = cow_str_bytes number.national in
-    let m = option_copied c.args.territory in
-    let none : option_map cow_str_bytes number.prefix ≡ None = ap (option_map cow_str_bytes) c.in_default.is in
-    let told =
-    ap (λ o. code_by c.args.db.now m o number.country digits) none ∙ code_by-front c.args.db.now m number.country digits c.in_default-country.not-Default in
+    let arm = (goal.at.returns-in_default-country c).In_default in
+    let told = by_source arm ∙ code_by-front c.args.db.now (option_copied c.args.territory) c.args.number.country (cow_str_bytes c.args.number.national) c.in_default-country.not-Default in
     record {
-      coded = ok_again c.by_front.result _ _
-          (λ r h. (h.0, told ∙ h.1, h.2, subst (λ o. IsCoded h.0 (unwrap_or o (decimal h.0.value)) (option_map cow_str_bytes number.extension) number r.number) (sym none) h.3))
-          c.by_front.ensures.coded;
+      coded = coded arm c.by_front.result (λ r. r.code) (λ r. r.number) _ told c.by_front.ensures.coded;
       territory = c.by_front.ensures.territory;
       refused = err_again c.by_front.result _ _ (λ e f. inr (told ∙ f)) c.by_front.ensures.refused;
-      at_once = subst (λ t. AnswersAtOnce m t c.by_front.result) (sym told) c.by_front.ensures.at_once;
+      at_once = subst (λ t. AnswersAtOnce (option_copied c.args.territory) t c.by_front.result) (sym told) c.by_front.ensures.at_once;
       lent = c.by_front.ensures.lent;
     }
 
 pub returns-in-Default : goal.returns-in-Default
 returns-in-Default c =
-    let number = c.args.number in
-    let digits = cow_str_bytes number.national in
-    let m = option_copied c.args.territory in
-    let none : option_map cow_str_bytes number.prefix ≡ None = ap (option_map cow_str_bytes) c.in_default.is in
-    let told =
-    ap (λ o. code_by c.args.db.now m o number.country digits) none ∙ ap (λ s. code_by c.args.db.now m None s digits) c.in-Default.is in
+    let arm = (goal.at.returns-in-Default c).In_default in
+    let told = by_source arm ∙ ap (λ s. code_by c.args.db.now (option_copied c.args.territory) None s (cow_str_bytes c.args.number.national)) c.in-Default.is in
     record {
-      coded = ok_again c.by_hint.result _ _
-          (λ r h. (h.0, told ∙ h.1, h.2, subst (λ o. IsCoded h.0 (unwrap_or o (decimal h.0.value)) (option_map cow_str_bytes number.extension) number r.number) (sym none) h.3))
-          c.by_hint.ensures.coded;
+      coded = coded arm c.by_hint.result (λ r. r.code) (λ r. r.number) _ told c.by_hint.ensures.coded;
       territory = c.by_hint.ensures.territory;
       refused = err_again c.by_hint.result _ _ (λ e h. ⊎_elim (λ f. inl f) (λ f. inr (told ∙ f)) h) c.by_hint.ensures.refused;
-      at_once = subst (λ t. AnswersAtOnce m t c.by_hint.result) (sym told) c.by_hint.ensures.at_once;
+      at_once = subst (λ t. AnswersAtOnce (option_copied c.args.territory) t c.by_hint.result) (sym told) c.by_hint.ensures.at_once;
       lent = c.by_hint.ensures.lent;
     }

@@ -1,7 +1,5 @@
 use Rattle.std.proofs.Common.{take, sym}
 use Rattle.std.proofs.lemmas.List.{take_more}
-use Rattle.regex_hir.specs.Meaning.{meaning}
-use Rattle.phone_search.specs.Ascii.{AsciiSame}
 use Rattle.phone_search.proofs.Alike.{chars_kept, repetition_kept, capture_kept, grown}
 use Rattle.phone_search.proofs.narrow.+narrow.Goals as goal
 
@@ -11,19 +9,17 @@ narrowed-returns-in_ok-cut-in-Chars t c =
 
 pub narrowed-returns-in_ok-new-in-Repetition : goal.narrowed-returns-in_ok-new-in-Repetition
 narrowed-returns-in_ok-new-in-Repetition t c =
-    let new = c.in_ok-new-in-Repetition.field-0 in
     let it = c.in-Repetition in
-    let inner : AsciiSame (meaning new.value) (meaning it.sub.value) =
-    rw c.in_ok-new-in-Repetition.ensures.ok (rw c.deref-in-Repetition.ensures at c.in_ok-narrowed-in-Repetition.ensures) in
-    rw it.is (repetition_kept it.min it.max it.greedy new it.sub inner)
+    rw it.is
+    (repetition_kept it.min it.max it.greedy c.in_ok-new-in-Repetition.field-0 it.sub
+    (rw c.in_ok-new-in-Repetition.ensures.ok (rw c.deref-in-Repetition.ensures at c.in_ok-narrowed-in-Repetition.ensures)))
 
 pub narrowed-returns-in_ok-new-in-Capture : goal.narrowed-returns-in_ok-new-in-Capture
 narrowed-returns-in_ok-new-in-Capture t c =
-    let new = c.in_ok-new-in-Capture.field-0 in
     let it = c.in-Capture in
-    let inner : AsciiSame (meaning new.value) (meaning it.sub.value) =
-    rw c.in_ok-new-in-Capture.ensures.ok (rw c.deref-in-Capture.ensures at c.in_ok-narrowed-in-Capture.ensures) in
-    rw it.is (capture_kept it.index new it.sub inner)
+    rw it.is
+    (capture_kept it.index c.in_ok-new-in-Capture.field-0 it.sub
+    (rw c.in_ok-new-in-Capture.ensures.ok (rw c.deref-in-Capture.ensures at c.in_ok-narrowed-in-Capture.ensures)))
 
 pub narrowed_all-loop-i-preserved : goal.narrowed_all-loop-i-preserved
 narrowed_all-loop-i-preserved t c =

@@ -1,9 +1,9 @@
-use Rattle.std.proofs.Common.{◌≡◌, ⊎_elim, Err, Ok, chars, refl, sym, ap, subst, true≢false}
+use Rattle.std.proofs.Common.{◌≡◌, ⊎_elim, Err, chars, refl, sym, ap, subst, true≢false}
 use Rattle.std.proofs.lemmas.Result.{IfErr-at_err}
 use Rattle.phone_read.specs.Readings.{Reads}
 use Rattle.phone_table.specs.Answers.{IsFieldAnswer, refused_answer}
 use Rattle.phone_table.specs.Answers.IsFieldAnswer.{no_text, refused, read}
-use Rattle.phone_table.proofs.AnswerLemmas.{has_territory, no_both}
+use Rattle.phone_read.proofs.ReadNumbers.{has_territory, number_reads}
 use Rattle.phone_table.proofs.answer.answer_to.Goals as goal
 
 pub returns-in_default : goal.returns-in_default
@@ -24,21 +24,11 @@ returns-in-Err c =
 
 pub returns-in-Ok-number_answer : goal.returns-in-Ok-number_answer
 returns-in-Ok-number_answer c =
-    let db = c.args.database.now in
-    let hint = c.args.hint in
-    let field = c.args.field.now in
-    let n = c.in-Ok-parse_with.number in
     let a = c.in-Ok-number_answer.ensures.answer in
-    ⊎_elim
-    (λ m. absurd (no_both n _ m))
-    (λ r. subst (IsFieldAnswer db hint field) (sym a.2)
-    (read n a.0 c.in-Ok.ensures.cases.1 (subst (λ t. Reads db hint (chars t) (Ok n)) c.in-Ok.ensures.cases.0 r) a.1))
-    c.in-Ok-parse_with.ensures
+    subst (IsFieldAnswer c.args.database.now c.args.hint c.args.field.now) (sym a.2)
+    (read c.in-Ok-parse_with.number a.0 c.in-Ok.ensures.cases.1 (number_reads c.in-Ok.ensures.cases.0 c.in-Ok-parse_with.ensures) a.1)
 
 pub unreachable-requires : goal.unreachable-requires
 unreachable-requires c =
-    let db = c.args.database.now in
-    let hint = c.args.hint in
-    let n = c.in-Ok-parse_with.number in
-    let none = c.in-Err-UnknownCode.ensures.unknown (ap Err c.in-Err-UnknownCode.field-0-is) in
-    ⊎_elim (λ m. no_both n _ m) (λ r. has_territory db hint (chars c.in-Ok.text.now) n r none) c.in-Ok-parse_with.ensures
+    has_territory c.args.database.now c.args.hint (chars c.args.field.now) c.in-Ok-parse_with.number
+    (number_reads c.in-Ok.ensures.cases.0 c.in-Ok-parse_with.ensures) (c.in-Err-UnknownCode.ensures.unknown (ap Err c.in-Err-UnknownCode.field-0-is))

@@ -1,10 +1,7 @@
-use Rattle.std.proofs.Common.{Ok, Err, refl, subst}
+use Rattle.std.proofs.Common.{refl}
 use Rattle.csv.specs.Records.{fields_of}
-use Rattle.phone_lines.specs.Ends.{seen}
-use Rattle.phone_table.specs.Answers.{IsAnswer, IsOfOtherWidth}
-use Rattle.phone_table.specs.Ends.{Ends}
 use Rattle.phone_table.specs.Runs.RunEnds.{broken_off, no_column, no_header, whole}
-use Rattle.phone_table.proofs.RunLemmas.{header_read, lacks_by, no_header_by}
+use Rattle.phone_table.proofs.RunLemmas.{ends_from, header_read, lacks_by, no_header_by}
 use Rattle.phone_table.proofs.run.write_table.Goals as goal
 
 pub returns-in-Err : goal.returns-in-Err
@@ -30,33 +27,18 @@ pub returns-in-Ok-write_rows : goal.returns-in-Ok-write_rows
 returns-in-Ok-write_rows g c =
     let f = c.in-Ok.ensures in
     let first = c.in-Ok.first in
-    let header = fields_of first.fields in
-    let columns = c.in-Ok-columns_of.columns in
-    let d = c.args.asked.delimiter in
-    let new = c.write_rows.new in
-    let after = seen (g.S.ByteSource.to_come new.source) (g.S.ByteSource.faults new.source) (g.W.ByteSink.taken new.sink) (g.W.ByteSink.faults new.sink) in
-    let source = g.S.ByteSource.to_come c.args.source.now in
-    let read = header_read d header first.rest _ _ f.ended f.only in
     record {
-      ends = whole header columns c.in-Ok-columns_of.ensures.found
-          (subst (λ n. Ends header (IsAnswer c.args.database.now columns c.args.asked.hint) (IsOfOtherWidth columns) d
-          (seen source n (g.W.ByteSink.taken c.args.sink.now) (g.W.ByteSink.faults c.args.sink.now)) after (Ok tt)) f.no_fault (c.in-Ok-write_rows.ensures.ends source read));
+      ends = whole (fields_of first.fields) c.in-Ok-columns_of.columns c.in-Ok-columns_of.ensures.found
+          (ends_from f.no_fault (c.in-Ok-write_rows.ensures.ends (g.S.ByteSource.to_come c.args.source.now)
+          (header_read c.args.asked.delimiter (fields_of first.fields) first.rest _ _ f.ended f.only)));
     }
 
 pub returns-in-Err-write_rows : goal.returns-in-Err-write_rows
 returns-in-Err-write_rows g c =
     let f = c.in-Ok.ensures in
     let first = c.in-Ok.first in
-    let header = fields_of first.fields in
-    let columns = c.in-Ok-columns_of.columns in
-    let d = c.args.asked.delimiter in
-    let new = c.write_rows.new in
-    let after = seen (g.S.ByteSource.to_come new.source) (g.S.ByteSource.faults new.source) (g.W.ByteSink.taken new.sink) (g.W.ByteSink.faults new.sink) in
-    let source = g.S.ByteSource.to_come c.args.source.now in
-    let read = header_read d header first.rest _ _ f.ended f.only in
-    let e = c.in-Err-write_rows.error in
     record {
-      ends = broken_off header columns e c.in-Ok-columns_of.ensures.found
-          (subst (λ n. Ends header (IsAnswer c.args.database.now columns c.args.asked.hint) (IsOfOtherWidth columns) d
-          (seen source n (g.W.ByteSink.taken c.args.sink.now) (g.W.ByteSink.faults c.args.sink.now)) after (Err e)) f.no_fault (c.in-Err-write_rows.ensures.ends source read));
+      ends = broken_off (fields_of first.fields) c.in-Ok-columns_of.columns c.in-Err-write_rows.error c.in-Ok-columns_of.ensures.found
+          (ends_from f.no_fault (c.in-Err-write_rows.ensures.ends (g.S.ByteSource.to_come c.args.source.now)
+          (header_read c.args.asked.delimiter (fields_of first.fields) first.rest _ _ f.ended f.only)));
     }

@@ -3,16 +3,18 @@ use Rattle.std.specs.Fmt.{digits}
 use Rattle.std.specs.Str.{chars}
 use Rattle.phone_core.specs.Ids.{id_of, name}
 use Rattle.premises.proofs.ByText.{benign, international, is_plain}
-use Rattle.premises.proofs.Laid.{am_by_anexo_laid}
+use Rattle.premises.proofs.Laid.{spaced_laid}
 use Rattle.premises.specs.Samples.{am_by_anexo, number}
 use Rattle.premises.proofs.plain.announced_by_anexo.Goals as goal
 
 pub returns : goal.returns
 unfolding digits chars id_of name
-returns c = record {
-  international = international am_by_anexo (am_by_anexo_laid (Some (codes "12"))) (is_plain refl refl) refl (omega arith) refl refl;
-  benign = benign am_by_anexo (number 374 0 123456 (Some (codes "12"))) (am_by_anexo_laid (Some (codes "12"))) refl refl;
-  empty = international am_by_anexo (am_by_anexo_laid (Some [])) (is_plain refl refl) refl (omega arith) refl refl;
-  empty_benign = benign am_by_anexo (number 374 0 123456 (Some [])) (am_by_anexo_laid (Some [])) refl refl;
-  idle = inr (am_by_anexo, refl, refl);
-}
+returns c =
+    let laid = spaced_laid (codes "AM") 374 (codes " anexo ") in
+    record {
+      international = international am_by_anexo (laid (Some (codes "12"))) (is_plain refl refl) refl (omega arith) refl refl;
+      benign = benign am_by_anexo (number 374 0 123456 (Some (codes "12"))) (laid (Some (codes "12"))) refl refl;
+      empty = international am_by_anexo (laid (Some [])) (is_plain refl refl) refl (omega arith) refl refl;
+      empty_benign = benign am_by_anexo (number 374 0 123456 (Some [])) (laid (Some [])) refl refl;
+      idle = inr (am_by_anexo, refl, refl);
+    }

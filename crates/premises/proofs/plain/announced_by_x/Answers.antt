@@ -3,16 +3,18 @@ use Rattle.std.specs.Fmt.{digits}
 use Rattle.std.specs.Str.{chars}
 use Rattle.phone_core.specs.Ids.{id_of, name}
 use Rattle.premises.proofs.ByText.{benign, international, is_plain}
-use Rattle.premises.proofs.Laid.{ad_by_x_laid}
+use Rattle.premises.proofs.Laid.{spaced_laid}
 use Rattle.premises.specs.Samples.{ad_by_x, number}
 use Rattle.premises.proofs.plain.announced_by_x.Goals as goal
 
 pub returns : goal.returns
 unfolding digits chars id_of name
-returns c = record {
-  international = international ad_by_x (ad_by_x_laid (Some (codes "5"))) (is_plain refl refl) refl (omega arith) refl refl;
-  benign = benign ad_by_x (number 376 0 123456 (Some (codes "5"))) (ad_by_x_laid (Some (codes "5"))) refl refl;
-  empty = international ad_by_x (ad_by_x_laid (Some [])) (is_plain refl refl) refl (omega arith) refl refl;
-  empty_benign = benign ad_by_x (number 376 0 123456 (Some [])) (ad_by_x_laid (Some [])) refl refl;
-  idle = inr (ad_by_x, refl, refl);
-}
+returns c =
+    let laid = spaced_laid (codes "AD") 376 (codes " x") in
+    record {
+      international = international ad_by_x (laid (Some (codes "5"))) (is_plain refl refl) refl (omega arith) refl refl;
+      benign = benign ad_by_x (number 376 0 123456 (Some (codes "5"))) (laid (Some (codes "5"))) refl refl;
+      empty = international ad_by_x (laid (Some [])) (is_plain refl refl) refl (omega arith) refl refl;
+      empty_benign = benign ad_by_x (number 376 0 123456 (Some [])) (laid (Some [])) refl refl;
+      idle = inr (ad_by_x, refl, refl);
+    }

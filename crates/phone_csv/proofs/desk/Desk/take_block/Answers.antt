@@ -1,7 +1,7 @@
 use Rattle.std.proofs.Common.{◌++◌, ◌∷◌, ◌+◌, [], Err, take, drop, slice_index_or, ap, subst, ◌∙◌}
 use Rattle.phone_csv.specs.Reports.{IsReportBefore, IsReportOnFirst}
 use Rattle.phone_csv.specs.Runs.{Holds, Stands}
-use Rattle.phone_csv.proofs.Progress.{Holds-breaks, Stands-advanced, Stands-first, Stands-handed, Stands-refused, at_place, from_place, next_place}
+use Rattle.phone_csv.proofs.Progress.{Holds-breaks, Stands-advanced, Stands-first, Stands-handed, Stands-holds, at_place, from_place, next_place}
 use Rattle.phone_csv.proofs.desk.Desk.take_block.Goals as goal
 
 pub returns-in-Err-Record-clause-refused : goal.returns-in-Err-Record-clause-refused
@@ -13,7 +13,7 @@ returns-in-Err-Record-clause-refused g c is start bytes before to_come s =
     let t = c.in-Err-Record.ensures in
     let stands = c.loop-byte.invariant.on start bytes before s in
     let report = IsReportBefore gives refuses c.args.self.now.cutter.delimiter start to_come (bytes ++ block) in
-    rw (t.answers_kept) (Stands-refused gives start (bytes ++ take i block) c.loop-byte.self.cutter c.loop-byte.self.answers.items before (g.W.ByteSink.taken c.loop-byte.sink) report stands
+    rw (t.answers_kept) (Stands-holds gives start (bytes ++ take i block) c.loop-byte.self.cutter c.loop-byte.self.answers.items before (g.W.ByteSink.taken c.loop-byte.sink) report stands
     (λ written far. subst (λ b. IsReportBefore gives refuses c.args.self.now.cutter.delimiter start to_come b (written ++ c.loop-byte.self.answers.items))
     (from_place bytes block i 0 c.loop-byte-test.true)
     (rw c.loop-byte.invariant.same_delimiter at (t.refused (ap Err c.in-Err-Record.field-0-is) start (bytes ++ take i block) written far to_come (drop (i + 1) block)))))

@@ -1,9 +1,9 @@
-use Rattle.std.proofs.Common.{◌≡◌, ⊎_elim, List, ℕ, Err, Ok, chars, string_bytes, refl, sym, ap, subst}
+use Rattle.std.proofs.Common.{◌≡◌, ⊎_elim, Err, chars, string_bytes, refl, sym, ap, subst}
 use Rattle.std.proofs.lemmas.Result.{IfErr-at_err, IfOk-from_err, IfOk-weaker}
 use Rattle.phone_read.specs.Readings.{Reads}
 use Rattle.phone_number.specs.Reports.{IsReportLine}
 use Rattle.phone_number.specs.Reports.IsReportLine.{no_text, refused, read}
-use Rattle.phone_report.proofs.OneLine.{has_territory, no_both}
+use Rattle.phone_read.proofs.ReadNumbers.{has_territory, number_reads}
 use Rattle.phone_report.proofs.line.ReporterAnswers.answer.Goals as goal
 
 pub returns-in_default : goal.returns-in_default
@@ -30,21 +30,11 @@ returns-in-Err c =
 
 pub returns-in-Ok-number_line : goal.returns-in-Ok-number_line
 returns-in-Ok-number_line c =
-    let db = c.args.self.now.database.now in
-    let hint = c.args.self.now.hint in
-    let line = c.args.line.now in
-    let n = c.in-Ok-parse_with.number in
     let l = c.in-Ok-number_line.ensures.line in
-    ⊎_elim
-    (λ m. absurd (no_both n _ m))
-    (λ r. subst (IsReportLine db hint line) (sym l.2)
-    (read n l.0 c.in-Ok.ensures.cases.1 (subst (λ t. Reads db hint (chars t) (Ok n)) c.in-Ok.ensures.cases.0 r) l.1))
-    c.in-Ok-parse_with.ensures
+    subst (IsReportLine c.args.self.now.database.now c.args.self.now.hint c.args.line.now) (sym l.2)
+    (read c.in-Ok-parse_with.number l.0 c.in-Ok.ensures.cases.1 (number_reads c.in-Ok.ensures.cases.0 c.in-Ok-parse_with.ensures) l.1)
 
 pub unreachable-requires : goal.unreachable-requires
 unreachable-requires c =
-    let db = c.args.self.now.database.now in
-    let hint = c.args.self.now.hint in
-    let n = c.in-Ok-parse_with.number in
-    let none = c.in-Err-UnknownCode.ensures.unknown (ap Err c.in-Err-UnknownCode.field-0-is) in
-    ⊎_elim (λ m. no_both n _ m) (λ r. has_territory db hint (chars c.in-Ok.text.now) n r none) c.in-Ok-parse_with.ensures
+    has_territory c.args.self.now.database.now c.args.self.now.hint (chars c.args.line.now) c.in-Ok-parse_with.number
+    (number_reads c.in-Ok.ensures.cases.0 c.in-Ok-parse_with.ensures) (c.in-Err-UnknownCode.ensures.unknown (ap Err c.in-Err-UnknownCode.field-0-is))

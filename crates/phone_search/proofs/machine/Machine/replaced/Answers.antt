@@ -34,8 +34,8 @@ returns-clause-replaced c =
       | in-Ok-Done-Some w ↦
           let near = w.in-Ok-Done-Some in
           let cells = c.find_near.new.groups in
-          let back = with_items_is c.self.inside.cells cells (c.find_near.auto.groups ∙ c.as_mut_slice-cells.ensures.len) in
-          let kept : w.deref.result.now ≡ cells = w.deref.ensures.value ∙ back in
+          let kept : w.deref.result.now ≡ cells =
+          w.deref.ensures.value ∙ with_items_is c.self.inside.cells cells (c.find_near.auto.groups ∙ c.as_mut_slice-cells.ensures.len) in
           let inner : (text : List ℕ) → ((bytes : List ℕ) × (text ≡ (take near.span.0 hay ++ bytes) ++ drop near.span.1 hay) × IsWritten template hay near.span cells bytes) →
           (names : Names) → text ≡ with_match_replaced names template hay (finds c.args.self.now hay) =
           λ text parts names.
