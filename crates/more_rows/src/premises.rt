@@ -1,5 +1,6 @@
-//! Whether a number that is dialled from a territory lies within the premises of `phone_dial::laws`
-//! under which it is read back there, decided by code of its own and not by reading a text.
+//! Whether a number that is dialled from a territory lies within the premises of
+//! `phone_more::dialled::laws` under which it is read back there, decided by code of its own and
+//! not by reading a text.
 use anyhow::Result;
 use number_rows::premises::Premises;
 use phone_chars::chars::is_digit;

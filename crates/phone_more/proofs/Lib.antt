@@ -1,7 +1,12 @@
 pub mod CodesBelow
+pub mod DialledParts
+pub mod DialledReads
+pub mod DialledTexts
 pub mod Lent
 pub mod ListedLengths
 pub mod Longer
+pub mod Prefixes
 pub mod Printed
 pub mod Swaps
 pub mod Taken
+pub mod UnsignedParts

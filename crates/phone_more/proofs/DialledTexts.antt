@@ -8,9 +8,9 @@ use Rattle.phone_territory.specs.Records.{code_of}
 use Rattle.phone_records.specs.declared.loader.Metadata.{Metadata}
 use Rattle.phone_core.specs.declared.reading.Reading.{Reading}
 use Rattle.phone_print.specs.Texts.{international_text, national_text, text_by}
-use Rattle.phone_dial.specs.Dialled.{dialled_by, dialled_prefix, dialling_prefix_of}
-use Rattle.phone_dial.specs.declared.dialling.DialError.{DialError}
-use Rattle.phone_dial.specs.declared.dialling.DialError.TheVariants.{UnknownCode, UnknownRegion}
+use Rattle.phone_more.specs.Dialled.{dialled_by, dialled_prefix, dialling_prefix_of}
+use Rattle.phone_more.specs.declared.dialled.DialError.{DialError}
+use Rattle.phone_more.specs.declared.dialled.DialError.TheVariants.{UnknownCode, UnknownRegion}
 
 module _ (from : Metadata) (n : Reading) where
   -- what is dialled from a territory, laid out by another, if there is one

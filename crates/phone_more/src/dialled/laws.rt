@@ -5,8 +5,8 @@ ghost use Rattle.phone_core.specs.declared.country.Source.TheVariants as source;
 ghost use Rattle.phone_records.specs.declared.loader.Metadata as loader;
 ghost use Rattle.phone_core.specs.declared.reading.Reading.{Reading};
 ghost use Rattle.phone_number.specs.Bounds.{IsBounded};
-ghost use Rattle.phone_dial.specs.Back.{IsAfterPlus, IsAfterPrefix, IsPlainDialled, IsReadUnder};
-ghost use Rattle.phone_dial.specs.Dialled.{dialled_text};
+ghost use Rattle.phone_more.specs.Back.{IsAfterPlus, IsAfterPrefix, IsPlainDialled, IsReadUnder};
+ghost use Rattle.phone_more.specs.Dialled.{dialled_text};
 
 /// A number that is dialled from a region with an international prefix of digits is read back with
 /// that region as hint: to its code, which was found by the prefix, its national number and its

@@ -14,8 +14,8 @@ use Rattle.phone_meta.specs.Records.{last_with}
 use Rattle.phone_records.specs.declared.loader.Metadata.{Metadata}
 use Rattle.phone_core.specs.declared.reading.Reading.{Reading}
 use Rattle.phone_print.specs.Texts.{extension_part, laid_out, national_text}
-use Rattle.phone_dial.specs.declared.dialling.DialError.{DialError}
-use Rattle.phone_dial.specs.declared.dialling.DialError.TheVariants.{UnknownCode, UnknownRegion}
+use Rattle.phone_more.specs.declared.dialled.DialError.{DialError}
+use Rattle.phone_more.specs.declared.dialled.DialError.TheVariants.{UnknownCode, UnknownRegion}
 
 -- a pattern that is digits alone, one at least: it matches itself and nothing else
 abbrev pub if_digits : List ℕ → Option (List ℕ)

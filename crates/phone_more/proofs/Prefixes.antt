@@ -4,7 +4,7 @@ use Rattle.std.specs.List.{list_all}
 use Rattle.std.specs.Option.{option_and_then, option_or}
 use Rattle.phone_chars.specs.Characters.{is_digit}
 use Rattle.phone_records.specs.declared.loader.Metadata.{Metadata}
-use Rattle.phone_dial.specs.Dialled.{dialled_prefix, if_digits, if_some}
+use Rattle.phone_more.specs.Dialled.{dialled_prefix, if_digits, if_some}
 
 chosen : (b : Bool) (t : List ℕ) → (if b then None else Some t) ≡ Some [] → t ≡ []
 chosen true t e = cc

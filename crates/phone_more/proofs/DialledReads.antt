@@ -49,12 +49,12 @@ use Rattle.phonenumber.proofs.BackNumbers.{list_all-decimal, nsn-text_of}
 use Rattle.phonenumber.proofs.BackTexts.{IsUtf8-low, chars-international_text, chars-low, is_low, low_digits}
 use Rattle.phonenumber.proofs.BackViable.{all_allowed, is_parted, viable-parted}
 use Rattle.phonenumber.specs.Plain.{has_digits}
-use Rattle.phone_dial.specs.Back.{IsAfterPlus, IsAfterPrefix, IsPlainDialled, IsReadUnder}
-use Rattle.phone_dial.specs.Dialled.{dialled_abroad, dialled_by, dialled_text}
-use Rattle.phone_dial.specs.declared.dialling.DialError.TheVariants.{UnknownCode, UnknownRegion}
-use Rattle.phone_dial.proofs.DialledParts.{IsLaid, IsTold, coded_laid, kept_of, laid_text, plain_laid, plain_told}
-use Rattle.phone_dial.proofs.Prefixes.{never_empty}
-use Rattle.phone_dial.proofs.UnsignedParts.{unsigned_parts}
+use Rattle.phone_more.specs.Back.{IsAfterPlus, IsAfterPrefix, IsPlainDialled, IsReadUnder}
+use Rattle.phone_more.specs.Dialled.{dialled_abroad, dialled_by, dialled_text}
+use Rattle.phone_more.specs.declared.dialled.DialError.TheVariants.{UnknownCode, UnknownRegion}
+use Rattle.phone_more.proofs.DialledParts.{IsLaid, IsTold, coded_laid, kept_of, laid_text, plain_laid, plain_told}
+use Rattle.phone_more.proofs.Prefixes.{never_empty}
+use Rattle.phone_more.proofs.UnsignedParts.{unsigned_parts}
 
 -- how a national part without a reader's prefix is dialled, where its digits and what follows an
 -- international prefix are known

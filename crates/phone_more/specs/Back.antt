@@ -18,7 +18,7 @@ use Rattle.phone_prefix.specs.Strips.{strip}
 use Rattle.phone_core.specs.declared.reading.Reading.{Reading}
 use Rattle.phonenumber.specs.Again.{IsSame}
 use Rattle.phonenumber.specs.Plain.{IsBenign, IsPlainInternational}
-use Rattle.phone_dial.specs.Dialled.{dialled_prefix}
+use Rattle.phone_more.specs.Dialled.{dialled_prefix}
 
 -- with the region as hint, the text is read as a number that is n, with its extension, whose code
 -- was found so

@@ -1,6 +1,6 @@
 use Rattle.std.proofs.Common.{string_bytes}
-use Rattle.phone_dial.proofs.DialledTexts.{behind}
-use Rattle.phone_dial.proofs.dialling.dialled_abroad.Goals as goal
+use Rattle.phone_more.proofs.DialledTexts.{behind}
+use Rattle.phone_more.proofs.dialled.dialled_abroad.Goals as goal
 
 pub returns-in-Some-signless : goal.returns-in-Some-signless
 returns-in-Some-signless c =

@@ -5,8 +5,10 @@ ghost use Rattle.std.specs.List.{list_all};
 ghost use Rattle.std.specs.Option.{option_and_then, option_copied};
 ghost use Rattle.phone_chars.specs.Characters.{is_digit};
 ghost use Rattle.phone_number.specs.Printed.{printed};
-ghost use Rattle.phone_dial.specs.Dialled.{dialled_prefix, dialled_text, dialling_prefix_of};
-ghost use Rattle.phone_dial.specs.Dialled.{if_digits, if_some};
+ghost use Rattle.phone_more.specs.Dialled.{dialled_prefix, dialled_text, dialling_prefix_of};
+ghost use Rattle.phone_more.specs.Dialled.{if_digits, if_some};
+
+pub mod laws;
 
 use phone_core::Mode;
 use phone_core::country::Id;
