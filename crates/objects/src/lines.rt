@@ -2,7 +2,7 @@
 use anyhow::Result;
 use phone_number::country::Id;
 use phone_number::metadata::Database;
-use phone_objects::object_line;
+use phone_table::objects::object_line;
 use std::alloc::Global;
 use std::io::{self, BufRead, Write};
 

@@ -1,6 +1,6 @@
 //! The program `objects DATABASE [REGION] [FIRST]`: for each line of standard input it writes a
-//! JSON object on a line of its own, as `phone_objects::object_line` tells it, read under the
-//! region as a hint where one is given, and not `-`. Lines are counted from FIRST, or from 1. A
+//! JSON object on a line of its own, as `phone_table::objects::object_line` tells it, read under
+//! the region as a hint where one is given, and not `-`. Lines are counted from FIRST, or from 1. A
 //! line ends in a line feed, of which one carriage return in front is dropped.
 //!
 //! Status 0: all lines were read. 1: input, output or memory failed. 2: wrong words. 3: the

@@ -4,3 +4,4 @@ pub mod AnswerLemmas
 pub mod TableLemmas
 pub mod EndLemmas
 pub mod RunLemmas
+pub mod ObjectLemmas

@@ -1,10 +1,11 @@
 //! Tables of customers: the records of a CSV text, each given back with what is known of the phone
-//! number in one of its columns.
+//! number in one of its columns; and what a line is answered, as a JSON object.
 #![tactic(auto)]
 
 mod answer;
 mod header;
 mod names;
+pub mod objects;
 mod options;
 mod region;
 mod rows;

@@ -3,9 +3,9 @@ use Rattle.std.proofs.lemmas.Result.{IfOk-weaker}
 use Rattle.serde_json.specs.Data.{null, string}
 use Rattle.serde_json.specs.View.{view}
 use Rattle.phone_table.specs.Spelled.{spelled}
-use Rattle.phone_objects.specs.Objects.{IsObject, object_of}
-use Rattle.phone_objects.specs.Objects.IsObject.{no_text, of_text}
-use Rattle.phone_objects.proofs.object.object.Goals as goal
+use Rattle.phone_table.specs.Objects.{IsObject, object_of}
+use Rattle.phone_table.specs.Objects.IsObject.{no_text, of_text}
+use Rattle.phone_table.proofs.objects.object.Goals as goal
 
 pub returns-in-Ok : goal.returns-in-Ok
 returns-in-Ok c =

@@ -1,7 +1,7 @@
 use Rattle.std.proofs.lemmas.Result.{IfOk-weaker}
 use Rattle.serde_json.specs.View.{view}
-use Rattle.phone_objects.proofs.Plain.{no_float, shallow}
-use Rattle.phone_objects.proofs.object.object_line.Goals as goal
+use Rattle.phone_table.proofs.ObjectLemmas.{no_float, shallow}
+use Rattle.phone_table.proofs.objects.object_line.Goals as goal
 
 pub returns : goal.returns
 returns c =

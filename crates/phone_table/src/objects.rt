@@ -1,4 +1,4 @@
-//! The object of a line.
+//! What a line is answered, as a JSON object.
 ghost use Rattle.std.specs.Prelude.{◌≡◌, ℕ, Some, IfOk, string_bytes};
 ghost use Rattle.std.specs.Str.{IsUtf8};
 ghost use Rattle.serde_json.specs.Data.{Data, null, string};
@@ -6,11 +6,12 @@ ghost use Rattle.serde_json.specs.Read.{read};
 ghost use Rattle.serde_json.specs.View.{view};
 ghost use Rattle.serde_json.specs.Written.{compact_text};
 ghost use Rattle.phone_table.specs.Spelled.{spelled};
-ghost use Rattle.phone_objects.specs.Objects.{IsObject, object_of, spelled_by};
+ghost use Rattle.phone_table.specs.Objects.{IsObject, object_of, spelled_by};
 
+use crate::answer::{Answer, answer_to};
+use crate::words::{kind_word, region_word, validity_word};
 use phone_number::country::Id;
 use phone_number::metadata::Database;
-use phone_table::{Answer, answer_to, kind_word, region_word, validity_word};
 use serde_json::{Value, json};
 use std::alloc::{AllocError, Global};
 

@@ -5,8 +5,8 @@ use Rattle.serde_json.specs.Read.{max_depth}
 use Rattle.serde_json.specs.Written.{has_float}
 use Rattle.phone_core.specs.declared.country.Id.{Id}
 use Rattle.phone_records.specs.declared.loader.Metadata.{Metadata}
-use Rattle.phone_objects.specs.Objects.{IsObject}
-use Rattle.phone_objects.specs.Objects.IsObject.{no_text, of_text}
+use Rattle.phone_table.specs.Objects.{IsObject}
+use Rattle.phone_table.specs.Objects.IsObject.{no_text, of_text}
 
 pub no_float : (db : List Metadata) (hint : Option Id) (place : ℕ) (line : List ℕ) (d : Data) →
     IsObject db hint place line d → has_float d ≡ false

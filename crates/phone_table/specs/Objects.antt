@@ -6,7 +6,7 @@ use Rattle.phone_core.specs.declared.country.Id.{Id}
 use Rattle.phone_csv.specs.Formats.{Record}
 use Rattle.phone_records.specs.declared.loader.Metadata.{Metadata}
 use Rattle.phone_table.specs.Answers.{IsFieldAnswer}
-use Rattle.phone_objects.specs.declared.object.Fields.{Fields}
+use Rattle.phone_table.specs.declared.objects.Fields.{Fields}
 
 -- seven fields as a record
 abbrev pub spelled_by : Fields → Record
