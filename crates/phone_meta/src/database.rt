@@ -43,12 +43,27 @@ use std::fs::{self, Files};
 use std::marker::Model;
 
 /// Territories in the order in which their records were handed in. Contracts see these records.
-#[derive(Drop)]
 pub struct Database {
     alloc: Global,
     territories: Vec<Metadata>,
     index: Index,
     first_group: FirstGroup,
+}
+
+/// Written out, so that the crates above drop a database by this one function, and don't prove anew
+/// the drop of each type that it owns.
+impl Drop for Database {
+    fn drop(self) {
+        let Database {
+            alloc: _,
+            territories,
+            index,
+            first_group,
+        } = self;
+        drop(territories);
+        drop(index);
+        drop(first_group);
+    }
 }
 
 impl Model for Database {
