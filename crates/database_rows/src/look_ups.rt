@@ -1,7 +1,7 @@
 //! The look-ups of `phone_meta`, each on the database that its line names.
 use crate::named::{code_of, territory};
 use anyhow::{Result, anyhow};
-use phone_meta::{Database, Metadata};
+use phone_meta::{Database, Descriptor, Metadata};
 use rows::marks::{around, begin};
 use rows::table::Row;
 use rows::words::{KINDS, kind, truth};
@@ -12,24 +12,74 @@ use std::alloc::{AllocError, Global};
 /// refused.
 pub fn answer(alloc: Global, row: &Row, db: &Database) -> Result<Option<String>> {
     let answer = match row.call() {
-        "shortest" => code(alloc, db.shortest(row.argument(1)))?,
-        "codes-prefix-free" => truth(alloc, db.codes_prefix_free())?,
-        "region" => regions(alloc, db, code_of(row)?)?,
-        "by-code" => territories(alloc, db, code_of(row)?)?,
-        "first-by-code" => record(alloc, db.first_by_code(&code_of(row)?))?,
-        "by-id" => record(alloc, db.by_id(row.argument(1)))?,
-        "iter" => in_order_of_ids(alloc, db)?,
-        "descriptors" => descriptors(alloc, territory(db, row)?)?,
-        "has-benign-prefix" => truth(alloc, territory(db, row)?.has_benign_prefix())?,
-        "is-match" => is_match(alloc, db, row, row.argument(3))?,
-        "is-match-repeated" => {
-            let times = row.argument(4).parse::<usize>()?;
-            let text = row.argument(3).repeat(alloc, times)?;
-            is_match(alloc, db, row, text.as_str())?
-        }
+        "shortest" => shortest(alloc, db, row),
+        "codes-prefix-free" => codes_prefix_free(alloc, db),
+        "region" => region(alloc, db, row),
+        "by-code" => by_code(alloc, db, row),
+        "first-by-code" => first_by_code(alloc, db, row),
+        "by-id" => by_id(alloc, db, row),
+        "iter" => iter(alloc, db),
+        "descriptors" => of_kinds(alloc, db, row),
+        "has-benign-prefix" => has_benign_prefix(alloc, db, row),
+        "is-match" => is_match(alloc, db, row, row.argument(3)),
+        "is-match-repeated" => is_match_repeated(alloc, db, row),
         _ => return Ok(None),
     };
-    Ok(Some(answer))
+    Ok(Some(answer?))
+}
+
+/// The shortest code in front of a line's digits.
+fn shortest(alloc: Global, db: &Database, row: &Row) -> Result<String> {
+    Ok(code(alloc, db.shortest(row.argument(1)))?)
+}
+
+/// Whether no code begins another.
+fn codes_prefix_free(alloc: Global, db: &Database) -> Result<String> {
+    Ok(truth(alloc, db.codes_prefix_free())?)
+}
+
+/// The ids of the territories of a line's code.
+fn region(alloc: Global, db: &Database, row: &Row) -> Result<String> {
+    Ok(regions(alloc, db, code_of(row)?)?)
+}
+
+/// The territories of a line's code.
+fn by_code(alloc: Global, db: &Database, row: &Row) -> Result<String> {
+    Ok(territories(alloc, db, code_of(row)?)?)
+}
+
+/// The first territory of a line's code.
+fn first_by_code(alloc: Global, db: &Database, row: &Row) -> Result<String> {
+    let code = code_of(row)?;
+    Ok(record(alloc, db.first_by_code(&code))?)
+}
+
+/// The territory of a line's id.
+fn by_id(alloc: Global, db: &Database, row: &Row) -> Result<String> {
+    Ok(record(alloc, db.by_id(row.argument(1)))?)
+}
+
+/// What going over a database gives.
+fn iter(alloc: Global, db: &Database) -> Result<String> {
+    Ok(in_order_of_ids(alloc, db)?)
+}
+
+/// The descriptors of a line's territory.
+fn of_kinds(alloc: Global, db: &Database, row: &Row) -> Result<String> {
+    Ok(descriptors(alloc, territory(db, row)?)?)
+}
+
+/// Whether a line's territory has a benign prefix of extensions.
+fn has_benign_prefix(alloc: Global, db: &Database, row: &Row) -> Result<String> {
+    let territory = territory(db, row)?;
+    Ok(truth(alloc, territory.has_benign_prefix())?)
+}
+
+/// Whether a text that comes so many times matches.
+fn is_match_repeated(alloc: Global, db: &Database, row: &Row) -> Result<String> {
+    let times = row.argument(4).parse::<usize>()?;
+    let text = row.argument(3).repeat(alloc, times)?;
+    is_match(alloc, db, row, text.as_str())
 }
 
 /// A calling code, or a hyphen.
@@ -99,29 +149,41 @@ fn in_order_of_ids(alloc: Global, database: &Database) -> Result<String, AllocEr
 /// For each kind the text of its descriptor's pattern, or a hyphen, parted by tabs.
 fn descriptors(alloc: Global, territory: &Metadata) -> Result<String, AllocError> {
     let mut out = String::new(alloc);
-    for (_, kind) in KINDS {
-        if !out.is_empty() {
-            out.push('\t')?;
-        }
-        match territory.descriptors().get(kind) {
-            Some(descriptor) => {
-                out.push('=')?;
-                out.push_str(descriptor.pattern_text())?;
-            }
-            None => out.push('-')?,
-        }
+    for (_, kind) in KINDS.iter() {
+        push_descriptor(&mut out, territory.descriptors().get(*kind))?;
     }
     Ok(out)
 }
 
+/// Writes the text of a descriptor's pattern, or a hyphen, behind a tab where something stands
+/// before it.
+fn push_descriptor(out: &mut String, descriptor: Option<&Descriptor>) -> Result<(), AllocError> {
+    if !out.is_empty() {
+        out.push('\t')?;
+    }
+    match descriptor {
+        Some(descriptor) => push_pattern(out, descriptor.pattern_text()),
+        None => out.push('-'),
+    }
+}
+
+/// Writes a pattern's text behind an equals sign.
+fn push_pattern(out: &mut String, pattern: &str) -> Result<(), AllocError> {
+    out.push('=')?;
+    out.push_str(pattern)
+}
+
 /// Whether a text matches the descriptor of the territory and the kind that a line names.
 fn is_match(alloc: Global, database: &Database, row: &Row, text: &str) -> Result<String> {
-    let kind = kind(row.argument(2))?;
-    match territory(database, row)?.descriptors().get(kind) {
-        Some(descriptor) => {
-            let is_match = around(alloc, begin(alloc), descriptor.is_match(text))??;
-            Ok(truth(alloc, is_match)?)
-        }
+    let (kind, territory) = (kind(row.argument(2))?, territory(database, row)?);
+    match territory.descriptors().get(kind) {
+        Some(descriptor) => matches(alloc, descriptor, text),
         None => Err(anyhow!("the territory has no descriptor of this kind")),
     }
+}
+
+/// Whether a text matches a descriptor.
+fn matches(alloc: Global, descriptor: &Descriptor, text: &str) -> Result<String> {
+    let is_match = around(alloc, begin(alloc), descriptor.is_match(text))??;
+    Ok(truth(alloc, is_match)?)
 }

@@ -18,21 +18,39 @@ pub fn of_name<R: Files + AllocGlobal>(
     at_hand: Option<Named>,
     name: &str,
 ) -> Result<Named> {
-    if let Some(named) = at_hand {
-        if named.name.as_str() == name {
-            return Ok(named);
-        }
+    match at_hand {
+        Some(named) => same_or_read(rt, named, name),
+        None => read(rt, name),
     }
+}
+
+/// This database, if that is its name, or else the one in the file of this name.
+fn same_or_read<R: Files + AllocGlobal>(rt: &R, named: Named, name: &str) -> Result<Named> {
+    if named.name.as_str() == name {
+        return Ok(named);
+    }
+    read(rt, name)
+}
+
+/// The database in the file of this name, with its name.
+fn read<R: Files + AllocGlobal>(rt: &R, name: &str) -> Result<Named> {
+    let own = String::from_str(rt.alloc(), name)?;
+    let database = load(rt, name)?;
     Ok(Named {
-        name: String::from_str(rt.alloc(), name)?,
-        database: load(rt, name)?,
+        name: own,
+        database,
     })
 }
 
 /// The database in the file of this name.
 pub fn load<R: Files + AllocGlobal>(rt: &R, name: &str) -> Result<Database> {
     let path = format!(in rt.alloc(); "databases/{name}.json")?;
-    Ok(Database::load(rt, path.as_str())?)
+    load_path(rt, path.as_str())
+}
+
+/// The database in the file at this path.
+fn load_path<R: Files + AllocGlobal>(rt: &R, path: &str) -> Result<Database> {
+    Ok(Database::load(rt, path)?)
 }
 
 /// The calling code that a line names behind its database.

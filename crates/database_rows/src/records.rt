@@ -4,6 +4,7 @@ use anyhow::{Result, anyhow};
 use phone_records::LoadMetadata;
 use phone_records::loader::Metadata;
 use phone_texts::MetadataError;
+use phone_texts::together::both;
 use rows::marks::{around, begin};
 use rows::table::Row;
 use std::alloc::{AllocError, Global};
@@ -12,19 +13,31 @@ use std::alloc::{AllocError, Global};
 /// for any other call.
 pub fn answer(alloc: Global, row: &Row) -> Result<Option<String>> {
     let answer = match row.call() {
-        "written" => written(alloc, row.argument(0))?,
-        "serde-read" => serde_read(alloc, row.argument(0))?,
-        "load-metadata" => load_metadata(alloc, row.argument(0))?,
+        "written" => written(alloc, row.argument(0)),
+        "serde-read" => serde_read(alloc, row.argument(0)),
+        "load-metadata" => load_metadata(alloc, row.argument(0)),
         _ => return Ok(None),
     };
-    Ok(Some(answer))
+    Ok(Some(answer?))
 }
 
 /// The records of a database text, made again, as serde writes them.
 fn written(alloc: Global, text: &str) -> Result<String> {
     let records = phone_json::records(alloc, text)?;
-    let copies = around(alloc, begin(alloc), copies(alloc, records.as_slice()))??;
-    Ok(serde_json::to_string(alloc, &copies)?)
+    marked(alloc, begin(alloc), &copies(alloc, records.as_slice()))
+}
+
+/// Copies of records as serde writes them, with the marks around the call that made them.
+fn marked(
+    alloc: Global,
+    begun: Result<(), AllocError>,
+    copies: &Result<Vec<Metadata>, AllocError>,
+) -> Result<String> {
+    around(alloc, begun, ())?;
+    match copies {
+        Ok(copies) => Ok(serde_json::to_string(alloc, copies)?),
+        Err(_) => Err(anyhow!("out of memory")),
+    }
 }
 
 /// These records, made again.
@@ -38,8 +51,16 @@ fn copies(alloc: Global, records: &[Metadata]) -> Result<Vec<Metadata>, AllocErr
 
 /// The records that serde reads of a text, as it writes them, or a hyphen where it reads none.
 fn serde_read(alloc: Global, text: &str) -> Result<String> {
-    match read_records(alloc, text) {
-        Ok(records) => Ok(serde_json::to_string(alloc, &records)?),
+    written_or_hyphen(alloc, &read_records(alloc, text))
+}
+
+/// Records that were read as serde writes them, or a hyphen where there are none.
+fn written_or_hyphen(
+    alloc: Global,
+    read: &Result<Vec<Metadata>, serde_json::Error>,
+) -> Result<String> {
+    match read {
+        Ok(records) => Ok(serde_json::to_string(alloc, records)?),
         Err(error) if error.is_memory() => Err(anyhow!("out of memory")),
         Err(_) => Ok(String::from_str(alloc, "-")?),
     }
@@ -53,23 +74,37 @@ fn read_records(alloc: Global, text: &str) -> Result<Vec<Metadata>, serde_json::
 /// The number and the words of a refusal that speaks of `metadata` and `id`.
 fn load_metadata(alloc: Global, name: &str) -> Result<String> {
     let refusal = refusal(alloc, name)?;
+    in_words(alloc, &refusal)
+}
+
+/// The number and the words of a refusal.
+fn in_words(alloc: Global, refusal: &LoadMetadata) -> Result<String> {
     let number = refusal.number();
     Ok(format!(in alloc; "{number}\t{refusal}")?)
 }
 
 /// The refusal of this name, which speaks of `metadata` and `id`.
 fn refusal(alloc: Global, refusal: &str) -> Result<LoadMetadata> {
-    let phase = String::from_str(alloc, "metadata")?;
-    let name = String::from_str(alloc, "id")?;
+    let (phase, name) = both(
+        String::from_str(alloc, "metadata"),
+        String::from_str(alloc, "id"),
+    )?;
     match refusal {
         "MissingValue" => Ok(LoadMetadata::Metadata(MetadataError::MissingValue { phase, name })),
         "UnhandledElement" => {
             Ok(LoadMetadata::Metadata(MetadataError::UnhandledElement { phase, name }))
         }
-        "UnexpectedEof" => Ok(LoadMetadata::Metadata(MetadataError::UnexpectedEof)),
-        "Json" => Ok(LoadMetadata::Json),
         "Kind" => Ok(LoadMetadata::Kind { phase, name }),
         "Regex" => Ok(LoadMetadata::Regex(name)),
+        _ => refusal_without_words(refusal),
+    }
+}
+
+/// The refusal of this name, of those that speak of nothing.
+fn refusal_without_words(refusal: &str) -> Result<LoadMetadata> {
+    match refusal {
+        "UnexpectedEof" => Ok(LoadMetadata::Metadata(MetadataError::UnexpectedEof)),
+        "Json" => Ok(LoadMetadata::Json),
         "Io" => Ok(LoadMetadata::Io),
         "Memory" => Ok(LoadMetadata::Memory),
         _ => Err(anyhow!("no refusal has this name")),

@@ -17,31 +17,32 @@ const NO_WORD: &str = "-";
 pub fn answer<R: Files + AllocGlobal>(rt: &R, row: &Row) -> Result<Option<String>> {
     let alloc = rt.alloc();
     let answer = match row.call() {
-        "database-text" => database_text(alloc, row.argument_bytes(0))?,
-        "read-from" => read_from(alloc, row)?,
-        "each-fault" => each_fault(alloc, row.argument(0), row.argument_bytes(1))?,
-        "each-front" => each_front(alloc, row.argument(0))?,
-        "load" => load(rt, row.argument(0))?,
+        "database-text" => database_text(alloc, row.argument_bytes(0)),
+        "read-from" => read_from(alloc, row),
+        "each-fault" => each_fault(alloc, row.argument(0), row.argument_bytes(1)),
+        "each-front" => each_front(alloc, row.argument(0)),
+        "load" => load(rt, row.argument(0)),
         _ => return Ok(None),
     };
-    Ok(Some(answer))
+    Ok(Some(answer?))
 }
 
 /// The database that a text is; bytes that are no text come from a source in memory.
 fn database_text(alloc: Global, bytes: &[u8]) -> Result<String> {
     match std::str::from_utf8(bytes) {
-        Ok(text) => told(
-            alloc,
-            around(alloc, begin(alloc), Database::parse(alloc, text))?,
-        ),
-        Err(_) => {
-            let mut source = MemorySource::new(bytes);
-            told(
-                alloc,
-                around(alloc, begin(alloc), Database::read_from(alloc, &mut source))?,
-            )
-        }
+        Ok(text) => marked(alloc, begin(alloc), &Database::parse(alloc, text)),
+        Err(_) => of_bytes(alloc, bytes),
     }
+}
+
+/// The database that bytes are which come from a source in memory.
+fn of_bytes(alloc: Global, bytes: &[u8]) -> Result<String> {
+    let mut source = MemorySource::new(bytes);
+    marked(
+        alloc,
+        begin(alloc),
+        &Database::read_from(alloc, &mut source),
+    )
 }
 
 /// The database whose text comes, behind so many spaces, from a source that fails where the line
@@ -57,9 +58,10 @@ fn read_from(alloc: Global, row: &Row) -> Result<String> {
 /// The database whose text comes from this source.
 fn of_script(alloc: Global, source: Script) -> Result<String> {
     let mut source = source;
-    told(
+    marked(
         alloc,
-        around(alloc, begin(alloc), Database::read_from(alloc, &mut source))?,
+        begin(alloc),
+        &Database::read_from(alloc, &mut source),
     )
 }
 
@@ -83,7 +85,7 @@ fn each_front(alloc: Global, text: &str) -> Result<String> {
     let mut fronts = 0u64;
     for end in 0..=text.len() {
         if text.is_char_boundary(end) {
-            let told = told(alloc, Database::parse(alloc, &text[..end]))?;
+            let told = told(alloc, &Database::parse(alloc, &text[..end]))?;
             if !told.as_str().starts_with("Json") {
                 return Ok(format!(in alloc; "{fronts}\t{told}")?);
             }
@@ -96,10 +98,18 @@ fn each_front(alloc: Global, text: &str) -> Result<String> {
 /// The database in the file at a path.
 fn load<R: Files + AllocGlobal>(rt: &R, path: &str) -> Result<String> {
     let alloc = rt.alloc();
-    told(
-        alloc,
-        around(alloc, begin(alloc), Database::load(rt, path))?,
-    )
+    marked(alloc, begin(alloc), &Database::load(rt, path))
+}
+
+/// The answer, with the marks around the call. It is lent: who hands a database to a function that
+/// takes any value has to show how each part of it is dropped.
+fn marked(
+    alloc: Global,
+    begun: Result<(), AllocError>,
+    answer: &Result<Database, LoadMetadata>,
+) -> Result<String> {
+    around(alloc, begun, ())?;
+    told(alloc, answer)
 }
 
 /// How many different ids a database has.
@@ -113,15 +123,21 @@ fn count_of_ids(database: &Database) -> u64 {
 
 /// The answer's name and two words on it, parted by tabs. Want of memory is no answer, but an
 /// error.
-fn told(alloc: Global, answer: Result<Database, LoadMetadata>) -> Result<String> {
-    let refusal = match answer {
-        Ok(database) => {
-            let ids = count_of_ids(&database);
-            return Ok(format!(in alloc; "ok\t{ids}\t{NO_WORD}")?);
-        }
-        Err(refusal) => refusal,
-    };
-    match told_of_refusal(alloc, &refusal)? {
+fn told(alloc: Global, answer: &Result<Database, LoadMetadata>) -> Result<String> {
+    match answer {
+        Ok(database) => told_of_database(alloc, count_of_ids(database)),
+        Err(refusal) => refused(alloc, refusal),
+    }
+}
+
+/// A database of so many ids.
+fn told_of_database(alloc: Global, ids: u64) -> Result<String> {
+    Ok(format!(in alloc; "ok\t{ids}\t{NO_WORD}")?)
+}
+
+/// A refusal. An error where memory was wanted.
+fn refused(alloc: Global, refusal: &LoadMetadata) -> Result<String> {
+    match told_of_refusal(alloc, refusal)? {
         Some(told) => Ok(told),
         None => Err(anyhow!("{refusal}")),
     }

@@ -1,14 +1,16 @@
 //! The calls that print a number which a line gives by its parts, and read the text back without a
 //! hint.
 use crate::given::extended;
-use crate::told::parts;
+use crate::printing::text_or_refusal;
+use crate::reading::parts_or_refusal;
 use anyhow::{Result, anyhow};
 use phone_core::{Mode, ParseError};
 use phone_meta::Database;
-use phonenumber::{FormatError, PhoneNumber, again, format_with};
+use phone_texts::together::both;
+use phonenumber::{PhoneNumber, again, format_with};
 use rows::marks::{around, begin};
 use rows::table::Row;
-use rows::words::{mode, refusal, truth};
+use rows::words::{mode, truth};
 use std::alloc::Global;
 
 /// What the port answers to one of these calls, as the table writes it; none for any other call. An
@@ -16,11 +18,11 @@ use std::alloc::Global;
 /// none, and where memory is refused.
 pub fn answer(alloc: Global, row: &Row, db: &Database) -> Result<Option<String>> {
     let answer = match row.call() {
-        "back" => back(alloc, row, db)?,
-        "again" => printed_and_read(alloc, row, db)?,
+        "back" => back(alloc, row, db),
+        "again" => printed_and_read(alloc, row, db),
         _ => return Ok(None),
     };
-    Ok(Some(answer))
+    Ok(Some(answer?))
 }
 
 /// What the text of a number in a mode is read as. An error where memory was refused between the
@@ -43,13 +45,24 @@ fn read(
 /// Whether the text of a line's number is read as its code, national number and, but for the E.164
 /// text, extension.
 fn back(alloc: Global, row: &Row, db: &Database) -> Result<String> {
-    let number = extended(alloc, row)?;
-    let mode = mode(row.argument(5))?;
-    match read(alloc, db, &number, mode)? {
-        Ok(found) => Ok(truth(alloc, is_same(&found, &number, mode))?),
-        Err(ParseError::Memory) => Err(anyhow!("out of memory")),
-        Err(_) => Ok(truth(alloc, false)?),
-    }
+    let (number, mode) = both(extended(alloc, row), mode(row.argument(5)))?;
+    let found = read(alloc, db, &number, mode)?;
+    is_read_back(alloc, &number, mode, &found)
+}
+
+/// Whether what was read of the text of a number in a mode is the number.
+fn is_read_back(
+    alloc: Global,
+    number: &PhoneNumber,
+    mode: Mode,
+    found: &Result<PhoneNumber, ParseError>,
+) -> Result<String> {
+    let is_same = match found {
+        Ok(found) => is_same(found, number, mode),
+        Err(ParseError::Memory) => return Err(anyhow!("out of memory")),
+        Err(_) => false,
+    };
+    Ok(truth(alloc, is_same)?)
 }
 
 /// Whether a number that was read of a text in this mode is the number that was printed.
@@ -61,21 +74,22 @@ fn is_same(found: &PhoneNumber, number: &PhoneNumber, mode: Mode) -> bool {
 
 /// The text of a line's number, or `UnknownCode`, and what it is read as.
 fn printed_and_read(alloc: Global, row: &Row, db: &Database) -> Result<String> {
-    let number = extended(alloc, row)?;
-    let mode = mode(row.argument(5))?;
-    let text = text(alloc, db, &number, mode)?;
-    let found = match read(alloc, db, &number, mode)? {
-        Ok(found) => parts(alloc, &found)?,
-        Err(error) => refusal(alloc, &error)?,
-    };
+    let (number, mode) = both(extended(alloc, row), mode(row.argument(5)))?;
+    let (text, found) = both(
+        text(alloc, db, &number, mode),
+        told(alloc, db, &number, mode),
+    )?;
     Ok(format!(in alloc; "{text}\t{found}")?)
+}
+
+/// What the text of a number in a mode is read as, told by its parts, or the refusal.
+fn told(alloc: Global, db: &Database, number: &PhoneNumber, mode: Mode) -> Result<String> {
+    let found = read(alloc, db, number, mode)?;
+    parts_or_refusal(alloc, &found)
 }
 
 /// The text of a number in a mode behind an equals sign, or `UnknownCode`.
 fn text(alloc: Global, db: &Database, number: &PhoneNumber, mode: Mode) -> Result<String> {
-    match format_with(db, number).mode(mode).to_text(alloc) {
-        Ok(text) => Ok(format!(in alloc; "={text}")?),
-        Err(FormatError::UnknownCode) => Ok(String::from_str(alloc, "UnknownCode")?),
-        Err(FormatError::Memory) => Err(anyhow!("out of memory")),
-    }
+    let text = format_with(db, number).mode(mode).to_text(alloc);
+    text_or_refusal(alloc, &text)
 }

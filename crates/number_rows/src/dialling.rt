@@ -2,6 +2,7 @@
 //! prefix, calling code and national prefix.
 use anyhow::Result;
 use database_rows::named::territory;
+use phone_core::ParseError;
 use phone_core::country::Source;
 use phone_meta::Database;
 use phone_read::{Number, helper};
@@ -10,33 +11,37 @@ use rows::marks::{around, begin};
 use rows::readers::number;
 use rows::table::Row;
 use rows::words::{hint, refusal};
-use std::alloc::{AllocError, Global};
+use std::alloc::Global;
 use std::borrow::CowStr;
 
 /// What is dialled before a calling code, by a pattern of the line's own; none for any other call.
 pub fn without_database(alloc: Global, row: &Row) -> Result<Option<String>> {
-    match row.call() {
-        "international-prefix" => {
-            let pattern = pattern(alloc, row.argument(0))?;
-            Ok(Some(international_prefix(alloc, pattern.as_ref(), row)?))
-        }
-        _ => Ok(None),
+    if row.call() != "international-prefix" {
+        return Ok(None);
     }
+    Ok(Some(by_pattern(alloc, row)?))
+}
+
+/// The number behind what is dialled before a calling code, by a pattern of the line's own.
+fn by_pattern(alloc: Global, row: &Row) -> Result<String> {
+    let pattern = pattern(alloc, row.argument(0))?;
+    international_prefix(alloc, pattern.as_ref(), row)
 }
 
 /// The number behind what is dialled before a calling code.
-fn international_prefix(
-    alloc: Global,
-    pattern: Option<&Regex>,
-    row: &Row,
-) -> Result<String, AllocError> {
+fn international_prefix(alloc: Global, pattern: Option<&Regex>, row: &Row) -> Result<String> {
     let handed = handed(row, 1);
     let found = around(
         alloc,
         begin(alloc),
         helper::international_prefix(alloc, pattern, handed),
     )??;
-    number(alloc, &found)
+    told(alloc, &found)
+}
+
+/// A number's parts.
+fn told(alloc: Global, found: &Number<'_>) -> Result<String> {
+    Ok(number(alloc, found)?)
 }
 
 /// What the port answers to a call of this module on a database, as the table writes it; none for
@@ -44,19 +49,25 @@ fn international_prefix(
 /// refused.
 pub fn answer(alloc: Global, row: &Row, db: &Database) -> Result<Option<String>> {
     let answer = match row.call() {
-        "country-code" => country_code(alloc, row, db)?,
-        "national-number" => national_number(alloc, row, db)?,
+        "country-code" => country_code(alloc, row, db),
+        "national-number" => national_number(alloc, row, db),
         _ => return Ok(None),
     };
-    Ok(Some(answer))
+    Ok(Some(answer?))
 }
 
 /// The number with its calling code, or the refusal.
 fn country_code(alloc: Global, row: &Row, db: &Database) -> Result<String> {
     let (hint, handed) = (hint(row.argument(1))?, handed(row, 2));
-    match around(alloc, begin(alloc), helper::country_code(db, hint, handed))? {
-        Ok(found) => Ok(number(alloc, &found)?),
-        Err(error) => refusal(alloc, &error),
+    let found = around(alloc, begin(alloc), helper::country_code(db, hint, handed))?;
+    told_or_refusal(alloc, &found)
+}
+
+/// A number's parts, or the refusal.
+fn told_or_refusal(alloc: Global, found: &Result<Number<'_>, ParseError>) -> Result<String> {
+    match found {
+        Ok(found) => told(alloc, found),
+        Err(error) => refusal(alloc, error),
     }
 }
 
@@ -68,7 +79,7 @@ fn national_number(alloc: Global, row: &Row, db: &Database) -> Result<String> {
         begin(alloc),
         helper::national_number(territory, handed),
     )??;
-    Ok(number(alloc, &found)?)
+    told(alloc, &found)
 }
 
 /// A pattern as the records' patterns are read, without regard to its white space and comments; or

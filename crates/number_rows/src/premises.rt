@@ -9,6 +9,7 @@ use phone_meta::{Database, Metadata};
 use phone_read::Number;
 use phone_read::helper::national_number;
 use phone_read::validator::{home, length_of};
+use phone_texts::together::both;
 use phonenumber::{FormatError, PhoneNumber, format_with};
 use rows::table::Row;
 use rows::words::{mode, truth};
@@ -28,14 +29,38 @@ const GREATEST_CODE: u16 = 999;
 /// premises of the mode; none for any other call. An error where a line names a mode that isn't
 /// there or gives a number that is none.
 pub fn answer(alloc: Global, row: &Row, db: &Database) -> Result<Option<String>> {
-    let holds = match row.call() {
-        "plain" => Premises::under(db).is_plain(mode(row.argument(5))?, &extended(alloc, row)?)?,
-        "premises" => Premises::under(db).hold(mode(row.argument(5))?, &extended(alloc, row)?)?,
-        "benign" => Premises::under(db).is_benign(&extended(alloc, row)?)?,
-        "idle" => Premises::under(db).are_idle(&extended(alloc, row)?)?,
-        _ => return Ok(None),
+    match row.call() {
+        "plain" | "premises" => Ok(Some(in_mode(alloc, row, &Premises::under(db))?)),
+        "benign" | "idle" => Ok(Some(in_any_mode(alloc, row, &Premises::under(db))?)),
+        _ => Ok(None),
+    }
+}
+
+/// What holds of a line's number in the mode that the line names.
+fn in_mode(alloc: Global, row: &Row, premises: &Premises<'_>) -> Result<String> {
+    let (mode, number) = both(mode(row.argument(5)), extended(alloc, row))?;
+    let holds = if row.call() == "plain" {
+        premises.is_plain(mode, &number)
+    } else {
+        premises.hold(mode, &number)
     };
-    Ok(Some(truth(alloc, holds)?))
+    told(alloc, holds)
+}
+
+/// What holds of a line's number in any mode.
+fn in_any_mode(alloc: Global, row: &Row, premises: &Premises<'_>) -> Result<String> {
+    let number = extended(alloc, row)?;
+    let holds = if row.call() == "benign" {
+        premises.is_benign(&number)
+    } else {
+        premises.are_idle(&number)
+    };
+    told(alloc, holds)
+}
+
+/// Whether something holds, as the table writes it.
+fn told(alloc: Global, holds: Result<bool>) -> Result<String> {
+    Ok(truth(alloc, holds?)?)
 }
 
 /// The premises under a database.
@@ -122,17 +147,7 @@ impl<'a> Premises<'a> {
         let alloc = self.database.allocator();
         let bare = PhoneNumber::from_parts(*number.code(), *number.national(), None, None);
         let printer = format_with(self.database, &bare).mode(Mode::International);
-        let text = match printer.to_text(alloc) {
-            Ok(text) => text,
-            Err(FormatError::UnknownCode) => return Err(anyhow!("a listed code isn't printed")),
-            Err(FormatError::Memory) => return Err(anyhow!("out of memory")),
-        };
-        let code = number.code().value();
-        let front = format!(in alloc; "+{code} ")?;
-        match text.as_str().strip_prefix(front.as_str()) {
-            Some(laid) => Ok(String::from_str(alloc, laid)?),
-            None => Err(anyhow!("an international text without its code")),
-        }
+        laid_out_in(alloc, number.code().value(), &printer.to_text(alloc))
     }
 
     /// Whether the code ends where it ends in digits alone.
@@ -168,6 +183,29 @@ impl<'a> Premises<'a> {
     pub fn are_idle(&self, number: &PhoneNumber) -> Result<bool> {
         let digits = number.national().to_string(self.database.allocator())?;
         Ok(is_idle(self.database, number.code().value(), digits.as_str())?)
+    }
+}
+
+/// What stands after plus sign, code and space in the international text of a number of this code.
+fn laid_out_in(alloc: Global, code: u16, text: &Result<String, FormatError>) -> Result<String> {
+    match text {
+        Ok(text) => behind_code(alloc, code, text.as_str()),
+        Err(FormatError::UnknownCode) => Err(anyhow!("a listed code isn't printed")),
+        Err(FormatError::Memory) => Err(anyhow!("out of memory")),
+    }
+}
+
+/// What stands in a text after plus sign, this code and space.
+fn behind_code(alloc: Global, code: u16, text: &str) -> Result<String> {
+    let front = format!(in alloc; "+{code} ")?;
+    behind(alloc, front.as_str(), text)
+}
+
+/// What stands in a text behind its front.
+fn behind(alloc: Global, front: &str, text: &str) -> Result<String> {
+    match text.strip_prefix(front) {
+        Some(laid) => Ok(String::from_str(alloc, laid)?),
+        None => Err(anyhow!("an international text without its code")),
     }
 }
 

@@ -4,12 +4,13 @@ use crate::page::Page;
 use crate::told::{queried, texts};
 use anyhow::{Result, anyhow};
 use phone_core::{Carrier, Extension};
-use phone_meta::{Database, Format};
+use phone_meta::{Database, Format, Metadata};
+use phone_texts::together::both;
 use phonenumber::{FormatError, Formatter, PhoneNumber, format_with};
 use rows::marks::{around, begin};
 use rows::table::Row;
 use rows::words::mode;
-use std::alloc::Global;
+use std::alloc::{AllocError, Global};
 
 /// What is printed of a number, or of a part of one, under no database; none for any other call.
 pub fn without_database(alloc: Global, row: &Row) -> Result<Option<String>> {
@@ -41,12 +42,12 @@ pub fn answer(
     layouts: &Database,
 ) -> Result<Option<String>> {
     let answer = match row.call() {
-        "format" => format(alloc, row, db, layouts)?,
-        "format-with" => format_one(alloc, row, db)?,
-        "display-formatter" => display(alloc, row, db)?,
+        "format" => format(alloc, row, db, layouts),
+        "format-with" => format_one(alloc, row, db),
+        "display-formatter" => display(alloc, row, db),
         _ => return Ok(None),
     };
-    Ok(Some(answer))
+    Ok(Some(answer?))
 }
 
 /// The name of the database whose layout a line hands in; none where it hands in none.
@@ -62,24 +63,48 @@ pub fn layouts_of(row: &Row) -> Option<&str> {
 fn format(alloc: Global, row: &Row, db: &Database, layouts: &Database) -> Result<String> {
     let number = whole(alloc, row, 1)?;
     let printer = format_with(db, &number);
-    let texts = match row.argument(6) {
-        "-" => texts(alloc, printer, "=")?,
-        name => texts(alloc, printer.with(layout(layouts, name)?), "=")?,
-    };
-    let queried = queried(alloc, db, &number)?;
+    let texts = by_layout(alloc, printer, layouts, row.argument(6));
+    let (texts, queried) = both(texts, queried(alloc, db, &number))?;
     Ok(format!(in alloc; "{texts}\t{queried}")?)
+}
+
+/// The texts of a printer's number by the layout of this name; by its own for a hyphen.
+fn by_layout(
+    alloc: Global,
+    printer: Formatter<'_, '_, '_>,
+    layouts: &Database,
+    name: &str,
+) -> Result<String> {
+    if name == "-" {
+        return texts(alloc, printer, "=");
+    }
+    let layout = layout(layouts, name)?;
+    texts(alloc, printer.with(layout), "=")
 }
 
 /// The layout of this name: a database, an id in it, and a place in that territory's national list,
 /// parted by slashes.
 fn layout<'a>(layouts: &'a Database, name: &str) -> Result<&'a Format> {
-    let mut words = name.split('/').skip(1);
-    let (Some(id), Some(place)) = (words.next(), words.next()) else {
+    let Some((id, place)) = id_and_place(name) else {
         return Err(anyhow!("a layout is named otherwise"));
     };
-    let Some(territory) = layouts.by_id(id) else {
-        return Err(anyhow!("the layout's database has no territory of this id"));
-    };
+    match layouts.by_id(id) {
+        Some(territory) => layout_at(territory, place),
+        None => Err(anyhow!("the layout's database has no territory of this id")),
+    }
+}
+
+/// The second and the third word of a layout's name.
+fn id_and_place(name: &str) -> Option<(&str, &str)> {
+    let mut words = name.split('/').skip(1);
+    match (words.next(), words.next()) {
+        (Some(id), Some(place)) => Some((id, place)),
+        _ => None,
+    }
+}
+
+/// The layout at this place of a territory's national list.
+fn layout_at<'a>(territory: &'a Metadata, place: &str) -> Result<&'a Format> {
     match territory.formats().get(place.parse::<usize>()?) {
         Some(layout) => Ok(layout),
         None => Err(anyhow!("the territory has no layout at this place")),
@@ -89,9 +114,24 @@ fn layout<'a>(layouts: &'a Database, name: &str) -> Result<&'a Format> {
 /// The text of a line's number in one mode, by the number's own call; `UnknownCode` where it isn't
 /// printed.
 fn format_one(alloc: Global, row: &Row, db: &Database) -> Result<String> {
-    let number = whole(alloc, row, 1)?;
-    let printer = number.format_with(db).mode(mode(row.argument(6))?);
-    match around(alloc, begin(alloc), printer.to_text(alloc))? {
+    let (number, mode) = both(whole(alloc, row, 1), mode(row.argument(6)))?;
+    let printer = number.format_with(db).mode(mode);
+    marked(alloc, begin(alloc), &printer.to_text(alloc))
+}
+
+/// A text or why there is none, with the marks around the call.
+fn marked(
+    alloc: Global,
+    begun: Result<(), AllocError>,
+    text: &Result<String, FormatError>,
+) -> Result<String> {
+    around(alloc, begun, ())?;
+    text_or_refusal(alloc, text)
+}
+
+/// A text behind an equals sign, or `UnknownCode`. An error where memory was refused.
+pub fn text_or_refusal(alloc: Global, text: &Result<String, FormatError>) -> Result<String> {
+    match text {
         Ok(text) => Ok(format!(in alloc; "={text}")?),
         Err(FormatError::UnknownCode) => Ok(String::from_str(alloc, "UnknownCode")?),
         Err(FormatError::Memory) => Err(anyhow!("out of memory")),
@@ -100,8 +140,8 @@ fn format_one(alloc: Global, row: &Row, db: &Database) -> Result<String> {
 
 /// What a printer of a line's number in one mode writes as it is displayed.
 fn display(alloc: Global, row: &Row, db: &Database) -> Result<String> {
-    let number = whole(alloc, row, 1)?;
-    let printer = format_with(db, &number).mode(mode(row.argument(6))?);
+    let (number, mode) = both(whole(alloc, row, 1), mode(row.argument(6)))?;
+    let printer = format_with(db, &number).mode(mode);
     displayed(alloc, db, &number, &printer)
 }
 

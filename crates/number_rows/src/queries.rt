@@ -8,46 +8,75 @@ use phonenumber::{PhoneNumber, is_valid_with};
 use rows::marks::{around, begin};
 use rows::table::Row;
 use rows::words::truth;
-use std::alloc::Global;
+use std::alloc::{AllocError, Global};
+
+/// The calls that ask.
+const CALLS: [&str; 6] = [
+    "metadata",
+    "country-id",
+    "kind",
+    "queried",
+    "is-valid",
+    "is-valid-with",
+];
 
 /// What the database tells of a line's number, as the table writes it; none for any other call. An
 /// error where a line gives a number that is none, and where memory is refused.
 pub fn answer(alloc: Global, row: &Row, db: &Database) -> Result<Option<String>> {
-    match row.call() {
-        "metadata" | "country-id" | "kind" | "queried" | "is-valid" | "is-valid-with" => {
-            let number = number(row, 1, None, None)?;
-            Ok(Some(told(alloc, row.call(), db, &number)?))
-        }
-        _ => Ok(None),
+    if !CALLS.iter().any(|call| *call == row.call()) {
+        return Ok(None);
     }
+    Ok(Some(of_number(alloc, row, db)?))
+}
+
+/// What the database tells of a line's number.
+fn of_number(alloc: Global, row: &Row, db: &Database) -> Result<String> {
+    let number = number(row, 1, None, None)?;
+    told(alloc, row.call(), db, &number)
 }
 
 /// The answer of the call of this name.
 fn told(alloc: Global, call: &str, db: &Database, number: &PhoneNumber) -> Result<String> {
     match call {
-        "metadata" => {
-            let found = around(alloc, begin(alloc), number.metadata(db))??;
-            Ok(record(alloc, found)?)
-        }
-        "country-id" => {
-            let found = around(alloc, begin(alloc), number.country().id(db))??;
-            Ok(String::from_str(alloc, region_name(found))?)
-        }
-        "kind" => {
-            let kind = around(alloc, begin(alloc), number.number_type(db))??;
-            Ok(format!(in alloc; "{kind:?}")?)
-        }
-        "queried" => {
-            let found = around(alloc, begin(alloc), number.queried(db))??;
-            Ok(asked(alloc, found)?)
-        }
-        "is-valid" => {
-            let holds = around(alloc, begin(alloc), number.is_valid_with(db))??;
-            Ok(truth(alloc, holds)?)
-        }
-        _ => {
-            let holds = around(alloc, begin(alloc), is_valid_with(db, number))??;
-            Ok(truth(alloc, holds)?)
-        }
+        "metadata" => metadata(alloc, db, number),
+        "country-id" => country_id(alloc, db, number),
+        "kind" => kind(alloc, db, number),
+        "queried" => queried(alloc, db, number),
+        "is-valid" => validity(alloc, begin(alloc), number.is_valid_with(db)),
+        _ => validity(alloc, begin(alloc), is_valid_with(db, number)),
     }
+}
+
+/// The territory of a number.
+fn metadata(alloc: Global, db: &Database, number: &PhoneNumber) -> Result<String> {
+    let found = around(alloc, begin(alloc), number.metadata(db))??;
+    Ok(record(alloc, found)?)
+}
+
+/// The region of a number.
+fn country_id(alloc: Global, db: &Database, number: &PhoneNumber) -> Result<String> {
+    let found = around(alloc, begin(alloc), number.country().id(db))??;
+    Ok(String::from_str(alloc, region_name(found))?)
+}
+
+/// The kind of a number.
+fn kind(alloc: Global, db: &Database, number: &PhoneNumber) -> Result<String> {
+    let kind = around(alloc, begin(alloc), number.number_type(db))??;
+    Ok(format!(in alloc; "{kind:?}")?)
+}
+
+/// Kind, region and validity of a number.
+fn queried(alloc: Global, db: &Database, number: &PhoneNumber) -> Result<String> {
+    let found = around(alloc, begin(alloc), number.queried(db))??;
+    Ok(asked(alloc, found)?)
+}
+
+/// Whether a number is valid, with the marks around the call.
+fn validity(
+    alloc: Global,
+    begun: Result<(), AllocError>,
+    holds: Result<bool, AllocError>,
+) -> Result<String> {
+    let holds = around(alloc, begun, holds)??;
+    Ok(truth(alloc, holds)?)
 }

@@ -15,19 +15,43 @@ use std::alloc::Global;
 /// What is read of a text under a hint, as the table writes it; none for any other call.
 pub fn answer(alloc: Global, row: &Row, db: &Database) -> Result<Option<String>> {
     let answer = match row.call() {
-        "parse" => parts_or_refusal(alloc, &read(alloc, row, db, row.argument(2))?)?,
-        "parse-made" => {
-            let text = made(alloc, row, 2)?;
-            parts_or_refusal(alloc, &read(alloc, row, db, text.as_str())?)?
-        }
-        "report" => match read(alloc, row, db, row.argument(2))? {
-            Ok(number) => report(alloc, db, &number)?,
-            Err(error) => refusal(alloc, &error)?,
-        },
-        "fronts" => fronts(alloc, row, db)?,
+        "parse" => parse(alloc, row, db, row.argument(2)),
+        "parse-made" => parse_made(alloc, row, db),
+        "report" => reported(alloc, row, db),
+        "fronts" => fronts(alloc, row, db),
         _ => return Ok(None),
     };
-    Ok(Some(answer))
+    Ok(Some(answer?))
+}
+
+/// The parts of the number that is read of a text under a line's hint, or the refusal.
+fn parse(alloc: Global, row: &Row, db: &Database, text: &str) -> Result<String> {
+    let found = read(alloc, row, db, text)?;
+    parts_or_refusal(alloc, &found)
+}
+
+/// The same of the text that a line makes.
+fn parse_made(alloc: Global, row: &Row, db: &Database) -> Result<String> {
+    let text = made(alloc, row, 2)?;
+    parse(alloc, row, db, text.as_str())
+}
+
+/// All that the database tells of what is read of a line's text, or the refusal.
+fn reported(alloc: Global, row: &Row, db: &Database) -> Result<String> {
+    let found = read(alloc, row, db, row.argument(2))?;
+    report_or_refusal(alloc, db, &found)
+}
+
+/// The report on the number that was read, or the refusal.
+fn report_or_refusal(
+    alloc: Global,
+    db: &Database,
+    read: &Result<PhoneNumber, ParseError>,
+) -> Result<String> {
+    match read {
+        Ok(number) => report(alloc, db, number),
+        Err(error) => refusal(alloc, error),
+    }
 }
 
 /// The number that is read of a text under a line's hint, or the refusal.
@@ -42,7 +66,7 @@ fn read(
 }
 
 /// The parts of the number that was read, or the refusal.
-fn parts_or_refusal(alloc: Global, read: &Result<PhoneNumber, ParseError>) -> Result<String> {
+pub fn parts_or_refusal(alloc: Global, read: &Result<PhoneNumber, ParseError>) -> Result<String> {
     match read {
         Ok(number) => Ok(parts(alloc, number)?),
         Err(error) => refusal(alloc, error),

@@ -19,8 +19,18 @@ pub fn parts(alloc: Global, number: &PhoneNumber) -> Result<String, AllocError> 
 
 /// The text in each mode behind this sign, or `UnknownCode` for each, parted by tabs.
 pub fn texts(alloc: Global, printer: Formatter<'_, '_, '_>, sign: &str) -> Result<String> {
-    match around(alloc, begin(alloc), printer.to_texts(alloc))? {
-        Ok(texts) => Ok(parted(alloc, &texts, sign)?),
+    let texts = around(alloc, begin(alloc), printer.to_texts(alloc))?;
+    texts_or_refusal(alloc, &texts, sign)
+}
+
+/// The texts in the four modes, or `UnknownCode` for each. An error where memory was refused.
+fn texts_or_refusal(
+    alloc: Global,
+    texts: &Result<Texts, FormatError>,
+    sign: &str,
+) -> Result<String> {
+    match texts {
+        Ok(texts) => Ok(parted(alloc, texts, sign)?),
         Err(FormatError::UnknownCode) => Ok(String::from_str(
             alloc,
             "UnknownCode\tUnknownCode\tUnknownCode\tUnknownCode",

@@ -15,26 +15,35 @@ use std::alloc::{AllocError, Global};
 /// refused.
 pub fn answer(alloc: Global, row: &Row, db: &Database) -> Result<Option<String>> {
     let answer = match row.call() {
-        "length" => length(alloc, db, row, row.argument(3))?,
-        "length-repeated" => {
-            let times = row.argument(4).parse::<usize>()?;
-            let text = row.argument(3).repeat(alloc, times)?;
-            length(alloc, db, row, text.as_str())?
-        }
-        "number-type" => number_type(alloc, db, row)?,
-        "source-for" => {
-            let (code, text) = (code_of(row)?, row.argument(2));
-            let found = around(alloc, begin(alloc), validator::source_for(db, code, text))??;
-            region(alloc, found)?
-        }
-        "home" => {
-            let (code, text) = (code_of(row)?, row.argument(2));
-            let found = around(alloc, begin(alloc), validator::home(db, code, text))??;
-            home(alloc, found)?
-        }
+        "length" => length(alloc, db, row, row.argument(3)),
+        "length-repeated" => length_repeated(alloc, db, row),
+        "number-type" => number_type(alloc, db, row),
+        "source-for" => source_for(alloc, db, row),
+        "home" => home(alloc, db, row),
         _ => return Ok(None),
     };
-    Ok(Some(answer))
+    Ok(Some(answer?))
+}
+
+/// The same as of a length, of a text that comes so many times.
+fn length_repeated(alloc: Global, db: &Database, row: &Row) -> Result<String> {
+    let times = row.argument(4).parse::<usize>()?;
+    let text = row.argument(3).repeat(alloc, times)?;
+    length(alloc, db, row, text.as_str())
+}
+
+/// The region or calling code of a code and a text.
+fn source_for(alloc: Global, db: &Database, row: &Row) -> Result<String> {
+    let (code, text) = (code_of(row)?, row.argument(2));
+    let found = around(alloc, begin(alloc), validator::source_for(db, code, text))??;
+    Ok(region(alloc, found)?)
+}
+
+/// The territory of a code and a text.
+fn home(alloc: Global, db: &Database, row: &Row) -> Result<String> {
+    let (code, text) = (code_of(row)?, row.argument(2));
+    let found = around(alloc, begin(alloc), validator::home(db, code, text))??;
+    Ok(told(alloc, found)?)
 }
 
 /// What a length says of a national part as a number of the territory and the kind that a line
@@ -65,7 +74,7 @@ fn region(alloc: Global, found: Option<Either<Id, u16>>) -> Result<String, Alloc
 }
 
 /// A territory as `id/code/pattern`, with the general pattern's text, or a hyphen.
-fn home(alloc: Global, found: Option<&Metadata>) -> Result<String, AllocError> {
+fn told(alloc: Global, found: Option<&Metadata>) -> Result<String, AllocError> {
     let Some(territory) = found else {
         return String::from_str(alloc, "-");
     };

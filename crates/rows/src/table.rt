@@ -14,10 +14,7 @@ const MALFORMED: &str = "an escape of the table is malformed";
 
 /// The number that the first digits of a text write in hexadecimal, and what follows them.
 fn number(text: &str, digits: usize) -> Option<(u32, &str)> {
-    if !text.is_char_boundary(digits) {
-        return None;
-    }
-    let (number, after) = text.split_at(digits);
+    let (number, after) = (text.get(..digits)?, text.get(digits..)?);
     match u32::from_str_radix(number, 16) {
         Ok(number) => Some((number, after)),
         Err(_) => None,

@@ -9,6 +9,7 @@ use phonenumber::{PhoneNumber, Texts, format_with, laws, parse_with};
 use rows::marks::{around, begin};
 use rows::table::Row;
 use rows::words::{hint, truth};
+use serde::Serialize;
 use std::alloc::{AllocError, Global};
 use std::hash::Hash;
 
@@ -16,13 +17,24 @@ use std::hash::Hash;
 /// a line gives a number that is none, and where memory is refused.
 pub fn answer(alloc: Global, row: &Row) -> Result<Option<String>> {
     let answer = match row.call() {
-        "copied-extension" => truth(alloc, is_extension_copied(alloc, row.argument(0))?)?,
-        "copied-carrier" => truth(alloc, is_carrier_copied(alloc, row.argument(0))?)?,
-        "copied-number" => truth(alloc, is_number_copied(alloc, &whole(alloc, row, 0)?)?)?,
-        "copied-texts" => texts(alloc, row)?,
+        "copied-extension" => told(alloc, is_extension_copied(alloc, row.argument(0))),
+        "copied-carrier" => told(alloc, is_carrier_copied(alloc, row.argument(0))),
+        "copied-number" => number(alloc, row),
+        "copied-texts" => texts(alloc, row),
         _ => return Ok(None),
     };
-    Ok(Some(answer))
+    Ok(Some(answer?))
+}
+
+/// Whether a value is as its copy, as the table writes it.
+fn told(alloc: Global, is_copied: Result<bool>) -> Result<String> {
+    Ok(truth(alloc, is_copied?)?)
+}
+
+/// Whether a line's number and its copy are alike.
+fn number(alloc: Global, row: &Row) -> Result<String> {
+    let number = whole(alloc, row, 0)?;
+    told(alloc, is_number_copied(alloc, &number))
 }
 
 /// Whether two values are equal in each way to ask it, and have equal hashes.
@@ -47,16 +59,37 @@ fn is_carrier_copied(alloc: Global, text: &str) -> Result<bool> {
 /// Whether a number and its copy are alike.
 fn is_number_copied(alloc: Global, number: &PhoneNumber) -> Result<bool> {
     let copy = around(alloc, begin(alloc), number.clone())??;
-    let (first, second) = laws::hashes(number, &copy);
-    Ok(are_alike(number, &copy) && first == second)
+    Ok(are_numbers_alike(number, &copy))
+}
+
+/// Whether two numbers are alike, and have equal hashes by the law of hashes too.
+fn are_numbers_alike(number: &PhoneNumber, copy: &PhoneNumber) -> bool {
+    let (first, second) = laws::hashes(number, copy);
+    are_alike(number, copy) && first == second
 }
 
 /// The RFC 3966 text of what a line's text is read as by the records of a database text, which were
 /// written and read again; and whether a copy of the number's texts is equal to them.
 fn texts(alloc: Global, row: &Row) -> Result<String> {
     let database = written_again(alloc, row.argument(0))?;
-    let texts = texts_under(alloc, &database, hint(row.argument(1))?, row.argument(2))?;
-    let copy = around(alloc, begin(alloc), again(&texts))??;
+    under(alloc, row, &database)
+}
+
+/// The same under a database.
+fn under(alloc: Global, row: &Row, database: &Database) -> Result<String> {
+    let hint = hint(row.argument(1))?;
+    let texts = texts_under(alloc, database, hint, row.argument(2))?;
+    copied(alloc, &texts)
+}
+
+/// The RFC 3966 text of these texts, and whether a copy of them is equal to them.
+fn copied(alloc: Global, texts: &Texts) -> Result<String> {
+    let copy = around(alloc, begin(alloc), again(texts))??;
+    compared(alloc, texts, &copy)
+}
+
+/// The RFC 3966 text of these texts, and whether others are equal to them.
+fn compared(alloc: Global, texts: &Texts, copy: &Texts) -> Result<String> {
     let (text, is_equal) = (texts.rfc3966.as_str(), texts == copy);
     Ok(format!(in alloc; "={text}\t{is_equal}")?)
 }
@@ -68,13 +101,33 @@ fn again(texts: &Texts) -> Result<Texts, AllocError> {
 
 /// The database of the records of a text, as serde writes them.
 fn written_again(alloc: Global, text: &str) -> Result<Database> {
+    let text = written(alloc, text)?;
+    parsed(alloc, text.as_str())
+}
+
+/// The records of a text, as serde writes them.
+fn written(alloc: Global, text: &str) -> Result<String> {
     let records = phone_json::records(alloc, text)?;
-    let text = serde_json::to_string(alloc, &records)?;
-    Ok(Database::parse(alloc, text.as_str())?)
+    form(alloc, &records)
+}
+
+/// A value as serde writes it.
+fn form<T: Serialize>(alloc: Global, value: &T) -> Result<String> {
+    Ok(serde_json::to_string(alloc, value)?)
+}
+
+/// The database of a text.
+fn parsed(alloc: Global, text: &str) -> Result<Database> {
+    Ok(Database::parse(alloc, text)?)
 }
 
 /// The texts of the number that a text is read as.
 fn texts_under(alloc: Global, database: &Database, hint: Option<Id>, text: &str) -> Result<Texts> {
     let number = parse_with(database, hint, text)?;
-    Ok(format_with(database, &number).to_texts(alloc)?)
+    printed(alloc, database, &number)
+}
+
+/// The texts of a number.
+fn printed(alloc: Global, database: &Database, number: &PhoneNumber) -> Result<Texts> {
+    Ok(format_with(database, number).to_texts(alloc)?)
 }

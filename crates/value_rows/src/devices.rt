@@ -9,15 +9,15 @@ use std::io::{self, BufWriter, Error, ErrorKind, Read, Write};
 /// What a device of std answers, as the table writes it; none for any other call.
 pub fn answer(alloc: Global, row: &Row) -> Result<Option<String>> {
     let answer = match row.call() {
-        "std-read" => all_read(alloc, row)?,
-        "std-buffered" => buffered(alloc, row)?,
-        "std-room" => in_room(alloc, row)?,
-        "std-reads-interrupted" => reads_interrupted(alloc)?,
-        "std-writes-interrupted" => writes_interrupted(alloc)?,
-        "bytes-of-count" => bytes_of_count(alloc)?,
+        "std-read" => all_read(alloc, row),
+        "std-buffered" => buffered(alloc, row),
+        "std-room" => in_room(alloc, row),
+        "std-reads-interrupted" => reads_interrupted(alloc),
+        "std-writes-interrupted" => writes_interrupted(alloc),
+        "bytes-of-count" => bytes_of_count(alloc),
         _ => return Ok(None),
     };
-    Ok(Some(answer))
+    Ok(Some(answer?))
 }
 
 /// A reader and writer that gives and takes one byte, and is then interrupted, once and again.
@@ -64,14 +64,22 @@ fn text(bytes: &[u8]) -> &str {
 /// All bytes of a slice, as they are read, or `fault`.
 fn all_read(alloc: Global, row: &Row) -> Result<String> {
     let mut source = Std::new(row.argument_bytes(0));
-    match around(alloc, begin(alloc), read_all(alloc, &mut source))? {
-        Ok(bytes) => {
-            let read = text(bytes.as_slice());
-            Ok(format!(in alloc; "={read}")?)
-        }
+    let read = around(alloc, begin(alloc), read_all(alloc, &mut source))?;
+    text_or_fault(alloc, &read)
+}
+
+/// Bytes that were read as a text, or `fault`. An error where memory was refused.
+fn text_or_fault(alloc: Global, read: &Result<Vec<u8>, ReadError>) -> Result<String> {
+    match read {
+        Ok(bytes) => behind_sign(alloc, text(bytes.as_slice())),
         Err(ReadError::Fault) => Ok(String::from_str(alloc, "fault")?),
         Err(ReadError::Memory) => Err(anyhow!("out of memory")),
     }
+}
+
+/// A text behind an equals sign.
+fn behind_sign(alloc: Global, text: &str) -> Result<String> {
+    Ok(format!(in alloc; "={text}")?)
 }
 
 /// What a buffered writer to a vector answers to two texts, how many bytes the vector has then,

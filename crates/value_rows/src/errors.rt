@@ -14,11 +14,17 @@ use std::fmt::Display;
 /// an error that isn't there, and where memory is refused.
 pub fn answer(alloc: Global, row: &Row) -> Result<Option<String>> {
     let answer = match row.call() {
-        "error-text" => of_name(alloc, row.argument(0))?,
-        "record-error" => of_record(alloc, &record_error(alloc, row)?)?,
+        "error-text" => of_name(alloc, row.argument(0)),
+        "record-error" => of_line(alloc, row),
         _ => return Ok(None),
     };
-    Ok(Some(answer))
+    Ok(Some(answer?))
+}
+
+/// The text of the record's error that a line names, and whether a copy is equal to it.
+fn of_line(alloc: Global, row: &Row) -> Result<String> {
+    let error = record_error(alloc, row)?;
+    of_record(alloc, &error)
 }
 
 /// The text of an error.
@@ -47,7 +53,12 @@ fn of_name(alloc: Global, name: &str) -> Result<String> {
 /// The text of a record's error, and whether a copy of the error is equal to it.
 fn of_record(alloc: Global, error: &MetadataError) -> Result<String> {
     let copy = around(alloc, begin(alloc), error.clone())??;
-    let is_equal = copy == *error;
+    compared(alloc, error, &copy)
+}
+
+/// The text of a record's error, and whether another is equal to it.
+fn compared(alloc: Global, error: &MetadataError, copy: &MetadataError) -> Result<String> {
+    let is_equal = *copy == *error;
     Ok(format!(in alloc; "{error}\t{is_equal}")?)
 }
 

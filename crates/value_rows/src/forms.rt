@@ -15,13 +15,19 @@ use std::fmt::Debug;
 /// line names a type that isn't there or gives a number that is none, and where memory is refused.
 pub fn answer(alloc: Global, row: &Row) -> Result<Option<String>> {
     let answer = match row.call() {
-        "form" => form(alloc, row.argument(0), row.argument(1))?,
-        "forms-of-ids" => forms_of_ids(alloc)?,
-        "form-of-national" => form_of_national(alloc, row)?,
-        "form-of-number" => written(alloc, &whole(alloc, row, 0)?)?,
+        "form" => form(alloc, row.argument(0), row.argument(1)),
+        "forms-of-ids" => forms_of_ids(alloc),
+        "form-of-national" => form_of_national(alloc, row),
+        "form-of-number" => form_of_number(alloc, row),
         _ => return Ok(None),
     };
-    Ok(Some(answer))
+    Ok(Some(answer?))
+}
+
+/// What serde writes of a line's number.
+fn form_of_number(alloc: Global, row: &Row) -> Result<String> {
+    let number = whole(alloc, row, 0)?;
+    written(alloc, &number)
 }
 
 /// The value of the type of this name that serde reads of a text, and what it writes of it.
@@ -90,9 +96,14 @@ fn forms_of_ids(alloc: Global) -> Result<String> {
 /// Whether serde writes an id as its name in quotes, and reads the id from it.
 fn has_its_name_as_form(alloc: Global, id: &Id) -> Result<bool> {
     let form = quoted(alloc, id.as_str())?;
+    has_as_form(alloc, id, form.as_str())
+}
+
+/// Whether serde writes an id as this form, and reads the id from it.
+fn has_as_form(alloc: Global, id: &Id, form: &str) -> Result<bool> {
+    let read = read::<Id>(alloc, form)?;
     let written = serde_json::to_string(alloc, id)?;
-    let read = read::<Id>(alloc, form.as_str())?;
-    Ok(written.as_str() == form.as_str() && read == *id)
+    Ok(written.as_str() == form && read == *id)
 }
 
 /// A name in quotes.
