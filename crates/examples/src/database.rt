@@ -2,41 +2,61 @@
 use anyhow::Result;
 use phonenumber::metadata::loader::{Descriptor, Items, Metadata, Text};
 use phonenumber::metadata::{Database, LoadMetadata};
-use phonenumber::{format_with, parse_with};
+use phonenumber::{PhoneNumber, format_with, parse_with};
 use std::alloc::{AllocError, AllocGlobal, Global};
 
 /// A company's own numbers, from 100 to 999, under a code that no country has.
 const COMPANY: &str = r#"[{"id": "001", "country_code": 999,
         "general": {"national_number": "[1-9]\\d\\d", "possible_length": [3]}}]"#;
 
+/// Which national numbers the company has, as a record's descriptor.
+fn descriptor(alloc: Global) -> Result<Descriptor, LoadMetadata> {
+    let pattern = String::from_str(alloc, r"[1-9]\d\d")?;
+    let lengths = vec![in alloc; 3u16]?;
+    Ok(Descriptor {
+        national_number: Some(Text::from(pattern)),
+        possible_length: Items::from(lengths),
+        ..Descriptor::empty(alloc)
+    })
+}
+
+/// A record under the company's code, with this id and descriptor.
+fn record_of(alloc: Global, id: String, general: Descriptor) -> Metadata {
+    Metadata {
+        id: Some(Text::from(id)),
+        country_code: Some(999),
+        general: Some(general),
+        ..Metadata::empty(alloc)
+    }
+}
+
 /// The same as a record.
 fn record(alloc: Global) -> Result<Metadata, LoadMetadata> {
-    let lengths = vec![in alloc; 3u16]?;
-    let pattern = String::from_str(alloc, r"[1-9]\d\d")?;
     let id = String::from_str(alloc, "001")?;
-    let mut general = Descriptor::empty(alloc);
-    general.national_number = Some(Text::from(pattern));
-    general.possible_length = Items::from(lengths);
-    let mut record = Metadata::empty(alloc);
-    record.id = Some(Text::from(id));
-    record.country_code = Some(999);
-    record.general = Some(general);
-    Ok(record)
+    let general = descriptor(alloc)?;
+    Ok(record_of(alloc, id, general))
 }
 
 /// The database of that record.
 fn of_records(alloc: Global) -> Result<Database, LoadMetadata> {
-    let mut records = Vec::new(alloc);
-    records.push(record(alloc)?)?;
-    Database::from(alloc, records)
+    Database::from(alloc, vec![in alloc; record(alloc)?]?)
 }
 
-/// Prints a number of the company under a database.
-fn show<R: AllocGlobal + Print>(rt: &R, database: &Database) -> Result<()> {
-    let number = parse_with(database, None, "+999 123")?;
-    let text = format_with(database, &number).to_text(rt.alloc())?;
+/// Prints a number under a database.
+fn show_number<R: AllocGlobal + Print>(
+    rt: &R,
+    database: &Database,
+    number: &PhoneNumber,
+) -> Result<()> {
+    let text = format_with(database, number).to_text(rt.alloc())?;
     println!(rt; "{text}")?;
     Ok(())
+}
+
+/// Reads a number of the company under a database, and prints it.
+fn show<R: AllocGlobal + Print>(rt: &R, database: &Database) -> Result<()> {
+    let number = parse_with(database, None, "+999 123")?;
+    show_number(rt, database, &number)
 }
 
 /// Why a text is no database.

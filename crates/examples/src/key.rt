@@ -3,14 +3,19 @@
 use anyhow::Result;
 use phonenumber::country::Id;
 use phonenumber::metadata::Database;
-use phonenumber::{format_with, parse_with};
+use phonenumber::{PhoneNumber, format_with, parse_with};
 use std::alloc::AllocGlobal;
 use std::collections::HashMap;
+
+/// The E.164 text of a number.
+fn e164<R: AllocGlobal>(rt: &R, database: &Database, number: &PhoneNumber) -> Result<String> {
+    Ok(format_with(database, number).to_text(rt.alloc())?)
+}
 
 /// The E.164 text of the number that a line of a customer from New Zealand is.
 fn key<R: AllocGlobal>(rt: &R, database: &Database, line: &str) -> Result<String> {
     let number = parse_with(database, Some(Id::NZ), line)?;
-    Ok(format_with(database, &number).to_text(rt.alloc())?)
+    e164(rt, database, &number)
 }
 
 /// Prints which customer a line's number is of.

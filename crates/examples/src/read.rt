@@ -4,6 +4,13 @@ use phonenumber::country::Id;
 use phonenumber::metadata::Database;
 use phonenumber::parse_with;
 use std::alloc::AllocGlobal;
+use std::fmt::Display;
+
+/// Prints what a line was answered.
+fn tell<R: Print, A: Display>(rt: &R, line: &str, answer: &A) -> Result<()> {
+    println!(rt; "{line}: {answer}")?;
+    Ok(())
+}
 
 /// Reads a line, and prints the number that it is, or why it is none.
 fn show<R: AllocGlobal + Print>(
@@ -13,10 +20,9 @@ fn show<R: AllocGlobal + Print>(
     line: &str,
 ) -> Result<()> {
     match parse_with(database, hint, line) {
-        Ok(number) => println!(rt; "{line}: {number}")?,
-        Err(refusal) => println!(rt; "{line}: {refusal}")?,
+        Ok(number) => tell(rt, line, &number),
+        Err(refusal) => tell(rt, line, &refusal),
     }
-    Ok(())
 }
 
 /// A hint is the region in which a line was written: without one a number has to name its calling
