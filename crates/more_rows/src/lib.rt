@@ -15,7 +15,7 @@ use phone_meta::Database;
 use rows::table::Row;
 use std::alloc::Global;
 
-/// The answer to a call of `phone_more` or `phone_find` on a database; none for any other call.
+/// The answer to a call of `phone_more` on a database; none for any other call.
 pub fn answer(alloc: Global, row: &Row, db: &Database) -> Result<Option<String>> {
     if let Some(found) = possibilities::answer(alloc, row, db)? {
         return Ok(Some(found));

@@ -1,5 +1,6 @@
-//! What holds of the definitions of this crate, but of dialled numbers (`dialled::laws`). These
-//! functions do nothing; their contracts are the statements.
+//! What holds of the definitions of this crate, but of dialled numbers (`dialled::laws`) and of the
+//! numbers in a text (`found::laws`). These functions do nothing; their contracts are the
+//! statements.
 ghost use Rattle.std.specs.Prelude.{◌≡◌, ◌⊎◌, ◌<◌, ◌≤◌, ℕ, List, true, None, Some, Result, Ok};
 ghost use Rattle.std.specs.Prelude.{IsUtf8, chars, if◌then◌else◌};
 ghost use Rattle.phone_core.specs.Numbers.{text_of};
