@@ -1,21 +1,35 @@
-//! Rows of answers to what users of phone numbers ask besides: whether a number is possible, what a
-//! database lists, whether two texts are one number, how a number is dialled from a region, and
-//! which numbers stand in a text.
+//! Rows of answers to what stands on phone numbers: whether a number is possible, what a database
+//! lists, whether two texts are one number, how a number is dialled from a region, which numbers
+//! stand in a text; and, of many lines, what a run reports, a line's JSON object, what a
+//! contact book keeps, and how programs end.
 #![tactic(auto)]
 
+pub mod books;
 pub mod dialled;
 pub mod found;
 pub mod listed;
+pub mod objects;
 pub mod possibilities;
 mod premises;
+pub mod programs;
+pub mod reports;
 pub mod sameness;
 
 use anyhow::Result;
 use phone_meta::Database;
 use rows::table::Row;
-use std::alloc::Global;
+use std::alloc::{AllocGlobal, Global};
+use std::fs::Files;
 
-/// The answer to a call of `phone_more` on a database; none for any other call.
+/// The answer to a call that takes its database for itself; none for any other call.
+pub fn without_database<R: Files + AllocGlobal>(rt: &R, row: &Row) -> Result<Option<String>> {
+    if let Some(found) = books::answer(rt, row)? {
+        return Ok(Some(found));
+    }
+    programs::answer(rt, row)
+}
+
+/// The answer to a call on a database; none for any other call.
 pub fn answer(alloc: Global, row: &Row, db: &Database) -> Result<Option<String>> {
     if let Some(found) = possibilities::answer(alloc, row, db)? {
         return Ok(Some(found));
@@ -27,6 +41,12 @@ pub fn answer(alloc: Global, row: &Row, db: &Database) -> Result<Option<String>>
         return Ok(Some(found));
     }
     if let Some(found) = found::answer(alloc, row, db)? {
+        return Ok(Some(found));
+    }
+    if let Some(found) = reports::answer(alloc, row, db)? {
+        return Ok(Some(found));
+    }
+    if let Some(found) = objects::answer(alloc, row, db)? {
         return Ok(Some(found));
     }
     dialled::answer(alloc, row, db)

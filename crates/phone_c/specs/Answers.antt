@@ -14,9 +14,9 @@ use Rattle.phone_core.specs.declared.mode.Mode.{Mode}
 use Rattle.phone_core.specs.declared.mode.Mode.TheVariants.{E164, International, National, Rfc3966}
 use Rattle.phone_records.specs.declared.loader.Metadata.{Metadata}
 use Rattle.phone_core.specs.declared.reading.Reading.{Reading}
-use Rattle.phone_number.specs.Queries.{is_valid, kind_of_number, region_of_number}
+use Rattle.phonenumber.specs.Queries.{is_valid, kind_of_number, region_of_number}
 use Rattle.phone_print.specs.Texts.{e164_text}
-use Rattle.phone_number.specs.Printed.{printed}
+use Rattle.phonenumber.specs.Printed.{printed}
 use Rattle.phone_c.specs.Numbers.{HasNumbers, IsNumber}
 use Rattle.phone_c.specs.declared.number.Number as plain
 

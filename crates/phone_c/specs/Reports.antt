@@ -1,7 +1,7 @@
 -- What the report says of a line, under a hint that is given by its bytes.
 use Rattle.std.specs.Prelude.{ℕ, List, IsSomeAnd}
 use Rattle.phone_records.specs.declared.loader.Metadata.{Metadata}
-use Rattle.phone_number.specs.Reports.{IsReportLine}
+use Rattle.phonenumber.specs.Reports.{IsReportLine}
 use Rattle.phone_c.specs.Hints.{hint_of}
 
 -- the bytes are a hint, and the answer is the report line of the line under it

@@ -10,7 +10,7 @@ use crate::buffer::give;
 use crate::number::{Number, bare};
 use crate::status::{BAD_NUMBER, MEMORY, OK, TOO_SMALL};
 use phone_meta::Database;
-use phone_number::{PhoneNumber, Type};
+use phonenumber::{PhoneNumber, Type};
 use std::alloc::{AllocError, Global};
 
 /// A kind by its number.

@@ -35,7 +35,7 @@ use handle::{Handle, put, take};
 use number::Number;
 use opening::opened;
 use parse::parse;
-use phone_number::is_viable;
+use phonenumber::is_viable;
 use print::print;
 use report::report;
 use status::{

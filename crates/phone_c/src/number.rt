@@ -8,8 +8,8 @@ ghost use Rattle.phone_c.specs.Numbers.{AreNoNumber, AreNone, HasNumbers, IsAt, 
 ghost use Rattle.phone_c.specs.Numbers.{source_number};
 
 use crate::status::{BAD_NUMBER, MEMORY};
-use phone_number::country::{Code, Source};
-use phone_number::{Carrier, Extension, NationalNumber, PhoneNumber};
+use phonenumber::country::{Code, Source};
+use phonenumber::{Carrier, Extension, NationalNumber, PhoneNumber};
 use std::alloc::{AllocError, Global};
 
 /// Where a text stands that may be absent, in bytes beside it.

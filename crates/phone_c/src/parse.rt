@@ -10,7 +10,7 @@ use crate::hint::hint_of;
 use crate::number::{Number, carrier_of, extension_of, number_of, or_empty, part_of};
 use crate::status::{MEMORY, NO_REGION, NOT_UTF8, OK, TOO_SMALL};
 use phone_meta::Database;
-use phone_number::{ParseError, PhoneNumber, parse_with};
+use phonenumber::{ParseError, PhoneNumber, parse_with};
 
 /// The number of a refusal.
 fn refusal_number(error: &ParseError) -> u32

@@ -1,7 +1,7 @@
 //! The printing of a number that is given as plain numbers.
 ghost use Rattle.std.specs.Prelude.{◌≡◌, ◌↔◌, ◌<◌, Some, None, Err, IfOk, IfSome, IfNone};
 ghost use Rattle.std.specs.Prelude.{string_bytes};
-ghost use Rattle.phone_number.specs.Printed.{printed};
+ghost use Rattle.phonenumber.specs.Printed.{printed};
 ghost use Rattle.phone_c.specs.Answers.{IsPrinted, IsUnprinted, mode_number};
 ghost use Rattle.phone_c.specs.Buffers.{IsTooLongA, IsWrittenA};
 ghost use Rattle.phone_c.specs.Numbers.{AreNoNumber};
@@ -10,7 +10,7 @@ use crate::buffer::give;
 use crate::number::{Number, whole};
 use crate::status::{BAD_NUMBER, MEMORY, NO_MODE, OK, TOO_SMALL, UNKNOWN_CODE};
 use phone_meta::Database;
-use phone_number::{FormatError, Mode, PhoneNumber, format_with};
+use phonenumber::{FormatError, Mode, PhoneNumber, format_with};
 use std::alloc::Global;
 
 /// A mode, of its number; none for others than these four.

@@ -9,7 +9,7 @@ use crate::hint::hint_of;
 use crate::status::{MEMORY, NO_REGION, OK, TOO_SMALL};
 use phone_lines::Answers;
 use phone_meta::Database;
-use phone_report::Reporter;
+use phonenumber::report::Reporter;
 use std::alloc::Global;
 
 /// Writes the report line of a line to the front of a buffer, under a database and a hint.

@@ -41,7 +41,7 @@ use Rattle.phone_read.specs.Readings
 use Rattle.phone_read.specs.Readings.{Reads}
 use Rattle.phone_prefix.specs.Strips.{stripped}
 use Rattle.phone_core.specs.declared.reading.Reading.{Reading}
-use Rattle.phone_number.specs.Bounds.{IsBounded}
+use Rattle.phonenumber.specs.Bounds.{IsBounded}
 use Rattle.phone_print.specs.Texts.{extension_part, laid_out}
 use Rattle.phonenumber.proofs.BackCodes.{shortest-decimal}
 use Rattle.phonenumber.proofs.BackLaws.{IsFoundBefore, parted_digits}

@@ -17,7 +17,7 @@ use Rattle.phone_kinds.specs.Kinds.{is_of}
 use Rattle.phone_read.specs.Regions.{home}
 use Rattle.phone_kinds.specs.Kinds.{is_known, is_one_pattern, line_or_mobile, tried_kinds, type_of}
 use Rattle.phone_core.specs.declared.reading.Reading.{Reading}
-use Rattle.phone_number.specs.Queries.{is_valid}
+use Rattle.phonenumber.specs.Queries.{is_valid}
 use Rattle.phone_more.specs.Possibilities.{counting_descriptors, has_listed_kind, is_among, kind_descriptors}
 use Rattle.phone_more.specs.Possibilities.{lengths_of, lists_lengths, possibility_of, possibility_under}
 use Rattle.phone_more.specs.declared.possibilities.Possibility.TheVariants.{Possible, UnknownCode}

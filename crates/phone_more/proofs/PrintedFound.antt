@@ -15,11 +15,11 @@ use Rattle.phone_chars.specs.Characters.{is_digit, is_punctuation}
 use Rattle.phone_core.specs.Numbers.{text_of}
 use Rattle.phone_core.specs.declared.mode.Mode.TheVariants.{International}
 use Rattle.phone_meta.specs.Codes.{first_of, territories}
-use Rattle.phone_number.specs.Bounds.{IsBounded}
+use Rattle.phonenumber.specs.Bounds.{IsBounded}
 use Rattle.phone_more.specs.Possibilities.{possibility_under}
 use Rattle.phone_more.specs.declared.possibilities.Possibility.TheVariants.{UnknownCode}
 use Rattle.phone_print.specs.Texts.{extension_part, international_text, laid_out, text_by}
-use Rattle.phone_number.specs.Printed.{printed}
+use Rattle.phonenumber.specs.Printed.{printed}
 use Rattle.phone_parts.proofs.AnnouncedParts.{announced_parts}
 use Rattle.phone_parts.proofs.Cores.{ends-push}
 use Rattle.phone_parts.proofs.PrintedInternational.{all_printed, international_parts, is_printed}

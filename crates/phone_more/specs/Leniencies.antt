@@ -3,7 +3,7 @@ use Rattle.std.specs.Prelude.{Bool, true, false, List}
 use Rattle.phone_more.specs.Possibilities.{possibility_of}
 use Rattle.phone_more.specs.declared.possibilities.Possibility.{Possibility}
 use Rattle.phone_more.specs.declared.possibilities.Possibility.TheVariants as possibility
-use Rattle.phone_number.specs.Queries.{is_valid}
+use Rattle.phonenumber.specs.Queries.{is_valid}
 use Rattle.phone_core.specs.declared.reading.Reading.{Reading}
 use Rattle.phone_records.specs.declared.loader.Metadata.{Metadata}
 use Rattle.phone_more.specs.declared.found.leniency.Leniency.{Leniency}

@@ -4,7 +4,7 @@ ghost use Rattle.std.specs.Prelude.{IfSome, IsNone, codes, string_bytes};
 ghost use Rattle.std.specs.List.{list_all};
 ghost use Rattle.std.specs.Option.{option_and_then, option_copied};
 ghost use Rattle.phone_chars.specs.Characters.{is_digit};
-ghost use Rattle.phone_number.specs.Printed.{printed};
+ghost use Rattle.phonenumber.specs.Printed.{printed};
 ghost use Rattle.phone_more.specs.Dialled.{dialled_prefix, dialled_text, dialling_prefix_of};
 ghost use Rattle.phone_more.specs.Dialled.{if_digits, if_some};
 
@@ -13,7 +13,7 @@ pub mod laws;
 use phone_core::Mode;
 use phone_core::country::Id;
 use phone_meta::{Database, Metadata};
-use phone_number::{FormatError, PhoneNumber, format_with};
+use phonenumber::{FormatError, PhoneNumber, format_with};
 use std::alloc::{AllocError, Global};
 use thiserror::Error;
 

@@ -6,7 +6,7 @@ use Rattle.phone_core.specs.declared.mode.Mode.TheVariants.{E164, International,
 use Rattle.phone_core.specs.declared.reading.Reading.{Reading}
 use Rattle.phone_records.specs.declared.loader.Format.{Format}
 use Rattle.phone_records.specs.declared.loader.Metadata.{Metadata}
-use Rattle.phone_number.specs.Printed.{printed}
+use Rattle.phonenumber.specs.Printed.{printed}
 use Rattle.phone_print.specs.Texts.{text_by}
 
 -- the texts of a number in three modes, by one territory

@@ -13,8 +13,8 @@ use Rattle.phone_meta.specs.Codes.{first_of, territories}
 use Rattle.phone_records.specs.declared.loader.Metadata.{Metadata}
 use Rattle.phone_read.specs.Readings.{Reads}
 use Rattle.phone_core.specs.declared.reading.Reading.{Reading}
-use Rattle.phone_number.specs.Queries.{is_valid, kind_of_number, region_of_number}
-use Rattle.phone_number.specs.Reports.{kind_word, refusal_fields, region_word, validity_word}
+use Rattle.phonenumber.specs.Queries.{is_valid, kind_of_number, region_of_number}
+use Rattle.phonenumber.specs.Reports.{kind_word, refusal_fields, region_word, validity_word}
 use Rattle.phone_print.specs.Texts.{text_by}
 use Rattle.phone_table.specs.declared.header.Columns.{Columns}
 

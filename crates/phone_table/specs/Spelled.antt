@@ -1,7 +1,7 @@
 -- The fields of an answer.
 use Rattle.std.specs.Prelude.{[], ◌∷◌, string_bytes}
 use Rattle.phone_csv.specs.Formats.{Record}
-use Rattle.phone_number.specs.Reports.{kind_word, region_word, validity_word}
+use Rattle.phonenumber.specs.Reports.{kind_word, region_word, validity_word}
 use Rattle.phone_table.specs.Answers.{refused_answer}
 use Rattle.phone_table.specs.declared.answer.Answer.{Answer}
 use Rattle.phone_table.specs.declared.answer.Answer.TheVariants.{Number, Refused}

@@ -2,7 +2,7 @@
 ghost use Rattle.std.specs.Prelude.{◌≡◌, ◌++◌, ◌∷◌, [], Err, Some, None, IfOk, OnOk, string_bytes};
 ghost use Rattle.csv.specs.Records.{fields_of, partial_of};
 ghost use Rattle.phone_meta.specs.Codes.{first_of, territories};
-ghost use Rattle.phone_number.specs.Reports.{kind_word, region_word, validity_word};
+ghost use Rattle.phonenumber.specs.Reports.{kind_word, region_word, validity_word};
 ghost use Rattle.phone_records.specs.declared.loader.Metadata as loader;
 ghost use Rattle.phone_table.specs.Answers.{IsFieldAnswer, number_answer};
 ghost use Rattle.phone_table.specs.Spelled.{spelled};
@@ -10,9 +10,9 @@ ghost use Rattle.phone_table.specs.Spelled.{spelled};
 use crate::names::push_three;
 use crate::words::{kind_word, refusal_words, region_word, validity_word};
 use csv::ByteRecord;
-use phone_number::country::Id;
-use phone_number::metadata::Database;
-use phone_number::{FormatError, ParseError, PhoneNumber, Queried, Texts, format_with, parse_with};
+use phonenumber::country::Id;
+use phonenumber::metadata::Database;
+use phonenumber::{FormatError, ParseError, PhoneNumber, Queried, Texts, format_with, parse_with};
 use std::alloc::{AllocError, Global};
 
 /// What the field of a number is answered.

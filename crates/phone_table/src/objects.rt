@@ -10,8 +10,8 @@ ghost use Rattle.phone_table.specs.Objects.{IsObject, object_of, spelled_by};
 
 use crate::answer::{Answer, answer_to};
 use crate::words::{kind_word, region_word, validity_word};
-use phone_number::country::Id;
-use phone_number::metadata::Database;
+use phonenumber::country::Id;
+use phonenumber::metadata::Database;
 use serde_json::{Value, json};
 use std::alloc::{AllocError, Global};
 

@@ -2,7 +2,7 @@
 ghost use Rattle.std.specs.Prelude.{◌≢◌, IfSome};
 
 use crate::run::Asked;
-use phone_number::country::Id;
+use phonenumber::country::Id;
 
 /// What the words of the program ask for.
 #[derive(Clone, Copy)]

@@ -8,8 +8,8 @@ use crate::table::Table;
 use csv::ByteRecord;
 use phone_csv::{FirstError, RunError, first_record};
 use phone_device::{ByteSink, ByteSource};
-use phone_number::country::Id;
-use phone_number::metadata::Database;
+use phonenumber::country::Id;
+use phonenumber::metadata::Database;
 
 /// What is asked of a table.
 #[derive(Clone, Copy)]

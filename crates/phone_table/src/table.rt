@@ -10,8 +10,8 @@ use crate::header::Columns;
 use crate::region::region_named;
 use csv::ByteRecord;
 use phone_csv::{Answers, Refusal};
-use phone_number::country::Id;
-use phone_number::metadata::Database;
+use phonenumber::country::Id;
+use phonenumber::metadata::Database;
 use std::alloc::{AllocError, Global};
 use std::marker::Model;
 

@@ -8,7 +8,7 @@ use csv::ByteRecord;
 use itoa::Buffer;
 use phone_csv::{FirstError, RunError};
 use phone_device::{ByteSink, ByteSource, Fault, write_all};
-use phone_number::metadata::Database;
+use phonenumber::metadata::Database;
 use std::alloc::AllocGlobal;
 use std::fs::Files;
 

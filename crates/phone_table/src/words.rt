@@ -1,11 +1,11 @@
 //! The words of an answer's fields.
 ghost use Rattle.std.specs.Prelude.{◌≡◌, IfOk, IsErr};
 ghost use Rattle.phone_core.specs.declared.error.ParseError.TheVariants as refusal;
-ghost use Rattle.phone_number.specs.Reports.{kind_word, region_word, validity_word};
+ghost use Rattle.phonenumber.specs.Reports.{kind_word, region_word, validity_word};
 ghost use Rattle.phone_table.specs.Answers.{refusal_words};
 
-use phone_number::country::Id;
-use phone_number::{ParseError, Type};
+use phonenumber::country::Id;
+use phonenumber::{ParseError, Type};
 use std::alloc::AllocError;
 
 /// A kind's name.

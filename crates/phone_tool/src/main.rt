@@ -1,10 +1,10 @@
 //! The program `phone_tool DATABASE [REGION]`: the report on the lines of standard input, written
 //! to standard output, under the database in a file. What it writes, and the status that it ends
-//! with, is told at `phone_report::program`.
+//! with, is told at `phonenumber::report::program`.
 #![tactic(auto)]
 
 use phone_device::Std;
-use phone_report::program;
+use phonenumber::report::program;
 use std::env;
 use std::io::Lock;
 use std::process::ExitCode;

@@ -8,7 +8,7 @@ use Rattle.phone_records.specs.declared.loader.Metadata.{Metadata}
 use Rattle.phone_read.proofs.ReadingOnes.{reading_same}
 use Rattle.phone_core.specs.declared.reading.Reading.{Reading}
 use Rattle.phonenumber.specs.Again.{IsAgain, IsReadAs, IsReadOfPrinted}
-use Rattle.phone_number.specs.Printed.{printed}
+use Rattle.phonenumber.specs.Printed.{printed}
 use Rattle.phone_print.specs.Texts.{text_by}
 
 -- what is read of the text is the number, as a text has one reading

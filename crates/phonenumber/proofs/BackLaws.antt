@@ -29,10 +29,10 @@ use Rattle.phone_read.proofs.ListedFronts.{listed_some}
 use Rattle.phone_read.specs.TransformRules.{rules_have_no_plus}
 use Rattle.phone_core.specs.declared.reading.Reading.{Reading}
 use Rattle.phonenumber.specs.Again.{IsReadAs}
-use Rattle.phone_number.specs.Bounds.{IsBounded}
+use Rattle.phonenumber.specs.Bounds.{IsBounded}
 use Rattle.phonenumber.specs.Plain.{IsAnnouncedByWord, IsIdle, IsPlain, IsPlainE164, IsPlainInternational, IsPlainRfc3966, has_digits}
 use Rattle.phone_print.specs.Texts.{e164_text, extension_part, hyphenated, laid_out, text_by}
-use Rattle.phone_number.specs.Printed.{printed}
+use Rattle.phonenumber.specs.Printed.{printed}
 use Rattle.phonenumber.proofs.BackNumbers.{list_all-decimal, list_all-text_of, nsn-text_of}
 use Rattle.phonenumber.proofs.ThinTexts.{digit_passes}
 use Rattle.phonenumber.proofs.BackReads.{IsFoundAs, code_of-prefix, code_of-signed, idle_as, read_as}

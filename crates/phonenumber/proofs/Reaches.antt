@@ -17,7 +17,7 @@ use Rattle.phone_read.specs.Readings.{Reads}
 use Rattle.phone_read.specs.TransformRules.{rules_have_no_plus}
 use Rattle.phone_core.specs.declared.reading.Reading.{Reading}
 use Rattle.phone_print.specs.Layouts.{laid, layout_for}
-use Rattle.phone_number.specs.Bounds.{IsBounded}
+use Rattle.phonenumber.specs.Bounds.{IsBounded}
 use Rattle.phonenumber.specs.Plain.{IsPlainE164, IsPlainInternational, IsPlainRfc3966, has_digits}
 use Rattle.phone_print.specs.Texts.{laid_out}
 use Rattle.phonenumber.proofs.BackLaws.{between_digits, punctuated}

@@ -27,9 +27,9 @@ use Rattle.phone_core.specs.declared.reading.Reading.{Reading}
 use Rattle.phone_prefix.proofs.DigitTexts.{encode_utf8_all-digits}
 use Rattle.phone_read.proofs.HintCodes.{code_by_hint-other}
 use Rattle.phone_read.proofs.ReadingRows.{decimal_64}
-use Rattle.phone_number.specs.Reports
-use Rattle.phone_number.specs.Queries.{kind_of_number, region_of_number, is_valid}
-use Rattle.phone_number.specs.Reports.{IsReportLine, number_line, kind_word, region_word, validity_word}
+use Rattle.phonenumber.specs.Reports
+use Rattle.phonenumber.specs.Queries.{kind_of_number, region_of_number, is_valid}
+use Rattle.phonenumber.specs.Reports.{IsReportLine, number_line, kind_word, region_word, validity_word}
 use Rattle.phone_print.specs.Tabbed.{tabbed}
 use Rattle.phone_print.specs.Texts.{text_by}
 use Rattle.phonenumber.specs.Thin

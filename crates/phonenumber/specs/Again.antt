@@ -6,7 +6,7 @@ use Rattle.phone_core.specs.declared.mode.Mode.{Mode}
 use Rattle.phone_records.specs.declared.loader.Metadata.{Metadata}
 use Rattle.phone_read.specs.Readings.{Reads}
 use Rattle.phone_core.specs.declared.reading.Reading.{Reading}
-use Rattle.phone_number.specs.Printed.{printed}
+use Rattle.phonenumber.specs.Printed.{printed}
 
 -- m has the code and the national number of n, and the extension e; source and carrier may differ
 pub record IsSame (n : Reading) (e : Option (List ℕ)) (m : Reading) : Type 0 where

@@ -1,3 +1,10 @@
 pub mod Again
+pub mod Bounds
+pub mod Lines
 pub mod Plain
+pub mod Printed
+pub mod Printers
+pub mod Queries
+pub mod Report
+pub mod Reports
 pub mod Thin

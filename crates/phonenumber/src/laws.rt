@@ -16,15 +16,15 @@ ghost use Rattle.phone_read.specs.TransformRules.{rules_have_no_plus};
 ghost use Rattle.phone_core.specs.declared.reading.Reading.{Reading};
 ghost use Rattle.phonenumber.specs.Again.{IsReadAs};
 ghost use Rattle.phone_print.specs.Layouts.{layout_for};
-ghost use Rattle.phone_number.specs.Bounds.{IsBounded};
+ghost use Rattle.phonenumber.specs.Bounds.{IsBounded};
 ghost use Rattle.phonenumber.specs.Plain.{IsAnnouncedByWord, IsBenign, IsIdle};
 ghost use Rattle.phonenumber.specs.Plain.{IsPlainE164, IsPlainInternational, IsPlainRfc3966};
 ghost use Rattle.phone_print.specs.Texts.{e164_text, hyphenated};
-ghost use Rattle.phone_number.specs.Printed.{printed};
+ghost use Rattle.phonenumber.specs.Printed.{printed};
 ghost use Rattle.phonenumber.specs.Thin.{IsThinDatabase, ThinReads, is_thin};
 
+use crate::PhoneNumber;
 use phone_core::equality;
-use phone_number::PhoneNumber;
 use std::hash::Hash;
 
 /// What a thin text is read as under a thin database is what it is read as: the short definition

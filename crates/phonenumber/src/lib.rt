@@ -1,12 +1,25 @@
-//! Phone numbers: read from a text, printed, compared, and what holds of them all.
+//! Phone numbers: read from a text, printed, compared, reported on line by line, and what holds of
+//! them all.
 #![tactic(auto)]
 
 pub mod again;
+mod formatter;
 pub mod laws;
+pub mod metadata;
+mod parser;
+mod phone_number;
+mod queries;
+pub mod report;
 pub mod rows;
 
-pub use phone_number::{
-    Carrier, Country, Extension, FormatError, Formatter, Metadata, MetadataError, Mode,
-    NationalNumber, ParseError, PhoneNumber, Queried, Texts, Type, Validation, country,
-    format_with, is_valid_with, is_viable, metadata, parse_with,
+pub use formatter::{FormatError, Formatter, format_with};
+pub use metadata::Metadata;
+pub use parser::parse_with;
+pub use phone_chars::is_viable;
+pub use phone_core::{
+    Carrier, Extension, Mode, NationalNumber, ParseError, Type, Validation, country,
 };
+pub use phone_number::PhoneNumber;
+pub use phone_print::Texts;
+pub use phone_texts::MetadataError;
+pub use queries::{Country, Queried, is_valid_with};

@@ -3,7 +3,7 @@
 ghost use Rattle.std.specs.Prelude.{List, [], ◌∷◌, codes, Some};
 ghost use Rattle.phone_core.specs.declared.country.Id.TheVariants.{NZ};
 ghost use Rattle.phone_read.specs.Samples.{nz};
-ghost use Rattle.phone_number.specs.Reports.{IsReportLine};
+ghost use Rattle.phonenumber.specs.Reports.{IsReportLine};
 
 /// Lines of the report under a database of New Zealand alone and its hint: of a number, of a
 /// refusal, of a byte that is no UTF-8.

@@ -1,12 +1,14 @@
 //! One line, whose requests for memory may be refused.
 use crate::calls::answer;
 use anyhow::{Result, anyhow};
+use database_rows::named::Named;
 use rows::table::Row;
 use std::alloc::AllocGlobal;
 use std::fs::{self, Files};
 
-/// Answers a line twice, and says of both answers whether they are the wanted one; of one that is
-/// an error, which. Gives whether both are, or the first is an error.
+/// Answers a line twice, by one database where it names one, and says of both answers whether they
+/// are the wanted one; of one that is an error, which. Gives whether both are, or the first is an
+/// error.
 pub fn judge<R: Files + AllocGlobal + Print>(rt: &R, file: &str, line: usize) -> Result<bool> {
     let alloc = rt.alloc();
     let text = fs::read_to_string(rt, file)?;
@@ -14,8 +16,9 @@ pub fn judge<R: Files + AllocGlobal + Print>(rt: &R, file: &str, line: usize) ->
         return Err(anyhow!("the table has no such line"));
     };
     let row = Row::read(alloc, line)?;
-    let first = is_wanted(rt, &row, "first")?;
-    let again = is_wanted(rt, &row, "again")?;
+    let mut at_hand = None;
+    let first = is_wanted(rt, &row, "first", &mut at_hand)?;
+    let again = is_wanted(rt, &row, "again", &mut at_hand)?;
     Ok(first != Some(false) && again == Some(true))
 }
 
@@ -24,9 +27,9 @@ fn is_wanted<R: Files + AllocGlobal + Print>(
     rt: &R,
     row: &Row,
     which: &str,
+    at_hand: &mut Option<Named>,
 ) -> Result<Option<bool>> {
-    let mut at_hand = None;
-    match answer(rt, row, &mut at_hand) {
+    match answer(rt, row, at_hand) {
         Ok(found) => {
             let agrees = found.as_str().as_bytes() == row.answer();
             println!(rt; "{which}: {agrees}")?;

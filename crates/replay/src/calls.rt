@@ -4,7 +4,6 @@ use database_rows::look_ups;
 use database_rows::named::{Named, load, of_name};
 use number_rows::printing::layouts_of;
 use phone_meta::Database;
-use report_rows::{books, reports};
 use rows::table::Row;
 use std::alloc::{AllocGlobal, Global};
 use std::fs::Files;
@@ -24,7 +23,7 @@ fn without_database<R: Files + AllocGlobal>(rt: &R, row: &Row) -> Result<Option<
     if let Some(found) = value_rows::answer(rt.alloc(), row)? {
         return Ok(Some(found));
     }
-    books::answer(rt, row)
+    more_rows::without_database(rt, row)
 }
 
 /// The answer to a call on a database; none for any other call. `layouts` is the database whose
@@ -44,10 +43,7 @@ fn on_database(
     if let Some(found) = number_rows::of_number(alloc, row, db, layouts)? {
         return Ok(Some(found));
     }
-    if let Some(found) = more_rows::answer(alloc, row, db)? {
-        return Ok(Some(found));
-    }
-    reports::answer(alloc, row, db)
+    more_rows::answer(alloc, row, db)
 }
 
 /// The answer to a line. The database that it names is at hand for the next line.

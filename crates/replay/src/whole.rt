@@ -8,7 +8,7 @@ use std::alloc::AllocGlobal;
 use std::fs::{self, Files};
 
 /// The tables, by their files.
-const TABLES: [&str; 18] = [
+const TABLES: [&str; 19] = [
     "calls.tsv",
     "report.tsv",
     "json.tsv",
@@ -27,6 +27,7 @@ const TABLES: [&str; 18] = [
     "more.tsv",
     "found.tsv",
     "values.tsv",
+    "programs.tsv",
 ];
 
 /// Prints each line whose answer is another one here, then the counts. Gives whether all lines

@@ -2,8 +2,14 @@
 //! of standard input, each record with what is known of its phone number, written to standard
 //! output, under the database in a file. What it writes, and the status that it ends with, is told
 //! at `phone_table::program`.
+//!
+//! As `table --json DATABASE [REGION] [FIRST]` it writes a JSON object for each line of standard
+//! input, as `objects` tells.
 #![tactic(auto)]
 
+mod objects;
+
+use anyhow::Result;
 use phone_device::Std;
 use phone_table::program;
 use std::alloc::{AllocError, Global};
@@ -11,12 +17,12 @@ use std::env;
 use std::io::Lock;
 use std::process::ExitCode;
 
-/// Runs the program on these words and the standard devices.
-fn on_devices(rt: &HostRuntime, words: &[&str]) -> u8 {
+/// Writes the table, on these words and the standard devices.
+fn table(rt: &HostRuntime, words: &[&str]) -> ExitCode {
     let mut input = Std::new(rt.stdin().lock());
     let mut output = Std::new(rt.stdout());
     let mut errors = Std::new(rt.stderr());
-    program(rt, words, &mut input, &mut output, &mut errors)
+    ExitCode::from(program(rt, words, &mut input, &mut output, &mut errors))
 }
 
 /// The words in a list. Refused only for memory.
@@ -29,17 +35,19 @@ fn lent<'a>(alloc: Global, words: &'a [String]) -> Result<Vec<&'a str>, AllocErr
     words.iter().map(|word| word.as_str()).collect(alloc)
 }
 
-/// Runs the program on its words. Status 1 where the words are refused for memory or aren't UTF-8.
-fn main(rt: HostRuntime) -> ExitCode {
-    let Ok(mut words) = env::args(&rt) else {
-        return ExitCode::from(1);
-    };
+/// Runs the program on its words.
+fn with_words(rt: &HostRuntime, words: &[&str]) -> Result<ExitCode> {
+    match words {
+        ["--json", rest @ ..] => objects::write(rt, rest),
+        _ => Ok(table(rt, words)),
+    }
+}
+
+/// Status 1 where the words are refused for memory or aren't UTF-8.
+fn main(rt: HostRuntime) -> Result<ExitCode> {
+    let mut words = env::args(&rt)?;
     words.next();
-    let Ok(words) = listed(rt.alloc(), words) else {
-        return ExitCode::from(1);
-    };
-    let Ok(lent) = lent(rt.alloc(), words.as_slice()) else {
-        return ExitCode::from(1);
-    };
-    ExitCode::from(on_devices(&rt, lent.as_slice()))
+    let words = listed(rt.alloc(), words)?;
+    let lent = lent(rt.alloc(), words.as_slice())?;
+    with_words(&rt, lent.as_slice())
 }

@@ -4,7 +4,7 @@ ghost use Rattle.phone_core.specs.declared.country.Id.{Id};
 ghost use Rattle.phone_core.specs.declared.country.Source.TheVariants as source;
 ghost use Rattle.phone_records.specs.declared.loader.Metadata as loader;
 ghost use Rattle.phone_core.specs.declared.reading.Reading.{Reading};
-ghost use Rattle.phone_number.specs.Bounds.{IsBounded};
+ghost use Rattle.phonenumber.specs.Bounds.{IsBounded};
 ghost use Rattle.phone_more.specs.Back.{IsAfterPlus, IsAfterPrefix, IsPlainDialled, IsReadUnder};
 ghost use Rattle.phone_more.specs.Dialled.{dialled_text};
 

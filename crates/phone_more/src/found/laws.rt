@@ -4,8 +4,8 @@ ghost use Rattle.std.specs.Prelude.{◌≡◌, ◌≤◌, ◌++◌, ◌∷◌, [
 ghost use Rattle.std.specs.Prelude.{length};
 ghost use Rattle.phone_core.specs.declared.country.Id.{Id};
 ghost use Rattle.phone_core.specs.declared.mode.Mode.TheVariants as mode;
-ghost use Rattle.phone_number.specs.Bounds.{IsBounded};
-ghost use Rattle.phone_number.specs.Printed.{printed};
+ghost use Rattle.phonenumber.specs.Bounds.{IsBounded};
+ghost use Rattle.phonenumber.specs.Printed.{printed};
 ghost use Rattle.phone_core.specs.declared.reading.Reading.{Reading};
 ghost use Rattle.phone_records.specs.declared.loader.Metadata as loader;
 ghost use Rattle.phonenumber.specs.Again.{IsSame};

@@ -4,7 +4,7 @@ ghost use Rattle.phone_more.specs.Leniencies.{is_possible, suffices};
 
 use crate::possibilities::{Possibility, possible};
 use phone_meta::Database;
-use phone_number::PhoneNumber;
+use phonenumber::PhoneNumber;
 use std::alloc::AllocError;
 
 /// What is asked of a number that stands in a text.

@@ -11,7 +11,7 @@ use crate::found::search::{Found, Judge, all_accepted};
 use phone_core::ParseError;
 use phone_core::country::Id;
 use phone_meta::Database;
-use phone_number::{PhoneNumber, parse_with};
+use phonenumber::{PhoneNumber, parse_with};
 use std::alloc::{AllocError, Global};
 
 /// What accepts the numbers of a database that suffice, read under a hint.

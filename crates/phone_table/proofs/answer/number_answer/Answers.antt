@@ -1,7 +1,7 @@
 use Rattle.std.proofs.Common.{ap}
 use Rattle.phone_core.specs.declared.mode.Mode.TheVariants.{E164, International, National}
 use Rattle.phone_meta.specs.Codes.{first_of, territories}
-use Rattle.phone_number.specs.Reports.{kind_word, region_word, validity_word}
+use Rattle.phonenumber.specs.Reports.{kind_word, region_word, validity_word}
 use Rattle.phone_table.proofs.AnswerLemmas.{printed_own, same_seven, three_texts}
 use Rattle.phone_table.proofs.answer.number_answer.Goals as goal
 

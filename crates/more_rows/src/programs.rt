@@ -1,0 +1,108 @@
+//! The calls of programs over their words, what they read, and devices in memory: `table` of
+//! `phone_table`, `phone-tool` of `phonenumber::report`.
+use anyhow::{Result, anyhow};
+use phone_device::{Limit, Script, Then};
+use rows::devices::{fault, sink};
+use rows::marks::{around, begin};
+use rows::table::Row;
+use std::alloc::{AllocError, AllocGlobal, Global};
+use std::fs::Files;
+
+/// How many bytes are taken of what the program tells.
+const ROOM: usize = 4096;
+
+/// How the program ended.
+#[derive(Drop)]
+struct Ended {
+    /// Its status.
+    status: u8,
+    /// What it wrote.
+    written: Limit,
+    /// What it told.
+    told: Limit,
+}
+
+/// The status that a program ends with on a line's words, input and devices, what it tells and what
+/// it writes, parted by tabs; none for any other call. An error where memory is refused.
+pub fn answer<R: Files + AllocGlobal>(rt: &R, row: &Row) -> Result<Option<String>> {
+    match row.call() {
+        "table" | "phone-tool" => {
+            let ended = run(rt, row)?;
+            Ok(Some(told(rt.alloc(), row, &ended)?))
+        }
+        _ => Ok(None),
+    }
+}
+
+/// Runs the program.
+fn run<R: Files + AllocGlobal>(rt: &R, row: &Row) -> Result<Ended> {
+    let alloc = rt.alloc();
+    let words: Vec<&str> = row.argument(0).split(' ').collect(alloc)?;
+    let bytes = Vec::from_slice(alloc, row.argument_bytes(3))?;
+    let mut source = Script::new(bytes, fault(row.argument(1))?);
+    let mut written = sink(alloc, row.argument(2))?;
+    let mut told = Limit::new(alloc, ROOM, Then::Fail)?;
+    let begun = begin(alloc);
+    let status = program(
+        rt,
+        row,
+        words.as_slice(),
+        &mut source,
+        &mut written,
+        &mut told,
+    );
+    let status = around(alloc, begun, status)?;
+    Ok(Ended {
+        status,
+        written,
+        told,
+    })
+}
+
+/// The program of a line's call, on its words and devices.
+fn program<R: Files + AllocGlobal>(
+    rt: &R,
+    row: &Row,
+    words: &[&str],
+    source: &mut Script,
+    written: &mut Limit,
+    told: &mut Limit,
+) -> u8 {
+    match row.call() {
+        "table" => phone_table::program(rt, words, source, written, told),
+        _ => phonenumber::report::program(rt, words, source, written, told),
+    }
+}
+
+/// How the program ended. An error where it wanted memory, and wrote nothing but a beginning of
+/// what is wanted.
+fn told(alloc: Global, row: &Row, ended: &Ended) -> Result<String> {
+    let (status, written) = (ended.status, ended.written.taken());
+    let wanted = row.answer().splitn(3, |byte| *byte == b'\t').nth(2);
+    if wants_memory(ended, wanted.unwrap_or(&[])) {
+        return Err(anyhow!("out of memory"));
+    }
+    let told = text(alloc, ended.told.taken())?;
+    let written = text(alloc, written)?;
+    Ok(format!(in alloc; "{status}\t{told}\t{written}")?)
+}
+
+/// Whether the program ended for want of memory, what it wrote being a beginning of a text: it says
+/// so, or its sink failed where not all of the text came to it.
+fn wants_memory(ended: &Ended, wanted: &[u8]) -> bool {
+    let written = ended.written.taken();
+    wanted.starts_with(written)
+        && match ended.told.taken() {
+            b"out of memory\n" | b"database refused: 7\n" => true,
+            b"output failed\n" => written.len() < wanted.len(),
+            _ => false,
+        }
+}
+
+/// Bytes as a text: as they are where they are UTF-8, else each as the character of its number.
+fn text(alloc: Global, bytes: &[u8]) -> Result<String, AllocError> {
+    match std::str::from_utf8(bytes) {
+        Ok(text) => String::from_str(alloc, text),
+        Err(_) => bytes.iter().map(|byte| char::from(*byte)).collect(alloc),
+    }
+}

@@ -1,3 +1,0 @@
-pub mod NumberLines
-pub mod OneLine
-pub mod SomeReports

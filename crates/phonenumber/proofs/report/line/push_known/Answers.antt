@@ -1,0 +1,23 @@
+use Rattle.std.proofs.Common.{◌≡◌, ◌∷◌, ◌++◌, OnOk, string_bytes, ap, subst, ◌∙◌}
+use Rattle.phone_core.specs.declared.country.Code.{Code}
+use Rattle.phonenumber.specs.Queries.{is_valid, kind_of_number, region_of_number}
+use Rattle.phonenumber.specs.Reports.{kind_word, region_word, source_word, validity_word}
+use Rattle.phonenumber.proofs.NumberLines.{words_by}
+use Rattle.phonenumber.proofs.report.line.push_known.Goals as goal
+
+pub returns : goal.returns
+returns c =
+    let db = c.args.database.now in
+    let n = c.args.number.now in
+    let queried = c.in_ok-queried.ensures in
+    subst (λ t. OnOk c.push_words.result (string_bytes c.push_words.new.line ≡ string_bytes c.args.line.now ++ 9 ∷ t))
+    (words_by c.source_word-source.result.now c.kind_word-kind.result.now
+    c.region_word-region.result.now c.validity_word-validity.result.now
+    (source_word n.code.source) (kind_word (kind_of_number db n))
+    (region_word (region_of_number db n)) (validity_word (is_valid db n))
+    (c.source_word-source.ensures
+    ∙ ap source_word (c.source.ensures ∙ ap (λ (x : Code). x.source) c.code.ensures))
+    (c.kind_word-kind.ensures ∙ ap kind_word queried.kind)
+    (c.region_word-region.ensures ∙ ap region_word queried.region)
+    (c.validity_word-validity.ensures ∙ ap validity_word queried.is_valid))
+    c.push_words.ensures

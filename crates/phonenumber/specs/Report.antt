@@ -1,0 +1,22 @@
+-- The report on bytes that are lines of phone numbers.
+use Rattle.std.specs.Prelude.{ℕ, List, Option}
+use Rattle.phone_core.specs.declared.country.Id.{Id}
+use Rattle.phone_lines.specs.Reports as on_lines
+use Rattle.phone_records.specs.declared.loader.Metadata.{Metadata}
+use Rattle.phonenumber.specs.Reports.{IsReportLine}
+
+-- the report under a database and a hint: a report line for each line of the bytes
+abbrev pub IsReport : List Metadata → Option Id → List ℕ → List ℕ → Type 0
+IsReport db hint bytes report = on_lines.IsReport (IsReportLine db hint) bytes report
+
+-- a beginning of the report on what was read, where this is still to come: the report lines of some
+-- first lines, each whole, then a beginning of the next one
+abbrev pub IsBeginning : List Metadata → Option Id → Option (List ℕ) → List ℕ → List ℕ → Type 0
+IsBeginning db hint to_come bytes text =
+    on_lines.IsBeginning (IsReportLine db hint) to_come bytes text
+
+-- a sink took a beginning of whatever is the report
+abbrev pub TakesBeginning : List Metadata → Option Id → List ℕ → Option (List ℕ) → Option (List ℕ) →
+    Type 0
+TakesBeginning db hint bytes before after = on_lines.TakesBeginning (IsReportLine db hint) bytes
+    before after

@@ -1,0 +1,97 @@
+-- What the report says of one line of its input: fields parted by one tab.
+use Rattle.std.specs.Prelude.{◌≡◌, ℕ, Bool, if◌then◌else◌, List, [], ◌∷◌, chars, codes}
+use Rattle.std.specs.Prelude.{Option, Some, None, Ok, Err}
+use Rattle.std.specs.Option.{option_map_or}
+use Rattle.std.specs.Str.{IsUtf8}
+use Rattle.phone_core.specs.Ids.{name}
+use Rattle.phone_core.specs.declared.country.Id.{Id}
+use Rattle.phone_core.specs.declared.country.Source.{Source}
+use Rattle.phone_core.specs.declared.country.Source.TheVariants.{Plus, Idd, Number, Default}
+use Rattle.phone_core.specs.declared.error.ParseError.{ParseError}
+use Rattle.phone_core.specs.declared.error.ParseError.TheVariants.{NoNumber, InvalidCountryCode}
+use Rattle.phone_core.specs.declared.error.ParseError.TheVariants.{TooShortAfterIdd, TooShortNsn}
+use Rattle.phone_core.specs.declared.error.ParseError.TheVariants.{TooLong, MalformedInteger}
+use Rattle.phone_core.specs.declared.error.ParseError.TheVariants.{Memory}
+use Rattle.phone_core.specs.declared.kind.«Type».{«Type»}
+use Rattle.phone_core.specs.declared.kind.«Type».TheVariants.{FixedLine, Mobile, FixedLineOrMobile}
+use Rattle.phone_core.specs.declared.kind.«Type».TheVariants.{TollFree, PremiumRate, SharedCost}
+use Rattle.phone_core.specs.declared.kind.«Type».TheVariants.{PersonalNumber, Voip, Pager, Uan}
+use Rattle.phone_core.specs.declared.kind.«Type».TheVariants.{Emergency, Voicemail, ShortCode}
+use Rattle.phone_core.specs.declared.kind.«Type».TheVariants.{StandardRate, Carrier}
+use Rattle.phone_core.specs.declared.kind.«Type».TheVariants.{NoInternational, Unknown}
+use Rattle.phone_core.specs.declared.mode.Mode.TheVariants.{E164, International, National, Rfc3966}
+use Rattle.phone_meta.specs.Codes.{first_of, territories}
+use Rattle.phone_records.specs.declared.loader.Metadata.{Metadata}
+use Rattle.phone_read.specs.Readings.{Reads}
+use Rattle.phone_core.specs.declared.reading.Reading.{Reading}
+use Rattle.phonenumber.specs.Queries.{region_of_number, kind_of_number, is_valid}
+use Rattle.phone_print.specs.Tabbed.{tabbed}
+use Rattle.phone_print.specs.Texts.{text_by}
+
+-- how a code was found, in a word
+abbrev pub source_word : Source → List ℕ
+source_word Plus = codes "plus"
+source_word Idd = codes "idd"
+source_word Number = codes "number"
+source_word Default = codes "default"
+
+-- a kind's name
+abbrev pub kind_word : «Type» → List ℕ
+kind_word FixedLine = codes "FixedLine"
+kind_word Mobile = codes "Mobile"
+kind_word FixedLineOrMobile = codes "FixedLineOrMobile"
+kind_word TollFree = codes "TollFree"
+kind_word PremiumRate = codes "PremiumRate"
+kind_word SharedCost = codes "SharedCost"
+kind_word PersonalNumber = codes "PersonalNumber"
+kind_word Voip = codes "Voip"
+kind_word Pager = codes "Pager"
+kind_word Uan = codes "Uan"
+kind_word Emergency = codes "Emergency"
+kind_word Voicemail = codes "Voicemail"
+kind_word ShortCode = codes "ShortCode"
+kind_word StandardRate = codes "StandardRate"
+kind_word Carrier = codes "Carrier"
+kind_word NoInternational = codes "NoInternational"
+kind_word Unknown = codes "Unknown"
+
+-- a region by its id, or a hyphen
+abbrev pub region_word : Option Id → List ℕ
+region_word region = option_map_or name region (codes "-")
+
+-- valid or not, in a word
+abbrev pub validity_word : Bool → List ℕ
+validity_word valid = if valid then codes "valid" else codes "invalid"
+
+-- a refusal's number and its words
+abbrev pub refusal_fields : ParseError → List (List ℕ)
+refusal_fields NoNumber = codes "1" ∷ codes "not a number" ∷ []
+refusal_fields InvalidCountryCode = codes "2" ∷ codes "invalid country code" ∷ []
+refusal_fields TooShortAfterIdd = codes "3" ∷ codes "the number is too short after IDD" ∷ []
+refusal_fields TooShortNsn = codes "4" ∷ codes "the number is too short after the country code" ∷ []
+refusal_fields TooLong = codes "5" ∷ codes "the number is too long" ∷ []
+refusal_fields MalformedInteger = codes "6" ∷ codes "malformed integer" ∷ []
+refusal_fields Memory = codes "7" ∷ codes "out of memory" ∷ []
+
+-- the line of a number of a listed code: its texts in the four modes, then what is known of it
+abbrev pub number_line : List Metadata → Metadata → Reading → List ℕ
+number_line db m n = tabbed (
+    codes "ok" ∷ text_by m E164 None n ∷ text_by m International None n ∷
+    text_by m National None n ∷ text_by m Rfc3966 None n ∷
+    source_word n.code.source ∷ kind_word (kind_of_number db n) ∷
+    region_word (region_of_number db n) ∷ validity_word (is_valid db n) ∷ [])
+
+-- the line of a refusal
+abbrev pub refusal_line : ParseError → List ℕ
+refusal_line e = tabbed (codes "error" ∷ refusal_fields e)
+
+-- what the report says of one line: bytes that are no text, a refusal, or a number
+pub data IsReportLine (db : List Metadata) (hint : Option Id) (line : List ℕ) : List ℕ →
+    Type 0 where
+  no_text : ¬ (IsUtf8 line) → IsReportLine db hint line
+      (tabbed (codes "error" ∷ codes "0" ∷ codes "not UTF-8" ∷ []))
+  refused : (e : ParseError) → IsUtf8 line → Reads db hint (chars line) (Err e) →
+      IsReportLine db hint line (refusal_line e)
+  read : (n : Reading) (m : Metadata) → IsUtf8 line → Reads db hint (chars line) (Ok n) →
+      first_of (territories n.code.value db) ≡ Some m →
+      IsReportLine db hint line (number_line db m n)

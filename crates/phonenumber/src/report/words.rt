@@ -1,0 +1,80 @@
+//! The words of a report's fields.
+ghost use Rattle.std.specs.Prelude.{◌≡◌, IfOk, IsErr, string_bytes};
+ghost use Rattle.phone_core.specs.declared.error.ParseError.TheVariants as refusal;
+ghost use Rattle.phonenumber.specs.Reports.{kind_word, refusal_line, region_word, source_word};
+ghost use Rattle.phonenumber.specs.Reports.{validity_word};
+
+use phone_core::country::{Id, Source};
+use phone_core::{ParseError, Type};
+use std::alloc::{AllocError, Global};
+
+/// How a calling code was found, in a word.
+pub(crate) fn source_word(source: Source) -> &'static str
+    ensures { result.now ≡ source_word source }
+{
+    match source {
+        Source::Plus => "plus",
+        Source::Idd => "idd",
+        Source::Number => "number",
+        Source::Default => "default",
+    }
+}
+
+/// A kind's name.
+pub(crate) fn kind_word(kind: Type) -> &'static str
+    ensures { result.now ≡ kind_word kind }
+{
+    match kind {
+        Type::FixedLine => "FixedLine",
+        Type::Mobile => "Mobile",
+        Type::FixedLineOrMobile => "FixedLineOrMobile",
+        Type::TollFree => "TollFree",
+        Type::PremiumRate => "PremiumRate",
+        Type::SharedCost => "SharedCost",
+        Type::PersonalNumber => "PersonalNumber",
+        Type::Voip => "Voip",
+        Type::Pager => "Pager",
+        Type::Uan => "Uan",
+        Type::Emergency => "Emergency",
+        Type::Voicemail => "Voicemail",
+        Type::ShortCode => "ShortCode",
+        Type::StandardRate => "StandardRate",
+        Type::Carrier => "Carrier",
+        Type::NoInternational => "NoInternational",
+        Type::Unknown => "Unknown",
+    }
+}
+
+/// A region by its id, or a hyphen.
+pub(crate) fn region_word(region: Option<Id>) -> &'static str
+    ensures { result.now ≡ region_word region }
+{
+    match region {
+        Some(id) => id.as_str(),
+        None => "-",
+    }
+}
+
+/// Valid or not, in a word.
+pub(crate) fn validity_word(is_valid: bool) -> &'static str
+    ensures { result.now ≡ validity_word is_valid }
+{
+    if is_valid { "valid" } else { "invalid" }
+}
+
+/// The report line of a refusal. Refused only for memory, and where that is the refusal.
+pub(crate) fn refusal_line(alloc: Global, error: ParseError) -> Result<String, AllocError>
+    ensures line { IfOk result (λ line. string_bytes line ≡ refusal_line error) }
+    ensures memory { error ≡ refusal.Memory → IsErr result }
+{
+    let line = match error {
+        ParseError::NoNumber => "error\t1\tnot a number",
+        ParseError::InvalidCountryCode => "error\t2\tinvalid country code",
+        ParseError::TooShortAfterIdd => "error\t3\tthe number is too short after IDD",
+        ParseError::TooShortNsn => "error\t4\tthe number is too short after the country code",
+        ParseError::TooLong => "error\t5\tthe number is too long",
+        ParseError::MalformedInteger => "error\t6\tmalformed integer",
+        ParseError::Memory => return Err(AllocError),
+    };
+    String::from_str(alloc, line)
+}
