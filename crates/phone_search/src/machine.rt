@@ -39,6 +39,13 @@ pub struct Captured {
 /// How many bytes of states without groups a machine keeps.
 const KEPT: usize = 0x1_0000;
 
+/// So many bytes searched, and so many more a state of the pattern, are what the kept states serve:
+/// with more the kit gives each state its columns for pairs of bytes, which takes memory that
+/// searches of short texts never win back. So the states are forgotten first.
+const WIDE: usize = 0x1000;
+
+const WIDE_PER_STATE: usize = 0x80;
+
 /// The greatest size of an automaton in bytes, as that of the patterns themselves.
 const LARGEST: usize = 10 << 20;
 
@@ -46,8 +53,12 @@ const LARGEST: usize = 10 << 20;
 /// groups and without. Contracts see what it finds in each text, `finds`, and the number of the
 /// last group.
 pub struct Machine {
+    alloc: Global,
     dfa: Dfa,
     forward: Forward,
+    /// How many bytes `forward` was asked to search, and with how many it is made anew.
+    read: usize,
+    most: usize,
     tagged: Tagged,
     /// The number of the last group.
     last: usize,
@@ -71,8 +82,11 @@ impl Model for Machine {
 impl Drop for Machine {
     fn drop(self) {
         let Machine {
+            alloc: _,
             dfa,
             forward,
+            read: _,
+            most: _,
             tagged,
             last: _,
             cells,
@@ -141,6 +155,7 @@ impl Machine {
         ensures last { IfSome result (λ m. m.last ≡ length parsed.now.names.items - 1) }
     {
         let (nfa, last) = narrow_compiled(alloc, parsed)?;
+        let most = WIDE.saturating_add(nfa.states.len().saturating_mul(WIDE_PER_STATE));
         let Ok(dfa) = Dfa::new(alloc, nfa) else {
             return None;
         };
@@ -154,12 +169,38 @@ impl Machine {
             return None;
         };
         Some(Machine {
+            alloc,
             dfa,
             forward,
+            read: 0,
+            most,
             tagged,
             last,
             cells,
         })
+    }
+
+    /// Counts the bytes of a search without groups, which is next.
+    #[inline]
+    fn attend(&mut self, bytes: usize)
+        ensures { self.new ≡ self.old }
+    {
+        self.read = self.read.saturating_add(bytes);
+        if self.read >= self.most {
+            self.renew(bytes);
+        }
+    }
+
+    /// Forgets the states without groups; where memory is refused, they are kept.
+    #[cold]
+    #[inline(never)]
+    fn renew(&mut self, bytes: usize)
+        ensures { self.new ≡ self.old }
+    {
+        if let Ok(forward) = Forward::with_budget(self.alloc, &self.dfa, false, KEPT) {
+            self.forward = forward;
+            self.read = bytes;
+        }
     }
 
     /// The number of the last group; 0 where the pattern has none.
@@ -174,6 +215,15 @@ impl Machine {
         ensures found { IfSome result (λ b. b ≡ at_front (finds self.old hay.now)) }
         ensures same { self.new ≡ self.old }
     {
+        self.attend(hay.len());
+        self.begins(hay)
+    }
+
+    /// Whether the first match begins at the first byte, by the states that are kept.
+    fn begins(&mut self, hay: &[u8]) -> Option<bool>
+        ensures found { IfSome result (λ b. b ≡ at_front (finds self.old hay.now)) }
+        ensures same { self.new ≡ self.old }
+    {
         match self
             .forward
             .find_end(&self.dfa, hay, 0, hay.len(), true, true)
@@ -184,9 +234,18 @@ impl Machine {
         }
     }
 
-    /// Where the first match begins and ends. None where the automata give up. A match at the front
-    /// is the first one, and needs no groups to be found.
+    /// Where the first match begins and ends. None where the automata give up.
     pub fn span(&mut self, hay: &[u8]) -> Option<Option<(usize, usize)>>
+        ensures found { IfSome result (λ found. found ≡ option_map span (finds self.old hay.now)) }
+        ensures same { self.new ≡ self.old }
+    {
+        self.attend(hay.len());
+        self.spanned(hay)
+    }
+
+    /// Where the first match begins and ends, by the states that are kept. A match at the front is
+    /// the first one, and needs no groups to be found.
+    fn spanned(&mut self, hay: &[u8]) -> Option<Option<(usize, usize)>>
         ensures found { IfSome result (λ found. found ≡ option_map span (finds self.old hay.now)) }
         ensures same { self.new ≡ self.old }
     {

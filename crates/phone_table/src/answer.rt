@@ -8,10 +8,11 @@ ghost use Rattle.phone_table.specs.Answers.{IsFieldAnswer, number_answer};
 ghost use Rattle.phone_table.specs.Spelled.{spelled};
 
 use crate::names::push_three;
-use crate::words::{kind_word, refusal_words, region_word, validity_word};
+use crate::words::refusal_words;
 use csv::ByteRecord;
 use phonenumber::country::Id;
 use phonenumber::metadata::Database;
+use phonenumber::report::{kind_word, region_word, validity_word};
 use phonenumber::{FormatError, ParseError, PhoneNumber, Queried, Texts, format_with, parse_with};
 use std::alloc::{AllocError, Global};
 

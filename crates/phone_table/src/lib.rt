@@ -20,4 +20,3 @@ pub use phone_csv::{FirstError, RunError};
 pub use run::{Asked, TableError, write_table};
 pub use table::Table;
 pub use tool::program;
-pub use words::{kind_word, region_word, validity_word};

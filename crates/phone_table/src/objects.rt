@@ -9,9 +9,9 @@ ghost use Rattle.phone_table.specs.Spelled.{spelled};
 ghost use Rattle.phone_table.specs.Objects.{IsObject, object_of, spelled_by};
 
 use crate::answer::{Answer, answer_to};
-use crate::words::{kind_word, region_word, validity_word};
 use phonenumber::country::Id;
 use phonenumber::metadata::Database;
+use phonenumber::report::{kind_word, region_word, validity_word};
 use serde_json::{Value, json};
 use std::alloc::{AllocError, Global};
 
@@ -29,7 +29,8 @@ struct Fields<'a> {
 
 /// The JSON text of a line's answer, on one line: an object of the line's number, which the caller
 /// counts, its text, and the fields that a table's answer has (`e164`, `international`, `national`,
-/// `type`, `region`, `validity`, `refusal`), each a text, empty where there is none. The text is
+/// `type`, `region`, `validity`, `refusal`), each a text. A field that there is none for is
+/// empty, but a region that is none is a hyphen, as in a table. The text is
 /// null where the line isn't UTF-8. The line is without its end. Refused only for memory.
 pub fn object_line(
     alloc: Global,

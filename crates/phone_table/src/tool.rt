@@ -1,6 +1,4 @@
 //! The program over its words and devices.
-ghost use Rattle.std.specs.Prelude.{◌≡◌};
-
 use crate::header::Column;
 use crate::options::{Refused, Words, read_words};
 use crate::run::{Asked, TableError, write_table};
@@ -9,6 +7,7 @@ use itoa::Buffer;
 use phone_csv::{FirstError, RunError};
 use phone_device::{ByteSink, ByteSource, Fault, write_all};
 use phonenumber::metadata::Database;
+use phonenumber::report::{database_refused, told};
 use std::alloc::AllocGlobal;
 use std::fs::Files;
 
@@ -97,14 +96,6 @@ fn tell_line<E: ByteSink>(errors: &mut E, line: u64) -> Result<(), Fault> {
     write_all(errors, rest.as_bytes())
 }
 
-/// Writes a line to the sink for errors, and gives the status.
-fn told<E: ByteSink>(errors: &mut E, line: &str, status: u8) -> u8
-    ensures { result ≡ status }
-{
-    let _told = write_all(errors, line.as_bytes());
-    status
-}
-
 /// The line for words that are refused.
 fn refused_words(refused: Refused) -> &'static str {
     match refused {
@@ -115,19 +106,5 @@ fn refused_words(refused: Refused) -> &'static str {
         Refused::Delimiter => {
             "a delimiter is one ASCII character but a quote and a line end, or the word tab\n"
         }
-    }
-}
-
-/// The line for a database that was refused, by the number of its refusal.
-fn database_refused(number: u8) -> &'static str {
-    match number {
-        1 => "database refused: 1\n",
-        2 => "database refused: 2\n",
-        3 => "database refused: 3\n",
-        4 => "database refused: 4\n",
-        5 => "database refused: 5\n",
-        6 => "database refused: 6\n",
-        7 => "database refused: 7\n",
-        _ => "database refused: 8\n",
     }
 }

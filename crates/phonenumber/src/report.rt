@@ -8,4 +8,5 @@ mod words;
 pub use line::Reporter;
 pub use phone_lines::RunError;
 pub use runs::{begins_each_report, one_report_line, run, some_report, some_report_line};
-pub use tool::program;
+pub use tool::{database_refused, program, told};
+pub use words::{kind_word, region_word, validity_word};

@@ -32,32 +32,34 @@ pub fn program<R: Files + AllocGlobal, S: ByteSource, W: ByteSink, E: ByteSink>(
         [path] => (*path, None),
         [path, region] => match region.parse::<Id>() {
             Ok(id) => (*path, Some(id)),
-            Err(_) => return refused(errors, "unknown region\n", 2),
+            Err(_) => return told(errors, "unknown region\n", 2),
         },
-        _ => return refused(errors, USAGE, 2),
+        _ => return told(errors, USAGE, 2),
     };
     let database = match Database::load(rt, path) {
         Ok(database) => database,
-        Err(error) => return refused(errors, database_refused(error.number()), 3),
+        Err(error) => return told(errors, database_refused(error.number()), 3),
     };
     match run(&database, hint, source, sink) {
         Ok(()) => 0,
-        Err(RunError::Input) => refused(errors, "input failed\n", 1),
-        Err(RunError::Output) => refused(errors, "output failed\n", 1),
-        Err(RunError::Memory) => refused(errors, "out of memory\n", 1),
+        Err(RunError::Input) => told(errors, "input failed\n", 1),
+        Err(RunError::Output) => told(errors, "output failed\n", 1),
+        Err(RunError::Memory) => told(errors, "out of memory\n", 1),
     }
 }
 
-/// Writes a line to the sink for errors, and gives the status.
-fn refused<E: ByteSink>(errors: &mut E, line: &str, status: u8) -> u8
+/// Writes a line, given with its line feed, to the sink for errors, and gives the status. That the
+/// sink fails changes nothing.
+pub fn told<E: ByteSink>(errors: &mut E, line: &str, status: u8) -> u8
     ensures { result ≡ status }
 {
     let _told = write_all(errors, line.as_bytes());
     status
 }
 
-/// The line for a database that was refused, by the number of its refusal.
-fn database_refused(number: u8) -> &'static str {
+/// The line for a database that was refused, by the number of its refusal, from 1 to 8; another
+/// number counts as 8. It ends in a line feed.
+pub fn database_refused(number: u8) -> &'static str {
     match number {
         1 => "database refused: 1\n",
         2 => "database refused: 2\n",

@@ -21,7 +21,7 @@ pub(crate) fn source_word(source: Source) -> &'static str
 }
 
 /// A kind's name.
-pub(crate) fn kind_word(kind: Type) -> &'static str
+pub fn kind_word(kind: Type) -> &'static str
     ensures { result.now ≡ kind_word kind }
 {
     match kind {
@@ -46,7 +46,7 @@ pub(crate) fn kind_word(kind: Type) -> &'static str
 }
 
 /// A region by its id, or a hyphen.
-pub(crate) fn region_word(region: Option<Id>) -> &'static str
+pub fn region_word(region: Option<Id>) -> &'static str
     ensures { result.now ≡ region_word region }
 {
     match region {
@@ -56,7 +56,7 @@ pub(crate) fn region_word(region: Option<Id>) -> &'static str
 }
 
 /// Valid or not, in a word.
-pub(crate) fn validity_word(is_valid: bool) -> &'static str
+pub fn validity_word(is_valid: bool) -> &'static str
     ensures { result.now ≡ validity_word is_valid }
 {
     if is_valid { "valid" } else { "invalid" }

@@ -3,7 +3,7 @@ use Rattle.regex_nfa.specs.Run.{run}
 use Rattle.regex_vm.specs.Found.{span}
 use Rattle.phone_search.specs.Finds.{finds, Searcher}
 use Rattle.phone_search.proofs.Bridge.{front_found}
-use Rattle.phone_search.proofs.machine.Machine.span.Goals as goal
+use Rattle.phone_search.proofs.machine.Machine.spanned.Goals as goal
 
 pub returns-in-At-clause-found : goal.returns-in-At-clause-found
 returns-in-At-clause-found c =

@@ -2,8 +2,8 @@ use Rattle.std.proofs.Common.{ap, ◌∙◌, length}
 use Rattle.regex_nfa.specs.Run.{run}
 use Rattle.phone_search.specs.Finds.{at_front, finds, Searcher}
 use Rattle.phone_search.proofs.Bridge.{begins_there, begins_nowhere}
-use Rattle.phone_search.proofs.machine.Machine.is_at_front.Goals.{in-At, in-NoMatch, in_default}
-use Rattle.phone_search.proofs.machine.Machine.is_at_front.Goals as goal
+use Rattle.phone_search.proofs.machine.Machine.begins.Goals.{in-At, in-NoMatch, in_default}
+use Rattle.phone_search.proofs.machine.Machine.begins.Goals as goal
 
 pub returns-clause-found : goal.returns-clause-found
 returns-clause-found c =
