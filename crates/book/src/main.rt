@@ -40,18 +40,6 @@ fn run(rt: &HostRuntime, book: &mut Book, hint: Option<Id>) -> Result<Counts> {
     add_lines(alloc, input, &mut output, book, hint)
 }
 
-/// The region that a word names, or none where there is no word; none at all where the word is no
-/// region's id.
-fn hint(word: Option<&str>) -> Option<Option<Id>> {
-    match word {
-        Some(word) => match word.parse::<Id>() {
-            Ok(id) => Some(Some(id)),
-            Err(_) => None,
-        },
-        None => Some(None),
-    }
-}
-
 /// Writes a line to standard error, and gives a status.
 fn told(rt: &HostRuntime, line: &str, status: u8) -> Result<ExitCode> {
     eprintln!(rt; "{line}")?;
@@ -85,7 +73,7 @@ fn with_database(rt: &HostRuntime, database: Database, hint: Option<Id>) -> Resu
 
 /// The program on its words, read as a path and perhaps a region.
 fn with_words(rt: &HostRuntime, path: &str, region: Option<&str>) -> Result<ExitCode> {
-    let Some(hint) = hint(region) else {
+    let Ok(hint) = region.map(|word| word.parse::<Id>()).transpose() else {
         return told(rt, "unknown region", 2);
     };
     match Database::load(rt, path) {

@@ -1,7 +1,7 @@
 //! The lines that tell which numbers were found, and where.
 use crate::places::Place;
 use anyhow::{Result, anyhow};
-use phone_more::found::{Found, found};
+use phone_find::{Found, found};
 use phonenumber::PhoneNumber;
 use phonenumber::country::Id;
 use phonenumber::metadata::Database;

@@ -1,7 +1,7 @@
 //! The call that asks which numbers stand in a text.
 use anyhow::{Result, anyhow};
+use phone_find::{Found, found};
 use phone_meta::Database;
-use phone_more::found::{Found, found};
 use phonenumber::PhoneNumber;
 use rows::marks::{around, begin};
 use rows::table::Row;

@@ -1,11 +1,6 @@
-pub mod Alone
 pub mod Back
-pub mod Candidates
 pub mod Dialled
-pub mod Founds
-pub mod Leniencies
 pub mod Listed
-pub mod Numbers
 pub mod Possibilities
 pub mod Sameness
 pub mod Sides

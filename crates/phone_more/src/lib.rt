@@ -1,10 +1,9 @@
 //! What users of phone numbers ask next: whether a number is possible, which regions a database
-//! has, what an example number is, whether two texts are the same number, how a number is dialled
-//! from a region, and which numbers stand in a running text.
+//! has, what an example number is, whether two texts are the same number, and how a number is
+//! dialled from a region.
 #![tactic(auto)]
 
 pub mod dialled;
-pub mod found;
 pub mod laws;
 mod listed;
 mod possibilities;

@@ -1,0 +1,11 @@
+pub mod Alone
+pub mod Begins
+pub mod FoundAlone
+pub mod Lasts
+pub mod Letters
+pub mod Ones
+pub mod Places
+pub mod PrintedFound
+pub mod Searches
+pub mod Shapes
+pub mod Told

@@ -1,0 +1,28 @@
+-- How strictly the numbers of a text are judged.
+use Rattle.std.specs.Prelude.{Bool, true, false, List}
+use Rattle.phone_more.specs.Possibilities.{possibility_of}
+use Rattle.phone_more.specs.declared.possibilities.Possibility.{Possibility}
+use Rattle.phone_more.specs.declared.possibilities.Possibility.TheVariants as possibility
+use Rattle.phonenumber.specs.Queries.{is_valid}
+use Rattle.phone_core.specs.declared.reading.Reading.{Reading}
+use Rattle.phone_records.specs.declared.loader.Metadata.{Metadata}
+use Rattle.phone_find.specs.declared.leniency.Leniency.{Leniency}
+use Rattle.phone_find.specs.declared.leniency.Leniency.TheVariants.{Possible, Valid}
+
+-- a count of digits is one of the territory's numbers, or of those that suffice inside an area
+abbrev pub is_possible_count : Possibility → Bool
+is_possible_count possibility.Possible = true
+is_possible_count possibility.PossibleLocally = true
+is_possible_count possibility.TooShort = false
+is_possible_count possibility.TooLong = false
+is_possible_count possibility.WrongLength = false
+is_possible_count possibility.UnknownCode = false
+
+-- a number is possible by the count of its digits
+abbrev pub is_possible : List Metadata → Reading → Bool
+is_possible db n = is_possible_count (possibility_of db n)
+
+-- a number suffices: it is possible, or valid
+abbrev pub suffices : List Metadata → Leniency → Reading → Bool
+suffices db Possible n = is_possible db n
+suffices db Valid n = is_valid db n

@@ -1,0 +1,67 @@
+//! What holds of the numbers of a text. These functions do nothing; their contracts are the
+//! statements.
+ghost use Rattle.std.specs.Prelude.{◌≡◌, ◌≤◌, ◌++◌, ◌∷◌, [], ℕ, List, Option, None, Some, IsUtf8};
+ghost use Rattle.std.specs.Prelude.{length};
+ghost use Rattle.phone_core.specs.declared.country.Id.{Id};
+ghost use Rattle.phone_core.specs.declared.mode.Mode.TheVariants as mode;
+ghost use Rattle.phonenumber.specs.Bounds.{IsBounded};
+ghost use Rattle.phonenumber.specs.Printed.{printed};
+ghost use Rattle.phone_core.specs.declared.reading.Reading.{Reading};
+ghost use Rattle.phone_records.specs.declared.loader.Metadata as loader;
+ghost use Rattle.phonenumber.specs.Again.{IsSame};
+ghost use Rattle.phonenumber.specs.Plain.{IsPlainInternational};
+ghost use Rattle.phone_find.specs.Alone.{EndsInDigits, IsAmong, IsPlainEnough, IsShaped, placed};
+ghost use Rattle.phone_find.specs.Founds.{IsOrdered, most_bytes};
+ghost use Rattle.phone_find.specs.Numbers.{AreNumbers, IsNumberBetween};
+ghost use Rattle.phone_find.specs.declared.leniency.Leniency.{Leniency};
+ghost use Rattle.phone_find.specs.declared.search.Found.{Found};
+
+/// A text has one answer: what is found in it, database, hint and leniency determine.
+pub fn one_answer()
+    ensures { (db : List loader.Metadata) (hint : Option Id) (l : Leniency) (text : List ℕ)
+        (all others : List (Found Reading)) → AreNumbers db hint l text all →
+        AreNumbers db hint l text others → all ≡ others }
+{}
+
+/// What is found comes in its order, doesn't overlap, and stands on borders of characters.
+pub fn in_order()
+    ensures { (db : List loader.Metadata) (hint : Option Id) (l : Leniency) (text : List ℕ)
+        (all : List (Found Reading)) → AreNumbers db hint l text all → IsOrdered text 0 all }
+{}
+
+/// A number is found, at its place, and alone, where no piece begins in the text before it and the
+/// text behind it has no digit, whatever database, hint and leniency.
+pub fn found_alone()
+    ensures { (db : List loader.Metadata) (hint : Option Id) (l : Leniency)
+        (before piece after : List ℕ) (n : Reading) (all : List (Found Reading)) →
+        IsAmong before piece after → length piece ≤ most_bytes →
+        IsNumberBetween db hint l before piece after n →
+        AreNumbers db hint l (before ++ (piece ++ after)) all →
+        all ≡ placed before piece n ∷ [] }
+{}
+
+/// A plain number that suffices, as a valid one does, and whose digits stripping leaves alone,
+/// printed in international form between two spaces, is found without a hint, at its place, and
+/// alone: with its code, its national number and its extension. Before the spaces no piece begins,
+/// as where there is no digit, plus sign and opening bracket; behind them is no digit. The printed
+/// text has the shape of a number.
+///
+/// The bounds, and that a text is UTF-8, every `PhoneNumber` and every `String` keeps.
+pub fn printed_is_found()
+    ensures { (db : List loader.Metadata) (l : Leniency) (n : Reading) (before text after : List ℕ)
+        (all : List (Found Reading)) → IsBounded n → IsPlainEnough db l n →
+        printed db mode.International None n ≡ Some text → IsShaped text →
+        IsAmong before text after →
+        AreNumbers db None l ((before ++ 32 ∷ []) ++ (text ++ 32 ∷ after)) all →
+        (m : Reading) × IsSame n n.extension m × (all ≡ placed (before ++ 32 ∷ []) text m ∷ []) }
+{}
+
+/// The international text of a plain number has that shape if it has at most 250 bytes, the
+/// laid-out number ends in a digit, and there is no extension, or one of digits that ` ext. `
+/// announces.
+pub fn plain_is_shaped()
+    ensures { (db : List loader.Metadata) (n : Reading) (text : List ℕ) → IsBounded n →
+        IsUtf8 text → (plain : IsPlainInternational db n) → EndsInDigits plain.territory n →
+        printed db mode.International None n ≡ Some text → length text ≤ most_bytes →
+        IsShaped text }
+{}

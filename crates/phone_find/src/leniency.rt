@@ -1,0 +1,42 @@
+//! How strictly the numbers of a text are judged.
+ghost use Rattle.std.specs.Prelude.{◌≡◌, IfOk};
+ghost use Rattle.phone_find.specs.Leniencies.{is_possible, suffices};
+
+use phone_meta::Database;
+use phone_more::{Possibility, possible};
+use phonenumber::PhoneNumber;
+use std::alloc::AllocError;
+
+/// What is asked of a number that stands in a text.
+#[derive(Clone, Copy, PartialEq, Eq, Debug)]
+pub enum Leniency {
+    /// It is possible by the count of its digits, perhaps only inside its area.
+    Possible,
+
+    /// It is valid.
+    Valid,
+}
+
+/// Whether a number is possible, perhaps only inside its area. Refused only for memory.
+fn is_possible(database: &Database, number: &PhoneNumber) -> Result<bool, AllocError>
+    ensures { IfOk result (λ b. b ≡ is_possible database.now number.now) }
+{
+    match possible(database, number)? {
+        Possibility::Possible | Possibility::PossibleLocally => Ok(true),
+        _ => Ok(false),
+    }
+}
+
+/// Whether a number suffices. Refused only for memory.
+pub(crate) fn suffices(
+    database: &Database,
+    leniency: Leniency,
+    number: &PhoneNumber,
+) -> Result<bool, AllocError>
+    ensures { IfOk result (λ b. b ≡ suffices database.now leniency number.now) }
+{
+    match leniency {
+        Leniency::Possible => is_possible(database, number),
+        Leniency::Valid => number.is_valid_with(database),
+    }
+}

@@ -1,0 +1,157 @@
+//! The numbers of a running text.
+ghost use Rattle.std.specs.Prelude.{◌≡◌, ℕ, IfOk, MatchOption, None, Some, true, if◌then◌else◌};
+ghost use Rattle.phone_core.specs.declared.reading.Reading.{Reading};
+ghost use Rattle.phone_find.specs.Leniencies.{suffices};
+ghost use Rattle.phone_find.specs.declared.leniency.Leniency.TheVariants as leniency;
+ghost use Rattle.phone_find.specs.Numbers.{AreNumbers, IsNumberBetween, IsReadWell};
+
+use crate::candidates::{is_candidate, may_begin};
+use crate::leniency::{Leniency, suffices};
+use crate::search::{Found, Judge, all_accepted};
+use phone_core::ParseError;
+use phone_core::country::Id;
+use phone_meta::Database;
+use phonenumber::{PhoneNumber, parse_with};
+use std::alloc::{AllocError, Global};
+
+/// What accepts the numbers of a database that suffice, read under a hint.
+#[derive(Drop)]
+struct Sufficient<'a> {
+    database: &'a Database,
+    hint: Option<Id>,
+    leniency: Leniency,
+}
+
+impl<'a> Judge<PhoneNumber> for Sufficient<'a> {
+    ghost use Rattle.phone_find.specs.Numbers.{IsNumberAt};
+
+    ghost accepts = { λ s t from to n. IsNumberAt s.database.now s.hint s.leniency t from to n };
+
+    fn may_begin(&self, text: &str, start: usize) -> bool {
+        may_begin(&text[..start], &text[start..])
+    }
+
+    fn judge(
+        &self,
+        alloc: Global,
+        text: &str,
+        start: usize,
+        end: usize,
+    ) -> Result<Option<PhoneNumber>, AllocError> {
+        let before = &text[..start];
+        let piece = &text[start..end];
+        let after = &text[end..];
+        number_between(
+            self.database,
+            self.hint,
+            self.leniency,
+            before,
+            piece,
+            after,
+        )
+    }
+}
+
+/// The number that suffices and that a piece of a text is read as, where it may be a number between
+/// what stands before it and after it. Refused only for memory.
+fn number_between(
+    database: &Database,
+    hint: Option<Id>,
+    leniency: Leniency,
+    before: &str,
+    piece: &str,
+    after: &str,
+) -> Result<Option<PhoneNumber>, AllocError>
+    ensures { IfOk result (λ told. MatchOption told
+        ((n : Reading) →
+        ¬ (IsNumberBetween database.now hint leniency before.now piece.now after.now n))
+        (λ n. IsNumberBetween database.now hint leniency before.now piece.now after.now n)) }
+{
+    if !is_candidate(before, piece, after) {
+        return Ok(None);
+    }
+    number_in(database, hint, leniency, piece)
+}
+
+/// The number that a text is read as, where it is read as one that suffices. Refused only for
+/// memory.
+fn number_in(
+    database: &Database,
+    hint: Option<Id>,
+    leniency: Leniency,
+    text: &str,
+) -> Result<Option<PhoneNumber>, AllocError>
+    ensures { IfOk result (λ told. MatchOption told
+        ((n : Reading) → ¬ (IsReadWell database.now hint leniency text.now n))
+        (λ n. IsReadWell database.now hint leniency text.now n)) }
+{
+    match parse_with(database, hint, text) {
+        Ok(number) => where_sufficient(database, leniency, number),
+        Err(error) => without_number(error),
+    }
+}
+
+/// No number, where a text isn't read as one. Refused where memory was.
+fn without_number(error: ParseError) -> Result<Option<PhoneNumber>, AllocError>
+    ensures { IfOk result (λ told. (told ≡ None) × ¬ (error ≡ ParseError.Memory)) }
+{
+    match error {
+        ParseError::Memory => Err(AllocError),
+        _ => Ok(None),
+    }
+}
+
+/// The number, where it suffices. Refused only for memory.
+fn where_sufficient(
+    database: &Database,
+    leniency: Leniency,
+    number: PhoneNumber,
+) -> Result<Option<PhoneNumber>, AllocError>
+    ensures { IfOk result
+        (λ told. told ≡
+        (if suffices database.now leniency number then Some number else None)) }
+{
+    if suffices(database, leniency, &number)? {
+        Ok(Some(number))
+    } else {
+        Ok(None)
+    }
+}
+
+/// The numbers that stand in a running text, such as a mail or a page, each with the place of its
+/// first byte and that behind its last, both between characters. A number is a piece of at most 250
+/// bytes that no letter or digit touches; that begins at a plus sign, an opening bracket or a
+/// digit, and ends in a digit; that is digits, plus signs, and punctuation, and behind them perhaps
+/// an announced extension, as in ` ext. 12`; and that `parse_with` reads, by itself, under the
+/// database and the hint, as a number that suffices.
+///
+/// The numbers come in their order and don't overlap: the piece that begins first counts, and of
+/// those that begin there the longest. The time is linear in the text: at each place at most 250
+/// pieces are looked at. Refused only for memory.
+pub fn found_with(
+    database: &Database,
+    hint: Option<Id>,
+    leniency: Leniency,
+    text: &str,
+) -> Result<Vec<Found<PhoneNumber>>, AllocError>
+    ensures { IfOk result (λ all. AreNumbers database.now hint leniency text.now all.items) }
+{
+    let judge = Sufficient {
+        database,
+        hint,
+        leniency,
+    };
+    all_accepted(database.allocator(), &judge, text)
+}
+
+/// The valid numbers that stand in a running text: [`found_with`], [`Leniency::Valid`].
+pub fn found(
+    database: &Database,
+    hint: Option<Id>,
+    text: &str,
+) -> Result<Vec<Found<PhoneNumber>>, AllocError>
+    ensures { IfOk result
+        (λ all. AreNumbers database.now hint leniency.Valid text.now all.items) }
+{
+    found_with(database, hint, Leniency::Valid, text)
+}

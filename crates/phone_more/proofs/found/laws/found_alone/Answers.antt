@@ -1,6 +1,0 @@
-use Rattle.phone_more.proofs.FoundAlone.{found_alone}
-use Rattle.phone_more.proofs.found.laws.found_alone.Goals as goal
-
-pub returns : goal.returns
-returns c db hint l before piece after n all among short is found =
-    found_alone db hint l before piece after n among short is all found

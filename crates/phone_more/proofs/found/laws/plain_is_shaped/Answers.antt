@@ -1,6 +1,0 @@
-use Rattle.phone_more.proofs.PrintedFound.{plain_shaped}
-use Rattle.phone_more.proofs.found.laws.plain_is_shaped.Goals as goal
-
-pub returns : goal.returns
-returns c db n text bounded utf8 plain ended is short = plain_shaped db n text bounded utf8 plain
-    ended is short
