@@ -77,24 +77,24 @@ fn program<R: Files + AllocGlobal>(
 /// How the program ended. An error where it wanted memory, and wrote nothing but a beginning of
 /// what is wanted.
 fn told(alloc: Global, row: &Row, ended: &Ended) -> Result<String> {
-    let (status, written) = (ended.status, ended.written.taken());
+    let status = ended.status;
+    let told = text(alloc, ended.told.taken())?;
+    let written = text(alloc, ended.written.taken())?;
     let wanted = row.answer().splitn(3, |byte| *byte == b'\t').nth(2);
-    if wants_memory(ended, wanted.unwrap_or(&[])) {
+    if wants_memory(told.as_str(), written.as_str(), wanted.unwrap_or(&[])) {
         return Err(anyhow!("out of memory"));
     }
-    let told = text(alloc, ended.told.taken())?;
-    let written = text(alloc, written)?;
     Ok(format!(in alloc; "{status}\t{told}\t{written}")?)
 }
 
-/// Whether the program ended for want of memory, what it wrote being a beginning of a text: it says
-/// so, or its sink failed where not all of the text came to it.
-fn wants_memory(ended: &Ended, wanted: &[u8]) -> bool {
-    let written = ended.written.taken();
+/// Whether a program that told and wrote this ended for want of memory, what it wrote being a
+/// beginning of a text: it says so, or its sink failed where not all of the text came to it.
+fn wants_memory(told: &str, written: &str, wanted: &[u8]) -> bool {
+    let written = written.as_bytes();
     wanted.starts_with(written)
-        && match ended.told.taken() {
-            b"out of memory\n" | b"database refused: 7\n" => true,
-            b"output failed\n" => written.len() < wanted.len(),
+        && match told {
+            "out of memory\n" | "database refused: 7\n" => true,
+            "output failed\n" => written.len() < wanted.len(),
             _ => false,
         }
 }
