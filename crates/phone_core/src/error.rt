@@ -13,7 +13,8 @@ pub enum ParseError {
     #[error("invalid country code")]
     InvalidCountryCode,
 
-    /// Kept for its number among the refusals; no call gives it.
+    /// At most two digits follow a plus sign or an international prefix: by libphonenumber's rules
+    /// alone. The original's reading answers `TooShortNsn` there.
     #[error("the number is too short after IDD")]
     TooShortAfterIdd,
 
