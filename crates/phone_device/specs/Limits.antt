@@ -3,13 +3,14 @@ use Rattle.std.specs.Prelude.{ℕ, ◌==◌, Bool, true, false, List}
 use Rattle.phone_device.specs.declared.limit.Then.{Then}
 use Rattle.phone_device.specs.declared.limit.Then.TheVariants.{Fail, FlushFail, Zero}
 
--- what a sink with a limit holds: the bytes taken, how many it still takes, what it does then, and
--- its faults so far
+-- what a sink with a limit holds: the bytes taken, how many it still takes, what it does then, its
+-- faults so far, and how many writes no flush has handed on
 pub record Limited : Type 0 where
   pub taken : List ℕ
   pub left : ℕ
   pub after : Then
   pub faults : ℕ
+  pub unflushed : ℕ
 
 -- a write fails where no room is left, in place of taking no bytes
 abbrev pub is_refused : ℕ → Then → Bool

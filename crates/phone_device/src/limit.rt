@@ -23,14 +23,15 @@ pub enum Then {
 }
 
 /// A sink in memory that takes so many bytes, each write as many as it can. No call but `new` takes
-/// memory. Contracts see the bytes, the room that is left, what is done then, and the faults so
-/// far.
+/// memory. Contracts see the bytes, the room that is left, what is done then, the faults so far,
+/// and how many writes no flush has handed on.
 #[derive(Drop)]
 pub struct Limit {
     bytes: Vec<u8>,
     left: usize,
     after: Then,
     faults: Count,
+    unflushed: Count,
 }
 
 impl Model for Limit {
@@ -44,6 +45,7 @@ impl Model for Limit {
       left = s.left;
       after = s.after;
       faults = s.faults.value;
+      unflushed = s.unflushed.value;
     } };
 
     ghost invariant = { λ s. vec_len s.bytes + s.left ≤ vec_capacity s.bytes };
@@ -53,13 +55,20 @@ impl Limit {
     /// A sink that takes n bytes, and then does what `then` says. It makes room for n bytes at
     /// once; refused only for memory.
     pub fn new(alloc: Global, n: usize, then: Then) -> Result<Limit, AllocError>
-        ensures { IfOk result (λ s. s ≡ record { taken = []; left = n; after = then; faults = 0 }) }
+        ensures { IfOk result (λ s. s ≡ record {
+          taken = [];
+          left = n;
+          after = then;
+          faults = 0;
+          unflushed = 0;
+        }) }
     {
         Ok(Limit {
             bytes: Vec::with_capacity(alloc, n)?,
             left: n,
             after: then,
             faults: Count::new(),
+            unflushed: Count::new(),
         })
     }
 
@@ -78,6 +87,8 @@ impl ByteSink for Limit {
 
     ghost faults = { λ s. s.faults };
 
+    ghost unflushed = { λ s. s.unflushed };
+
     fn write(&mut self, bytes: &[u8]) -> Result<usize, Fault>
         ensures within { IfOk result (λ n. n ≤ length bytes.now) }
         ensures takes { IfOk result (λ n. Takes (Some self.old.taken) (take n bytes.now)
@@ -86,6 +97,7 @@ impl ByteSink for Limit {
             self.old.faults + faults_of_write n bytes.now) }
         ensures fault { OnErr result (self.new.faults ≡ self.old.faults + 1) }
         ensures kept { OnErr result (Some self.new.taken ≡ Some self.old.taken) }
+        ensures held { self.new.unflushed ≡ self.old.unflushed + 1 }
 
         // The limit is kept.
         ensures refused { IsErr result ↔ IsTrue (is_refused self.old.left self.old.after) }
@@ -93,6 +105,7 @@ impl ByteSink for Limit {
         ensures left { self.new.left ≡ self.old.left - result_unwrap_or result 0 }
         ensures after { self.new.after ≡ self.old.after }
     {
+        self.unflushed.tick();
         let n = bytes.len().min(self.left);
         if is_full(self.left, self.after) {
             self.faults.tick();
@@ -110,11 +123,12 @@ impl ByteSink for Limit {
     }
 
     fn flush(&mut self) -> Result<(), Fault>
+        ensures handed_on { OnOk result (self.new.unflushed ≡ 0) }
         ensures no_fault { OnOk result (self.new.faults ≡ self.old.faults) }
         ensures fault { OnErr result (self.new.faults ≡ self.old.faults + 1) }
         ensures kept { Some self.new.taken ≡ Some self.old.taken }
 
-        // It fails under `FlushFail` alone, and changes nothing else.
+        // It fails under `FlushFail` alone, and changes nothing of the limit.
         ensures refused { IsErr result ↔ IsTrue (is_flush_refused self.old.after) }
         ensures left { self.new.left ≡ self.old.left }
         ensures after { self.new.after ≡ self.old.after }
@@ -123,6 +137,7 @@ impl ByteSink for Limit {
             self.faults.tick();
             return Err(Fault);
         }
+        self.unflushed = Count::new();
         Ok(())
     }
 }

@@ -47,11 +47,12 @@ impl<'a> ByteSource for MemorySource<'a> {
 }
 
 /// A sink that keeps its bytes in memory. Each write takes all its bytes, or fails for want of
-/// memory. Contracts see the bytes taken and the faults.
+/// memory. Contracts see the bytes taken, the faults, and how many writes no flush has handed on.
 #[derive(Drop)]
 pub struct MemorySink {
     bytes: Vec<u8>,
     faults: Count,
+    unflushed: Count,
 }
 
 impl Model for MemorySink {
@@ -59,17 +60,22 @@ impl Model for MemorySink {
 
     ghost Value = { Kept };
 
-    ghost view = { λ s. record { taken = s.bytes.items; faults = s.faults.value } };
+    ghost view = { λ s. record {
+      taken = s.bytes.items;
+      faults = s.faults.value;
+      unflushed = s.unflushed.value;
+    } };
 }
 
 impl MemorySink {
     /// A sink that has taken nothing yet. It takes no memory.
     pub fn new(alloc: Global) -> MemorySink
-        ensures { result ≡ record { taken = []; faults = 0 } }
+        ensures { result ≡ record { taken = []; faults = 0; unflushed = 0 } }
     {
         MemorySink {
             bytes: Vec::new(alloc),
             faults: Count::new(),
+            unflushed: Count::new(),
         }
     }
 
@@ -88,6 +94,8 @@ impl ByteSink for MemorySink {
 
     ghost faults = { λ s. s.faults };
 
+    ghost unflushed = { λ s. s.unflushed };
+
     fn write(&mut self, bytes: &[u8]) -> Result<usize, Fault>
         ensures within { IfOk result (λ n. n ≤ length bytes.now) }
         ensures takes { IfOk result (λ n. Takes (Some self.old.taken) (take n bytes.now)
@@ -96,10 +104,12 @@ impl ByteSink for MemorySink {
             self.old.faults + faults_of_write n bytes.now) }
         ensures fault { OnErr result (self.new.faults ≡ self.old.faults + 1) }
         ensures kept { OnErr result (Some self.new.taken ≡ Some self.old.taken) }
+        ensures held { self.new.unflushed ≡ self.old.unflushed + 1 }
 
         // No byte is left over.
         ensures all { IfOk result (λ n. n ≡ length bytes.now) }
     {
+        self.unflushed.tick();
         if let Ok(()) = self.bytes.extend_from_slice(bytes) {
             return Ok(bytes.len());
         }
@@ -108,11 +118,13 @@ impl ByteSink for MemorySink {
     }
 
     fn flush(&mut self) -> Result<(), Fault>
+        ensures handed_on { OnOk result (self.new.unflushed ≡ 0) }
         ensures no_fault { OnOk result (self.new.faults ≡ self.old.faults) }
         ensures fault { OnErr result (self.new.faults ≡ self.old.faults + 1) }
         ensures kept { Some self.new.taken ≡ Some self.old.taken }
         ensures never_fails { IsOk result }
     {
+        self.unflushed = Count::new();
         Ok(())
     }
 }

@@ -5,7 +5,8 @@ ghost use Rattle.phone_device.specs.Passing.{Takes, TakesFront, faults_of_write}
 
 use crate::Fault;
 
-/// Where bytes go. A sink may tell the bytes that it has taken, and its faults are counted.
+/// Where bytes go. A sink may tell the bytes that it has taken. Its faults are counted, and the
+/// writes that no flush has handed on.
 pub trait ByteSink {
     // The bytes taken so far, where the sink tells them.
     ghost taken: { Self → Option (List ℕ) };
@@ -13,9 +14,12 @@ pub trait ByteSink {
     // How many calls have failed.
     ghost faults: { Self → ℕ };
 
+    // How many writes came after the last flush that succeeded, or after the beginning.
+    ghost unflushed: { Self → ℕ };
+
     /// Writes once. At `Ok(n)` the first n bytes of the slice were taken; n is at most its length.
     /// A call that fails takes none, and counts as one fault; so does one that takes 0 bytes of a
-    /// slice that has some.
+    /// slice that has some. What was taken may be held back until a flush.
     fn write(&mut self, bytes: &[u8]) -> Result<usize, Fault>
         ensures within { IfOk result (λ n. n ≤ length bytes.now) }
         ensures takes { IfOk result (λ n. Takes (taken self.old) (take n bytes.now)
@@ -23,11 +27,13 @@ pub trait ByteSink {
         ensures stalled { IfOk result (λ n. faults self.new ≡
             faults self.old + faults_of_write n bytes.now) }
         ensures fault { OnErr result (faults self.new ≡ faults self.old + 1) }
-        ensures kept { OnErr result (taken self.new ≡ taken self.old) };
+        ensures kept { OnErr result (taken self.new ≡ taken self.old) }
+        ensures held { unflushed self.new ≡ unflushed self.old + 1 };
 
     /// Hands on what the sink holds back. A call that fails counts as one fault; the bytes taken
     /// stay.
     fn flush(&mut self) -> Result<(), Fault>
+        ensures handed_on { OnOk result (unflushed self.new ≡ 0) }
         ensures no_fault { OnOk result (faults self.new ≡ faults self.old) }
         ensures fault { OnErr result (faults self.new ≡ faults self.old + 1) }
         ensures kept { taken self.new ≡ taken self.old };

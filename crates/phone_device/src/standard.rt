@@ -13,6 +13,7 @@ pub struct Std<D: Drop> {
     /// The reader or writer below.
     pub device: D,
     faults: Count,
+    unflushed: Count,
 }
 
 impl<D: Drop> Std<D> {
@@ -20,10 +21,12 @@ impl<D: Drop> Std<D> {
     pub fn new(device: D) -> Std<D>
         ensures device { result.device ≡ device }
         ensures faults { result.faults.value ≡ 0 }
+        ensures unflushed { result.unflushed.value ≡ 0 }
     {
         Std {
             device,
             faults: Count::new(),
+            unflushed: Count::new(),
         }
     }
 }
@@ -62,6 +65,8 @@ impl<W: Write + Drop> ByteSink for Std<W> {
 
     ghost faults = { λ s. s.faults.value };
 
+    ghost unflushed = { λ s. s.unflushed.value };
+
     fn write(&mut self, bytes: &[u8]) -> Result<usize, Fault>
         ensures within { IfOk result (λ n. n ≤ length bytes.now) }
         ensures takes { IfOk result (λ n. Takes untold (take n bytes.now) untold) }
@@ -69,11 +74,13 @@ impl<W: Write + Drop> ByteSink for Std<W> {
             self.old.faults.value + faults_of_write n bytes.now) }
         ensures fault { OnErr result (self.new.faults.value ≡ self.old.faults.value + 1) }
         ensures kept { OnErr result (untold ≡ untold) }
+        ensures held { self.new.unflushed.value ≡ self.old.unflushed.value + 1 }
 
         // Where std knows the writer's bytes, it gets those that were taken.
         ensures writer { WriteAppends (W.contents self.old.device)
             (W.contents self.new.device) result bytes.now }
     {
+        self.unflushed.tick();
         let Ok(n) = self.device.write(bytes) else {
             self.faults.tick();
             return Err(Fault);
@@ -85,12 +92,14 @@ impl<W: Write + Drop> ByteSink for Std<W> {
     }
 
     fn flush(&mut self) -> Result<(), Fault>
+        ensures handed_on { OnOk result (self.new.unflushed.value ≡ 0) }
         ensures no_fault { OnOk result (self.new.faults.value ≡ self.old.faults.value) }
         ensures fault { OnErr result (self.new.faults.value ≡ self.old.faults.value + 1) }
         ensures kept { untold ≡ untold }
         ensures writer { Keeps (W.contents self.old.device) (W.contents self.new.device) }
     {
         if let Ok(()) = self.device.flush() {
+            self.unflushed = Count::new();
             return Ok(());
         }
         self.faults.tick();
