@@ -25,10 +25,12 @@ pub record Holds (is_text : List ℕ → Type 0) (held : List ℕ)
 abbrev pub Stands : Gives → (bytes line held : List ℕ) → Option (List ℕ) → Option (List ℕ) → Type 0
 Stands gives bytes line held before after = Holds (IsSoFar gives bytes line) held before after
 
--- a run that ends so once what is held back is written, and by `Output` where the sink fails then
+-- a run that ends so once what is held back is written and handed on, and by `Output` where the
+-- sink fails then
 pub record Halts (gives : List ℕ → List ℕ → Type 0) (before after : Devices) (held : List ℕ)
     (end : Result ⊤ RunError) : Type 0 where
   pub written : (taken : Option (List ℕ)) → Takes after.taken held taken →
-      Ends gives before (seen after.to_come after.source_faults taken after.sink_faults) end
-  pub broken : (taken : Option (List ℕ)) → TakesFront after.taken held taken → Ends gives before
-      (seen after.to_come after.source_faults taken (after.sink_faults + 1)) (Err Output)
+      Ends gives before (seen after.to_come after.source_faults taken after.sink_faults 0) end
+  pub broken : (taken : Option (List ℕ)) (unflushed : ℕ) → TakesFront after.taken held taken →
+      Ends gives before (seen after.to_come after.source_faults taken (after.sink_faults + 1)
+      unflushed) (Err Output)

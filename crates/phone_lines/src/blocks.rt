@@ -47,12 +47,16 @@ fn take_all<A: Answers, S: ByteSource, W: ByteSink>(
     requires line { desk.old.line.items ≡ [] }
     requires answers { desk.old.answers.items ≡ [] }
     ensures halts { IfOk result (λ end. Halts (A.gives answers.now)
-        (seen (S.to_come source.old) (S.faults source.old) (W.taken sink.old) (W.faults sink.old))
-        (seen (S.to_come source.new) (S.faults source.new) (W.taken sink.new) (W.faults sink.new))
+        (seen (S.to_come source.old) (S.faults source.old) (W.taken sink.old)
+        (W.faults sink.old) (W.unflushed sink.old))
+        (seen (S.to_come source.new) (S.faults source.new) (W.taken sink.new)
+        (W.faults sink.new) (W.unflushed sink.new))
         desk.new.answers.items end) }
     ensures broken { OnErr result (Ends (A.gives answers.now)
-        (seen (S.to_come source.old) (S.faults source.old) (W.taken sink.old) (W.faults sink.old))
-        (seen (S.to_come source.new) (S.faults source.new) (W.taken sink.new) (W.faults sink.new))
+        (seen (S.to_come source.old) (S.faults source.old) (W.taken sink.old)
+        (W.faults sink.old) (W.unflushed sink.old))
+        (seen (S.to_come source.new) (S.faults source.new) (W.taken sink.new)
+        (W.faults sink.new) (W.unflushed sink.new))
         (Err RunError.Output)) }
 {
     let mut block = Block::new();
@@ -86,12 +90,13 @@ fn take_all<A: Answers, S: ByteSource, W: ByteSink>(
 /// feed. What is held in memory are a block, the longest line and its answer: it does not grow with
 /// the number of lines.
 ///
-/// Refused by `Input` where the source failed or 2^64 - 1 bytes were read: then the answers to all
-/// lines that a line feed ended are written. By `Output` where the sink failed, or took no byte of
-/// some: then the answers to some first lines are written, each whole, and a beginning of the
-/// answer to the next line, but nothing of a line after it; what no line feed ends is such a line
-/// only where the source was at its end. By `Memory` where there was no room for a line or its
-/// answer: then the answers to some first lines are written, each whole.
+/// The sink is flushed at the end, but where it failed before. Refused by `Input` where the source
+/// failed or 2^64 - 1 bytes were read: then the answers to all lines that a line feed ended are
+/// written. By `Output` where the sink failed, or took no byte of some: then the answers to some
+/// first lines are written, each whole, and a beginning of the answer to the next line, but nothing
+/// of a line after it; what no line feed ends is such a line only where the source was at its end.
+/// By `Memory` where there was no room for a line or its answer: then the answers to some first
+/// lines are written, each whole.
 pub fn answer_lines<A: Answers, S: ByteSource, W: ByteSink>(
     alloc: Global,
     answers: &A,
@@ -99,8 +104,10 @@ pub fn answer_lines<A: Answers, S: ByteSource, W: ByteSink>(
     sink: &mut W,
 ) -> Result<(), RunError>
     ensures ends { Ends (A.gives answers.now)
-        (seen (S.to_come source.old) (S.faults source.old) (W.taken sink.old) (W.faults sink.old))
-        (seen (S.to_come source.new) (S.faults source.new) (W.taken sink.new) (W.faults sink.new))
+        (seen (S.to_come source.old) (S.faults source.old) (W.taken sink.old)
+        (W.faults sink.old) (W.unflushed sink.old))
+        (seen (S.to_come source.new) (S.faults source.new) (W.taken sink.new)
+        (W.faults sink.new) (W.unflushed sink.new))
         result }
 {
     let mut desk = Desk::new(alloc);

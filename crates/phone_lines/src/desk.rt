@@ -128,6 +128,7 @@ impl Desk {
     pub fn write_out<W: ByteSink>(&self, sink: &mut W) -> Result<(), Fault>
         ensures all { OnOk result (Takes (W.taken sink.old) self.now.answers.items
             (W.taken sink.new)) }
+        ensures handed_on { OnOk result (W.unflushed sink.new ≡ 0) }
         ensures no_fault { OnOk result (W.faults sink.new ≡ W.faults sink.old) }
         ensures front { OnErr result (TakesFront (W.taken sink.old) self.now.answers.items
             (W.taken sink.new)) }
