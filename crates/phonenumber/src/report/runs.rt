@@ -24,12 +24,13 @@ use phone_read::laws::some_reading;
 /// its words. A line that isn't UTF-8: `error`, `0`, `not UTF-8`. Nothing in memory grows with the
 /// number of lines.
 ///
-/// Refused by `Input` where the source failed, or 2^64 - 1 bytes were read: then the report on all
-/// lines that a line feed ended is written. By `Output` where the sink failed, or took no byte of
-/// some: then the report lines of some first lines are written, each whole, and a beginning of the
-/// next one, but nothing of a line after it; what no line feed ends is such a line only where the
-/// source was at its end. By `Memory` where memory was refused: then the report lines of some first
-/// lines are written, each whole.
+/// The sink is flushed at the end, but where it failed before. Refused by `Input` where the source
+/// failed, or 2^64 - 1 bytes were read: then the report on all lines that a line feed ended is
+/// written. By `Output` where the sink failed, or took no byte of some: then the report lines of
+/// some first lines are written, each whole, and a beginning of the next one, but nothing of a line
+/// after it; what no line feed ends is such a line only where the source was at its end. By
+/// `Memory` where memory was refused: then the report lines of some first lines are written, each
+/// whole.
 pub fn run<S: ByteSource, W: ByteSink>(
     database: &Database,
     hint: Option<Id>,
@@ -37,8 +38,10 @@ pub fn run<S: ByteSource, W: ByteSink>(
     sink: &mut W,
 ) -> Result<(), RunError>
     ensures ends { Ends (IsReportLine database.now hint)
-        (seen (S.to_come source.old) (S.faults source.old) (W.taken sink.old) (W.faults sink.old))
-        (seen (S.to_come source.new) (S.faults source.new) (W.taken sink.new) (W.faults sink.new))
+        (seen (S.to_come source.old) (S.faults source.old) (W.taken sink.old)
+        (W.faults sink.old) (W.unflushed sink.old))
+        (seen (S.to_come source.new) (S.faults source.new) (W.taken sink.new)
+        (W.faults sink.new) (W.unflushed sink.new))
         result }
 {
     let reporter = Reporter { database, hint };
