@@ -42,6 +42,7 @@ __all__ = [
     "PhoneNumber",
     "Source",
     "TABLE",
+    "TABLE_VERSION",
     "UnknownCode",
     "UnknownRegion",
     "is_viable",
@@ -51,6 +52,17 @@ _HERE = Path(__file__).resolve().parent
 
 #: The table of the world that goes with this module.
 TABLE = os.environ.get("PHONE_TABLE") or str(_HERE.parent.parent / "data" / "world.json")
+
+
+def _version_of(table: str) -> Optional[str]:
+    try:
+        return Path(table).with_name("VERSION").read_text(encoding="ascii").rstrip()
+    except OSError:
+        return None
+
+
+#: Where that table is from, by name and version, as the file VERSION beside it tells: `libphonenumber 9.0.35`.
+TABLE_VERSION = _version_of(TABLE)
 
 _OK, _MEMORY, _CLOSED, _TOO_SMALL, _NOT_UTF8, _NO_REGION = 0, 7, 16, 17, 18, 19
 _UNKNOWN_CODE, _VERSION = 20, 1

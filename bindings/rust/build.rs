@@ -14,4 +14,5 @@ fn main() {
     println!("cargo:rustc-link-lib=static=libc_c");
     println!("cargo:rerun-if-changed={built}/libphone_c.a");
     println!("cargo:rustc-env=PHONE_WORLD={top}/data/world.json");
+    println!("cargo:rustc-env=PHONE_TABLE_VERSION={top}/data/VERSION");
 }
