@@ -131,6 +131,16 @@ class Library:
                   told.preferred_domestic_carrier_code or "-"]
         return dict(zip(FIELDS, map(str, values)))
 
+    def found(self, hint, text):
+        """A text with braces around each piece in which the package's matcher finds a valid number, and the numbers' E.164 texts,
+        each after a tab."""
+        marked, numbers, place = "", "", 0
+        for it in self.of.PhoneNumberMatcher(text, None if hint == "-" else hint):
+            marked += f"{text[place:it.start]}{{{text[it.start:it.end]}}}"
+            numbers += "\t" + self.of.format_number(it.number, self.modes[0])
+            place = it.end
+        return marked + text[place:], numbers
+
 
 def lines_of(path):
     """The lines of a file, each as its hint and the bytes of its text."""
