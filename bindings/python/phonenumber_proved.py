@@ -61,7 +61,7 @@ def _version_of(table: str) -> Optional[str]:
         return None
 
 
-#: Where that table is from, by name and version, as the file VERSION beside it tells: `libphonenumber 9.0.35`.
+#: Where that table is from, by name and version, as `libphonenumber 9.0.35`; the file VERSION beside the table has it.
 TABLE_VERSION = _version_of(TABLE)
 
 _OK, _MEMORY, _CLOSED, _TOO_SMALL, _NOT_UTF8, _NO_REGION = 0, 7, 16, 17, 18, 19

@@ -28,7 +28,7 @@ pub const WORLD: &str = include_str!(env!("PHONE_WORLD"));
 /// The path at which that table lay when this crate was built, for programs that read it when they run.
 pub const WORLD_PATH: &str = env!("PHONE_WORLD");
 
-/// Where that table is from, by name and version: `libphonenumber 9.0.35`.
+/// Where that table is from, by name and version, as `libphonenumber 9.0.35`.
 pub const TABLE_VERSION: &str = include_str!(env!("PHONE_TABLE_VERSION")).trim_ascii_end();
 
 /// Why a call was refused.

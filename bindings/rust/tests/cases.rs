@@ -1,6 +1,6 @@
 //! What users of the crate `phonenumber` count on, as tables: readings, kinds, regions, printed texts, validity, and texts that
 //! made readers panic.
-use phonenumber_proved::{Database, Mode, Source, Type, WORLD, is_viable};
+use phonenumber_proved::{Database, Mode, Source, TABLE_VERSION, Type, WORLD, is_viable};
 
 fn world() -> Database {
     Database::from_json(WORLD).expect("the table of the world is read")
@@ -97,7 +97,8 @@ fn printed_numbers_are_read_back() {
 }
 
 /// Hint, text, national, international.
-const PRINTED: [(&str, &str, &str, &str); 6] = [
+const PRINTED: [(&str, &str, &str, &str); 7] = [
+    ("BJ", "+2290195123456", "01 95 12 34 56", "+229 01 95 12 34 56"),
     ("FR", "+330631966543", "06 31 96 65 43", "+33 6 31 96 65 43"),
     ("US", "+1 6502530000", "(650) 253-0000", "+1 650-253-0000"),
     ("US", "+1 8002530000", "(800) 253-0000", "+1 800-253-0000"),
@@ -120,7 +121,9 @@ fn numbers_are_printed() {
 }
 
 /// Text, whether it is valid.
-const VALID: [(&str, bool); 15] = [
+const VALID: [(&str, bool); 17] = [
+    ("+229 01 95 12 34 56", true),
+    ("+229 95 12 34 56", false),
     ("+1 6502530000", true),
     ("+39 0236618300", true),
     ("+330631966543", true),
@@ -144,6 +147,13 @@ fn validity_is_told() {
     for (text, is_valid) in VALID {
         assert_eq!(world.parse(None, text).unwrap().is_valid().unwrap(), is_valid, "{text}");
     }
+}
+
+#[test]
+fn the_version_of_the_table_is_told() {
+    let (name, version) = TABLE_VERSION.split_once(' ').unwrap();
+    assert_eq!(name, "libphonenumber");
+    assert!(version.split('.').all(|part| part.parse::<u32>().is_ok()), "{version}");
 }
 
 /// Texts that made a reader panic once, or are like those.
