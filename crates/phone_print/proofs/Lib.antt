@@ -1,2 +1,3 @@
+pub mod Behinds
 pub mod HyphenTexts
 pub mod TextsLaid

@@ -1,3 +1,4 @@
+pub mod Behind
 pub mod Layouts
 pub mod Tabbed
 pub mod Texts

@@ -1,7 +1,9 @@
 //! What printed texts are made of, put behind a text that is there already, so that a line of many
-//! of them is made in one piece. Each is refused only for memory; then some of it may stand there.
-ghost use Rattle.std.specs.Prelude.{◌≡◌, ◌∷◌, ◌++◌, OnOk, chars, codes, encode_utf8_all};
+//! of them is made in one piece. Each is refused only for memory; then a part of it may stand there,
+//! behind the text.
+ghost use Rattle.std.specs.Prelude.{◌≡◌, ◌∷◌, ◌++◌, OnErr, OnOk, chars, codes, encode_utf8_all};
 ghost use Rattle.std.specs.Prelude.{string_bytes};
+ghost use Rattle.phone_print.specs.Behind.{IsBehind};
 ghost use Rattle.phone_print.specs.Texts.{extension_parameter, extension_part, hyphenated};
 
 use crate::Printable;
@@ -12,8 +14,9 @@ use std::alloc::AllocError;
 
 /// The E.164 text of a code and digits.
 pub(crate) fn push_e164(out: &mut String, code: &str, digits: &str) -> Result<(), AllocError>
-    ensures { OnOk result (string_bytes out.new ≡ string_bytes out.old ++
+    ensures text { OnOk result (string_bytes out.new ≡ string_bytes out.old ++
         43 ∷ (code.now ++ digits.now)) }
+    ensures behind { OnErr result (IsBehind (string_bytes out.old) (string_bytes out.new)) }
 {
     out.push('+')?;
     out.push_str(code)?;
@@ -28,8 +31,9 @@ pub(crate) fn push_international(
     m: &Metadata,
     number: &Printable<'_>,
 ) -> Result<(), AllocError>
-    ensures { OnOk result (string_bytes out.new ≡ string_bytes out.old ++ 43 ∷ (code.now ++
+    ensures text { OnOk result (string_bytes out.new ≡ string_bytes out.old ++ 43 ∷ (code.now ++
         32 ∷ (laid.now ++ extension_part m.now number.now.extension))) }
+    ensures behind { OnErr result (IsBehind (string_bytes out.old) (string_bytes out.new)) }
 {
     out.push('+')?;
     out.push_str(code)?;
@@ -44,8 +48,9 @@ pub(crate) fn push_national(
     m: &Metadata,
     number: &Printable<'_>,
 ) -> Result<(), AllocError>
-    ensures { OnOk result (string_bytes out.new ≡ string_bytes out.old ++
+    ensures text { OnOk result (string_bytes out.new ≡ string_bytes out.old ++
         (laid.now ++ extension_part m.now number.now.extension)) }
+    ensures behind { OnErr result (IsBehind (string_bytes out.old) (string_bytes out.new)) }
 {
     out.push_str(laid)?;
     push_extension(out, m, number)
@@ -58,9 +63,10 @@ pub(crate) fn push_rfc3966(
     laid: &str,
     number: &Printable<'_>,
 ) -> Result<(), AllocError>
-    ensures { OnOk result (string_bytes out.new ≡ string_bytes out.old ++
+    ensures text { OnOk result (string_bytes out.new ≡ string_bytes out.old ++
         (codes "tel:+" ++ (code.now ++ 45 ∷ (encode_utf8_all (hyphenated (chars laid.now)) ++
         extension_parameter number.now.extension)))) }
+    ensures behind { OnErr result (IsBehind (string_bytes out.old) (string_bytes out.new)) }
 {
     out.push_str(RFC3966_PREFIX)?;
     out.push('+')?;
@@ -77,8 +83,9 @@ pub(crate) fn push_extension(
     m: &Metadata,
     number: &Printable<'_>,
 ) -> Result<(), AllocError>
-    ensures { OnOk result (string_bytes out.new ≡ string_bytes out.old ++
+    ensures text { OnOk result (string_bytes out.new ≡ string_bytes out.old ++
         extension_part m.now number.now.extension) }
+    ensures behind { OnErr result (IsBehind (string_bytes out.old) (string_bytes out.new)) }
 {
     let Some(extension) = number.extension() else {
         return Ok(());
@@ -91,8 +98,9 @@ pub(crate) fn push_extension(
 
 /// The extension as a parameter; nothing where there is none.
 fn push_parameter(out: &mut String, number: &Printable<'_>) -> Result<(), AllocError>
-    ensures { OnOk result (string_bytes out.new ≡ string_bytes out.old ++
+    ensures text { OnOk result (string_bytes out.new ≡ string_bytes out.old ++
         extension_parameter number.now.extension) }
+    ensures behind { OnErr result (IsBehind (string_bytes out.old) (string_bytes out.new)) }
 {
     match number.extension() {
         Some(extension) => push_announced(out, RFC3966_EXTN_PREFIX, extension.as_str()),
@@ -102,8 +110,9 @@ fn push_parameter(out: &mut String, number: &Printable<'_>) -> Result<(), AllocE
 
 /// An extension that a prefix announces.
 fn push_announced(out: &mut String, prefix: &str, extension: &str) -> Result<(), AllocError>
-    ensures { OnOk result (string_bytes out.new ≡ string_bytes out.old ++
+    ensures text { OnOk result (string_bytes out.new ≡ string_bytes out.old ++
         (prefix.now ++ extension.now)) }
+    ensures behind { OnErr result (IsBehind (string_bytes out.old) (string_bytes out.new)) }
 {
     out.push_str(prefix)?;
     out.push_str(extension)

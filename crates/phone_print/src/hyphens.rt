@@ -1,7 +1,9 @@
 //! Separators made hyphens, as texts of RFC 3966 have them.
-ghost use Rattle.std.specs.Prelude.{◌≡◌, ◌++◌, chars, encode_utf8_all, string_bytes, OnOk};
+ghost use Rattle.std.specs.Prelude.{◌≡◌, ◌++◌, chars, encode_utf8_all, string_bytes};
+ghost use Rattle.std.specs.Prelude.{OnErr, OnOk};
 ghost use Rattle.phone_chars.specs.Characters.{is_separator};
 ghost use Rattle.phone_parts.specs.Texts.{begins};
+ghost use Rattle.phone_print.specs.Behind.{IsBehind};
 ghost use Rattle.phone_print.specs.Texts.{hyphenated};
 
 use phone_chars::chars::is_separator;
@@ -19,10 +21,11 @@ fn begins_apart(text: &str) -> bool
 }
 
 /// Puts a text behind another, with each longest run of separators made one hyphen; all other
-/// characters stay in their order. Refused only for memory; then some of it may stand there.
+/// characters stay in their order. Refused only for memory; then a part of it may stand there.
 pub(crate) fn push_hyphenated(out: &mut String, text: &str) -> Result<(), AllocError>
-    ensures { OnOk result (string_bytes out.new ≡ string_bytes out.old ++
+    ensures text { OnOk result (string_bytes out.new ≡ string_bytes out.old ++
         encode_utf8_all (hyphenated (chars text.now))) }
+    ensures behind { OnErr result (IsBehind (string_bytes out.old) (string_bytes out.new)) }
 {
     let mut rest = text;
     while let Some((c, after)) = split_first(rest) {

@@ -1,11 +1,12 @@
 //! The printed text of a number, by a territory.
-ghost use Rattle.std.specs.Prelude.{◌≡◌, ◌∷◌, ◌++◌, IfOk, OnOk, IsTrue, Ok, Option, chars, codes};
-ghost use Rattle.std.specs.Prelude.{encode_utf8_all, string_bytes};
+ghost use Rattle.std.specs.Prelude.{◌≡◌, ◌∷◌, ◌++◌, IfOk, OnErr, OnOk, IsTrue, Ok, Option, chars};
+ghost use Rattle.std.specs.Prelude.{codes, encode_utf8_all, string_bytes};
 ghost use Rattle.std.specs.Fmt.{decimal};
 ghost use Rattle.std.specs.List.{find};
 ghost use Rattle.std.specs.Option.{option_copied};
 ghost use Rattle.phone_core.specs.declared.mode.Mode.TheVariants as mode;
 ghost use Rattle.phone_territory.specs.Layouts.{suits};
+ghost use Rattle.phone_print.specs.Behind.{IsBehind};
 ghost use Rattle.phone_print.specs.Layouts.{laid, layout_for, layouts_for};
 ghost use Rattle.phone_core.specs.Numbers.{text_of};
 ghost use Rattle.phone_records.specs.declared.loader.Format as loader;
@@ -158,8 +159,7 @@ fn texts_laid(
 }
 
 /// Puts the texts in all modes behind a line, by a territory, each after one tab. Refused only for
-/// memory; then some of them may stand there. The digits of a number without leading zeros take no
-/// memory.
+/// memory; then the line is as it was. The digits of a number without leading zeros take no memory.
 pub fn push_texts(
     line: &mut String,
     alloc: Global,
@@ -168,8 +168,32 @@ pub fn push_texts(
     own: Option<&Format>,
     number: &Printable<'_>,
 ) -> Result<(), AllocError>
-    ensures { OnOk result (string_bytes line.new ≡ string_bytes line.old ++
+    ensures texts { OnOk result (string_bytes line.new ≡ string_bytes line.old ++
         9 ∷ texts_by m.now (option_copied own.entry) number.now) }
+    ensures kept { OnErr result (string_bytes line.new ≡ string_bytes line.old) }
+{
+    let len = line.len();
+    match push_some(line, alloc, finder, m, own, number) {
+        Ok(()) => Ok(()),
+        Err(error) => {
+            line.truncate(len);
+            Err(error)
+        }
+    }
+}
+
+/// The same, but that a part of it may stand behind the line where it is refused.
+fn push_some(
+    line: &mut String,
+    alloc: Global,
+    finder: &FirstGroup,
+    m: &Metadata,
+    own: Option<&Format>,
+    number: &Printable<'_>,
+) -> Result<(), AllocError>
+    ensures texts { OnOk result (string_bytes line.new ≡ string_bytes line.old ++
+        9 ∷ texts_by m.now (option_copied own.entry) number.now) }
+    ensures behind { OnErr result (IsBehind (string_bytes line.old) (string_bytes line.new)) }
 {
     let national = number.national();
     if national.zeros() == 0 {
@@ -193,8 +217,9 @@ fn push_texts_of(
     digits: &str,
 ) -> Result<(), AllocError>
     requires { digits.now ≡ text_of number.now.national }
-    ensures { OnOk result (string_bytes line.new ≡ string_bytes line.old ++
+    ensures texts { OnOk result (string_bytes line.new ≡ string_bytes line.old ++
         9 ∷ texts_by m.now (option_copied own.entry) number.now) }
+    ensures behind { OnErr result (IsBehind (string_bytes line.old) (string_bytes line.new)) }
 {
     let layouts = layouts_of(m, own, digits)?;
     let mode = Mode::International;
@@ -236,8 +261,9 @@ fn push_laid(
     abroad: &str,
     at_home: &str,
 ) -> Result<(), AllocError>
-    ensures { OnOk result (string_bytes line.new ≡ string_bytes line.old ++ 9 ∷ texts_laid m.now
+    ensures texts { OnOk result (string_bytes line.new ≡ string_bytes line.old ++ 9 ∷ texts_laid m.now
         number.now (decimal number.now.code.value) digits.now abroad.now at_home.now) }
+    ensures behind { OnErr result (IsBehind (string_bytes line.old) (string_bytes line.new)) }
 {
     let mut buffer = Buffer::new();
     let code = buffer.format(number.code().value());
@@ -254,8 +280,9 @@ fn push_coded(
     abroad: &str,
     at_home: &str,
 ) -> Result<(), AllocError>
-    ensures { OnOk result (string_bytes line.new ≡ string_bytes line.old ++
+    ensures texts { OnOk result (string_bytes line.new ≡ string_bytes line.old ++
         9 ∷ texts_laid m.now number.now code.now digits.now abroad.now at_home.now) }
+    ensures behind { OnErr result (IsBehind (string_bytes line.old) (string_bytes line.new)) }
 {
     line.push('\t')?;
     push_e164(line, code, digits)?;

@@ -3,8 +3,8 @@ use Rattle.std.proofs.lemmas.Str.{chars-nil}
 use Rattle.phone_print.specs.Texts.{hyphenated}
 use Rattle.phone_print.proofs.hyphens.push_hyphenated.Goals as goal
 
-pub returns : goal.returns
-returns c =
+pub returns-clause-text : goal.returns-clause-text
+returns-clause-text c =
     let out = string_bytes c.loop-c.out in
     sym (c.loop-c.invariant.1
     ∙ ap (λ t. out ++ encode_utf8_all (hyphenated (chars t))) c.in_default.ensures.cut

@@ -1,6 +1,7 @@
 use Rattle.std.proofs.Common.{◌≡◌, ◌++◌, chars, encode_utf8_all, string_bytes, length}
 use denote.Text.{Utf8}
 use denote.Shadow.{shadow}
+use Rattle.phone_print.specs.Behind.{IsBehind}
 use Rattle.phone_print.specs.Texts.{hyphenated}
 use Rattle.phone_print.proofs.hyphens.push_hyphenated.Given as goal
 
@@ -8,6 +9,7 @@ abbrev pub invariant-loop-c : goal.invariant-loop-c
 invariant-loop-c l =
     shadow (Utf8 l.rest)
     × (string_bytes l.fn.out ++ encode_utf8_all (hyphenated (chars l.text)) ≡ string_bytes l.out ++ encode_utf8_all (hyphenated (chars l.rest)))
+    × IsBehind (string_bytes l.fn.out) (string_bytes l.out)
 
 abbrev pub decreases-loop-c : goal.decreases-loop-c
 decreases-loop-c l = length l.rest

@@ -4,8 +4,8 @@ use Rattle.phone_print.specs.Layouts.{layout_for}
 use Rattle.phone_print.proofs.TextsLaid.{laid-laid_out, texts_laid-texts_by}
 use Rattle.phone_print.proofs.printing.push_texts_of.Goals as goal
 
-pub returns-then-is_laid_alike : goal.returns-then-is_laid_alike
-returns-then-is_laid_alike c =
+pub returns-then-is_laid_alike-clause-texts : goal.returns-then-is_laid_alike-clause-texts
+returns-then-is_laid_alike-clause-texts c =
     let m = c.args.m.now in
     let n = c.args.number.now in
     let digits = c.args.digits.now in
@@ -16,10 +16,10 @@ returns-then-is_laid_alike c =
     subst (λ t. OnOk c.push_laid.result (string_bytes c.push_laid.new.line ≡ string_bytes c.args.line.now ++ 9 ∷ t))
     (texts_laid-texts_by m own n digits _ _ c.requires abroad
     (abroad ∙ sym (c.is_laid_alike.ensures c.if-is_laid_alike.true own (layouts.abroad ∙ ap (layout_for m International own) c.requires))))
-    c.push_laid.ensures
+    c.push_laid.ensures.texts
 
-pub returns : goal.returns
-returns c =
+pub returns-clause-texts : goal.returns-clause-texts
+returns-clause-texts c =
     let m = c.args.m.now in
     let n = c.args.number.now in
     let digits = c.args.digits.now in
@@ -29,4 +29,4 @@ returns c =
     (texts_laid-texts_by m own n digits _ _ c.requires
     (laid-laid_out m International own _ n digits _ c.requires layouts.abroad (c.as_str-laid.ensures.value ∙ c.in_ok-abroad.ensures))
     (laid-laid_out m National own _ n digits _ c.requires layouts.at_home (c.as_str.ensures.value ∙ c.in_ok-at_home.ensures)))
-    c.push_laid-2.ensures
+    c.push_laid-2.ensures.texts
