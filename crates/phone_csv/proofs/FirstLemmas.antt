@@ -1,5 +1,5 @@
 -- How the first record of a source grows by one byte, and how it ends.
-use Rattle.std.proofs.Common.{◌≡◌, ◌≢◌, Bool, ℕ, ◌==◌, ◌||◌, List, [], ◌∷◌, ◌++◌, Some, None, if◌then◌else◌, true, false, refl, sym, ap, ◌∙◌, append_assoc, subst}
+use Rattle.std.proofs.Common.{◌≡◌, ◌≢◌, ◌≤◌, length, Bool, ℕ, ◌==◌, ◌||◌, List, [], ◌∷◌, ◌++◌, Some, None, if◌then◌else◌, true, false, refl, sym, ap, ◌∙◌, append_assoc, subst}
 use Rattle.std.proofs.lemmas.Bool.{eqb-true}
 use Rattle.std.proofs.lemmas.List.{append-nil}
 use Rattle.csv.specs.Machine.{ends_at_end, field_after, is_end, next_record, step}
@@ -11,11 +11,13 @@ use Rattle.csv.specs.declared.parser.Config.{Config}
 use Rattle.csv.specs.declared.parser.State.{State}
 use Rattle.csv.specs.declared.parser.State.TheVariants as st
 use Rattle.csv.proofs.ReadFacts.{feeds-push}
-use Rattle.phone_csv.specs.Firsts.{IsBehind, IsFirst, IsFront, first_in, mark_after}
+use Rattle.phone_csv.specs.Feeds.{counted, line_feeds}
+use Rattle.phone_csv.specs.Firsts.{EndsNoFirst, IsBehind, IsFirst, IsFront, first_in, mark_after}
 use Rattle.phone_csv.specs.Formats.{Record, reading, state_of}
 use Rattle.phone_csv.specs.declared.cutter.Cutter.{Cutter}
 use Rattle.phone_csv.specs.declared.front.Mark.{Mark}
 use Rattle.phone_csv.specs.declared.front.Mark.TheVariants as mark
+use Rattle.phone_csv.proofs.FeedLemmas.{line_feeds-next}
 use Rattle.phone_csv.proofs.Progress.{Steps, at_start, feeds_rest, feeds_then}
 
 -- the part behind a mark, after one more byte
@@ -152,12 +154,17 @@ pub ends_past : (d : ℕ) (s : State) (m : Mark) (x : ℕ) → is_end (step (rea
 ends_past d s m x e = mark_past m x (x == 13) (x == 10) refl refl (ends d s x e)
 
 -- nothing was read yet
-pub IsFront-nothing : (c : Cutter) → state_of c.place ≡ st.StartRecord → fields_of c.fields ≡ [] → c.field.items ≡ [] → IsFront mark.Start [] c
-IsFront-nothing c place fields field = record {
+pub IsFront-nothing : (c : Cutter) → state_of c.place ≡ st.StartRecord → fields_of c.fields ≡ [] → c.field.items ≡ [] → c.feeds ≡ 0 → IsFront mark.Start [] c
+IsFront-nothing c place fields field feeds = record {
   part = [];
   behind = (refl, refl);
   fed = at_start c.delimiter st.StartRecord (state_of c.place) (fields_of c.fields) c.field.items place fields field;
+  feeds = feeds;
 }
+
+-- the line feeds, one more byte with them
+pub IsFront-feeds : (m : Mark) (bytes : List ℕ) (c c' : Cutter) (x : ℕ) → IsFront m bytes c → Steps c c' x → c'.feeds ≡ counted (line_feeds (bytes ++ x ∷ []))
+IsFront-feeds m bytes c c' x f on = on.feeds ∙ line_feeds-next bytes x c.feeds (x == 10) refl f.feeds
 
 -- a byte that ends no record, nor the mark
 pub IsFront-grown : (m : Mark) (bytes : List ℕ) (c c' : Cutter) (x : ℕ) → IsFront m bytes c → Steps c c' x →
@@ -168,15 +175,18 @@ IsFront-grown m bytes c c' x f on e n =
       part = f.part ++ x ∷ [];
       behind = subst (λ t. IsBehind (mark_after m x) (bytes ++ x ∷ []) t) (part_kept (mark_after m x) f.part x n) (behind_next m bytes f.part x f.behind);
       fed = rw (on.delimiter, on.place, on.fields, on.field) (rw e at fed);
+      feeds = IsFront-feeds m bytes c c' x f on;
     }
 
 -- the byte that ends the mark
 pub IsFront-marked : (m : Mark) (bytes : List ℕ) (c c' : Cutter) (x : ℕ) → IsFront m bytes c → mark_after m x ≡ mark.Whole →
-    state_of c'.place ≡ st.StartRecord → fields_of c'.fields ≡ [] → c'.field.items ≡ [] → IsFront (mark_after m x) (bytes ++ x ∷ []) c'
-IsFront-marked m bytes c c' x f e place fields field = record {
+    state_of c'.place ≡ st.StartRecord → fields_of c'.fields ≡ [] → c'.field.items ≡ [] → c'.feeds ≡ counted (line_feeds (bytes ++ x ∷ [])) →
+    IsFront (mark_after m x) (bytes ++ x ∷ []) c'
+IsFront-marked m bytes c c' x f e place fields field feeds = record {
   part = [];
   behind = subst (λ k. IsBehind (mark_after m x) (bytes ++ x ∷ []) (part_after k f.part x)) e (behind_next m bytes f.part x f.behind);
   fed = at_start c'.delimiter st.StartRecord (state_of c'.place) (fields_of c'.fields) c'.field.items place fields field;
+  feeds = feeds;
 }
 
 -- the byte that ends the record
@@ -204,3 +214,16 @@ IsFront-last m bytes c b f e =
     ap (λ t. next_record (reading c.delimiter) st.StartRecord [] [] t) (behind_all m bytes f.part f.behind)
     ∙ feeds_rest (reading c.delimiter) st.StartRecord (state_of c.place) [] (fields_of c.fields) [] c.field.items f.part f.fed
     ∙ at_end (reading c.delimiter) (state_of c.place) (fields_of c.fields) c.field.items b e
+
+-- a beginning of a first record, and one more byte at most
+pub IsFront-unended : (m : Mark) (bytes front last : List ℕ) (c : Cutter) → bytes ≡ front ++ last → length last ≤ 1 → IsFront m front c → EndsNoFirst c.delimiter bytes
+IsFront-unended m bytes front last c e short f = record {
+  front = front;
+  last = last;
+  whole = e;
+  short = short;
+  mark = m;
+  part = f.part;
+  behind = f.behind;
+  unended = (state_of c.place, fields_of c.fields, c.field.items, f.fed);
+}

@@ -1,7 +1,9 @@
 pub mod CutLemmas
+pub mod FeedLemmas
 pub mod AnswerLemmas
 pub mod Progress
 pub mod Ends
 pub mod KitRecords
 pub mod FirstLemmas
 pub mod SpelledLemmas
+pub mod ReadAgain

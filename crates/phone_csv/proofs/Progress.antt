@@ -1,5 +1,5 @@
 -- How far a run is after one more byte, or after the sink has taken more.
-use Rattle.std.proofs.Common.{◌≡◌, ◌⊎◌, Bool, Result, Ok, Err, OnOk, if◌then◌else◌, inr, add-one, ℕ, ◌+◌, ◌<◌, take, drop, length, get_or, List, [], ◌∷◌, ◌++◌, Option, Some, None, inl, true, false, refl, sym, ap, ◌∙◌, append_assoc, subst}
+use Rattle.std.proofs.Common.{◌≡◌, ◌⊎◌, Bool, Result, Ok, Err, OnOk, if◌then◌else◌, inr, add-one, ℕ, ◌==◌, ◌+◌, ◌<◌, take, drop, length, get_or, List, [], ◌∷◌, ◌++◌, Option, Some, None, inl, true, false, refl, sym, ap, ◌∙◌, append_assoc, subst}
 use Rattle.std.proofs.lemmas.List.{append-nil, take-append-drop}
 use Rattle.std.proofs.Math.Seq.{take-suc}
 use Rattle.phone_device.specs.Passing.{IsAtEnd, Takes, TakesFront}
@@ -12,6 +12,7 @@ use Rattle.csv.specs.declared.parser.Config.{Config}
 use Rattle.csv.specs.declared.parser.State.{State}
 use Rattle.std.specs.Bool.{MatchBool}
 use Rattle.csv.proofs.ReadFacts.{feeds-push}
+use Rattle.phone_csv.specs.Feeds.{counted, feeds_before}
 use Rattle.phone_csv.specs.Formats.{Record, reading, record_text, state_of}
 use Rattle.phone_csv.specs.Records.{IsEnded}
 use Rattle.phone_csv.specs.Reports.{AreAnswers, Gives, IsBeginning, IsReport, IsReportBefore, IsReportOnEnded, IsReportOnFirst, last_record}
@@ -21,6 +22,7 @@ use Rattle.phone_csv.specs.Runs.{BreaksOff, Holds, IsSoFar, Stands, TakesA}
 use Rattle.phone_csv.specs.declared.cutter.Cutter.{Cutter}
 use Rattle.phone_csv.proofs.AnswerLemmas.{AreAnswers-then}
 use Rattle.phone_csv.proofs.CutLemmas.{AreCut-ended, AreCut-grown}
+use Rattle.phone_csv.proofs.FeedLemmas.{Counts-ended, Counts-grown, Counts-next, Counts-nothing, counted-more, counted-more-first, from_none}
 
 -- what follows at an `Ok` from two facts that hold at it
 pub both_ok : {T E P Q S : Type 0} (r : Result T E) → OnOk r P → OnOk r Q → (P → Q → S) → OnOk r S
@@ -69,6 +71,8 @@ pub record Steps (before after : Cutter) (x : ℕ) : Type 0 where
   pub fields : fields_of after.fields ≡ fields_after (step (reading before.delimiter) (state_of before.place) x).1 (fields_of before.fields) before.field.items
   pub field : after.field.items ≡ field_after (step (reading before.delimiter) (state_of before.place) x).1 x before.field.items
   pub delimiter : after.delimiter ≡ before.delimiter
+  pub feeds : after.feeds ≡ (if x == 10 then counted (before.feeds + 1) else before.feeds)
+  pub feeds_before : after.feeds_before ≡ (if ends_at_end (state_of before.place) then before.feeds_before else before.feeds)
 
 -- a byte that ends no record
 pub IsSoFar-grown : (gives : Gives) (start : State) (bytes : List ℕ) (c c' : Cutter) (answers : List ℕ) (x : ℕ) → IsSoFar gives start bytes c answers →
@@ -81,6 +85,7 @@ IsSoFar-grown gives start bytes c c' answers x s on e =
       rest = s.rest ++ x ∷ [];
       cut = rw on.delimiter (AreCut-grown c.delimiter start s.state bytes s.rest (x ∷ []) s.records s.cut);
       fed = rw (on.delimiter, on.place, on.fields, on.field) (rw e at fed);
+      counts = Counts-grown c c' s.state bytes s.rest x s.counts on.place on.feeds on.feeds_before e;
       answered = rw on.delimiter s.answered;
     }
 
@@ -108,9 +113,9 @@ at_start d s s' fields field e f g = (e, f, g, refl)
 pub IsSoFar-ended : (gives : Gives) (start : State) (bytes : List ℕ) (c m c' : Cutter) (written held : List ℕ) (given : Record) (x : ℕ) →
     IsSoFar gives start bytes c (written ++ held) → Steps c m x → is_end (step (reading c.delimiter) (state_of c.place) x).1 ≡ true →
     gives (fields_of m.fields) given →
-    c'.delimiter ≡ c.delimiter → c'.place ≡ m.place → fields_of c'.fields ≡ [] → c'.field.items ≡ m.field.items →
+    c'.delimiter ≡ c.delimiter → c'.place ≡ m.place → fields_of c'.fields ≡ [] → c'.field.items ≡ m.field.items → c'.feeds ≡ m.feeds →
     IsSoFar gives start (bytes ++ x ∷ []) c' (written ++ (held ++ record_text m.delimiter (fields_of m.fields ++ given)))
-IsSoFar-ended gives start bytes c m c' written held given x s on e is same place bare empty =
+IsSoFar-ended gives start bytes c m c' written held given x s on e is same place bare empty feeds =
     record {
       records = s.records ++ fields_of m.fields ∷ [];
       state = state_of m.place;
@@ -119,6 +124,7 @@ IsSoFar-ended gives start bytes c m c' written held given x s on e is same place
           (AreCut-grown c.delimiter start s.state bytes s.rest (x ∷ []) s.records s.cut) (IsSoFar-is_ended gives start bytes c m (written ++ held) x s on e));
       fed = at_start c'.delimiter (state_of m.place) (state_of c'.place) (fields_of c'.fields) c'.field.items (ap state_of place) bare
           (empty ∙ on.field ∙ field_ended _ x c.field.items e);
+      counts = Counts-next c m s.state bytes s.rest x s.counts on.place on.feeds on.feeds_before c' e place feeds;
       answered = rw (same, on.delimiter, sym (append_assoc written held (record_text c.delimiter (fields_of m.fields ++ given))))
           (AreAnswers-then gives c.delimiter s.records (written ++ held) (fields_of m.fields) given s.answered is);
     }
@@ -126,15 +132,16 @@ IsSoFar-ended gives start bytes c m c' written held given x s on e is same place
 -- and that it is refused
 pub IsSoFar-refused : (gives : Gives) (refuses : Record → Type 0) (start : State) (bytes : List ℕ) (c m : Cutter) (answers : List ℕ) (x : ℕ) →
     IsSoFar gives start bytes c answers → Steps c m x → is_end (step (reading c.delimiter) (state_of c.place) x).1 ≡ true →
-    refuses (fields_of m.fields) → (to_come : Option (List ℕ)) (more : List ℕ) →
-    IsReportBefore gives refuses c.delimiter start to_come (bytes ++ x ∷ more) answers
-IsSoFar-refused gives refuses start bytes c m answers x s on e is to_come more = (
+    refuses (fields_of m.fields) → (feeds : ℕ) → feeds ≡ m.feeds_before → (to_come : Option (List ℕ)) (more : List ℕ) →
+    IsReportBefore gives refuses c.delimiter start 0 feeds to_come (bytes ++ x ∷ more) answers
+IsSoFar-refused gives refuses start bytes c m answers x s on e is feeds counts to_come more = (
   s.records,
   s.state,
   s.rest ++ x ∷ more,
   fields_of m.fields,
   AreCut-grown c.delimiter start s.state bytes s.rest (x ∷ more) s.records s.cut,
   inl (s.rest ++ x ∷ [], more, state_of m.place, sym (append_assoc s.rest (x ∷ []) more), IsSoFar-is_ended gives start bytes c m answers x s on e),
+  counts ∙ Counts-ended c m s.state bytes s.rest x s.counts on.place on.feeds on.feeds_before e (x ∷ more),
   is,
   s.answered,
 )
@@ -260,24 +267,26 @@ Stands-last gives start bytes c held fields given before after e is s on =
 
 -- and where it is refused
 pub Stands-last-refused : (gives : Gives) (refuses : Record → Type 0) (start : State) (bytes : List ℕ) (c : Cutter) (held : List ℕ) (fields : Record)
-    (before after to_come : Option (List ℕ)) → ends_at_end (state_of c.place) ≡ true → fields ≡ fields_of c.fields ++ c.field.items ∷ [] → IsAtEnd to_come →
-    Stands gives start bytes c held before after → refuses fields → Holds (IsReportBefore gives refuses c.delimiter start to_come bytes) held before after
-Stands-last-refused gives refuses start bytes c held fields before after to_come e is end s on =
-    Stands-holds gives start bytes c held before after (IsReportBefore gives refuses c.delimiter start to_come bytes) s (λ written f. (
+    (before after to_come : Option (List ℕ)) (feeds : ℕ) → ends_at_end (state_of c.place) ≡ true → fields ≡ fields_of c.fields ++ c.field.items ∷ [] → IsAtEnd to_come →
+    feeds ≡ c.feeds_before → Stands gives start bytes c held before after → refuses fields →
+    Holds (IsReportBefore gives refuses c.delimiter start 0 feeds to_come bytes) held before after
+Stands-last-refused gives refuses start bytes c held fields before after to_come feeds e is end counts s on =
+    Stands-holds gives start bytes c held before after (IsReportBefore gives refuses c.delimiter start 0 feeds to_come bytes) s (λ written f. (
       f.records,
       f.state,
       f.rest,
       fields,
       f.cut,
       inr (end, IsSoFar-last gives start bytes c (written ++ held) f true e ∙ ap (λ r. r ∷ []) (sym is)),
+      counts ∙ f.counts.before e ∙ from_none (feeds_before f.state bytes f.rest),
       on,
       f.answered,
     ))
 
 -- nothing was read yet
 pub Stands-nothing : (gives : Gives) (start : State) (c : Cutter) (held : List ℕ) (a : Option (List ℕ)) → state_of c.place ≡ start → fields_of c.fields ≡ [] →
-    c.field.items ≡ [] → held ≡ [] → Stands gives start [] c held a a
-Stands-nothing gives start c held a place fields field empty = record {
+    c.field.items ≡ [] → c.feeds ≡ 0 → c.feeds_before ≡ 0 → held ≡ [] → Stands gives start [] c held a a
+Stands-nothing gives start c held a place fields field feeds feeds_before empty = record {
   written = [];
   taken = takes_nothing a;
   so_far = record {
@@ -286,6 +295,7 @@ Stands-nothing gives start c held a place fields field empty = record {
     rest = [];
     cut = uncut start [];
     fed = at_start c.delimiter start (state_of c.place) (fields_of c.fields) c.field.items place fields field;
+    counts = Counts-nothing c start place feeds feeds_before;
     answered = rw empty unanswered;
   };
 }
@@ -317,3 +327,16 @@ pub BreaksOff-begins : (gives : Gives) (d : ℕ) (start : State) (to_come : Opti
     BreaksOff gives d start bytes before after → TakesA (IsBeginning gives d start to_come bytes) before after
 BreaksOff-begins gives d start to_come bytes before after (text, first, f) =
     (f.front, (f.rest, subst (λ u. IsReportOnFirst gives d start bytes u ⊎ (IsAtEnd to_come × IsReport gives d start bytes u)) f.whole (inl first)), f.taken)
+
+-- line feeds that stand in front of the bytes are counted too
+pub IsReportBefore-from : (gives : Gives) (refuses : Record → Type 0) (d : ℕ) (start : State) (earlier feeds all : ℕ) (to_come : Option (List ℕ)) (bytes text : List ℕ) →
+    all ≡ counted (earlier + feeds) → IsReportBefore gives refuses d start 0 feeds to_come bytes text → IsReportBefore gives refuses d start earlier all to_come bytes text
+IsReportBefore-from gives refuses d start earlier feeds all to_come bytes text is (records, state, rest, fields, cut, next, counts, refused, answers) =
+    (records, state, rest, fields, cut, next, is ∙ ap (λ n. counted (earlier + n)) (counts ∙ sym (from_none (feeds_before state bytes rest))) ∙ counted-more earlier (feeds_before state bytes rest), refused, answers)
+
+-- and those are no more than can be counted
+pub IsReportBefore-counted : (gives : Gives) (refuses : Record → Type 0) (d : ℕ) (start : State) (earlier all feeds : ℕ) (to_come : Option (List ℕ)) (bytes text : List ℕ) →
+    earlier ≡ counted all → IsReportBefore gives refuses d start earlier feeds to_come bytes text → IsReportBefore gives refuses d start all feeds to_come bytes text
+IsReportBefore-counted gives refuses d start earlier all feeds to_come bytes text is (records, state, rest, fields, cut, next, counts, refused, answers) =
+    let same = counts ∙ ap (λ n. counted (n + feeds_before state bytes rest)) is ∙ counted-more-first all (feeds_before state bytes rest) in
+    (records, state, rest, fields, cut, next, same, refused, answers)

@@ -1,12 +1,14 @@
 -- The first record of a text, as the header of a table.
-use Rattle.std.specs.Prelude.{◌≡◌, ℕ, ◌==◌, List, [], ◌∷◌, ◌++◌, Option, Some, if◌then◌else◌}
-use Rattle.std.specs.Prelude.{false}
+use Rattle.std.specs.Prelude.{◌≡◌, ℕ, ◌==◌, ◌≤◌, List, [], ◌∷◌, ◌++◌, length, Option, Some}
+use Rattle.std.specs.Prelude.{false, if◌then◌else◌}
 use Rattle.csv.specs.Machine.{Feeds, Read, next_record}
 use Rattle.csv.specs.Reading.{strip_bom}
 use Rattle.csv.specs.Records.{fields_of}
 use Rattle.csv.specs.declared.parser.State.{State}
 use Rattle.csv.specs.declared.parser.State.TheVariants as st
+use Rattle.phone_csv.specs.Feeds.{counted, line_feeds}
 use Rattle.phone_csv.specs.Formats.{Record, reading, state_of}
+use Rattle.phone_csv.specs.Records.{IsUnended}
 use Rattle.phone_csv.specs.declared.cutter.Cutter.{Cutter}
 use Rattle.phone_csv.specs.declared.front.Mark.{Mark}
 use Rattle.phone_csv.specs.declared.front.Mark.TheVariants as mark
@@ -43,3 +45,15 @@ pub record IsFront (mark : Mark) (bytes : List ℕ) (cutter : Cutter) : Type 0 w
   pub behind : IsBehind mark bytes part
   pub fed : Feeds (reading cutter.delimiter) st.StartRecord [] [] part
       (state_of cutter.place) (fields_of cutter.fields) cutter.field.items false
+  pub feeds : cutter.feeds ≡ counted (line_feeds bytes)
+
+-- bytes that end no first record, but perhaps by their last byte
+pub record EndsNoFirst (delimiter : ℕ) (bytes : List ℕ) : Type 0 where
+  pub front : List ℕ
+  pub last : List ℕ
+  pub whole : bytes ≡ front ++ last
+  pub short : length last ≤ 1
+  pub mark : Mark
+  pub part : List ℕ
+  pub behind : IsBehind mark front part
+  pub unended : IsUnended delimiter st.StartRecord part

@@ -1,5 +1,5 @@
 -- How tables are read and written: CSV as RFC 4180 has it, with a delimiter of one's own.
-use Rattle.std.specs.Prelude.{ℕ, List}
+use Rattle.std.specs.Prelude.{ℕ, ◌==◌, ◌&&◌, Bool, not, List}
 use Rattle.csv.specs.Reading.{default_config}
 use Rattle.csv.specs.Writing.{default_writer, row_text, with_delimiter}
 use Rattle.csv.specs.declared.parser.Action.{Action}
@@ -16,6 +16,10 @@ use Rattle.phone_csv.specs.declared.machine.Effect.TheVariants as effect
 -- a record: its fields, each of bytes
 abbrev pub Record : Type 0
 Record = List (List ℕ)
+
+-- a byte may stand between fields: any but a quote, a carriage return and a line feed
+abbrev pub is_delimiter : ℕ → Bool
+is_delimiter byte = not (byte == 34) && not (byte == 13) && not (byte == 10)
 
 -- how a text is read: the kit's defaults, but for the delimiter
 abbrev pub reading : ℕ → Config

@@ -1,4 +1,5 @@
 pub mod Faults
+pub mod Feeds
 pub mod Firsts
 pub mod Formats
 pub mod Records

@@ -1,9 +1,10 @@
 -- What is written on the records of a text.
-use Rattle.std.specs.Prelude.{◌≡◌, ◌⊎◌, ℕ, List, [], ◌∷◌, ◌++◌, Option}
+use Rattle.std.specs.Prelude.{◌≡◌, ◌⊎◌, ℕ, ◌+◌, List, [], ◌∷◌, ◌++◌, Option}
 use Rattle.csv.specs.Machine.{next_record}
 use Rattle.csv.specs.Reading.{records_next}
 use Rattle.csv.specs.declared.parser.State.{State}
 use Rattle.phone_device.specs.Passing.{IsAtEnd}
+use Rattle.phone_csv.specs.Feeds.{counted, feeds_before}
 use Rattle.phone_csv.specs.Formats.{Record, reading, record_text}
 use Rattle.phone_csv.specs.Records.{AreCut, IsEnded, IsUnended}
 
@@ -20,6 +21,13 @@ pub data AreAnswers (gives : Record → Record → Type 0) (delimiter : ℕ) :
       AreAnswers gives delimiter records text →
       AreAnswers gives delimiter (fields ∷ records)
       (record_text delimiter (fields ++ answer) ++ text)
+
+-- each of these records with an answer behind its fields, in their order
+pub data AreAnswered (gives : Record → Record → Type 0) : List Record → List Record → Type 0 where
+  none : AreAnswered gives [] []
+  next : (fields answer : Record) (records rows : List Record) → gives fields answer →
+      AreAnswered gives records rows →
+      AreAnswered gives (fields ∷ records) ((fields ++ answer) ∷ rows)
 
 -- the record that stands behind the last line end, where the text ends here and one does
 abbrev pub last_record : ℕ → State → List ℕ → List Record
@@ -64,10 +72,12 @@ IsNext delimiter state to_come rest fields =
     IsEnded delimiter state part fields after) ⊎
     (IsAtEnd to_come × (last_record delimiter state rest ≡ fields ∷ []))
 
--- the report on the records in front of one that is refused
-abbrev pub IsReportBefore : Gives → (Record → Type 0) → ℕ → State → Option (List ℕ) → List ℕ →
-    List ℕ → Type 0
-IsReportBefore gives refuses delimiter start to_come bytes text =
+-- the report on the records in front of one that is refused; so many line feeds stand in front of
+-- the bytes, and so many in front of that record
+abbrev pub IsReportBefore : Gives → (Record → Type 0) → ℕ → State → (earlier feeds : ℕ) →
+    Option (List ℕ) → List ℕ → List ℕ → Type 0
+IsReportBefore gives refuses delimiter start earlier feeds to_come bytes text =
     (records : List Record) × (state : State) × (rest : List ℕ) × (fields : Record) ×
     AreCut delimiter start bytes records state rest × IsNext delimiter state to_come rest fields ×
+    (feeds ≡ counted (earlier + feeds_before state bytes rest)) ×
     refuses fields × AreAnswers gives delimiter records text

@@ -1,13 +1,25 @@
 -- How far a run over records is, and how it ends.
-use Rattle.std.specs.Prelude.{ℕ, ◌-◌, ◌^◌, List, [], ◌++◌, Option, false}
-use Rattle.csv.specs.Machine.{Feeds}
+use Rattle.std.specs.Prelude.{◌≡◌, ◌≢◌, ◌⊎◌, ℕ, ◌-◌, ◌^◌, List, [], ◌++◌, Option, true, false}
+use Rattle.csv.specs.Machine.{Feeds, ends_at_end}
 use Rattle.csv.specs.Records.{fields_of}
 use Rattle.csv.specs.declared.parser.State.{State}
 use Rattle.phone_device.specs.Passing.{Passes, Takes, TakesFront}
+use Rattle.phone_csv.specs.Feeds.{counted, feeds_before, line_feeds, past_line_ends}
 use Rattle.phone_csv.specs.Formats.{Record, reading, state_of}
 use Rattle.phone_csv.specs.Records.{AreCut}
 use Rattle.phone_csv.specs.Reports.{AreAnswers, Gives, IsReportOnFirst}
 use Rattle.phone_csv.specs.declared.cutter.Cutter.{Cutter}
+
+-- a record that isn't ended yet counts the line feeds of bytes, and, once it has begun, those in
+-- front of it; until then the rest of the bytes are line ends
+pub record Counts (cutter : Cutter) (state : State) (bytes rest : List ℕ) : Type 0 where
+  pub feeds : cutter.feeds ≡ counted (line_feeds bytes)
+  pub before : ends_at_end (state_of cutter.place) ≡ true →
+      cutter.feeds_before ≡ counted (feeds_before state bytes rest)
+  pub begun : ends_at_end (state_of cutter.place) ≡ true →
+      (ends_at_end state ≡ true) ⊎ (past_line_ends rest ≢ [])
+  pub closed : ends_at_end (state_of cutter.place) ≡ false → ends_at_end state ≡ false
+  pub blank : ends_at_end (state_of cutter.place) ≡ false → past_line_ends rest ≡ []
 
 -- so far these bytes were read, of which the last record isn't ended yet, and these answers given
 -- to the other ones
@@ -19,6 +31,7 @@ pub record IsSoFar (gives : Record → Record → Type 0) (start : State) (bytes
   pub cut : AreCut cutter.delimiter start bytes records state rest
   pub fed : Feeds (reading cutter.delimiter) state [] [] rest
       (state_of cutter.place) (fields_of cutter.fields) cutter.field.items false
+  pub counts : Counts cutter state bytes rest
   pub answered : AreAnswers gives cutter.delimiter records answers
 
 -- of such answers these are held back, and the others were taken by the sink

@@ -1,5 +1,6 @@
 //! The run over all records.
-ghost use Rattle.std.specs.Prelude.{◌≡◌, ◌+◌, ◌⊎◌, ℕ, [], Ok, Err, OnOk, OnErr, length};
+ghost use Rattle.std.specs.Prelude.{◌≡◌, ◌≢◌, ◌<◌, ◌+◌, ◌⊎◌, ℕ, [], Ok, Err, OnOk, OnErr, length};
+ghost use Rattle.std.specs.Prelude.{vec_len};
 ghost use Rattle.csv.specs.Records.{fields_of, partial_of};
 ghost use Rattle.csv.specs.declared.parser.State.{State};
 ghost use Rattle.phone_device.specs.Passing.{IsAtEnd};
@@ -15,7 +16,7 @@ ghost use Rattle.phone_csv.specs.declared.blocks.RunError.TheVariants as error;
 use crate::answers::{Answers, Refusal};
 use crate::cutter::Start;
 use crate::desk::{Desk, Stop};
-use phone_device::{Block, ByteSink, ByteSource, Fault};
+use phone_device::{BLOCK_LENGTH, Block, ByteSink, ByteSource, Fault};
 use std::alloc::Global;
 
 /// Why a run ended before all records were answered.
@@ -25,7 +26,7 @@ pub enum RunError {
     Input,
     /// The sink failed, or took no byte of some.
     Output,
-    /// A record is not answered. The text has so many line feeds in front of it.
+    /// A record is not answered. So many line feeds stand in front of it, 2^64 - 1 at most.
     Record(u64),
     /// There was no memory for a record or its answer.
     Memory,
@@ -52,7 +53,8 @@ fn take_blocks<A: Answers, S: ByteSource, W: ByteSink>(
     sink: &mut W,
     desk: &mut Desk,
 ) -> Result<End, Fault>
-    requires { partial_of desk.old.cutter.fields ≡ [] }
+    requires partial { partial_of desk.old.cutter.fields ≡ [] }
+    requires short { vec_len desk.old.answers < BLOCK_LENGTH }
     ensures end { result ≡ Ok end.Whole → IsAtEnd (S.to_come source.new) }
     ensures partial { result ≡ Ok end.Whole → partial_of desk.new.cutter.fields ≡ [] }
     ensures delimiter { desk.new.cutter.delimiter ≡ desk.old.cutter.delimiter }
@@ -75,7 +77,7 @@ fn take_blocks<A: Answers, S: ByteSource, W: ByteSink>(
         (W.taken sink.old) →
         OfRead (S.to_come source.old) (S.to_come source.new) (λ bytes. Holds (IsReportBefore
         (A.gives answers.now) (A.refuses answers.now) desk.old.cutter.delimiter start
-        (S.to_come source.new) bytes) desk.new.answers.items
+        0 desk.new.cutter.feeds_before (S.to_come source.new) bytes) desk.new.answers.items
         (W.taken sink.old) (W.taken sink.new)) }
     ensures memory { result ≡ Ok end.Memory → (start : State) →
         IsFresh (A.gives answers.now) start desk.old.cutter desk.old.answers.items
@@ -127,7 +129,8 @@ fn take_all<A: Answers, S: ByteSource, W: ByteSink>(
     sink: &mut W,
     desk: &mut Desk,
 ) -> Result<End, Fault>
-    requires { partial_of desk.old.cutter.fields ≡ [] }
+    requires partial { partial_of desk.old.cutter.fields ≡ [] }
+    requires short { vec_len desk.old.answers < BLOCK_LENGTH }
     ensures end { result ≡ Ok end.Whole → IsAtEnd (S.to_come source.new) }
     ensures taken { result ≡ Ok end.Whole → (start : State) →
         IsFresh (A.gives answers.now) start desk.old.cutter desk.old.answers.items
@@ -148,7 +151,7 @@ fn take_all<A: Answers, S: ByteSource, W: ByteSink>(
         (W.taken sink.old) →
         OfRead (S.to_come source.old) (S.to_come source.new) (λ bytes. Holds (IsReportBefore
         (A.gives answers.now) (A.refuses answers.now) desk.old.cutter.delimiter start
-        (S.to_come source.new) bytes) desk.new.answers.items
+        0 desk.new.cutter.feeds_before (S.to_come source.new) bytes) desk.new.answers.items
         (W.taken sink.old) (W.taken sink.new)) }
     ensures memory { result ≡ Ok end.Memory → (start : State) →
         IsFresh (A.gives answers.now) start desk.old.cutter desk.old.answers.items
@@ -190,9 +193,10 @@ fn take_all<A: Answers, S: ByteSource, W: ByteSink>(
 /// delimiter, each ended by a line feed. What is held in memory are a block, the longest record and
 /// its answer: it does not grow with the number of records.
 ///
-/// Refused by `Input` where the source failed or 2^64 - 1 bytes were read: then the answers to all
+/// The sink is flushed at the end, but where it failed before. Refused by `Input` where the source failed or 2^64 - 1 bytes were read: then the answers to all
 /// records that are ended are written. By `Output` where the sink failed, or took no byte of some:
-/// then a beginning of the report is written. By `Record` at a record that is not answered: then
+/// then a beginning of the report is written. By `Record` at a record that is not answered, with the
+/// line feeds in front of it, those of the start among them: then
 /// the answers to all records in front of it are written. By `Memory` where there was no room for a
 /// record or its answer: then the answers to some first records are written, each whole.
 pub fn answer_records<A: Answers, S: ByteSource, W: ByteSink>(
@@ -221,7 +225,7 @@ pub fn answer_records<A: Answers, S: ByteSource, W: ByteSink>(
     ensures before { (feeds : ℕ) → result ≡ Err (error.Record feeds) →
         OfRead (S.to_come source.old) (S.to_come source.new) (λ bytes. TakesA (IsReportBefore
         (A.gives answers.now) (A.refuses answers.now) delimiter (state_of start.place)
-        (S.to_come source.new) bytes) (W.taken sink.old) (W.taken sink.new)) }
+        start.feeds feeds (S.to_come source.new) bytes) (W.taken sink.old) (W.taken sink.new)) }
     ensures first { result ≡ Err error.Memory →
         OfRead (S.to_come source.old) (S.to_come source.new) (λ bytes. TakesA (IsReportOnFirst
         (A.gives answers.now) delimiter (state_of start.place) bytes) (W.taken sink.old)
@@ -231,8 +235,9 @@ pub fn answer_records<A: Answers, S: ByteSource, W: ByteSink>(
     ensures no_fault_without_memory { result ≡ Err error.Memory →
         S.faults source.new ≡ S.faults source.old }
     ensures sink_faults { W.faults sink.new ≡ W.faults sink.old + sink_faults_of result }
+    ensures handed_on { result ≢ Err error.Output → W.unflushed sink.new ≡ 0 }
 {
-    let mut desk = Desk::new(alloc, delimiter, start);
+    let mut desk = Desk::new(alloc, delimiter, start.place);
     let Ok(end) = take_all(alloc, answers, source, sink, &mut desk) else {
         return Err(RunError::Output);
     };
@@ -242,7 +247,7 @@ pub fn answer_records<A: Answers, S: ByteSource, W: ByteSink>(
     match end {
         End::Whole => Ok(()),
         End::Input => Err(RunError::Input),
-        End::Record => Err(RunError::Record(desk.cutter.feeds_before)),
+        End::Record => Err(RunError::Record(start.feeds.saturating_add(desk.cutter.feeds_before))),
         End::Memory => Err(RunError::Memory),
     }
 }

@@ -1,7 +1,9 @@
 //! The record that isn't ended yet.
-ghost use Rattle.std.specs.Prelude.{◌≡◌, [], ◌++◌, ◌∷◌, ℕ, List, OnOk, IfOk};
-ghost use Rattle.csv.specs.Machine.{field_after, fields_after, is_end, step};
+ghost use Rattle.std.specs.Prelude.{◌≡◌, ◌==◌, ◌+◌, [], ◌++◌, ◌∷◌, ℕ, List, OnOk, IfOk};
+ghost use Rattle.std.specs.Prelude.{if◌then◌else◌};
+ghost use Rattle.csv.specs.Machine.{ends_at_end, field_after, fields_after, is_end, step};
 ghost use Rattle.csv.specs.Records.{fields_of, partial_of};
+ghost use Rattle.phone_csv.specs.Feeds.{counted};
 ghost use Rattle.phone_csv.specs.Formats.{action_of, reading, state_of};
 ghost use Rattle.phone_csv.specs.declared.machine.Place.TheVariants as place;
 
@@ -14,7 +16,7 @@ use std::alloc::{AllocError, Global};
 pub struct Start {
     /// The place, in front of a record.
     pub place: Place,
-    /// How many line feeds stand in front of it.
+    /// How many line feeds stand in front of it, 2^64 - 1 at most.
     pub feeds: u64,
 }
 
@@ -36,21 +38,23 @@ pub struct Cutter {
 }
 
 impl Cutter {
-    /// Where records begin.
-    pub fn new(alloc: Global, delimiter: u8, start: Start) -> Cutter
+    /// At this place, where nothing was taken yet.
+    pub fn new(alloc: Global, delimiter: u8, place: Place) -> Cutter
         ensures delimiter { result.delimiter ≡ delimiter }
-        ensures place { result.place ≡ start.place }
+        ensures place { result.place ≡ place }
         ensures fields { fields_of result.fields ≡ [] }
         ensures partial { partial_of result.fields ≡ [] }
         ensures field { result.field.items ≡ [] }
+        ensures feeds { result.feeds ≡ 0 }
+        ensures feeds_before { result.feeds_before ≡ 0 }
     {
         Cutter {
             delimiter,
-            place: start.place,
+            place,
             fields: ByteRecord::new(alloc),
             field: Vec::new(alloc),
-            feeds: start.feeds,
-            feeds_before: start.feeds,
+            feeds: 0,
+            feeds_before: 0,
         }
     }
 
@@ -61,6 +65,7 @@ impl Cutter {
         ensures fields { fields_of self.new.fields ≡ [] }
         ensures partial { partial_of self.new.fields ≡ [] }
         ensures field { self.new.field.items ≡ [] }
+        ensures feeds { self.new.feeds ≡ self.old.feeds }
     {
         self.place = Place::StartRecord;
         self.fields.clear();
@@ -76,6 +81,8 @@ impl Cutter {
             fields_of self.old.fields ++ self.old.field.items ∷ []) }
         ensures partial { OnOk result (partial_of self.new.fields ≡ []) }
         ensures field { OnOk result (self.new.field.items ≡ []) }
+        ensures feeds { self.new.feeds ≡ self.old.feeds }
+        ensures feeds_before { self.new.feeds_before ≡ self.old.feeds_before }
     {
         self.fields.push_field(self.field.as_slice())?;
         self.field.clear();
@@ -89,6 +96,10 @@ impl Cutter {
         ensures place { self.new.place ≡ self.old.place }
         ensures fields { self.new.fields ≡ self.old.fields }
         ensures field { self.new.field ≡ self.old.field }
+        ensures feeds { self.new.feeds ≡
+            (if byte == 10 then counted (self.old.feeds + 1) else self.old.feeds) }
+        ensures feeds_before { self.new.feeds_before ≡ (if ends_at_end (state_of self.old.place)
+            then self.old.feeds_before else self.old.feeds) }
     {
         if !is_open(self.place) {
             self.feeds_before = self.feeds;
@@ -113,6 +124,10 @@ impl Cutter {
             self.old.field.items) }
         ensures partial { OnOk result (partial_of self.new.fields ≡ []) }
         ensures delimiter { self.new.delimiter ≡ self.old.delimiter }
+        ensures feeds { self.new.feeds ≡
+            (if byte == 10 then counted (self.old.feeds + 1) else self.old.feeds) }
+        ensures feeds_before { self.new.feeds_before ≡ (if ends_at_end (state_of self.old.place)
+            then self.old.feeds_before else self.old.feeds) }
     {
         self.count(byte);
         let (place, effect) = step(self.delimiter, self.place, byte);

@@ -12,8 +12,8 @@ ghost use Rattle.phone_csv.specs.declared.desk.Stop.TheVariants as stop;
 ghost use Rattle.phone_csv.specs.declared.answers.Refusal.TheVariants as refusal;
 
 use crate::answers::{Answers, Refusal, add_record};
-use crate::cutter::{Cutter, Start};
-use crate::machine::is_open;
+use crate::cutter::Cutter;
+use crate::machine::{Place, is_open};
 use phone_device::{BLOCK_LENGTH, ByteSink, Fault, write_all};
 use std::alloc::Global;
 
@@ -38,17 +38,19 @@ pub(crate) struct Desk {
 }
 
 impl Desk {
-    /// Holds nothing yet, where records begin.
-    pub fn new(alloc: Global, delimiter: u8, start: Start) -> Desk
+    /// Holds nothing yet, at this place.
+    pub fn new(alloc: Global, delimiter: u8, place: Place) -> Desk
         ensures delimiter { result.cutter.delimiter ≡ delimiter }
-        ensures place { result.cutter.place ≡ start.place }
+        ensures place { result.cutter.place ≡ place }
         ensures fields { fields_of result.cutter.fields ≡ [] }
         ensures partial { partial_of result.cutter.fields ≡ [] }
         ensures field { result.cutter.field.items ≡ [] }
+        ensures feeds { result.cutter.feeds ≡ 0 }
+        ensures feeds_before { result.cutter.feeds_before ≡ 0 }
         ensures answers { result.answers.items ≡ [] }
     {
         Desk {
-            cutter: Cutter::new(alloc, delimiter, start),
+            cutter: Cutter::new(alloc, delimiter, place),
             answers: Vec::new(alloc),
         }
     }
@@ -66,7 +68,8 @@ impl Desk {
             Stands (A.gives answers.now) start bytes
             self.old.cutter self.old.answers.items before after →
             Holds (IsReportBefore (A.gives answers.now) (A.refuses answers.now)
-            self.old.cutter.delimiter start to_come bytes) self.new.answers.items before after }
+            self.old.cutter.delimiter start 0 self.new.cutter.feeds_before to_come bytes)
+            self.new.answers.items before after }
         ensures kept { OnErr result (self.new.answers.items ≡ self.old.answers.items) }
     {
         if !is_open(self.cutter.place) {
@@ -85,6 +88,8 @@ impl Desk {
         ensures delimiter { self.new.cutter.delimiter ≡ self.old.cutter.delimiter }
         ensures place { self.new.cutter.place ≡ self.old.cutter.place }
         ensures field { self.new.cutter.field.items ≡ self.old.cutter.field.items }
+        ensures feeds { self.new.cutter.feeds ≡ self.old.cutter.feeds }
+        ensures feeds_before { self.new.cutter.feeds_before ≡ self.old.cutter.feeds_before }
         ensures fields { OnOk result (fields_of self.new.cutter.fields ≡ []) }
         ensures added { OnOk result ((answer : Record) ×
             A.gives answers.now (fields_of self.old.cutter.fields) answer ×
@@ -117,7 +122,8 @@ impl Desk {
             (written : List ℕ) → IsSoFar (A.gives answers.now) start bytes self.old.cutter
             (written ++ self.old.answers.items) → (to_come : Option (List ℕ)) (more : List ℕ) →
             IsReportBefore (A.gives answers.now) (A.refuses answers.now) self.old.cutter.delimiter
-            start to_come (bytes ++ byte ∷ more) (written ++ self.old.answers.items) }
+            start 0 self.new.cutter.feeds_before to_come (bytes ++ byte ∷ more)
+            (written ++ self.old.answers.items) }
         ensures answers_kept { OnErr result (self.new.answers.items ≡ self.old.answers.items) }
     {
         let Ok(is_ended) = self.cutter.take(byte) else {
@@ -153,6 +159,7 @@ impl Desk {
     pub fn write_out<W: ByteSink>(&self, sink: &mut W) -> Result<(), Fault>
         ensures all { OnOk result (Takes (W.taken sink.old) self.now.answers.items
             (W.taken sink.new)) }
+        ensures handed_on { OnOk result (W.unflushed sink.new ≡ 0) }
         ensures no_fault { OnOk result (W.faults sink.new ≡ W.faults sink.old) }
         ensures front { OnErr result (TakesFront (W.taken sink.old) self.now.answers.items
             (W.taken sink.new)) }
@@ -171,7 +178,8 @@ impl Desk {
         sink: &mut W,
         block: &[u8],
     ) -> Result<(), Stop>
-        requires { partial_of self.old.cutter.fields ≡ [] }
+        requires partial { partial_of self.old.cutter.fields ≡ [] }
+        requires short { vec_len self.old.answers < BLOCK_LENGTH }
         ensures partial { OnOk result (partial_of self.new.cutter.fields ≡ []) }
         ensures delimiter { self.new.cutter.delimiter ≡ self.old.cutter.delimiter }
         ensures taken { OnOk result ((start : State) (bytes : List ℕ) (before : Option (List ℕ)) →
@@ -184,8 +192,8 @@ impl Desk {
             Stands (A.gives answers.now) start bytes self.old.cutter self.old.answers.items before
             (W.taken sink.old) →
             Holds (IsReportBefore (A.gives answers.now) (A.refuses answers.now)
-            self.old.cutter.delimiter start to_come (bytes ++ block.now))
-            self.new.answers.items before (W.taken sink.new) }
+            self.old.cutter.delimiter start 0 self.new.cutter.feeds_before to_come
+            (bytes ++ block.now)) self.new.answers.items before (W.taken sink.new) }
         ensures memory { result ≡ Err stop.Memory → (start : State) (bytes : List ℕ)
             (before : Option (List ℕ)) →
             Stands (A.gives answers.now) start bytes self.old.cutter self.old.answers.items before
@@ -198,6 +206,7 @@ impl Desk {
             (W.taken sink.old) → BreaksOff (A.gives answers.now) self.old.cutter.delimiter start
             (bytes ++ block.now) before (W.taken sink.new) }
         ensures faults { W.faults sink.new ≡ W.faults sink.old + faults_of result }
+        ensures short { OnOk result (vec_len self.new.answers < BLOCK_LENGTH) }
     {
         for byte in block {
             match self.take_byte(alloc, answers, *byte) {

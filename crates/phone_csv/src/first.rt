@@ -1,10 +1,11 @@
 //! The first record of a source.
-ghost use Rattle.std.specs.Prelude.{◌≡◌, ◌+◌, ◌⊎◌, [], None, Some, Err, OnOk, IfOk, IfSome, IsNone};
-ghost use Rattle.std.specs.Prelude.{◌∷◌, ◌++◌, length};
+ghost use Rattle.std.specs.Prelude.{◌≡◌, ◌+◌, ◌⊎◌, [], None, Some, Err, OnOk, OnErr, IfOk, IfSome};
+ghost use Rattle.std.specs.Prelude.{IsNone, ◌∷◌, ◌++◌, length};
 ghost use Rattle.csv.specs.Records.{fields_of, partial_of};
 ghost use Rattle.csv.specs.declared.parser.State.TheVariants as st;
 ghost use Rattle.phone_device.specs.Passing.{IsAtEnd};
-ghost use Rattle.phone_csv.specs.Firsts.{IsFirst, IsFront, first_in};
+ghost use Rattle.phone_csv.specs.Feeds.{counted, line_feeds};
+ghost use Rattle.phone_csv.specs.Firsts.{EndsNoFirst, IsFirst, IsFront, first_in};
 ghost use Rattle.phone_csv.specs.Formats.{state_of};
 ghost use Rattle.phone_csv.specs.Runs.{OfRead, most_bytes};
 ghost use Rattle.phone_csv.specs.declared.first.FirstError.TheVariants as error;
@@ -40,7 +41,8 @@ pub struct First {
 /// come. A UTF-8 byte-order mark in front of it is passed over, and so are line ends.
 ///
 /// Refused by `Absent` where the source has no record; then it is at its end. By `Input` where it
-/// failed, or 2^64 - 1 bytes were read. By `Memory`.
+/// failed, or 2^64 - 1 bytes were read. By `Memory`. Whatever refuses it, no record was ended by
+/// what was read, but perhaps by its last byte.
 pub fn first_record<S: ByteSource>(
     alloc: Global,
     delimiter: u8,
@@ -49,7 +51,8 @@ pub fn first_record<S: ByteSource>(
     ensures partial { IfOk result (λ first. partial_of first.fields ≡ []) }
     ensures ended { IfOk result (λ first. IfSome first.rest (λ start.
         OfRead (S.to_come source.old) (S.to_come source.new) (λ bytes.
-        IsFirst delimiter bytes (fields_of first.fields) (state_of start.place)))) }
+        IsFirst delimiter bytes (fields_of first.fields) (state_of start.place) ×
+        (start.feeds ≡ counted (line_feeds bytes))))) }
     ensures only { IfOk result (λ first. IsNone first.rest →
         OfRead (S.to_come source.old) (S.to_come source.new) (λ bytes.
         first_in delimiter bytes ≡ Some (fields_of first.fields, st.StartRecord, []))) }
@@ -63,6 +66,8 @@ pub fn first_record<S: ByteSource>(
     ensures absent_end { result ≡ Err error.Absent → IsAtEnd (S.to_come source.new) }
     ensures cause { result ≡ Err error.Input → (S.faults source.new ≡ S.faults source.old + 1) ⊎
         OfRead (S.to_come source.old) (S.to_come source.new) (λ bytes. length bytes ≡ most_bytes) }
+    ensures unended { OnErr result (OfRead (S.to_come source.old) (S.to_come source.new)
+        (EndsNoFirst delimiter)) }
     ensures no_fault_without_memory { result ≡ Err error.Memory →
         S.faults source.new ≡ S.faults source.old }
 {

@@ -3,12 +3,13 @@ ghost use Rattle.std.specs.Prelude.{◌≡◌, ◌+◌, ◌⊎◌, [], ◌++◌,
 ghost use Rattle.std.specs.Prelude.{IfSome, IsNone, true, false, length, Ok, Err};
 ghost use Rattle.csv.specs.Records.{fields_of, partial_of};
 ghost use Rattle.phone_device.specs.Passing.{IsAtEnd, Passes};
-ghost use Rattle.phone_csv.specs.Firsts.{IsFirst, IsFront, mark_after};
+ghost use Rattle.phone_csv.specs.Feeds.{counted, line_feeds};
+ghost use Rattle.phone_csv.specs.Firsts.{EndsNoFirst, IsFirst, IsFront, mark_after};
 ghost use Rattle.phone_csv.specs.Formats.{state_of};
 ghost use Rattle.phone_csv.specs.Runs.{OfRead, most_bytes};
 ghost use Rattle.phone_csv.specs.declared.first.FirstError.TheVariants as error;
 
-use crate::cutter::{Cutter, Start};
+use crate::cutter::Cutter;
 use crate::first::FirstError;
 use crate::machine::Place;
 use phone_device::{ByteSource, Fault};
@@ -76,12 +77,8 @@ impl Front {
         ensures delimiter { result.cutter.delimiter ≡ delimiter }
         ensures partial { partial_of result.cutter.fields ≡ [] }
     {
-        let start = Start {
-            place: Place::StartRecord,
-            feeds: 0,
-        };
         Front {
-            cutter: Cutter::new(alloc, delimiter, start),
+            cutter: Cutter::new(alloc, delimiter, Place::StartRecord),
             mark: Mark::Start,
         }
     }
@@ -98,6 +95,9 @@ impl Front {
             IsFront self.old.mark bytes self.old.cutter →
             IsFirst self.old.cutter.delimiter (bytes ++ byte ∷ [])
             (fields_of self.new.cutter.fields) (state_of self.new.cutter.place)) }
+        ensures feeds { IfOk result (λ ended. ended ≡ true → (bytes : List ℕ) →
+            IsFront self.old.mark bytes self.old.cutter →
+            self.new.cutter.feeds ≡ counted (line_feeds (bytes ++ byte ∷ []))) }
     {
         let ended = self.cutter.take(byte)?;
         self.mark = mark_after(self.mark, byte);
@@ -117,13 +117,16 @@ impl Front {
         ensures ended { result ≡ Ok true →
             OfRead (S.to_come source.old) (S.to_come source.new) (λ bytes.
             IsFirst self.old.cutter.delimiter bytes (fields_of self.new.cutter.fields)
-            (state_of self.new.cutter.place)) }
+            (state_of self.new.cutter.place) ×
+            (self.new.cutter.feeds ≡ counted (line_feeds bytes))) }
         ensures front { result ≡ Ok false →
             OfRead (S.to_come source.old) (S.to_come source.new) (λ bytes.
             IsFront self.new.mark bytes self.new.cutter) }
         ensures end { result ≡ Ok false → IsAtEnd (S.to_come source.new) }
         ensures no_fault { OnOk result (S.faults source.new ≡ S.faults source.old) }
         ensures not_absent { ¬ (result ≡ Err error.Absent) }
+        ensures unended { OnErr result (OfRead (S.to_come source.old) (S.to_come source.new)
+            (EndsNoFirst self.old.cutter.delimiter)) }
         ensures cause { result ≡ Err error.Input →
             (S.faults source.new ≡ S.faults source.old + 1) ⊎
             OfRead (S.to_come source.old) (S.to_come source.new)

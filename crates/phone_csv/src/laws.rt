@@ -1,14 +1,27 @@
-//! What holds of the definitions of this crate. This function does nothing; its contract is the
-//! statement.
+//! What holds of the definitions of this crate. These functions do nothing; their contracts are the
+//! statements.
 ghost use Rattle.std.specs.Prelude.{ℕ, List};
 ghost use Rattle.csv.specs.Reading.{AreRecords};
 ghost use Rattle.csv.specs.declared.parser.State.{State};
+ghost use Rattle.csv.specs.declared.parser.State.TheVariants as st;
 ghost use Rattle.phone_csv.specs.Formats.{Record, reading};
-ghost use Rattle.phone_csv.specs.Reports.{AreAll};
+ghost use Rattle.phone_csv.specs.Reports.{AreAll, AreAnswered, IsReport};
+
+use crate::Answers;
 
 /// The records of a text are those that the kit's `csv` reads it as.
 pub fn records_of_the_kit()
     ensures { (delimiter : ℕ) (start : State) (bytes : List ℕ) (records : List Record) →
         AreAll delimiter start bytes records →
         AreRecords (reading delimiter) start bytes records }
+{}
+
+/// What is written under a comma, read again, are the records that were read, each with its answer
+/// behind its fields.
+pub fn read_again<A: Answers>(answers: &A)
+    ensures { (start : State) (bytes text : List ℕ) →
+        IsReport (A.gives answers.now) 44 start bytes text →
+        (records rows : List Record) × AreAll 44 start bytes records ×
+        AreAnswered (A.gives answers.now) records rows ×
+        AreRecords (reading 44) st.StartRecord text rows }
 {}

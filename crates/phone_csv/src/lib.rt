@@ -4,6 +4,7 @@
 mod answers;
 mod blocks;
 mod cutter;
+mod delimiter;
 mod desk;
 mod first;
 mod front;
@@ -14,5 +15,6 @@ mod spelled;
 pub use answers::{Answers, Refusal, add_record};
 pub use blocks::{RunError, answer_records};
 pub use cutter::Start;
+pub use delimiter::is_delimiter;
 pub use first::{First, FirstError, first_record};
 pub use machine::Place;

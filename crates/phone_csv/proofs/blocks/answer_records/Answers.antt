@@ -1,10 +1,10 @@
-use Rattle.std.proofs.Common.{Ok, ap, inl, inr}
+use Rattle.std.proofs.Common.{Ok, ap, inl, inr, sym, ◌∙◌}
 use Rattle.phone_device.specs.Passing.{IsAtEnd}
 use Rattle.phone_csv.specs.Formats.{state_of}
 use Rattle.phone_csv.specs.Reports.{IsBeginning, IsReport, IsReportBefore, IsReportOnEnded, IsReportOnFirst}
 use Rattle.phone_csv.specs.Runs.{Holds, IsFresh, OfRead, TakesA}
-use Rattle.phone_csv.proofs.Ends.{by_end}
-use Rattle.phone_csv.proofs.Progress.{BreaksOff-begins, Holds-begins, Holds-out, Stands-nothing}
+use Rattle.phone_csv.proofs.Ends.{by_end, same_feeds}
+use Rattle.phone_csv.proofs.Progress.{BreaksOff-begins, Holds-begins, Holds-out, IsReportBefore-from, Stands-nothing}
 use Rattle.phone_csv.proofs.blocks.answer_records.Goals as goal
 use Rattle.phone_csv.proofs.blocks.answer_records.Goals.{After-new-desk}
 
@@ -14,7 +14,7 @@ fresh : (g : _) (c : After-new-desk g) → IsFresh (g.A.Answers.gives c.args.ans
 fresh g c =
     let n = c.new-desk.ensures in
     Stands-nothing (g.A.Answers.gives c.args.answers.now) (state_of c.args.start.place) c.new-desk.result.cutter c.new-desk.result.answers.items
-    (g.W.ByteSink.taken c.args.sink.now) (ap state_of n.place) n.fields n.field n.answers
+    (g.W.ByteSink.taken c.args.sink.now) (ap state_of n.place) n.fields n.field n.feeds n.feeds_before n.answers
 
 pub returns-in_default-clause-beginning : goal.returns-in_default-clause-beginning
 returns-in_default-clause-beginning g c is =
@@ -38,7 +38,7 @@ returns-in_default-write_out-clause-beginning g c is =
     let front = c.in_default-write_out.ensures.front in
     by_end {A = IsAtEnd after × OfRead before after (λ bytes. Holds (IsReport gives d start bytes) held taken middle)}
     {B = OfRead before after (λ bytes. Holds (IsReportOnEnded gives d start bytes) held taken middle)}
-    {C = OfRead before after (λ bytes. Holds (IsReportBefore gives refuses d start after bytes) held taken middle)}
+    {C = OfRead before after (λ bytes. Holds (IsReportBefore gives refuses d start 0 c.take_all.new.desk.cutter.feeds_before after bytes) held taken middle)}
     {D = OfRead before after (λ bytes. Holds (IsReportOnFirst gives d start bytes) held taken middle)}
     {Q = OfRead before after (λ bytes. TakesA (IsBeginning gives d start after bytes) taken (g.W.ByteSink.taken c.write_out.new.sink))}
     c.in-Ok.end
@@ -51,8 +51,8 @@ returns-in_default-write_out-clause-beginning g c is =
     (λ r. (
       r.0,
       r.1,
-      Holds-begins gives d start after r.0 held (IsReportBefore gives refuses d start after r.0) taken middle _
-          (λ text (records, state, rest, fields, cut, next, refused, answers). inl (records, state, rest, cut, answers)) r.2 front,
+      Holds-begins gives d start after r.0 held (IsReportBefore gives refuses d start 0 c.take_all.new.desk.cutter.feeds_before after r.0) taken middle _
+          (λ text (records, state, rest, fields, cut, next, counts, refused, answers). inl (records, state, rest, cut, answers)) r.2 front,
     ))
     (λ r. (r.0, r.1, Holds-begins gives d start after r.0 held (IsReportOnFirst gives d start r.0) taken middle _ (λ text first. inl first) r.2 front))
 
@@ -69,7 +69,9 @@ returns-in-Input-clause-ended g c is =
 pub returns-in-Record-clause-before : goal.returns-in-Record-clause-before
 returns-in-Record-clause-before g c feeds is =
     let r = rw c.new-desk.ensures.delimiter at (c.in-Ok.ensures.refused (ap Ok c.in-Record.is) _ (fresh g (goal.at.returns-in-Record-clause-before g c).After-new-desk)) in
-    (r.0, r.1, Holds-out _ c.take_all.new.desk.answers.items _ _ _ r.2 c.in-Ok-write_out.ensures.all)
+    let t = Holds-out _ c.take_all.new.desk.answers.items _ _ _ r.2 c.in-Ok-write_out.ensures.all in
+    let all = sym (same_feeds _ feeds is) ∙ c.saturating_add.ensures in
+    (r.0, r.1, (t.0, IsReportBefore-from _ _ _ _ _ _ feeds _ _ _ all t.1, t.2))
 
 pub returns-clause-first : goal.returns-clause-first
 returns-clause-first g c is =

@@ -39,6 +39,7 @@ blocks-2-preserved g c =
       same_delimiter = c.in-Ok-take_block.ensures.delimiter ∙ c.blocks-2.invariant.same_delimiter;
       source_faults = c.in-Ok.ensures.no_fault ∙ c.blocks-2.invariant.source_faults;
       sink_faults = omega (arith, c.in-Ok-take_block.ensures.faults, c.blocks-2.invariant.sink_faults);
+      short = c.in-Ok-take_block.ensures.short;
     }
 
 pub returns-in-Err-Fault-clause-broken : goal.returns-in-Err-Fault-clause-broken

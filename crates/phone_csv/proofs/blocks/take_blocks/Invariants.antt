@@ -1,4 +1,4 @@
-use Rattle.std.proofs.Common.{◌≡◌, ◌-◌, ◌^◌, [], length}
+use Rattle.std.proofs.Common.{◌≡◌, ◌<◌, ◌-◌, ◌^◌, [], length, vec_len}
 use Rattle.csv.specs.Records.{partial_of}
 use Rattle.csv.specs.declared.parser.State.{State}
 use Rattle.phone_csv.specs.Runs.{IsFresh, OfRead, Stands}
@@ -13,6 +13,7 @@ invariant-blocks-2 g l = record {
   same_delimiter : l.desk.cutter.delimiter ≡ l.initial.desk.cutter.delimiter;
   source_faults : g.S.ByteSource.faults l.source ≡ g.S.ByteSource.faults l.initial.source;
   sink_faults : g.W.ByteSink.faults l.sink ≡ g.W.ByteSink.faults l.initial.sink;
+  short : vec_len l.desk.answers < 8192;
 }
 
 abbrev pub decreases-blocks-2 : goal.decreases-blocks-2

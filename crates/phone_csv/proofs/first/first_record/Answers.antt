@@ -1,13 +1,14 @@
-use Rattle.std.proofs.Common.{rules, ◌≡◌, ◌∷◌, ◌++◌, [], ℕ, Bool, List, Option, Some, None, Ok, if◌then◌else◌, ap, subst, ◌∙◌, true, false}
+use Rattle.std.proofs.Common.{rules, ◌≡◌, ◌∷◌, ◌++◌, [], ℕ, Bool, List, Option, Some, None, Ok, if◌then◌else◌, ap, sym, subst, ◌∙◌, true, false, arith}
+use Rattle.std.proofs.lemmas.List.{append-nil}
 use Rattle.csv.specs.Machine.{ends_at_end}
 use Rattle.csv.specs.Records.{fields_of}
 use Rattle.csv.specs.declared.parser.State.TheVariants as st
-use Rattle.phone_csv.specs.Firsts.{IsFront, first_in}
+use Rattle.phone_csv.specs.Firsts.{EndsNoFirst, IsFront, first_in}
 use Rattle.phone_csv.specs.Formats.{state_of}
 use Rattle.phone_csv.specs.Runs.{OfRead}
 use Rattle.phone_csv.specs.declared.cutter.Cutter.{Cutter}
 use Rattle.phone_csv.specs.declared.front.Mark.{Mark}
-use Rattle.phone_csv.proofs.FirstLemmas.{IsFront-last}
+use Rattle.phone_csv.proofs.FirstLemmas.{IsFront-last, IsFront-unended}
 use Rattle.phone_csv.proofs.first.first_record.Goals as goal
 
 -- the first record of a source that ended before a byte ended it
@@ -34,3 +35,21 @@ returns-in-Ok-clause-only g c is =
     let is_open : ends_at_end (state_of c.read.new.self.cutter.place) ≡ true = search rules in
     rw c.in-Ok.ensures.fields
     (at_end _ _ c.read.new.self.mark c.read.new.self.cutter _ true (r.front (ap Ok e)) (r.delimiter ∙ c.new-front.ensures.delimiter) is_open)
+
+-- where a source ended before a byte ended a record, none was ended
+none_ended : (before after : Option (List ℕ)) (m : Mark) (c : Cutter) (d : ℕ) → OfRead before after (λ bytes. IsFront m bytes c) → c.delimiter ≡ d →
+    OfRead before after (EndsNoFirst d)
+none_ended before after m c d was same =
+    (was.0, was.1, subst (λ d. EndsNoFirst d was.0) same (IsFront-unended m was.0 was.0 [] c (sym (append-nil was.0)) (omega arith) was.2))
+
+pub returns-then-not-is_open-clause-unended : goal.returns-then-not-is_open-clause-unended
+returns-then-not-is_open-clause-unended g c =
+    let r = c.in_ok-read.ensures in
+    let e : c.in_ok-read.field-0 ≡ false = search rules in
+    none_ended _ _ c.read.new.self.mark c.read.new.self.cutter _ (r.front (ap Ok e)) (r.delimiter ∙ c.new-front.ensures.delimiter)
+
+pub returns-in-Err-clause-unended : goal.returns-in-Err-clause-unended
+returns-in-Err-clause-unended g c =
+    let r = c.in_ok-read.ensures in
+    let e : c.in_ok-read.field-0 ≡ false = search rules in
+    none_ended _ _ c.read.new.self.mark c.read.new.self.cutter _ (r.front (ap Ok e)) (r.delimiter ∙ c.new-front.ensures.delimiter)

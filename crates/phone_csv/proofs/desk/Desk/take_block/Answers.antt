@@ -12,9 +12,10 @@ returns-in-Err-Record-clause-refused g c is start bytes before to_come s =
     let block = c.args.block.now in
     let t = c.in-Err-Record.ensures in
     let stands = c.loop-byte.invariant.on start bytes before s in
-    let report = IsReportBefore gives refuses c.args.self.now.cutter.delimiter start to_come (bytes ++ block) in
+    let feeds = c.take_byte.new.self.cutter.feeds_before in
+    let report = IsReportBefore gives refuses c.args.self.now.cutter.delimiter start 0 feeds to_come (bytes ++ block) in
     rw (t.answers_kept) (Stands-holds gives start (bytes ++ take i block) c.loop-byte.self.cutter c.loop-byte.self.answers.items before (g.W.ByteSink.taken c.loop-byte.sink) report stands
-    (λ written far. subst (λ b. IsReportBefore gives refuses c.args.self.now.cutter.delimiter start to_come b (written ++ c.loop-byte.self.answers.items))
+    (λ written far. subst (λ b. IsReportBefore gives refuses c.args.self.now.cutter.delimiter start 0 feeds to_come b (written ++ c.loop-byte.self.answers.items))
     (from_place bytes block i 0 c.loop-byte-test.true)
     (rw c.loop-byte.invariant.same_delimiter at (t.refused (ap Err c.in-Err-Record.field-0-is) start (bytes ++ take i block) written far to_come (drop (i + 1) block)))))
 
@@ -63,4 +64,5 @@ loop-byte-preserved g c = record {
   partial = rw c.in-Ok-hand_on.ensures.cutter c.in-Ok.ensures.partial;
   same_delimiter = rw c.in-Ok-hand_on.ensures.cutter (c.in-Ok.ensures.delimiter ∙ c.loop-byte.invariant.same_delimiter);
   same_faults = c.in-Ok-hand_on.ensures.no_fault ∙ c.loop-byte.invariant.same_faults;
+  short = c.in-Ok-hand_on.ensures.short;
 }

@@ -1,4 +1,4 @@
-use Rattle.std.proofs.Common.{◌≡◌, ◌++◌, ℕ, List, [], Option, take}
+use Rattle.std.proofs.Common.{◌≡◌, ◌<◌, ◌++◌, ℕ, List, [], Option, take, vec_len}
 use Rattle.csv.specs.Records.{partial_of}
 use Rattle.csv.specs.declared.parser.State.{State}
 use Rattle.phone_csv.specs.Runs.{Stands}
@@ -12,4 +12,5 @@ invariant-loop-byte g l = record {
   partial : partial_of l.self.cutter.fields ≡ [];
   same_delimiter : l.self.cutter.delimiter ≡ l.initial.self.cutter.delimiter;
   same_faults : g.W.ByteSink.faults l.sink ≡ g.W.ByteSink.faults l.initial.sink;
+  short : vec_len l.self.answers < 8192;
 }

@@ -1,4 +1,4 @@
-use Rattle.std.proofs.Common.{rules, ◌≡◌, true, false}
+use Rattle.std.proofs.Common.{rules, ◌≡◌, ◌∙◌, true, false}
 use Rattle.csv.specs.Machine.{ends_at_end}
 use Rattle.phone_csv.specs.Formats.{state_of}
 use Rattle.phone_csv.proofs.Progress.{Stands-last, Stands-last-refused, Stands-whole, both_ok}
@@ -23,4 +23,4 @@ returns-clause-refused g c is start bytes before after to_come end s =
     let e : ends_at_end (state_of c.args.self.now.cutter.place) ≡ true = search rules in
     let f = c.in-Ok.ensures in
     let a = c.answer_record.ensures in
-    rw (rw is at a.answers_kept) (Stands-last-refused (g.A.Answers.gives c.args.answers.now) (g.A.Answers.refuses c.args.answers.now) start bytes c.args.self.now.cutter _ _ before after to_come e f.fields end s (a.refused is))
+    rw (rw is at a.answers_kept) (Stands-last-refused (g.A.Answers.gives c.args.answers.now) (g.A.Answers.refuses c.args.answers.now) start bytes c.args.self.now.cutter _ _ before after to_come _ e f.fields end (a.feeds_before ∙ f.feeds_before) s (a.refused is))
