@@ -16,7 +16,7 @@ pub again_by : (db : List Metadata) (mode : Mode) (n : Reading) (m : Metadata) (
     ((text : List ℕ) → IsUtf8 text → printed db mode None n ≡ Some text → IsReadAs db (chars text) n e) →
     IsReadOfPrinted db mode n r → IsAgain n e r
 again_by db mode n m e r listed back (inl memory) = subst (IsAgain n e) (sym memory) refl
-again_by db mode n m e r listed back (inr (inl none)) =
+again_by db mode n m e r listed back (inr (inl (none, unlisted))) =
     let some : Some (text_by m mode None n) ≡ None = sym (ap (option_map (λ m. text_by m mode None n)) listed) ∙ none in cc
 again_by db mode n m e r listed back (inr (inr (text, utf8, is_printed, reads))) =
     let (m, is_read, same) = back text utf8 is_printed in

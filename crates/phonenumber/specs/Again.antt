@@ -1,7 +1,7 @@
 -- What is answered where a number is printed and read again.
 use Rattle.std.specs.Prelude.{◌≡◌, ◌⊎◌, ℕ, IsUtf8, List, Option, None, Some, Result, Ok, Err, chars}
 use Rattle.phone_core.specs.declared.error.ParseError.{ParseError}
-use Rattle.phone_core.specs.declared.error.ParseError.TheVariants.{Memory}
+use Rattle.phone_core.specs.declared.error.ParseError.TheVariants.{InvalidCountryCode, Memory}
 use Rattle.phone_core.specs.declared.mode.Mode.{Mode}
 use Rattle.phone_records.specs.declared.loader.Metadata.{Metadata}
 use Rattle.phone_read.specs.Readings.{Reads}
@@ -23,10 +23,10 @@ abbrev pub IsAgain : Reading → Option (List ℕ) → Result Reading ParseError
 IsAgain n e (Ok m) = IsSame n e m
 IsAgain n e (Err x) = x ≡ Memory
 
--- the answer is what the printed text is read as without a hint, where there is one, or want of
--- memory
+-- the answer is what the printed text is read as without a hint, or that the code isn't listed,
+-- where none is printed, or want of memory
 abbrev pub IsReadOfPrinted : List Metadata → Mode → Reading → Result Reading ParseError → Type 0
 IsReadOfPrinted db mode n r =
-    (r ≡ Err Memory) ⊎ ((printed db mode None n ≡ None) ⊎
+    (r ≡ Err Memory) ⊎ (((printed db mode None n ≡ None) × (r ≡ Err InvalidCountryCode)) ⊎
     ((text : List ℕ) × (IsUtf8 text) × (printed db mode None n ≡ Some text) ×
     Reads db None (chars text) r))

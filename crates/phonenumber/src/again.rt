@@ -16,6 +16,7 @@ use phone_meta::Database;
 /// of the same code and national number, without an extension, or `Memory` where memory was
 /// refused. `InvalidCountryCode` where its code isn't listed.
 pub fn e164(database: &Database, number: &PhoneNumber) -> Result<PhoneNumber, ParseError>
+    ensures read { IsReadOfPrinted database.now mode.E164 number.now result }
     ensures back { IsPlainE164 database.now number.now →
         IsIdle database.now number.now.code.value (text_of number.now.national) →
         1 ≤ number.now.code.value → number.now.code.value ≤ 999 →
@@ -29,6 +30,7 @@ pub fn e164(database: &Database, number: &PhoneNumber) -> Result<PhoneNumber, Pa
 /// its digits alone, it is a number of the same code, national number and extension, or `Memory`
 /// where memory was refused. `InvalidCountryCode` where its code isn't listed.
 pub fn rfc3966(database: &Database, number: &PhoneNumber) -> Result<PhoneNumber, ParseError>
+    ensures read { IsReadOfPrinted database.now mode.Rfc3966 number.now result }
     ensures back { IsPlainRfc3966 database.now number.now →
         IsIdle database.now number.now.code.value (text_of number.now.national) →
         IsAgain number.now number.now.extension result }
@@ -43,6 +45,7 @@ pub fn rfc3966(database: &Database, number: &PhoneNumber) -> Result<PhoneNumber,
 /// digit, by a benign prefix, it is a number of the same code, national number and extension, or
 /// `Memory` where memory was refused. `InvalidCountryCode` where its code isn't listed.
 pub fn international(database: &Database, number: &PhoneNumber) -> Result<PhoneNumber, ParseError>
+    ensures read { IsReadOfPrinted database.now mode.International number.now result }
     ensures back { (plain : IsPlainInternational database.now number.now) →
         IsIdle database.now number.now.code.value (text_of number.now.national) →
         1 ≤ number.now.code.value → number.now.code.value ≤ 999 →

@@ -6,6 +6,7 @@ use Rattle.phonenumber.proofs.again.e164.Goals as goal
 
 pub returns : goal.returns
 returns c = record {
+  read = c.read_of_printed.ensures;
   back = λ plain idle some few free.
       again_by c.args.database.now E164 c.args.number.now plain.0 _ c.read_of_printed.result plain.1.listed (λ text utf8 e. e164_back e164_parts c.args.database.now c.args.number.now text c.keeps_bounds.ensures plain some few free e idle) c.read_of_printed.ensures;
 }

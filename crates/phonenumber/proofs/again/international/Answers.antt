@@ -8,6 +8,7 @@ use Rattle.phonenumber.proofs.again.international.Goals as goal
 
 pub returns : goal.returns
 returns c = record {
+  read = c.read_of_printed.ensures;
   back = λ plain idle some few free benign.
       again_by c.args.database.now International c.args.number.now plain.territory _
       c.read_of_printed.result plain.plain.listed

@@ -6,6 +6,7 @@ use Rattle.phonenumber.proofs.again.rfc3966.Goals as goal
 
 pub returns : goal.returns
 returns c = record {
+  read = c.read_of_printed.ensures;
   back = λ plain idle.
       again_by c.args.database.now Rfc3966 c.args.number.now plain.territory _ c.read_of_printed.result plain.plain.listed (λ text utf8 e. rfc3966_back rfc3966_parts c.args.database.now c.args.number.now text c.keeps_bounds.ensures plain e idle) c.read_of_printed.ensures;
 }
