@@ -1,14 +1,15 @@
 //! The printing of a number.
 ghost use Rattle.std.specs.Prelude.{◌≡◌, ◌↔◌, ◌∷◌, ◌++◌, ℕ, List, None, Some, Err, IfOk, OnOk};
-ghost use Rattle.std.specs.Prelude.{IsErr, string_bytes};
+ghost use Rattle.std.specs.Prelude.{IsErr, OnErr, string_bytes};
 ghost use Rattle.std.specs.Fmt.{DisplaysOnOk, DisplaysStyledOnOk};
 ghost use Rattle.std.specs.Option.{option_copied};
 ghost use Rattle.phone_core.specs.declared.mode.Mode.TheVariants as mode;
 ghost use Rattle.phonenumber.specs.Printers.{database_of, layout_of, mode_of, number_of, text_of};
 ghost use Rattle.phonenumber.specs.Printers.{texts_of};
 ghost use Rattle.phonenumber.specs.Printed.{printed};
+ghost use Rattle.phonenumber.specs.Sinks.{IsWrittenWhole, puts};
 
-use crate::PhoneNumber;
+use crate::{PhoneNumber, TextSink};
 use phone_core::Mode;
 use phone_meta::{Database, Format};
 use phone_print::{Texts, printing};
@@ -181,13 +182,13 @@ impl Formatter<'_, '_, '_> {
     /// national, RFC 3966, each as `to_text` would give it, whatever the printer's own mode is. It
     /// takes memory of the database's allocator, where the line doesn't grow: for a national number
     /// that is laid out, or has leading zeros. `UnknownCode` exactly where the database lists no
-    /// territory of the code: then the line is as it was. `Memory` where memory was refused: then
-    /// some of the texts may stand there.
+    /// territory of the code, `Memory` where memory was refused: then the line is as it was.
     pub fn push_texts(&self, line: &mut String) -> Result<(), FormatError>
         ensures texts { OnOk result ((texts : List ℕ) × (texts_of self.now ≡ Some texts) ×
             (string_bytes line.new ≡ string_bytes line.old ++ 9 ∷ texts)) }
         ensures unknown { (result ≡ Err FormatError.UnknownCode) ↔ (text_of self.now ≡ None) }
         ensures untouched { result ≡ Err FormatError.UnknownCode → line.new ≡ line.old }
+        ensures kept { OnErr result (string_bytes line.new ≡ string_bytes line.old) }
     {
         let code = self.number.code().value();
         let Some(m) = self.database.first_by_code(&code) else {
@@ -209,23 +210,36 @@ impl Formatter<'_, '_, '_> {
     }
 }
 
+impl Formatter<'_, '_, '_> {
+    /// Writes the printed text to a sink: it is made whole first, with the database's allocator,
+    /// and handed to the sink in one call, whose answer is given. Where `to_text` would refuse it
+    /// an error is answered, and the sink is as it was.
+    pub fn write_to<S: TextSink>(&self, sink: &mut S) -> fmt::Result
+        ensures { IsWrittenWhole S.gives (text_of self.now) sink.old result sink.new }
+    {
+        match self.to_text(self.database.allocator()) {
+            Ok(text) => sink.put(text.as_str()),
+            Err(_) => Err(fmt::Error),
+        }
+    }
+}
+
 impl fmt::Display for Formatter<'_, '_, '_> {
     ghost use Rattle.std.specs.Prelude.{◌≡◌, None};
     ghost use Rattle.phonenumber.specs.Printers.{text_of};
 
     ghost output = { λ f. text_of f };
 
-    /// Writes the printed text, made whole first with the database's allocator; where `to_text`
-    /// would refuse it answers an error and writes nothing.
+    /// Writes the printed text as `write_to` does: in one `write_str`, or an error is answered and
+    /// nothing is written.
     fn fmt<W: fmt::Write>(&self, f: &mut fmt::Formatter<W>) -> fmt::Result
         ensures writes { DisplaysOnOk W.write_str_gives f.old result (text_of self.now) f.new }
         ensures styled { DisplaysStyledOnOk W.write_str_gives f.old result None f.new }
         ensures refused { text_of self.now ≡ None → IsErr result }
         ensures unchanged { text_of self.now ≡ None → f.new ≡ f.old }
+        ensures whole { IsWrittenWhole (puts W.write_str_gives) (text_of self.now) f.old result
+            f.new }
     {
-        match self.to_text(self.database.allocator()) {
-            Ok(text) => f.write_str(text.as_str()),
-            Err(_) => Err(fmt::Error),
-        }
+        self.write_to(f)
     }
 }

@@ -11,6 +11,7 @@ mod phone_number;
 mod queries;
 pub mod report;
 pub mod rows;
+mod text_sink;
 
 pub use formatter::{FormatError, Formatter, format_with};
 pub use metadata::Metadata;
@@ -23,3 +24,4 @@ pub use phone_number::PhoneNumber;
 pub use phone_print::Texts;
 pub use phone_texts::MetadataError;
 pub use queries::{Country, Queried, is_valid_with};
+pub use text_sink::TextSink;

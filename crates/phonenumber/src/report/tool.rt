@@ -1,5 +1,11 @@
 //! The program over its words and devices.
-ghost use Rattle.std.specs.Prelude.{◌≡◌};
+ghost use Rattle.std.specs.Prelude.{◌≡◌, ℕ, List, MatchResult, map};
+ghost use Rattle.std.specs.Borrow.{Bor};
+ghost use Rattle.std.specs.Result.{result_map_both};
+ghost use Rattle.phone_lines.specs.Ends.{Ends, seen};
+ghost use Rattle.phonenumber.specs.Programs.{Acts, IsTold, asked, failed_line, refused_line};
+ghost use Rattle.phonenumber.specs.Programs.{status_of};
+ghost use Rattle.phonenumber.specs.Reports.{IsReportLine};
 
 use crate::report::runs::run;
 use phone_core::country::Id;
@@ -27,20 +33,54 @@ pub fn program<R: Files + AllocGlobal, S: ByteSource, W: ByteSink, E: ByteSink>(
     source: &mut S,
     sink: &mut W,
     errors: &mut E,
-) -> u8 {
-    let (path, hint) = match words {
-        [path] => (*path, None),
-        [path, region] => match region.parse::<Id>() {
-            Ok(id) => (*path, Some(id)),
-            Err(_) => return told(errors, "unknown region\n", 2),
-        },
-        _ => return told(errors, USAGE, 2),
+) -> u8
+    ensures { Acts record {
+      idle = (source.new ≡ source.old) × (sink.new ≡ sink.old);
+      silent = errors.new ≡ errors.old;
+      tells = λ line. IsTold (E.taken errors.old) (E.faults errors.old) line
+          (E.taken errors.new) (E.faults errors.new);
+      runs = λ db hint. Ends (IsReportLine db hint)
+          (seen (S.to_come source.old) (S.faults source.old) (W.taken sink.old)
+          (W.faults sink.old) (W.unflushed sink.old))
+          (seen (S.to_come source.new) (S.faults source.new) (W.taken sink.new)
+          (W.faults sink.new) (W.unflushed sink.new));
+    } (map (λ (w : Bor (List ℕ)). w.now) words.now) result }
+{
+    let (path, hint) = match asked(words) {
+        Ok(asked) => asked,
+        Err(line) => return told(errors, line, 2),
     };
     let database = match Database::load(rt, path) {
         Ok(database) => database,
         Err(error) => return told(errors, database_refused(error.number()), 3),
     };
-    match run(&database, hint, source, sink) {
+    let end = run(&database, hint, source, sink);
+    ended(errors, end)
+}
+
+/// The file and the hint that words give; the line that is told of wrong ones.
+fn asked<'w>(words: &[&'w str]) -> Result<(&'w str, Option<Id>), &'static str>
+    ensures { result_map_both (λ a. a.1) (λ (line : Bor (List ℕ)). line.now) result ≡
+        asked (map (λ (w : Bor (List ℕ)). w.now) words.now) }
+{
+    match words {
+        [path] => Ok((*path, None)),
+        [path, region] => match region.parse::<Id>() {
+            Ok(id) => Ok((*path, Some(id))),
+            Err(_) => Err("unknown region\n"),
+        },
+        _ => Err(USAGE),
+    }
+}
+
+/// Tells of a run that was refused, and gives the status of a run that ended so.
+fn ended<E: ByteSink>(errors: &mut E, end: Result<(), RunError>) -> u8
+    ensures status { result ≡ status_of end }
+    ensures said { MatchResult end (λ _. errors.new ≡ errors.old) (λ e.
+        IsTold (E.taken errors.old) (E.faults errors.old) (failed_line e)
+        (E.taken errors.new) (E.faults errors.new)) }
+{
+    match end {
         Ok(()) => 0,
         Err(RunError::Input) => told(errors, "input failed\n", 1),
         Err(RunError::Output) => told(errors, "output failed\n", 1),
@@ -51,7 +91,9 @@ pub fn program<R: Files + AllocGlobal, S: ByteSource, W: ByteSink, E: ByteSink>(
 /// Writes a line, given with its line feed, to the sink for errors, and gives the status. That the
 /// sink fails changes nothing.
 pub fn told<E: ByteSink>(errors: &mut E, line: &str, status: u8) -> u8
-    ensures { result ≡ status }
+    ensures status { result ≡ status }
+    ensures told { IsTold (E.taken errors.old) (E.faults errors.old) line.now
+        (E.taken errors.new) (E.faults errors.new) }
 {
     let _told = write_all(errors, line.as_bytes());
     status
@@ -59,7 +101,9 @@ pub fn told<E: ByteSink>(errors: &mut E, line: &str, status: u8) -> u8
 
 /// The line for a database that was refused, by the number of its refusal, from 1 to 8; another
 /// number counts as 8. It ends in a line feed.
-pub fn database_refused(number: u8) -> &'static str {
+pub fn database_refused(number: u8) -> &'static str
+    ensures { result.now ≡ refused_line number }
+{
     match number {
         1 => "database refused: 1\n",
         2 => "database refused: 2\n",
