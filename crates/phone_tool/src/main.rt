@@ -1,12 +1,13 @@
 //! The program `phone_tool DATABASE [REGION]`: the report on the lines of standard input, written
 //! to standard output, under the database in a file. What it writes, and the status that it ends
-//! with, is told at `phonenumber::report::program`.
+//! with, is told at `program`.
 #![tactic(auto)]
 
 use phone_device::Std;
-use phonenumber::report::program;
-use std::env;
-use std::io::Lock;
+use phonenumber::report::told;
+pub use phonenumber::report::{RunError, program, run};
+use std::env::{self, Args};
+use std::io::{ErrorKind, Lock};
 use std::process::ExitCode;
 
 /// Runs the program on these words and the standard devices.
@@ -17,17 +18,25 @@ fn on_devices(rt: &HostRuntime, words: &[&str]) -> u8 {
     program(rt, words, &mut input, &mut output, &mut errors)
 }
 
-/// Runs the program on its words. Status 1 where the words are refused for memory or aren't UTF-8.
-fn main(rt: HostRuntime) -> ExitCode {
-    let Ok(mut words) = env::args(&rt) else {
-        return ExitCode::from(1);
-    };
+/// Runs the program on the words of its call, of which the first is its own name.
+fn on_words(rt: &HostRuntime, words: Args) -> u8 {
+    let mut words = words;
     words.next();
     let (path, region, more) = (words.next(), words.next(), words.next());
-    let status = match (&path, &region, &more) {
-        (Some(path), None, _) => on_devices(&rt, &[path.as_str()]),
-        (Some(path), Some(region), None) => on_devices(&rt, &[path.as_str(), region.as_str()]),
-        _ => on_devices(&rt, &[]),
+    match (&path, &region, &more) {
+        (Some(path), None, _) => on_devices(rt, &[path.as_str()]),
+        (Some(path), Some(region), None) => on_devices(rt, &[path.as_str(), region.as_str()]),
+        _ => on_devices(rt, &[]),
+    }
+}
+
+/// Runs the program on its words. A word that isn't UTF-8 is a wrong one: the usage is told, with
+/// status 2. Status 1 where the words are refused for memory.
+fn main(rt: HostRuntime) -> ExitCode {
+    let status = match env::args(&rt) {
+        Ok(words) => on_words(&rt, words),
+        Err(error) if error.kind() == ErrorKind::InvalidData => on_devices(&rt, &[]),
+        Err(_) => told(&mut Std::new(rt.stderr()), "out of memory\n", 1),
     };
     ExitCode::from(status)
 }
