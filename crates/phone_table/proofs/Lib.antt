@@ -5,3 +5,4 @@ pub mod TableLemmas
 pub mod EndLemmas
 pub mod RunLemmas
 pub mod ObjectLemmas
+pub mod RegionLemmas

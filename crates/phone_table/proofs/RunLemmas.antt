@@ -1,9 +1,10 @@
 -- What the reading of a header says of a run.
-use Rattle.std.proofs.Common.{◌≡◌, ◌⊎◌, inl, inr, ℕ, ◌+◌, List, [], length, Option, Some, None, Result, Err, IfSome, IsNone, option_map, refl, subst}
+use Rattle.std.proofs.Common.{◌≡◌, ◌⊎◌, inl, inr, ℕ, ◌+◌, List, [], length, Option, Some, None, Result, Err, IfSome, IsNone, IsSome, option_map, refl, subst, arith}
 use Rattle.std.specs.Prelude.{⊤}
 use Rattle.csv.specs.declared.parser.State.TheVariants as st
 use Rattle.phone_device.specs.Passing.{IsAtEnd}
-use Rattle.phone_csv.specs.Firsts.{IsFirst, first_in}
+use Rattle.phone_csv.specs.Feeds.{counted, line_feeds}
+use Rattle.phone_csv.specs.Firsts.{EndsNoFirst, IsFirst, first_in}
 use Rattle.phone_csv.specs.Formats.{Record, state_of}
 use Rattle.phone_csv.specs.Runs.{OfRead, most_bytes}
 use Rattle.phone_csv.specs.declared.blocks.RunError.{RunError}
@@ -23,22 +24,22 @@ use Rattle.phone_table.specs.declared.run.Asked.{Asked}
 caused : (before after : Devices) → (after.source_faults ≡ before.source_faults + 1) ⊎ OfRead before.to_come after.to_come (λ bytes. length bytes ≡ most_bytes) →
     SourceFails before after
 caused before after (inl f) = inl f
-caused before after (inr m) = inr (before.to_come, m)
+caused before after (inr m) = inr (m.0, m.1, omega (arith, m.2))
 
 -- why no header was read
-pub no_header_by : {T : Type 0} (d : ℕ) (before after : Devices) (e : FirstError) →
+pub no_header_by : {T : Type 0} (d : ℕ) (before after : Devices) (e : FirstError) → OfRead before.to_come after.to_come (EndsNoFirst d) →
     (◌≡◌ {A = Result T FirstError} (Err e) (Err Absent) → OfRead before.to_come after.to_come (λ bytes. first_in d bytes ≡ None)) →
     (◌≡◌ {A = Result T FirstError} (Err e) (Err Absent) → IsAtEnd after.to_come) →
     (◌≡◌ {A = Result T FirstError} (Err e) (Err Absent) → after.source_faults ≡ before.source_faults) →
     (◌≡◌ {A = Result T FirstError} (Err e) (Err Input) → (after.source_faults ≡ before.source_faults + 1) ⊎ OfRead before.to_come after.to_come (λ bytes. length bytes ≡ most_bytes)) →
     (◌≡◌ {A = Result T FirstError} (Err e) (Err Memory) → after.source_faults ≡ before.source_faults) → NoHeader d before after e
-no_header_by d before after Absent none end same cause kept = absent (none refl) (end refl) (same refl)
-no_header_by d before after Input none end same cause kept = input (caused before after (cause refl))
-no_header_by d before after Memory none end same cause kept = memory (kept refl)
+no_header_by d before after Absent unended none end same cause kept = absent (none refl) (end refl) (same refl)
+no_header_by d before after Input unended none end same cause kept = input unended (caused before after (cause refl))
+no_header_by d before after Memory unended none end same cause kept = memory unended (kept refl)
 
 -- a header was read, whether something follows it or not
 pub header_read : (d : ℕ) (header : Record) (rest : Option Start) (s0 s1 : Option (List ℕ)) →
-    IfSome rest (λ start. OfRead s0 s1 (λ bytes. IsFirst d bytes header (state_of start.place))) →
+    IfSome rest (λ start. OfRead s0 s1 (λ bytes. IsFirst d bytes header (state_of start.place) × (start.feeds ≡ counted (line_feeds bytes)))) →
     (IsNone rest → OfRead s0 s1 (λ bytes. first_in d bytes ≡ Some (header, st.StartRecord, []))) → OfRead s0 s1 (λ bytes. IsHeader d header rest bytes)
 header_read d header (Some start) s0 s1 ended only = ended
 header_read d header None s0 s1 ended only = only refl
@@ -46,13 +47,14 @@ header_read d header None s0 s1 ended only = only refl
 -- which column a header lacks
 pub lacks_by : {T : Type 0} (asked : Asked) (column : Column) (header : Record) →
     (◌≡◌ {A = Result T Column} (Err column) (Err Number) → column_of header asked.number.now ≡ None) →
+    (◌≡◌ {A = Result T Column} (Err column) (Err Region) → IsSome (column_of header asked.number.now)) →
     (◌≡◌ {A = Result T Column} (Err column) (Err Region) → region_column header (option_map (λ name. name.now) asked.region) ≡ None) →
     Lacks asked column header
-lacks_by asked Number header number region = number refl
-lacks_by asked Region header number region = region refl
+lacks_by asked Number header number found region = number refl
+lacks_by asked Region header number found region = (found refl, region refl)
 
 -- a run that begins where the reading of the header ended, which counted no fault
-pub ends_from : {header : Record} {gives : Record → Record → Type 0} {refuses : Record → Type 0} {d : ℕ} {to_come taken : Option (List ℕ)} {n m faults : ℕ} {after : Devices}
-    {r : Result ⊤ RunError} → n ≡ m → Ends header gives refuses d (seen to_come n taken faults) after r → Ends header gives refuses d (seen to_come m taken faults) after r
-ends_from {header = header} {gives = gives} {refuses = refuses} {d = d} {to_come = to_come} {taken = taken} {faults = faults} {after = after} {r = r} same h =
-    subst (λ n. Ends header gives refuses d (seen to_come n taken faults) after r) same h
+pub ends_from : {header : Record} {gives : Record → Record → Type 0} {refuses : Record → Type 0} {d : ℕ} {to_come taken : Option (List ℕ)} {n m faults held : ℕ} {after : Devices}
+    {r : Result ⊤ RunError} → n ≡ m → Ends header gives refuses d (seen to_come n taken faults held) after r → Ends header gives refuses d (seen to_come m taken faults held) after r
+ends_from {header = header} {gives = gives} {refuses = refuses} {d = d} {to_come = to_come} {taken = taken} {faults = faults} {held = held} {after = after} {r = r} same h =
+    subst (λ n. Ends header gives refuses d (seen to_come n taken faults held) after r) same h

@@ -1,10 +1,7 @@
 -- What a record of a table is answered: seven fields behind its own.
-use Rattle.std.specs.Prelude.{◌≡◌, ℕ, List, [], ◌∷◌, codes, chars, length}
-use Rattle.std.specs.Prelude.{Option, Some, None, Ok, Err, get_or, unwrap_or}
-use Rattle.std.specs.Option.{option_or}
+use Rattle.std.specs.Prelude.{◌≡◌, ℕ, Bool, List, [], ◌∷◌, codes, chars, length}
+use Rattle.std.specs.Prelude.{Option, Some, None, Ok, Err, get_or}
 use Rattle.std.specs.Str.{IsUtf8}
-use Rattle.csv.specs.Records.{field_at}
-use Rattle.phone_core.specs.Ids.{id_of}
 use Rattle.phone_core.specs.declared.country.Id.{Id}
 use Rattle.phone_core.specs.declared.error.ParseError.{ParseError}
 use Rattle.phone_core.specs.declared.mode.Mode.TheVariants.{E164, International, National}
@@ -16,7 +13,9 @@ use Rattle.phone_core.specs.declared.reading.Reading.{Reading}
 use Rattle.phonenumber.specs.Queries.{is_valid, kind_of_number, region_of_number}
 use Rattle.phonenumber.specs.Reports.{kind_word, refusal_fields, region_word, validity_word}
 use Rattle.phone_print.specs.Texts.{text_by}
+use Rattle.phone_table.specs.Regions.{RecordNames, field_in, hint_under}
 use Rattle.phone_table.specs.declared.header.Columns.{Columns}
+use Rattle.phone_table.specs.declared.region.Named.{Named}
 
 -- a number of a listed code: its texts in three modes, what is known of it, and no refusal
 abbrev pub number_answer : List Metadata → Metadata → Reading → Record
@@ -42,29 +41,25 @@ pub data IsFieldAnswer (db : List Metadata) (hint : Option Id) (field : List ℕ
       first_of (territories n.code.value db) ≡ Some m →
       IsFieldAnswer db hint field (number_answer db m n)
 
--- the field of a record in a column; empty where it has none
-abbrev pub field_in : Record → ℕ → List ℕ
-field_in fields column = unwrap_or (field_at fields column) []
+-- what the field of a number is answered under a hint; words of its own where there is none
+abbrev pub IsAnswerUnder : List Metadata → Option (Option Id) → List ℕ → Record → Type 0
+IsAnswerUnder db None field answer = answer ≡ refused_answer (codes "unknown region")
+IsAnswerUnder db (Some hint) field answer = IsFieldAnswer db hint field answer
 
--- the region of a record: that which its field names, where there is a column of regions
-abbrev pub own_region : Option ℕ → Record → Option Id
-own_region None fields = None
-own_region (Some column) fields = id_of (field_in fields column)
-
--- what a record's number is answered: its field's answer, under its own region, else under the hint
-abbrev pub IsNumberAnswer : List Metadata → Columns → Option Id → Record → Record → Type 0
-IsNumberAnswer db columns hint fields answer =
-    IsFieldAnswer db (option_or (own_region columns.region fields) hint)
-    (field_in fields columns.number) answer
+-- what a record's number is answered, by the region that the record names
+abbrev pub IsNumberAnswer : List Metadata → Columns → Bool → Option Id → Record → Record → Type 0
+IsNumberAnswer db columns else_hint hint fields answer = (region : Named) ×
+    RecordNames columns.region fields region ×
+    IsAnswerUnder db (hint_under else_hint hint region) (field_in fields columns.number) answer
 
 -- a record has as many fields as the header
 abbrev pub IsOfWidth : Columns → Record → Type 0
 IsOfWidth columns fields = length fields ≡ columns.width
 
 -- what a record is answered, which has as many fields as the header
-abbrev pub IsAnswer : List Metadata → Columns → Option Id → Record → Record → Type 0
-IsAnswer db columns hint fields answer =
-    IsOfWidth columns fields × IsNumberAnswer db columns hint fields answer
+abbrev pub IsAnswer : List Metadata → Columns → Bool → Option Id → Record → Record → Type 0
+IsAnswer db columns else_hint hint fields answer =
+    IsOfWidth columns fields × IsNumberAnswer db columns else_hint hint fields answer
 
 -- a record with another count of fields than the header has isn't answered
 abbrev pub IsOfOtherWidth : Columns → Record → Type 0

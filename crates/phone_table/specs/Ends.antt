@@ -1,7 +1,8 @@
 -- How a run over the rows of a table ends, whatever answers them.
-use Rattle.std.specs.Prelude.{◌≡◌, ◌⊎◌, ℕ, ◌+◌, List, length, Option, Result, Ok, Err, ⊤}
+use Rattle.std.specs.Prelude.{◌≡◌, ◌⊎◌, ◌≤◌, ℕ, ◌+◌, ◌-◌, List, length, Result, Ok, Err, ⊤}
 use Rattle.csv.specs.declared.parser.State.{State}
 use Rattle.phone_device.specs.Passing.{IsAtEnd}
+use Rattle.phone_csv.specs.Feeds.{line_feeds}
 use Rattle.phone_csv.specs.Formats.{Record}
 use Rattle.phone_csv.specs.Reports.{IsReport, IsReportBefore, IsReportOnEnded}
 use Rattle.phone_csv.specs.Reports.{IsReportOnFirst}
@@ -9,28 +10,29 @@ use Rattle.phone_csv.specs.Runs.{OfRead, TakesA, most_bytes}
 use Rattle.phone_csv.specs.declared.blocks.RunError.{RunError}
 use Rattle.phone_csv.specs.declared.blocks.RunError.TheVariants as error
 use Rattle.phone_lines.specs.Ends.{Devices}
-use Rattle.phone_table.specs.Tables.{IsBeginning, IsTable}
+use Rattle.phone_table.specs.Tables.{IsBeginning, IsHeaderAlone, IsTable}
 
 -- what was read is a table with this header, and the text for it was taken, its body being such
 abbrev pub Wrote : Record → (State → List ℕ → List ℕ → Type 0) → ℕ → Devices → Devices → Type 0
 Wrote header is_body delimiter before after = OfRead before.to_come after.to_come (λ bytes.
     TakesA (IsTable header is_body delimiter bytes) before.taken after.taken)
 
--- a source failed, or gave as many bytes as are read at most
+-- a source failed, or gave as many bytes as are read at most, or more behind a header
 abbrev pub SourceFails : Devices → Devices → Type 0
 SourceFails before after = (after.source_faults ≡ before.source_faults + 1) ⊎
-    ((middle : Option (List ℕ)) × OfRead middle after.to_come (λ bytes. length bytes ≡ most_bytes))
+    OfRead before.to_come after.to_come (λ bytes. most_bytes ≤ length bytes)
 
 -- no device failed
 pub record NoFault (before after : Devices) : Type 0 where
   pub source : after.source_faults ≡ before.source_faults
   pub sink : after.sink_faults ≡ before.sink_faults
 
--- all was read, and each record answered
+-- all was read, and each record answered; what was written was handed on
 pub record IsWhole (header : Record) (gives : Record → Record → Type 0) (delimiter : ℕ)
     (before after : Devices) : Type 0 where
   pub end : IsAtEnd after.to_come
   pub table : Wrote header (IsReport gives delimiter) delimiter before after
+  pub handed_on : after.unflushed ≡ 0
   pub no_fault : NoFault before after
 
 -- the source failed; the records that are ended were answered
@@ -38,6 +40,7 @@ pub record InputFailed (header : Record) (gives : Record → Record → Type 0) 
     (before after : Devices) : Type 0 where
   pub cause : SourceFails before after
   pub table : Wrote header (IsReportOnEnded gives delimiter) delimiter before after
+  pub handed_on : after.unflushed ≡ 0
   pub no_sink_fault : after.sink_faults ≡ before.sink_faults
 
 -- the sink failed; a beginning of the text for the table was taken
@@ -47,19 +50,30 @@ pub record OutputFailed (header : Record) (gives : Record → Record → Type 0)
       TakesA (IsBeginning gives header delimiter after.to_come bytes) before.taken after.taken)
   pub sink_fault : after.sink_faults ≡ before.sink_faults + 1
 
--- a record isn't answered; those in front of it were
+-- a record isn't answered, in front of which so many line feeds stand; those in front of it were
 pub record RecordRefused (header : Record) (gives : Record → Record → Type 0)
-    (refuses : Record → Type 0) (delimiter : ℕ) (before after : Devices) : Type 0 where
-  pub table : Wrote header (λ state. IsReportBefore gives refuses delimiter state after.to_come)
-      delimiter before after
+    (refuses : Record → Type 0) (delimiter feeds : ℕ) (before after : Devices) : Type 0 where
+  pub table : OfRead before.to_come after.to_come (λ bytes. TakesA (IsTable header (λ state rest.
+      IsReportBefore gives refuses delimiter state (line_feeds bytes - line_feeds rest) feeds
+      after.to_come rest) delimiter bytes) before.taken after.taken)
+  pub handed_on : after.unflushed ≡ 0
   pub no_fault : NoFault before after
 
--- memory was refused; some first records were answered, or nothing was taken
-pub record NoMemory (header : Record) (gives : Record → Record → Type 0) (delimiter : ℕ)
+-- nothing was written
+pub record IsUntouched (before after : Devices) : Type 0 where
+  pub taken : after.taken ≡ before.taken
+  pub unflushed : after.unflushed ≡ before.unflushed
+  pub sink : after.sink_faults ≡ before.sink_faults
+
+-- memory was refused: for the header, which alone was read, or behind some first records, which
+-- were answered
+pub data NoMemory (header : Record) (gives : Record → Record → Type 0) (delimiter : ℕ)
     (before after : Devices) : Type 0 where
-  pub table : (after.taken ≡ before.taken) ⊎
-      Wrote header (IsReportOnFirst gives delimiter) delimiter before after
-  pub no_fault : NoFault before after
+  at_header : OfRead before.to_come after.to_come (IsHeaderAlone delimiter header) →
+      IsUntouched before after → after.source_faults ≡ before.source_faults →
+      NoMemory header gives delimiter before after
+  at_record : Wrote header (IsReportOnFirst gives delimiter) delimiter before after →
+      after.unflushed ≡ 0 → NoFault before after → NoMemory header gives delimiter before after
 
 -- a run over a table whose header was read ends in one of five ways, which its result tells
 pub data Ends (header : Record) (gives : Record → Record → Type 0) (refuses : Record → Type 0)
@@ -70,7 +84,7 @@ pub data Ends (header : Record) (gives : Record → Record → Type 0) (refuses 
       Ends header gives refuses delimiter before after (Err error.Input)
   output_failed : OutputFailed header gives delimiter before after →
       Ends header gives refuses delimiter before after (Err error.Output)
-  record_refused : (feeds : ℕ) → RecordRefused header gives refuses delimiter before after →
+  record_refused : (feeds : ℕ) → RecordRefused header gives refuses delimiter feeds before after →
       Ends header gives refuses delimiter before after (Err (error.Record feeds))
   no_memory : NoMemory header gives delimiter before after →
       Ends header gives refuses delimiter before after (Err error.Memory)

@@ -2,6 +2,8 @@ pub mod Answers
 pub mod Ends
 pub mod Headers
 pub mod Objects
+pub mod Regions
 pub mod Runs
 pub mod Spelled
 pub mod Tables
+pub mod Words

@@ -1,74 +1,73 @@
 -- How a run over a table of customers ends.
 use Rattle.std.specs.Prelude.{◌≡◌, ℕ, List, Option, None, Some, Result, Ok, Err, ⊤, option_map}
+use Rattle.std.specs.Prelude.{IsSome, true, false}
 use Rattle.csv.specs.Records.{Row, fields_of}
 use Rattle.phone_device.specs.Passing.{IsAtEnd}
-use Rattle.phone_csv.specs.Firsts.{first_in}
-use Rattle.phone_csv.specs.Formats.{Record}
+use Rattle.phone_csv.specs.Firsts.{EndsNoFirst, first_in}
+use Rattle.phone_csv.specs.Formats.{Record, is_delimiter}
 use Rattle.phone_csv.specs.Runs.{OfRead}
 use Rattle.phone_csv.specs.declared.blocks.RunError.{RunError}
-use Rattle.phone_csv.specs.declared.cutter.Start.{Start}
 use Rattle.phone_csv.specs.declared.first.FirstError.{FirstError}
 use Rattle.phone_csv.specs.declared.first.FirstError.TheVariants.{Absent, Input, Memory}
 use Rattle.phone_lines.specs.Ends.{Devices}
 use Rattle.phone_records.specs.declared.loader.Metadata.{Metadata}
 use Rattle.phone_table.specs.Answers.{IsAnswer, IsOfOtherWidth}
-use Rattle.phone_table.specs.Ends.{Ends, SourceFails}
+use Rattle.phone_table.specs.Ends.{Ends, IsUntouched, SourceFails}
 use Rattle.phone_table.specs.Headers.{column_of, columns_of, region_column}
-use Rattle.phone_table.specs.Tables.{IsHeader}
+use Rattle.phone_table.specs.Tables.{IsHeaderAlone}
 use Rattle.phone_table.specs.declared.header.Column.{Column}
 use Rattle.phone_table.specs.declared.header.Column.TheVariants.{Number, Region}
 use Rattle.phone_table.specs.declared.header.Columns.{Columns}
 use Rattle.phone_table.specs.declared.run.Asked.{Asked}
 use Rattle.phone_table.specs.declared.run.TableError.{TableError}
-use Rattle.phone_table.specs.declared.run.TableError.TheVariants.{Header, NoColumn, Rows}
+use Rattle.phone_table.specs.declared.run.TableError.TheVariants.{Delimiter, Header}
+use Rattle.phone_table.specs.declared.run.TableError.TheVariants.{NoColumn, Rows}
 
 -- the columns of a header that are asked for
 abbrev pub columns_in : Asked → Record → Option Columns
 columns_in asked header =
     columns_of header asked.number.now (option_map (λ name. name.now) asked.region)
 
--- a header lacks this column of those that are asked for
+-- this is the first column of those that are asked for that a header lacks
 abbrev pub Lacks : Asked → Column → Record → Type 0
 Lacks asked Number header = column_of header asked.number.now ≡ None
-Lacks asked Region header =
-    region_column header (option_map (λ name. name.now) asked.region) ≡ None
-
--- nothing was written
-pub record IsUntouched (before after : Devices) : Type 0 where
-  pub taken : after.taken ≡ before.taken
-  pub sink : after.sink_faults ≡ before.sink_faults
+Lacks asked Region header = IsSome (column_of header asked.number.now) ×
+    (region_column header (option_map (λ name. name.now) asked.region) ≡ None)
 
 -- no header was read, for this reason
 pub data NoHeader (delimiter : ℕ) (before after : Devices) : FirstError → Type 0 where
   absent : OfRead before.to_come after.to_come (λ bytes. first_in delimiter bytes ≡ None) →
       IsAtEnd after.to_come → after.source_faults ≡ before.source_faults →
       NoHeader delimiter before after Absent
-  input : SourceFails before after → NoHeader delimiter before after Input
-  memory : after.source_faults ≡ before.source_faults → NoHeader delimiter before after Memory
+  input : OfRead before.to_come after.to_come (EndsNoFirst delimiter) →
+      SourceFails before after → NoHeader delimiter before after Input
+  memory : OfRead before.to_come after.to_come (EndsNoFirst delimiter) →
+      after.source_faults ≡ before.source_faults → NoHeader delimiter before after Memory
 
--- a header was read that lacks a column
+-- a header was read, and no more, that lacks a column
 pub record LacksColumn (asked : Asked) (column : Column) (header : Record)
     (before after : Devices) : Type 0 where
-  pub rest : Option Start
-  pub read : OfRead before.to_come after.to_come (λ bytes.
-      IsHeader asked.delimiter header rest bytes)
+  pub read : OfRead before.to_come after.to_come (IsHeaderAlone asked.delimiter header)
   pub lacks : Lacks asked column header
   pub no_source_fault : after.source_faults ≡ before.source_faults
 
--- a run over a table ends so, which its result tells: without a header or a column that is asked
--- for nothing is written; else as the run over its rows ends, each answered under its own region
--- or the hint
+-- a run over a table ends so, which its result tells: under a delimiter that is none nothing is
+-- read; without a header or a column that is asked for nothing is written; else as the run over
+-- its rows ends, each answered by the region that it names
 pub data RunEnds (db : List Metadata) (asked : Asked) (before after : Devices) :
     Result ⊤ TableError → Type 0 where
-  no_header : (e : FirstError) → NoHeader asked.delimiter before after e →
+  no_delimiter : is_delimiter asked.delimiter ≡ false → after ≡ before →
+      RunEnds db asked before after (Err Delimiter)
+  no_header : (e : FirstError) → is_delimiter asked.delimiter ≡ true → NoHeader asked.delimiter before after e →
       IsUntouched before after → RunEnds db asked before after (Err (Header e))
-  no_column : (column : Column) (header : Row) →
+  no_column : (column : Column) (header : Row) → is_delimiter asked.delimiter ≡ true →
       LacksColumn asked column (fields_of header) before after →
       IsUntouched before after → RunEnds db asked before after (Err (NoColumn column header))
-  whole : (header : Record) (columns : Columns) → columns_in asked header ≡ Some columns →
-      Ends header (IsAnswer db columns asked.hint) (IsOfOtherWidth columns) asked.delimiter
-      before after (Ok tt) → RunEnds db asked before after (Ok tt)
-  broken_off : (header : Record) (columns : Columns) (e : RunError) →
+  whole : (header : Record) (columns : Columns) → is_delimiter asked.delimiter ≡ true →
       columns_in asked header ≡ Some columns →
-      Ends header (IsAnswer db columns asked.hint) (IsOfOtherWidth columns) asked.delimiter
-      before after (Err e) → RunEnds db asked before after (Err (Rows e))
+      Ends header (IsAnswer db columns asked.else_hint asked.hint) (IsOfOtherWidth columns)
+      asked.delimiter before after (Ok tt) → RunEnds db asked before after (Ok tt)
+  broken_off : (header : Record) (columns : Columns) (e : RunError) →
+      is_delimiter asked.delimiter ≡ true → columns_in asked header ≡ Some columns →
+      Ends header (IsAnswer db columns asked.else_hint asked.hint) (IsOfOtherWidth columns)
+      asked.delimiter before after (Err e) → RunEnds db asked before after (Err (Rows e))

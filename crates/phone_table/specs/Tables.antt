@@ -3,16 +3,23 @@ use Rattle.std.specs.Prelude.{◌≡◌, ◌⊎◌, ℕ, List, [], ◌++◌, Opt
 use Rattle.csv.specs.declared.parser.State.{State}
 use Rattle.csv.specs.declared.parser.State.TheVariants as st
 use Rattle.phone_device.specs.Passing.{IsAtEnd}
+use Rattle.phone_csv.specs.Feeds.{counted, line_feeds}
 use Rattle.phone_csv.specs.Firsts.{IsFirst, first_in}
 use Rattle.phone_csv.specs.Formats.{Record, record_text, state_of}
 use Rattle.phone_csv.specs.Reports.{Gives, IsReport, IsReportOnFirst}
 use Rattle.phone_csv.specs.declared.cutter.Start.{Start}
 use Rattle.phone_table.specs.Headers.{names}
 
+-- these bytes are a header, of which nothing is left over
+abbrev pub IsHeaderAlone : ℕ → Record → List ℕ → Type 0
+IsHeaderAlone delimiter fields bytes = (after : State) ×
+    (first_in delimiter bytes ≡ Some (fields, after, []))
+
 -- these bytes are a header: of each text that begins with them, or of the whole one
 abbrev pub IsHeader : ℕ → Record → Option Start → List ℕ → Type 0
 IsHeader delimiter fields (Some start) bytes =
-    IsFirst delimiter bytes fields (state_of start.place)
+    IsFirst delimiter bytes fields (state_of start.place) ×
+    (start.feeds ≡ counted (line_feeds bytes))
 IsHeader delimiter fields None bytes =
     first_in delimiter bytes ≡ Some (fields, st.StartRecord, [])
 

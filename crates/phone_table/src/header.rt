@@ -1,5 +1,5 @@
 //! The columns of a header.
-ghost use Rattle.std.specs.Prelude.{◌≡◌, Some, None, Err, IfOk, option_map};
+ghost use Rattle.std.specs.Prelude.{◌≡◌, Some, None, Err, IfOk, IsSome, option_map};
 ghost use Rattle.csv.specs.Records.{fields_of};
 ghost use Rattle.phone_table.specs.Headers.{column_of, columns_of, region_column};
 ghost use Rattle.phone_table.specs.declared.header.Column.TheVariants as column;
@@ -48,6 +48,8 @@ pub fn columns_of(
         (option_map (λ name. name.now) region.entry) ≡ Some columns) }
     ensures no_number { result ≡ Err column.Number →
         column_of (fields_of header.now) number.now ≡ None }
+    ensures number_first { result ≡ Err column.Region →
+        IsSome (column_of (fields_of header.now) number.now) }
     ensures no_region { result ≡ Err column.Region → region_column (fields_of header.now)
         (option_map (λ name. name.now) region.entry) ≡ None }
 {

@@ -74,6 +74,8 @@ pub(crate) fn write_header<W: ByteSink>(
     ensures beginning { result ≡ Err error.Output → TakesFront (W.taken sink.old)
         (record_text delimiter (fields_of header ++ names)) (W.taken sink.new) }
     ensures nothing { result ≡ Err error.Memory → W.taken sink.new ≡ W.taken sink.old }
+    ensures nothing_held { result ≡ Err error.Memory →
+        W.unflushed sink.new ≡ W.unflushed sink.old }
     ensures no_fault { OnOk result (W.faults sink.new ≡ W.faults sink.old) }
     ensures fault { result ≡ Err error.Output → W.faults sink.new ≡ W.faults sink.old + 1 }
     ensures no_fault_without_memory { result ≡ Err error.Memory →

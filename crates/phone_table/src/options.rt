@@ -1,7 +1,9 @@
 //! The words of the program.
-ghost use Rattle.std.specs.Prelude.{◌≢◌, IfSome};
+ghost use Rattle.std.specs.Prelude.{◌≡◌};
+ghost use Rattle.phone_table.specs.Words.{delimiter_of};
 
 use crate::run::Asked;
+use phone_csv::is_delimiter;
 use phonenumber::country::Id;
 
 /// What the words of the program ask for.
@@ -33,20 +35,25 @@ fn option<'a, 'b>(name: &str, words: &'b [&'a str]) -> (Option<&'a str>, &'b [&'
     }
 }
 
-/// The byte that a word names as one that may stand between fields.
+/// The byte that a word names as one between fields: the word `tab`, or one ASCII character but a
+/// quote and a line end.
 fn delimiter_of(word: &str) -> Option<u8>
-    ensures no_quote { IfSome result (λ d. d ≢ 34) }
-    ensures no_line_feed { IfSome result (λ d. d ≢ 10) }
-    ensures no_return { IfSome result (λ d. d ≢ 13) }
+    ensures { result ≡ delimiter_of word.now }
 {
     if word == "tab" {
         return Some(b'\t');
     }
     match word.as_bytes() {
-        [byte] if byte.is_ascii() && *byte != b'"' && *byte != b'\n' && *byte != b'\r' => {
-            Some(*byte)
-        }
+        [byte] if byte.is_ascii() && is_delimiter(*byte) => Some(*byte),
         _ => None,
+    }
+}
+
+/// Whether a word of this name stands first, and the words behind it; else all words.
+fn flag<'a, 'b>(name: &str, words: &'b [&'a str]) -> (bool, &'b [&'a str]) {
+    match words {
+        [first, rest @ ..] if *first == name => (true, rest),
+        _ => (false, words),
     }
 }
 
@@ -62,13 +69,18 @@ fn hint_of(words: &[&str]) -> Result<Option<Id>, Refused> {
     }
 }
 
-/// What the words ask for: a database and a column, then a column of regions, a delimiter and a
-/// region, each of which may be left out.
+/// What the words ask for: a database and a column, then a column of regions, that what is no region
+/// takes the hint, a delimiter and a region, each of which may be left out. Only where there is a
+/// column of regions something may be said of what is no region.
 pub(crate) fn read_words<'a>(words: &[&'a str]) -> Result<Words<'a>, Refused> {
     let [path, number, rest @ ..] = words else {
         return Err(Refused::Usage);
     };
     let (region, rest) = option("--region-column", rest);
+    let (else_hint, rest) = flag("--else-hint", rest);
+    if else_hint && region.is_none() {
+        return Err(Refused::Usage);
+    }
     let (delimiter, rest) = option("--delimiter", rest);
     let delimiter = match delimiter {
         None => b',',
@@ -83,6 +95,7 @@ pub(crate) fn read_words<'a>(words: &[&'a str]) -> Result<Words<'a>, Refused> {
         region,
         delimiter,
         hint,
+        else_hint,
     };
     Ok(Words { path: *path, asked })
 }

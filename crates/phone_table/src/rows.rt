@@ -28,8 +28,10 @@ pub(crate) fn write_rows<A: Answers, S: ByteSource, W: ByteSink>(
     ensures ends { (before : Option (List ℕ)) → OfRead before (S.to_come source.old) (λ bytes.
         IsHeader delimiter (fields_of first.fields) first.rest bytes) →
         Ends (fields_of first.fields) (A.gives answers.now) (A.refuses answers.now) delimiter
-        (seen before (S.faults source.old) (W.taken sink.old) (W.faults sink.old))
-        (seen (S.to_come source.new) (S.faults source.new) (W.taken sink.new) (W.faults sink.new))
+        (seen before (S.faults source.old) (W.taken sink.old)
+        (W.faults sink.old) (W.unflushed sink.old))
+        (seen (S.to_come source.new) (S.faults source.new) (W.taken sink.new)
+        (W.faults sink.new) (W.unflushed sink.new))
         result }
 {
     let First { fields, rest } = first;

@@ -6,7 +6,7 @@ use crate::header::{Column, columns_of};
 use crate::rows::write_rows;
 use crate::table::Table;
 use csv::ByteRecord;
-use phone_csv::{FirstError, RunError, first_record};
+use phone_csv::{FirstError, RunError, first_record, is_delimiter};
 use phone_device::{ByteSink, ByteSource};
 use phonenumber::country::Id;
 use phonenumber::metadata::Database;
@@ -18,15 +18,19 @@ pub struct Asked<'a> {
     pub number: &'a str,
     /// The name of the column of the regions, where there is one.
     pub region: Option<&'a str>,
-    /// The byte between fields.
+    /// The byte between fields: any but a quote and a line end.
     pub delimiter: u8,
-    /// The region under which a record is read that has no region of its own.
+    /// The region under which a record is read that names none.
     pub hint: Option<Id>,
+    /// Whether a record is read so too that names no region that there is.
+    pub else_hint: bool,
 }
 
 /// Why a table was not answered whole.
 #[derive(Drop)]
 pub enum TableError {
+    /// The byte between fields is a quote or a line end.
+    Delimiter,
     /// The header was not read.
     Header(FirstError),
     /// The header, which stands here, lacks a column.
@@ -38,17 +42,21 @@ pub enum TableError {
 /// Gives a table back: its header with seven names behind its own, `e164`, `international`,
 /// `national`, `type`, `region`, `validity` and `refusal`, and then its records in their order,
 /// unchanged, each with its answer behind its fields. The first record is the header, a byte-order
-/// mark in front of it passed over. A record is read under the region whose id stands in its column
-/// of regions, else under the hint. The answer to a number is its texts in three modes, its kind,
+/// mark in front of it passed over. The answer to a number is its texts in three modes, its kind,
 /// the id of its region or `-`, `valid` or `invalid`, and an empty field; that to a refusal are six
 /// empty fields and its words; that to bytes that aren't UTF-8 the same, with `not UTF-8`. What is
 /// read and written is CSV as the kit's `csv` has it, with this delimiter. Nothing in memory grows
 /// with the number of records.
 ///
-/// Refused by `Header` where there is no header: then nothing is written. By `NoColumn` where the
+/// A record is read under the region whose id stands in its column of regions, in capital or small
+/// letters, white space around it passed over; where that field is empty, under the hint. Where it
+/// holds anything else its number is refused with the words `unknown region`, and the record goes
+/// on; with `else_hint` it is read under the hint.
+///
+/// Refused by `Delimiter`: then nothing is read. By `Header` where there is no header: then nothing is written. By `NoColumn` where the
 /// header lacks a column: then nothing is written. By `Rows` as `answer_records` refuses, the
 /// header having been written before the records: `Record` at a record with another count of fields
-/// than the header.
+/// than the header, with the line feeds in front of it.
 pub fn write_table<S: ByteSource, W: ByteSink>(
     database: &Database,
     asked: Asked<'_>,
@@ -56,10 +64,15 @@ pub fn write_table<S: ByteSource, W: ByteSink>(
     sink: &mut W,
 ) -> Result<(), TableError>
     ensures ends { RunEnds database.now asked.entry
-        (seen (S.to_come source.old) (S.faults source.old) (W.taken sink.old) (W.faults sink.old))
-        (seen (S.to_come source.new) (S.faults source.new) (W.taken sink.new) (W.faults sink.new))
+        (seen (S.to_come source.old) (S.faults source.old) (W.taken sink.old)
+        (W.faults sink.old) (W.unflushed sink.old))
+        (seen (S.to_come source.new) (S.faults source.new) (W.taken sink.new)
+        (W.faults sink.new) (W.unflushed sink.new))
         result }
 {
+    if !is_delimiter(asked.delimiter) {
+        return Err(TableError::Delimiter);
+    }
     let alloc = database.allocator();
     let first = match first_record(alloc, asked.delimiter, source) {
         Ok(first) => first,
@@ -72,6 +85,7 @@ pub fn write_table<S: ByteSource, W: ByteSink>(
     let table = Table {
         database,
         hint: asked.hint,
+        else_hint: asked.else_hint,
         columns,
     };
     match write_rows(alloc, &table, asked.delimiter, first, source, sink) {

@@ -1,13 +1,13 @@
 //! What answers the records of a table.
 ghost use Rattle.std.specs.Prelude.{◌≡◌, IfOk};
-ghost use Rattle.std.specs.Option.{option_or};
 ghost use Rattle.csv.specs.Records.{fields_of};
-ghost use Rattle.phone_table.specs.Answers.{IsNumberAnswer, field_in, own_region};
+ghost use Rattle.phone_table.specs.Answers.{IsNumberAnswer};
+ghost use Rattle.phone_table.specs.Regions.{RecordNames, field_in};
 ghost use Rattle.phone_table.specs.Spelled.{spelled};
 
 use crate::answer::{Answer, answer_to, push_answer};
 use crate::header::Columns;
-use crate::region::region_named;
+use crate::region::{Named, hint_under, region_named};
 use csv::ByteRecord;
 use phone_csv::{Answers, Refusal};
 use phonenumber::country::Id;
@@ -20,31 +20,36 @@ use std::marker::Model;
 pub struct Table<'d> {
     /// The database that reads, prints and tells.
     pub database: &'d Database,
-    /// The region under which a record is read that has no region of its own.
+    /// The region under which a record is read that names none.
     pub hint: Option<Id>,
+    /// Whether a record is read so too that names no region that there is.
+    pub else_hint: bool,
     /// Its columns.
     pub columns: Columns,
 }
 
 impl<'d> Table<'d> {
-    /// The region under which a record is read: its own, else the hint.
-    fn hint_for(&self, fields: &ByteRecord) -> Option<Id>
-        ensures { result ≡
-            option_or (own_region self.now.columns.region (fields_of fields.now)) self.now.hint }
+    /// What a record names as its region.
+    fn region_of(&self, fields: &ByteRecord) -> Named
+        ensures { RecordNames self.now.columns.region (fields_of fields.now) result }
     {
-        let Some(column) = self.columns.region else {
-            return self.hint;
-        };
-        region_named(field_in(fields, column)).or(self.hint)
+        match self.columns.region {
+            Some(column) => region_named(field_in(fields, column)),
+            None => Named::Nothing,
+        }
     }
 
     /// The answer to a record. Refused only for memory.
     fn answer_to_record(&self, alloc: Global, fields: &ByteRecord) -> Result<Answer, AllocError>
         ensures { IfOk result (λ a. IsNumberAnswer self.now.database.now self.now.columns
-            self.now.hint (fields_of fields.now) (spelled a)) }
+            self.now.else_hint self.now.hint (fields_of fields.now) (spelled a)) }
     {
+        let named = self.region_of(fields);
+        let Some(hint) = hint_under(self.else_hint, self.hint, named) else {
+            return Ok(Answer::Refused("unknown region"));
+        };
         let field = field_in(fields, self.columns.number);
-        answer_to(alloc, self.database, self.hint_for(fields), field)
+        answer_to(alloc, self.database, hint, field)
     }
 }
 
@@ -62,7 +67,7 @@ impl<'d> Answers for Table<'d> {
     ghost use Rattle.phone_table.specs.Answers.{IsAnswer, IsOfOtherWidth};
 
     ghost gives = { λ t fields answer.
-        IsAnswer t.database.now t.columns t.hint fields answer };
+        IsAnswer t.database.now t.columns t.else_hint t.hint fields answer };
 
     ghost refuses = { λ t fields. IsOfOtherWidth t.columns fields };
 

@@ -11,10 +11,14 @@ use phonenumber::report::{database_refused, told};
 use std::alloc::AllocGlobal;
 use std::fs::Files;
 
-/// The program `table DATABASE COLUMN [--region-column COLUMN] [--delimiter D] [REGION]`: it loads
-/// the database of a file by `Database::load`, and gives the table of the source back to the sink,
-/// each record with its answer, as `write_table` does. It gives the status to end with, and for
-/// each but 0 writes one line to `errors`; that this fails changes no status.
+/// How the program is called.
+const USAGE: &str = "usage: table DATABASE COLUMN [--region-column COLUMN [--else-hint]] \
+    [--delimiter D] [REGION]\n";
+
+/// The program `table DATABASE COLUMN [--region-column COLUMN [--else-hint]] [--delimiter D]
+/// [REGION]`: it loads the database of a file by `Database::load`, and gives the table of the source
+/// back to the sink, each record with its answer, as `write_table` does. It gives the status to end
+/// with, and for each but 0 writes one line to `errors`; that this fails changes no status.
 ///
 /// The words are those after the program's own name. D is one ASCII character but a quote and a
 /// line end, or the word `tab`. Status 0: the table was written. 1: `input failed`, `output
@@ -46,6 +50,7 @@ pub fn program<R: Files + AllocGlobal, S: ByteSource, W: ByteSink, E: ByteSink>(
 /// Tells why a table was not answered whole, and gives the status.
 fn explained<E: ByteSink>(errors: &mut E, asked: &Asked<'_>, error: &TableError) -> u8 {
     match error {
+        TableError::Delimiter => told(errors, refused_words(Refused::Delimiter), 2),
         TableError::Header(FirstError::Absent) => told(errors, "there is no header\n", 2),
         TableError::Header(FirstError::Input) => told(errors, "input failed\n", 1),
         TableError::Header(FirstError::Memory) => told(errors, "out of memory\n", 1),
@@ -99,9 +104,7 @@ fn tell_line<E: ByteSink>(errors: &mut E, line: u64) -> Result<(), Fault> {
 /// The line for words that are refused.
 fn refused_words(refused: Refused) -> &'static str {
     match refused {
-        Refused::Usage => {
-            "usage: table DATABASE COLUMN [--region-column COLUMN] [--delimiter D] [REGION]\n"
-        }
+        Refused::Usage => USAGE,
         Refused::Region => "unknown region\n",
         Refused::Delimiter => {
             "a delimiter is one ASCII character but a quote and a line end, or the word tab\n"

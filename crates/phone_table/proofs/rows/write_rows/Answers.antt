@@ -12,13 +12,13 @@ pub returns-in-Err-Output : goal.returns-in-Err-Output
 returns-in-Err-Output g c =
     let e = c.in-Err-Output.ensures in
     let is = ap Err c.in-Err-Output.field-0-is in
-    record { ends = λ before h. header_ends _ _ _ c.args.delimiter before _ _ _ _ _ _ c.args.first.rest h (e.beginning is) (e.fault is) }
+    record { ends = λ before h. header_ends _ _ _ c.args.delimiter before _ _ _ _ _ _ _ _ c.args.first.rest h (e.beginning is) (e.fault is) }
 
 pub returns-in-Err-Memory : goal.returns-in-Err-Memory
 returns-in-Err-Memory g c =
     let e = c.in-Err-Memory.ensures in
     let is = ap Err c.in-Err-Memory.field-0-is in
-    record { ends = λ before h. header_refused _ _ _ c.args.delimiter before _ _ _ _ _ _ (e.nothing is) (e.no_fault_without_memory is) }
+    record { ends = λ before h. header_refused _ _ _ c.args.delimiter before _ _ _ _ _ _ _ _ c.args.first.rest h (e.nothing is) (e.nothing_held is) (e.no_fault_without_memory is) }
 
 pub returns-in-Some : goal.returns-in-Some
 returns-in-Some g c =
@@ -27,9 +27,9 @@ returns-in-Some g c =
     let d = c.args.delimiter in
     let header = fields_of c.args.first.fields in
     record {
-      ends = λ before h. rows_end header (g.A.Answers.gives c.args.answers.now) (g.A.Answers.refuses c.args.answers.now) d before (g.S.ByteSource.to_come c.args.source.now) _ _ _ _ _ c.in-Some.start _ _ _ _ c.answer_records.result
+      ends = λ before h. rows_end header (g.A.Answers.gives c.args.answers.now) (g.A.Answers.refuses c.args.answers.now) d before (g.S.ByteSource.to_come c.args.source.now) _ _ _ _ _ _ c.in-Some.start _ _ _ _ _ c.answer_records.result
           (subst (λ rest. OfRead before (g.S.ByteSource.to_come c.args.source.now) (λ bytes. IsHeader d header rest bytes)) c.in-Some.is h)
-          t.written t.no_fault r.end r.report r.no_fault r.ended r.cause r.beginning r.before r.first r.no_fault_at_a_record r.no_fault_without_memory r.sink_faults;
+          t.written t.no_fault r.end r.report r.no_fault r.ended r.cause r.beginning r.before r.first r.no_fault_at_a_record r.no_fault_without_memory r.sink_faults r.handed_on;
     }
 
 pub returns-in-Ok-flush : goal.returns-in-Ok-flush
@@ -41,8 +41,8 @@ returns-in-Ok-flush g c =
     let source = g.S.ByteSource.to_come c.args.source.now in
     let end = rw c.in-None.is at c.requires.end in
     record {
-      ends = λ before h. only_ends header _ _ d before source _ _ _ _ _ (subst (λ rest. OfRead before source (λ bytes. IsHeader d header rest bytes)) c.in-None.is h)
-          (end refl) (subst (λ w. Takes (g.W.ByteSink.taken c.args.sink.now) (record_text d (header ++ names)) w) (sym f.kept) t.written) (f.no_fault ∙ t.no_fault);
+      ends = λ before h. only_ends header _ _ d before source _ _ _ _ _ _ _ (subst (λ rest. OfRead before source (λ bytes. IsHeader d header rest bytes)) c.in-None.is h)
+          (end refl) (subst (λ w. Takes (g.W.ByteSink.taken c.args.sink.now) (record_text d (header ++ names)) w) (sym f.kept) t.written) (f.no_fault ∙ t.no_fault) f.handed_on;
     }
 
 pub returns-in-Err : goal.returns-in-Err
@@ -53,6 +53,6 @@ returns-in-Err g c =
     let header = fields_of c.args.first.fields in
     let source = g.S.ByteSource.to_come c.args.source.now in
     record {
-      ends = λ before h. only_held header _ _ d before source _ _ _ _ _ (subst (λ rest. OfRead before source (λ bytes. IsHeader d header rest bytes)) c.in-None.is h)
+      ends = λ before h. only_held header _ _ d before source _ _ _ _ _ _ _ (subst (λ rest. OfRead before source (λ bytes. IsHeader d header rest bytes)) c.in-None.is h)
           (subst (λ w. Takes (g.W.ByteSink.taken c.args.sink.now) (record_text d (header ++ names)) w) (sym f.kept) t.written) (f.fault ∙ ap (λ n. n + 1) t.no_fault);
     }

@@ -1,13 +1,17 @@
-use Rattle.std.proofs.Common.{refl}
+use Rattle.std.proofs.Common.{rules, refl}
 use Rattle.csv.specs.Records.{fields_of}
-use Rattle.phone_table.specs.Runs.RunEnds.{broken_off, no_column, no_header, whole}
+use Rattle.phone_table.specs.Runs.RunEnds.{broken_off, no_column, no_delimiter, no_header, whole}
+use Rattle.phone_table.proofs.TableLemmas.{alone}
 use Rattle.phone_table.proofs.RunLemmas.{ends_from, header_read, lacks_by, no_header_by}
 use Rattle.phone_table.proofs.run.write_table.Goals as goal
+
+pub returns-then-not-is_delimiter : goal.returns-then-not-is_delimiter
+returns-then-not-is_delimiter g c = record { ends = no_delimiter (search rules) refl }
 
 pub returns-in-Err : goal.returns-in-Err
 returns-in-Err g c =
     let e = c.in-Err.ensures in
-    record { ends = no_header c.in-Err.error (no_header_by c.args.asked.delimiter _ _ c.in-Err.error e.absent e.absent_end e.absent_no_fault e.cause e.no_fault_without_memory) (record { taken = refl; sink = refl }) }
+    record { ends = no_header c.in-Err.error (search rules) (no_header_by c.args.asked.delimiter _ _ c.in-Err.error e.unended e.absent e.absent_end e.absent_no_fault e.cause e.no_fault_without_memory) (record { taken = refl; unflushed = refl; sink = refl }) }
 
 pub returns-in-Err-columns_of : goal.returns-in-Err-columns_of
 returns-in-Err-columns_of g c =
@@ -15,12 +19,11 @@ returns-in-Err-columns_of g c =
     let first = c.in-Ok.first in
     let e = c.in-Err-columns_of.ensures in
     record {
-      ends = no_column c.in-Err-columns_of.column first.fields (record {
-        rest = first.rest;
-        read = header_read c.args.asked.delimiter (fields_of first.fields) first.rest _ _ f.ended f.only;
-        lacks = lacks_by c.args.asked c.in-Err-columns_of.column (fields_of first.fields) e.no_number e.no_region;
+      ends = no_column c.in-Err-columns_of.column first.fields (search rules) (record {
+        read = alone c.args.asked.delimiter (fields_of first.fields) first.rest _ _ (header_read c.args.asked.delimiter (fields_of first.fields) first.rest _ _ f.ended f.only);
+        lacks = lacks_by c.args.asked c.in-Err-columns_of.column (fields_of first.fields) e.no_number e.number_first e.no_region;
         no_source_fault = f.no_fault;
-      }) (record { taken = refl; sink = refl });
+      }) (record { taken = refl; unflushed = refl; sink = refl });
     }
 
 pub returns-in-Ok-write_rows : goal.returns-in-Ok-write_rows
@@ -28,7 +31,7 @@ returns-in-Ok-write_rows g c =
     let f = c.in-Ok.ensures in
     let first = c.in-Ok.first in
     record {
-      ends = whole (fields_of first.fields) c.in-Ok-columns_of.columns c.in-Ok-columns_of.ensures.found
+      ends = whole (fields_of first.fields) c.in-Ok-columns_of.columns (search rules) c.in-Ok-columns_of.ensures.found
           (ends_from f.no_fault (c.in-Ok-write_rows.ensures.ends (g.S.ByteSource.to_come c.args.source.now)
           (header_read c.args.asked.delimiter (fields_of first.fields) first.rest _ _ f.ended f.only)));
     }
@@ -38,7 +41,7 @@ returns-in-Err-write_rows g c =
     let f = c.in-Ok.ensures in
     let first = c.in-Ok.first in
     record {
-      ends = broken_off (fields_of first.fields) c.in-Ok-columns_of.columns c.in-Err-write_rows.error c.in-Ok-columns_of.ensures.found
+      ends = broken_off (fields_of first.fields) c.in-Ok-columns_of.columns c.in-Err-write_rows.error (search rules) c.in-Ok-columns_of.ensures.found
           (ends_from f.no_fault (c.in-Err-write_rows.ensures.ends (g.S.ByteSource.to_come c.args.source.now)
           (header_read c.args.asked.delimiter (fields_of first.fields) first.rest _ _ f.ended f.only)));
     }
