@@ -1,0 +1,7 @@
+use Rattle.std.proofs.Common.{refl}
+use Rattle.std.specs.Str.{chars}
+use Rattle.phone_library_text.proofs.labels.words.Goals as goal
+
+pub returns : goal.returns
+unfolding chars
+returns c = refl

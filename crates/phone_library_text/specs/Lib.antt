@@ -1,0 +1,9 @@
+pub mod Announcements
+pub mod Contexts
+pub mod Extensions
+pub mod Letters
+pub mod NumberTexts
+pub mod Places
+pub mod Scans
+pub mod Viable
+pub mod Written

@@ -1,0 +1,207 @@
+//! The words, signs and pauses that announce an extension, looked for at the front of a text.
+ghost use Rattle.std.specs.Prelude.{◌≡◌, ◌||◌, ◌&&◌, ◌==◌, ℕ, List, ◌++◌, chars, codes, map, None, Some};
+ghost use Rattle.std.specs.Prelude.{IfSome, MatchOption};
+ghost use Rattle.std.specs.Borrow.{Bor};
+ghost use Rattle.phone_chars.specs.Characters.{is_one_of};
+ghost use Rattle.phone_parts.specs.Longest.{AreEndsUpTo};
+ghost use Rattle.phone_library_text.specs.Announcements.{pauses, signs, words};
+ghost use Rattle.phone_library_text.specs.Letters.{folded, is_alike};
+ghost use Rattle.phone_library_text.specs.Scans.{IsMarkGap, after_alike, follows, follows_some};
+ghost use Rattle.phone_library_text.specs.Scans.{is_named, is_nil, label_starts, pause_starts};
+
+use crate::announcement::Allowed;
+use crate::letters::folded;
+use phone_chars::cuts::split_first;
+
+const WORDS: [&str; 22] = [
+    "xt",
+    "xtn",
+    "xtensio",
+    "xtension",
+    "xtensio\u{301}",
+    "xtensio\u{301}n",
+    "xtensi\u{F3}",
+    "xtensi\u{F3}n",
+    "ext",
+    "extn",
+    "extensio",
+    "extension",
+    "extensio\u{301}",
+    "extensio\u{301}n",
+    "extensi\u{F3}",
+    "extensi\u{F3}n",
+    "\u{FF58}\u{FF54}",
+    "\u{FF58}\u{FF54}\u{FF4E}",
+    "\u{FF45}\u{FF58}\u{FF54}",
+    "\u{FF45}\u{FF58}\u{FF54}\u{FF4E}",
+    "\u{434}\u{43E}\u{431}",
+    "anexo",
+];
+
+const SIGNS: [&str; 8] = [
+    "x",
+    "\u{FF58}",
+    "#",
+    "\u{FF03}",
+    "~",
+    "\u{FF5E}",
+    "int",
+    "\u{FF49}\u{FF4E}\u{FF54}",
+];
+
+const PAUSES: [&str; 2] = [",,", ";"];
+
+/// The words that mean an extension.
+fn words() -> &'static [&'static str]
+    ensures { map (λ (w : Bor (List ℕ)). chars w.now) result.now ≡ words }
+{
+    &WORDS
+}
+
+/// The signs that may mean one.
+fn signs() -> &'static [&'static str]
+    ensures { map (λ (w : Bor (List ℕ)). chars w.now) result.now ≡ signs }
+{
+    &SIGNS
+}
+
+/// The pauses in dialling.
+fn pauses() -> &'static [&'static str]
+    ensures { map (λ (w : Bor (List ℕ)). chars w.now) result.now ≡ pauses }
+{
+    &PAUSES
+}
+
+/// Whether two characters have one folding.
+fn same_folded(a: char, b: char) -> bool
+    ensures { result ≡ (folded a == folded b) }
+{
+    folded(a) == folded(b)
+}
+
+/// Whether the text has no character.
+pub(crate) fn is_nothing(text: &str) -> bool
+    ensures { result ≡ is_nil (chars text.now) }
+{
+    text.is_empty()
+}
+
+/// What follows a front of the text that is alike the word: each of its characters has the folding
+/// of the word's character in that place. None where no such front is there.
+fn strip_alike<'a>(text: &'a str, word: &str) -> Option<&'a str>
+    ensures read { MatchOption result
+        (after_alike (chars text.now) (chars word.now) ≡ None)
+        (λ rest. after_alike (chars text.now) (chars word.now) ≡ Some (chars rest.now)) }
+    ensures end { IfSome result (λ rest. (v : List ℕ) × (text.now ≡ v ++ rest.now)) }
+{
+    let mut rest = text;
+    let mut wanted = word;
+    while let Some((w, after_word)) = split_first(wanted) {
+        let (c, after) = split_first(rest)?;
+        if !same_folded(c, w) {
+            return None;
+        }
+        rest = after;
+        wanted = after_word;
+    }
+    Some(rest)
+}
+
+/// Whether the text is `;ext=`, of either case.
+pub(crate) fn is_parameter(text: &str) -> bool
+    ensures { result ≡ is_alike (chars text.now) (codes ";ext=") }
+{
+    match strip_alike(text, ";ext=") {
+        Some(rest) => is_nothing(rest),
+        None => false,
+    }
+}
+
+/// Whether the text is this word, perhaps a mark, and a gap.
+fn follows(text: &str, word: &str, limit: usize) -> bool
+    requires { AreEndsUpTo IsMarkGap limit text.now }
+    ensures { result ≡ follows (chars text.now) (chars word.now) }
+{
+    match strip_alike(text, word) {
+        Some(rest) => rest.len() <= limit,
+        None => false,
+    }
+}
+
+/// Whether the text is one of these words, perhaps a mark, and a gap.
+fn follows_some(text: &str, words: &[&str], limit: usize) -> bool
+    requires { AreEndsUpTo IsMarkGap limit text.now }
+    ensures { result ≡
+        follows_some (map (λ (w : Bor (List ℕ)). chars w.now) words.now) (chars text.now) }
+{
+    for word in words {
+        if follows(text, word, limit) {
+            return true;
+        }
+    }
+    false
+}
+
+/// Whether a word or a sign begins with this folding.
+fn starts_label(folding: char) -> bool
+    ensures { result ≡ is_one_of label_starts folding }
+{
+    matches!(
+        folding,
+        'e' | 'x'
+            | 'a'
+            | 'i'
+            | '#'
+            | '~'
+            | '\u{434}'
+            | '\u{FF45}'
+            | '\u{FF58}'
+            | '\u{FF49}'
+            | '\u{FF03}'
+            | '\u{FF5E}'
+    )
+}
+
+/// Whether a pause begins with this folding.
+fn starts_pause(folding: char) -> bool
+    ensures { result ≡ is_one_of pause_starts folding }
+{
+    folding == ',' || folding == ';'
+}
+
+/// Whether the text is a word or a sign that may stand there, perhaps a mark, and a gap.
+fn is_named(text: &str, allowed: Allowed, limit: usize) -> bool
+    requires { AreEndsUpTo IsMarkGap limit text.now }
+    ensures { result ≡ is_named allowed (chars text.now) }
+{
+    (allowed.words && follows_some(text, words(), limit))
+        || (allowed.signs && follows_some(text, signs(), limit))
+}
+
+/// The same, where most texts begin with another character: that is asked first.
+pub(crate) fn begins_named(text: &str, allowed: Allowed, limit: usize) -> bool
+    requires { AreEndsUpTo IsMarkGap limit text.now }
+    ensures { result ≡ is_named allowed (chars text.now) }
+{
+    let Some((c, _)) = split_first(text) else {
+        return false;
+    };
+    if !starts_label(folded(c)) {
+        return false;
+    }
+    is_named(text, allowed, limit)
+}
+
+/// Whether the text is a pause, perhaps a mark, and a gap.
+pub(crate) fn begins_pause(text: &str, limit: usize) -> bool
+    requires { AreEndsUpTo IsMarkGap limit text.now }
+    ensures { result ≡ follows_some pauses (chars text.now) }
+{
+    let Some((c, _)) = split_first(text) else {
+        return false;
+    };
+    if !starts_pause(folded(c)) {
+        return false;
+    }
+    follows_some(text, pauses(), limit)
+}

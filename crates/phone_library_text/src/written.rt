@@ -1,0 +1,111 @@
+//! How a number is written in a text.
+ghost use Rattle.std.specs.Prelude.{◌≡◌, ◌⊎◌, ◌<◌, ◌↔◌, Err, IfOk, IfErr, IsTrue, chars, length};
+ghost use Rattle.std.specs.Prelude.{option_map, encode_utf8_all};
+ghost use Rattle.phone_chars.specs.Characters.{is_plus};
+ghost use Rattle.phone_parts.specs.Texts.{begins};
+ghost use Rattle.phone_library_text.specs.Letters.{digits_in};
+ghost use Rattle.phone_library_text.specs.NumberTexts.{chars_of};
+ghost use Rattle.phone_library_text.specs.Written.{IsWritten, IsWrittenIn, most_characters};
+
+use crate::letters::digits_in;
+use crate::number_text::number_text;
+use crate::viable::{is_viable, split_extension};
+use phone_chars::chars::is_plus;
+use phone_chars::cuts::split_first;
+use phone_core::{Extension, ParseError};
+use phone_texts::Text;
+use phone_texts::together::{both, instead};
+use std::alloc::Global;
+
+/// A number as it is written.
+#[derive(Debug, Drop)]
+pub struct WrittenNumber {
+    /// Whether it begins with a plus sign.
+    pub has_plus: bool,
+    /// Its ASCII digits, the calling code's and an international prefix's among them.
+    pub digits: Text,
+    /// The digits of its extension, of any script, where it has one.
+    pub extension: Option<Extension>,
+}
+
+/// The most characters that a text may have.
+const MOST_CHARACTERS: usize = 250;
+
+/// Reads how a number is written in a text: whether it begins with a plus sign, its digits, and its
+/// extension.
+///
+/// `TooLong` for a text of more than 250 characters, `NoNumber` for one in which no number stands.
+/// `Memory` where memory was refused, and nowhere else.
+pub fn read_written(alloc: Global, text: &str) -> Result<WrittenNumber, ParseError>
+    ensures { (result ≡ Err ParseError.Memory) ⊎ IsWritten (chars text.now) result }
+{
+    if is_too_long(text) {
+        return Err(ParseError::TooLong);
+    }
+    let Some(number) = number_text(alloc, text)? else {
+        return Err(ParseError::NoNumber);
+    };
+    let written = written_in(alloc, number.as_str());
+    instead(number, written)
+}
+
+/// Whether a text has too many characters. They are counted only where it has so many bytes.
+fn is_too_long(text: &str) -> bool
+    ensures { IsTrue result ↔ (most_characters < length (chars text.now)) }
+{
+    text.len() > MOST_CHARACTERS && text.chars().count() > MOST_CHARACTERS
+}
+
+/// How the number is written that a number's text is.
+fn written_in(alloc: Global, number: &str) -> Result<WrittenNumber, ParseError>
+    ensures { (result ≡ Err ParseError.Memory) ⊎ IsWrittenIn (chars number.now) result }
+{
+    if !is_viable(number) {
+        return Err(ParseError::NoNumber);
+    }
+    let (front, extension) = split_extension(number);
+    let (digits, extension) = both(text_of_digits(alloc, front), text_of(alloc, extension))?;
+    Ok(WrittenNumber {
+        has_plus: begins_with_plus(number),
+        digits,
+        extension,
+    })
+}
+
+/// Whether a text begins with a plus sign.
+fn begins_with_plus(text: &str) -> bool
+    ensures { result ≡ begins is_plus (chars text.now) }
+{
+    match split_first(text) {
+        Some((c, _)) => is_plus(c),
+        None => false,
+    }
+}
+
+/// The digits of a text, in a text of their own.
+fn text_of_digits(alloc: Global, text: &str) -> Result<Text, ParseError>
+    ensures digits { IfOk result (λ d. d ≡ digits_in (chars text.now)) }
+    ensures refused { IfErr result (λ e. e ≡ ParseError.Memory) }
+{
+    let digits = digits_in(alloc, text)?;
+    Ok(Text::from(digits.into_owned(alloc)?))
+}
+
+/// An extension in a text of its own, where there is one.
+fn text_of(alloc: Global, text: Option<&str>) -> Result<Option<Extension>, ParseError>
+    ensures extension { IfOk result (λ e. e ≡ option_map encode_utf8_all (chars_of text.entry)) }
+    ensures refused { IfErr result (λ e. e ≡ ParseError.Memory) }
+{
+    match text {
+        Some(text) => Ok(Some(extension_of(alloc, text)?)),
+        None => Ok(None),
+    }
+}
+
+/// An extension in a text of its own.
+fn extension_of(alloc: Global, text: &str) -> Result<Extension, ParseError>
+    ensures extension { IfOk result (λ e. e ≡ encode_utf8_all (chars text.now)) }
+    ensures refused { IfErr result (λ e. e ≡ ParseError.Memory) }
+{
+    Ok(Extension::from(String::from_str(alloc, text)?))
+}
