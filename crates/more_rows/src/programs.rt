@@ -37,7 +37,7 @@ pub fn answer<R: Files + AllocGlobal>(rt: &R, row: &Row) -> Result<Option<String
 /// Runs the program.
 fn run<R: Files + AllocGlobal>(rt: &R, row: &Row) -> Result<Ended> {
     let alloc = rt.alloc();
-    let words: Vec<&str> = row.argument(0).split(' ').collect(alloc)?;
+    let words = words(alloc, row.argument(0))?;
     let bytes = Vec::from_slice(alloc, row.argument_bytes(3))?;
     let mut source = Script::new(bytes, fault(row.argument(1))?);
     let mut written = sink(alloc, row.argument(2))?;
@@ -57,6 +57,14 @@ fn run<R: Files + AllocGlobal>(rt: &R, row: &Row) -> Result<Ended> {
         written,
         told,
     })
+}
+
+/// The words of a line, parted by spaces; none where it has a hyphen.
+fn words<'a>(alloc: Global, text: &'a str) -> Result<Vec<&'a str>> {
+    if text == "-" {
+        return Ok(Vec::new(alloc));
+    }
+    Ok(text.split(' ').collect(alloc)?)
 }
 
 /// The program of a line's call, on its words and devices.
