@@ -1,4 +1,5 @@
 mod ByText
 mod Digits
 mod Laid
+mod Prefixed
 mod Searches

@@ -168,6 +168,17 @@ ar = territory (codes "AR") 1234 (numbers (codes "\\d{6}") 6)
 abbrev pub db_d : List Metadata
 db_d = ai ∷ bare_ad ∷ ar ∷ []
 
+-- North Korea, whose international prefixes are two, so that a plus sign is dialled there
+abbrev pub kp : Metadata
+kp = record (territory (codes "KP") 850 (numbers (codes "\\d{8}") 8)) {
+  international_prefix = Some (codes "00|99");
+  national_prefix = Some (codes "0");
+}
+
+-- North Korea and New Zealand
+abbrev pub db_kp : List Metadata
+db_kp = kp ∷ nz ∷ []
+
 -- a number of a calling code: zeros, a value, perhaps an extension
 abbrev pub number : ℕ → ℕ → ℕ → Option (List ℕ) → Reading
 number code zeros value extension = record {

@@ -1,10 +1,12 @@
 //! What the premises of reading back take, and why each is there, on the databases B, C, D and E of
-//! the replayed tables. These functions do nothing; their contracts say it.
+//! the replayed tables; and what those of dialling and of finding take. These functions do nothing; their contracts say it.
 #![tactic(auto)]
 
+mod dialled;
 mod needed;
 mod plain;
 
+pub use dialled::{dialled_behind_a_plus, dialled_behind_a_prefix, found_in_a_text};
 pub use needed::{
     announced_by_layout, announced_otherwise, codes_apart, digits_dropped, extensions,
     plus_in_rule, prefix_stripped, two_digits, value_zero, wrong_length,
