@@ -147,6 +147,11 @@ uint32_t phone_is_viable(const uint8_t *text, size_t text_len, uint8_t *told);
 uint32_t phone_version(void);
 #define PHONE_VERSION 1u
 
+/* Writes the version of the table that this library was released with, as "libphonenumber 9.0.35", to
+ * the front of `out`, and its length to `wrote`; a caller may open another table. It needs no database
+ * and takes no memory. PHONE_OK, or PHONE_TOO_SMALL as phone_report has it. */
+uint32_t phone_table_version(uint8_t *out, size_t out_len, size_t *wrote);
+
 #ifdef __cplusplus
 }
 #endif
