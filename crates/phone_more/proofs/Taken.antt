@@ -95,6 +95,29 @@ swapped db s t x r (Sameness.second_refused a f h g) e = cc
 pub answer_swap : (db : List Metadata) (s t : List ℕ) (r : Answer) → IsAnswer db s t (Ok r) → IsAnswer db t s (Ok r)
 answer_swap db s t r h = swapped db s t (Ok r) r h refl
 
+-- where the two orders are refused differently, both texts are refused, each as itself
+refused_by_each : (db : List Metadata) (s t : List ℕ) (x y : Result Answer ParseError) (e f : ParseError) → IsAnswer db s t x → IsAnswer db t s y →
+    x ≡ Err e → y ≡ Err f → ¬ (e ≡ f) → IsTaken db s (Err e) × IsTaken db t (Err f)
+refused_by_each db s t x y e f (Sameness.of_both a b h g) back p q other = cc
+refused_by_each db s t x y e f (Sameness.first_refused d h) (Sameness.of_both a b k l) p q other = cc
+refused_by_each db s t x y e f (Sameness.first_refused d h) (Sameness.first_refused c k) p q other =
+    let first : d ≡ e = cc in
+    let second : c ≡ f = cc in
+    (subst (λ z. IsTaken db s (Err z)) first h, subst (λ z. IsTaken db t (Err z)) second k)
+refused_by_each db s t x y e f (Sameness.first_refused d h) (Sameness.second_refused a c k l) p q other =
+    let same : d ≡ c = refusal_same db s d c h l in
+    absurd (other (let is : e ≡ f = cc in is))
+refused_by_each db s t x y e f (Sameness.second_refused a d h g) (Sameness.of_both b c k l) p q other = cc
+refused_by_each db s t x y e f (Sameness.second_refused a d h g) (Sameness.first_refused c k) p q other =
+    let same : d ≡ c = refusal_same db t d c g k in
+    absurd (other (let is : e ≡ f = cc in is))
+refused_by_each db s t x y e f (Sameness.second_refused a d h g) (Sameness.second_refused b c k l) p q other =
+    absurd (not_both db t b d k g)
+
+pub refused_swap : (db : List Metadata) (s t : List ℕ) (e f : ParseError) → IsAnswer db s t (Err e) → IsAnswer db t s (Err f) → ¬ (e ≡ f) →
+    IsTaken db s (Err e) × IsTaken db t (Err f)
+refused_swap db s t e f h g other = refused_by_each db s t (Err e) (Err f) e f h g refl refl other
+
 -- two texts that are read as one code and one national number
 pub read_alike : (db : List Metadata) (s t : List ℕ) (m k : Reading) → Reads db None s (Ok m) → Reads db None t (Ok k) →
     m.code.value ≡ k.code.value → m.national ≡ k.national →

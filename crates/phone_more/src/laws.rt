@@ -1,8 +1,7 @@
-//! What holds of the definitions of this crate, but of dialled numbers (`dialled::laws`) and of the
-//! numbers in a text (`found::laws`). These functions do nothing; their contracts are the
-//! statements.
+//! What holds of the definitions of this crate, but of dialled numbers (`dialled::laws`). These
+//! functions do nothing; their contracts are the statements.
 ghost use Rattle.std.specs.Prelude.{◌≡◌, ◌⊎◌, ◌<◌, ◌≤◌, ℕ, List, true, None, Some, Result, Ok};
-ghost use Rattle.std.specs.Prelude.{IsUtf8, chars, if◌then◌else◌};
+ghost use Rattle.std.specs.Prelude.{Err, IsUtf8, chars, if◌then◌else◌};
 ghost use Rattle.phone_core.specs.Numbers.{text_of};
 ghost use Rattle.phone_core.specs.declared.error.ParseError.{ParseError};
 ghost use Rattle.phone_core.specs.declared.mode.Mode.TheVariants as mode;
@@ -16,6 +15,7 @@ ghost use Rattle.phonenumber.specs.Printed.{printed};
 ghost use Rattle.phonenumber.specs.Plain.{IsBenign, IsIdle, IsPlainInternational, IsPlainRfc3966};
 ghost use Rattle.phone_more.specs.Possibilities.{has_listed_kind, possibility_by, possibility_of};
 ghost use Rattle.phone_more.specs.Sameness.{IsAnswer, is_one_extension, sameness_of};
+ghost use Rattle.phone_more.specs.Sides.{IsTaken};
 ghost use Rattle.phone_more.specs.declared.possibilities.Possibility.TheVariants as possibility;
 ghost use Rattle.phone_more.specs.declared.sameness.Sameness.{Sameness};
 ghost use Rattle.phone_more.specs.declared.sameness.Sameness.TheVariants as sameness;
@@ -48,12 +48,17 @@ pub fn one_with_itself()
     ensures dialled { (a : Side) → a.code ≡ None → sameness_of a a ≡ sameness.National }
 {}
 
-/// Under each database two texts have at most one answer, and in the other order the same.
+/// Under each database two texts have at most one answer, and in the other order the same. Only
+/// where both texts are refused, each for a reason of its own, the two orders are refused
+/// differently: the text that stands first is told of.
 pub fn one_answer()
     ensures one { (db : List loader.Metadata) (s t : List ℕ) (x y : Result Sameness ParseError) →
         IsAnswer db s t x → IsAnswer db s t y → x ≡ y }
     ensures swapped { (db : List loader.Metadata) (s t : List ℕ) (x : Sameness) →
         IsAnswer db s t (Ok x) → IsAnswer db t s (Ok x) }
+    ensures refused { (db : List loader.Metadata) (s t : List ℕ) (e f : ParseError) →
+        IsAnswer db s t (Err e) → IsAnswer db t s (Err f) → ¬ (e ≡ f) →
+        IsTaken db s (Err e) × IsTaken db t (Err f) }
 {}
 
 /// Two texts that are read as one calling code and one national number are exactly the same where

@@ -35,9 +35,11 @@ pub enum Sameness {
     Different,
 }
 
-/// Whether two texts are one number, each perhaps without its calling code. The answer to them in
-/// the other order is the same. Refused as [`taken_as`] refuses the first text, else as it refuses
-/// the second; `Memory` where memory was refused.
+/// Whether two texts are one number, each perhaps without its calling code. Refused as [`taken_as`]
+/// refuses the first text, else as it refuses the second; `Memory` where memory was refused.
+///
+/// In the other order the answer is the same, and so is a refusal, unless both texts are refused,
+/// each for a reason of its own: then the two refusals change places.
 pub fn same(database: &Database, a: &str, b: &str) -> Result<Sameness, ParseError>
     ensures { (result ≡ Err ParseError.Memory) ⊎
         IsAnswer database.now (chars a.now) (chars b.now) result }
