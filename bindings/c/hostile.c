@@ -1,6 +1,7 @@
 /* Callers that are careless or hostile within what phone.h lets them do, and each request for memory refused in turn:
  * hostile TABLE [ROUNDS]. The last line is `hostile: ok`; else the number of the first check that failed is printed. It is
- * linked with --wrap, so that requests of the kit's heap come here. */
+ * linked with --wrap, so that requests of the kit's heap come here: the blocks that it holds are counted, and a handle that
+ * is closed has left none. */
 #include "phone.h"
 #include <stdio.h>
 #include <stdlib.h>
@@ -10,9 +11,18 @@
 
 void *__real_malloc(size_t n);
 void *__real_realloc(void *p, size_t n);
+void __real_free(void *p);
 static long refuse_at = -1, requests; /* the request that is refused, counted from 0; none where below 0 */
-void *__wrap_malloc(size_t n) { return requests++ == refuse_at ? NULL : __real_malloc(n); }
-void *__wrap_realloc(void *p, size_t n) { return requests++ == refuse_at ? NULL : __real_realloc(p, n); }
+static long blocks;                   /* that the library holds */
+void *__wrap_malloc(size_t n) {
+    void *p = requests++ == refuse_at ? NULL : __real_malloc(n);
+    return blocks += p != NULL, p;
+}
+void *__wrap_realloc(void *p, size_t n) {
+    void *to = requests++ == refuse_at ? NULL : __real_realloc(p, n);
+    return blocks += !p && to, to;
+}
+void __wrap_free(void *p) { blocks -= p != NULL, __real_free(p); }
 
 static const char SMALL[] = "[{\"id\": \"001\", \"country_code\": 999,"
     "\"general\": {\"national_number\": \"[1-9]\\\\d\\\\d\", \"possible_length\": [3]}}]";
@@ -126,15 +136,17 @@ static int small(void) {
     phone_close(&h);
     phone_close(&other);
     phone_close(&other);
+    CHECK(33, blocks == 0);
     for (long k = 0;; k++) { /* opening a small table, each request refused in turn */
         requests = 0, refuse_at = k;
         uint32_t status = phone_open(B(SMALL), &h);
         refuse_at = -1;
-        CHECK(31, (status == PHONE_OK && h.at) || (requests > k && status == PHONE_MEMORY && !h.at));
+        CHECK(31, (status == PHONE_OK && h.at) || (requests > k && status == PHONE_MEMORY && !h.at && blocks == 0));
         if (requests <= k) { printf("requests of opening a small table: %ld\n", k); break; }
         CHECK(32, phone_open(B(SMALL), &h) == PHONE_OK);
     }
     phone_close(&h);
+    CHECK(34, blocks == 0);
     return 0;
 }
 int main(int argc, char **argv) {
@@ -142,6 +154,11 @@ int main(int argc, char **argv) {
     int wrong = small();
     if (wrong) return wrong;
     CHECK(100, phone_version() == PHONE_VERSION);
+    fill();
+    CHECK(104, phone_table_version(out, sizeof out, &wrote) == PHONE_OK && wrote == 21
+        && !memcmp(out, "libphonenumber 9.0.35", 21) && is_untouched(21));
+    fill();
+    CHECK(105, phone_table_version(out, 20, &wrote) == PHONE_TOO_SMALL && wrote == 21 && is_untouched(0));
     FILE *file = argc > 1 ? fopen(argv[1], "rb") : NULL;
     CHECK(101, file != NULL);
     static uint8_t text[1 << 20];
@@ -160,9 +177,11 @@ int main(int argc, char **argv) {
         for (int which = 0; which < CALLS; which++)
             CHECK(400 + which, call(which, &h, &kept, bytes, bytes_len, sizeof out) == PHONE_OK);
     phone_close(&h);
+    CHECK(502, blocks == 0);
     for (long i = 0; i < rounds / 100; i++) {
-        CHECK(500, phone_open(B(SMALL), &h) == PHONE_OK);
+        CHECK(500, phone_open(B(SMALL), &h) == PHONE_OK && blocks > 0);
         phone_close(&h);
+        CHECK(503, blocks == 0);
     }
     puts("hostile: ok");
     return 0;
