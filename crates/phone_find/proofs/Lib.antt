@@ -8,4 +8,5 @@ pub mod Places
 pub mod PrintedFound
 pub mod Searches
 pub mod Shapes
+pub mod Somes
 pub mod Told

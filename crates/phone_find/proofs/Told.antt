@@ -70,6 +70,13 @@ module _ (db : List Metadata) (hint : Option Id) (l : Leniency) (t : List ℕ) w
   if_told m reads (Ok told) e = told_number m reads told e
   if_told m reads (Err e) h = h
 
+  -- a reading tells
+  pub some_told : (r : Result Reading ParseError) → Reads db hint (chars t) r →
+      (told : Option Reading) × Told told
+  some_told (Ok m) reads =
+      (if suffices db l m then Some m else None, told_from m reads (suffices db l m) refl)
+  some_told (Err e) reads = (None, told_refused e reads)
+
 module _ (db : List Metadata) (hint : Option Id) (l : Leniency) where
   -- the number that a piece is; none where it is none
   abbrev pub ToldBetween : (before piece after : List ℕ) → Option Reading → Type 0
@@ -96,3 +103,15 @@ module _ (db : List Metadata) (hint : Option Id) (l : Leniency) where
   if_told_piece before piece after b is passed (Ok told) h = told_piece before piece after (sym is
       ∙ passed) told h
   if_told_piece before piece after b is passed (Err e) h = h
+
+  -- what the piece alone tells, its place tells
+  pub some_told_piece : (before piece after : List ℕ) →
+      (told : Option Reading) × Told db hint l piece told →
+      (told : Option Reading) × ToldBetween before piece after told
+  some_told_piece before piece after told = by_shape (is_candidate (chars before) (chars piece)
+      (chars after)) refl
+    where
+      by_shape : (b : Bool) → b ≡ is_candidate (chars before) (chars piece) (chars after) →
+          (told : Option Reading) × ToldBetween before piece after told
+      by_shape true e = (told.0, told_piece before piece after (sym e) told.0 told.1)
+      by_shape false e = (None, told_none before piece after false e refl)

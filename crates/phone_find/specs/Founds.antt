@@ -1,6 +1,6 @@
 -- Which pieces of a text are found: of all that are accepted, those that don't overlap an earlier
 -- one. A place is an offset in bytes.
-use Rattle.std.specs.Prelude.{◌≡◌, ℕ, ◌≤◌, ◌<◌, ◌+◌, List, [], ◌∷◌, IsCharBoundary, ⊤}
+use Rattle.std.specs.Prelude.{◌≡◌, ℕ, ◌≤◌, ◌<◌, ◌+◌, ◌⊎◌, List, [], ◌∷◌, IsCharBoundary, ⊤}
 use Rattle.phone_find.specs.declared.search.Found.{Found}
 
 -- the most bytes that a piece may have
@@ -18,6 +18,19 @@ pub record Stands {N : Type 0} (accepts : Accepts N) (text : List ℕ) (f : Foun
   pub some : f.start < f.end
   pub short : f.end ≤ f.start + most_bytes
   pub accepted : accepts f.start f.end f.number
+
+-- an accepted piece stands from one place to another
+pub record StandsAt {N : Type 0} (accepts : Accepts N) (text : List ℕ) (start end : ℕ) : Type 0
+  where
+    pub found : Found N
+    pub stands : Stands accepts text found
+    pub begins : found.start ≡ start
+    pub ends : found.end ≡ end
+
+-- one stands there, or none
+abbrev pub IsDecided : {N : Type 0} → Accepts N → List ℕ → (start end : ℕ) → Type 0
+IsDecided accepts text start end =
+    StandsAt accepts text start end ⊎ ¬ (StandsAt accepts text start end)
 
 -- of the pieces that begin at `from` or later, one that begins first, and of those the longest
 pub record IsFirst {N : Type 0} (accepts : Accepts N) (text : List ℕ) (from : ℕ) (f : Found N) :

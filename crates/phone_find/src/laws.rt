@@ -1,7 +1,7 @@
-//! What holds of the numbers of a text. These functions do nothing; their contracts are the
-//! statements.
-ghost use Rattle.std.specs.Prelude.{◌≡◌, ◌≤◌, ◌++◌, ◌∷◌, [], ℕ, List, Option, None, Some, IsUtf8};
-ghost use Rattle.std.specs.Prelude.{length};
+//! What holds of the numbers of a text. The contracts of these functions are the statements; the
+//! functions do nothing, but for those that run the readers to show that each text has an answer.
+ghost use Rattle.std.specs.Prelude.{◌≡◌, ◌<◌, ◌≤◌, ◌+◌, ◌++◌, ◌∷◌, [], ℕ, List, Option, None};
+ghost use Rattle.std.specs.Prelude.{Some, IsUtf8, length};
 ghost use Rattle.phone_core.specs.declared.country.Id.{Id};
 ghost use Rattle.phone_core.specs.declared.mode.Mode.TheVariants as mode;
 ghost use Rattle.phonenumber.specs.Bounds.{IsBounded};
@@ -11,10 +11,12 @@ ghost use Rattle.phone_records.specs.declared.loader.Metadata as loader;
 ghost use Rattle.phonenumber.specs.Again.{IsSame};
 ghost use Rattle.phonenumber.specs.Plain.{IsPlainInternational};
 ghost use Rattle.phone_find.specs.Alone.{EndsInDigits, IsAmong, IsPlainEnough, IsShaped, placed};
-ghost use Rattle.phone_find.specs.Founds.{IsOrdered, most_bytes};
-ghost use Rattle.phone_find.specs.Numbers.{AreNumbers, IsNumberBetween};
+ghost use Rattle.phone_find.specs.Founds.{IsDecided, IsOrdered, most_bytes};
+ghost use Rattle.phone_find.specs.Numbers.{AreNumbers, IsNumberAt, IsNumberBetween};
 ghost use Rattle.phone_find.specs.declared.leniency.Leniency.{Leniency};
 ghost use Rattle.phone_find.specs.declared.search.Found.{Found};
+
+use phone_read::laws::some_reading;
 
 /// A text has one answer: what is found in it, database, hint and leniency determine.
 pub fn one_answer()
@@ -22,6 +24,43 @@ pub fn one_answer()
         (all others : List (Found Reading)) → AreNumbers db hint l text all →
         AreNumbers db hint l text others → all ≡ others }
 {}
+
+/// For each text there is an answer that `found_with` may give, under each database, hint and
+/// leniency. The pieces of the text are read, since that each of them has a reading is what the
+/// readers show; no memory is asked for.
+pub fn some_numbers(text: &str)
+    ensures { (db : List loader.Metadata) (hint : Option Id) (l : Leniency) →
+        (all : List (Found Reading)) × AreNumbers db hint l text.now all }
+{
+    for start in 0..text.len() {
+        some_pieces_at(text, start);
+    }
+}
+
+/// From this place to each one a number stands, or none does.
+fn some_pieces_at(text: &str, start: usize)
+    ensures { (db : List loader.Metadata) (hint : Option Id) (l : Leniency) (end : ℕ) →
+        end < length text.now →
+        IsDecided (IsNumberAt db hint l text.now) text.now start (end + 1) }
+{
+    for end in 0..text.len() {
+        some_piece(text, start, end + 1);
+    }
+}
+
+/// From one place to another a number stands, or none does.
+fn some_piece(text: &str, start: usize, end: usize)
+    ensures { (db : List loader.Metadata) (hint : Option Id) (l : Leniency) →
+        IsDecided (IsNumberAt db hint l text.now) text.now start end }
+{
+    if start < end
+        && end - start <= 250
+        && text.is_char_boundary(start)
+        && text.is_char_boundary(end)
+    {
+        some_reading(&text[start..end]);
+    }
+}
 
 /// What is found comes in its order, doesn't overlap, and stands on borders of characters.
 pub fn in_order()
