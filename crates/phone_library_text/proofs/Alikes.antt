@@ -1,11 +1,14 @@
 -- Texts that are alike a word, and that no digit stands in them where none stands in the word.
-use Rattle.std.proofs.Common.{◌≡◌, ⊎_elim, ℕ, ◌==◌, Bool, true, false, cond, not, ◌||◌, List, [], ◌∷◌, ◌++◌, Some, None, codes, eqb-true, refl, ap, sym, ◌∙◌, true≢false}
-use Rattle.std.proofs.lemmas.Bool.{and_parts, cases_Bool, cond-false, false_from_ne_true, not-true, or_parts, or_from}
+use Rattle.std.proofs.Common.{◌≡◌, ◌<◌, slice_index_or, ⊎_elim, ℕ, ◌==◌, Bool, true, false, cond, not, ◌||◌, List, [], ◌∷◌, ◌++◌, Some, None, codes, eqb-true, refl, ap, sym, ◌∙◌, true≢false}
+use Rattle.std.proofs.lemmas.Bool.{and_left, and_parts, cases_Bool, cond-false, false_from_ne_true, not-true, or_parts, or_from}
+use Rattle.std.specs.Char.{to_ascii_lowercase}
 use Rattle.std.specs.List.{list_any, list_all}
 use Rattle.std.specs.Option.{option_map_or}
 use Rattle.ucd_category.proofs.Computing.{ucd_category}
 use Rattle.ucd_case.proofs.Computing.{ucd_case}
-use Rattle.ucd_case.specs.CaseFolding.{simple_fold}
+use Rattle.ucd_case.proofs.CaseFoldingLemmas.{simple_folding_stepped}
+use Rattle.ucd_case.specs.CaseFolding.{simple_fold, simple_folding}
+use Rattle.ucd_table.proofs.Facts.{Stepped-below}
 use Rattle.phone_chars.specs.Characters.{is_nd, is_one_of}
 use Rattle.phone_parts.proofs.Endings.{members_apart}
 use Rattle.phone_parts.proofs.Foldings as port
@@ -123,3 +126,18 @@ pause_no_digit = some_no_digit pauses pauses_none
 
 pub parameter_no_digit : (name : List ℕ) → is_alike name (codes ";ext=") ≡ true → list_any is_nd name ≡ false
 parameter_no_digit name h = alike_no_digit name (codes ";ext=") h parameter_none
+
+semicolon : folded 59 ≡ 59
+unfolding ucd_case
+semicolon = refl
+
+-- a text that begins otherwise isn't the parameter's name
+pub not_parameter : (c : ℕ) (cs : List ℕ) → (folded c == 59) ≡ false → is_alike (c ∷ cs) (codes ";ext=") ≡ false
+not_parameter c cs other = and_left (folded c == folded 59) _ (ap (λ f. folded c == f) semicolon ∙ other)
+
+-- of the characters of ASCII the capital letters fold to the small ones, and each other to itself
+pub ascii_folded : (c : ℕ) → c < 128 → folded c ≡ to_ascii_lowercase c
+unfolding ucd_case
+ascii_folded c h =
+    eqb-true _ _ (Stepped-below simple_folding simple_folding_stepped
+    (λ c v. cond (is_one_of (0x130 ∷ 0x131 ∷ []) c) 105 (slice_index_or v 0 c) == to_ascii_lowercase c) 128 refl c h)

@@ -1,5 +1,5 @@
 -- What a global context is, told behind its plus sign.
-use Rattle.std.proofs.Common.{◌≡◌, ◌⊎◌, ◌↔◌, inl, inr, ℕ, Bool, true, false, ◌==◌, IsTrue, List, [], ◌∷◌, refl, ap, sym, subst, ◌∙◌, true≢false, eqb-true}
+use Rattle.std.proofs.Common.{◌≡◌, ◌↔◌, inr, ℕ, Bool, true, false, ◌==◌, IsTrue, List, [], ◌∷◌, refl, ap, sym, ◌∙◌, true≢false, eqb-true}
 use Rattle.phone_parts.specs.Texts.{begins}
 use Rattle.phone_library_text.specs.Contexts.{IsGlobal, are_global_digits}
 use Rattle.phone_library_text.proofs.Decided.{Decided, decided_as, decided_true}

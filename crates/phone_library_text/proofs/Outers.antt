@@ -1,13 +1,13 @@
 -- What announces an extension ends in no digit and no plus sign.
-use Rattle.std.proofs.Common.{◌≡◌, ◌⊎◌, inl, inr, ⊎_elim, ℕ, ◌≤◌, Bool, true, false, not, ◌==◌, ◌||◌, ◌&&◌, List, [], ◌∷◌, ◌++◌, length, map, codes, refl, ap, sym, ◌∙◌, true≢false, eqb-true, arith}
-use Rattle.std.proofs.lemmas.Bool.{and_from, and_parts, cond-false, false_from_ne_true, not-true, or_cases, or_left, or_right}
+use Rattle.std.proofs.Common.{◌≡◌, ⊎_elim, ℕ, Bool, true, false, not, ◌==◌, ◌||◌, List, [], ◌∷◌, ◌++◌, length, map, codes, refl, ap, sym, ◌∙◌, true≢false, eqb-true, arith}
+use Rattle.std.proofs.lemmas.Bool.{and_from, and_parts, cond-false, false_from_ne_true, not-true, or_cases, or_left}
 use Rattle.std.proofs.lemmas.List.Folds.{list_all-append}
 use Rattle.std.proofs.lemmas.Slice.Eq.{bytes_eq-Decides}
 use Rattle.std.specs.List.{list_all, list_any}
 use Rattle.ucd_case.proofs.Computing.{ucd_case}
 use Rattle.ucd_category.proofs.Computing.{ucd_category}
 use Rattle.phone_chars.specs.Characters.{is_nd, is_one_of}
-use Rattle.phone_parts.specs.Suffixes.{IsOptional, is_dash, is_gap, is_lead, is_mark}
+use Rattle.phone_parts.specs.Suffixes.{is_dash, is_gap, is_lead, is_mark}
 use Rattle.phone_parts.specs.Texts.{ends}
 use Rattle.phone_parts.proofs.Endings.{AreApart, apart_members, member_passes}
 use Rattle.phone_parts.proofs.Ends.{all_wider, ends-append, ends-append_run, ends-not, ends_wider}

@@ -1,5 +1,5 @@
 -- How plain numbers are written: ASCII digits, with a plus sign before them or without.
-use Rattle.std.proofs.Common.{◌≡◌, inl, inr, ℕ, ◌-◌, ◌≤◌, ◌+◌, Bool, true, false, ◌==◌, ◌||◌, List, [], ◌∷◌, length, Option, Some, None, Ok, cond, nat_le, refl, ap, sym, subst, ◌∙◌, arith, eq-eqb, eqb-true, true≢false}
+use Rattle.std.proofs.Common.{◌≡◌, inl, inr, ℕ, ◌-◌, ◌≤◌, ◌+◌, Bool, true, false, ◌==◌, List, [], ◌∷◌, length, Option, Some, None, Ok, cond, nat_le, refl, ap, sym, subst, ◌∙◌, arith, eq-eqb, eqb-true, true≢false}
 use Rattle.std.proofs.lemmas.Bool.{and_from, and_parts, cond-false, cond-true, or_left, or_parts, or_right}
 use Rattle.std.proofs.lemmas.List.Sums.{sum_by-cons}
 use Rattle.std.specs.List.{count_by, filter_map, list_all, list_any}
@@ -14,7 +14,7 @@ use Rattle.phone_parts.proofs.Ends.{all_wider, ends-append}
 use Rattle.phone_parts.proofs.PrintedCores.{unslashed}
 use Rattle.phone_parts.proofs.PrintedTexts.{digit_apart, digit_passes, is_slash, none_apart}
 use Rattle.phone_parts.proofs.Runs.{run_begins}
-use Rattle.phone_library_text.specs.Letters.{digits_in, is_lettered, key_of, value_of}
+use Rattle.phone_library_text.specs.Letters.{digits_in, key_of, value_of}
 use Rattle.phone_library_text.specs.NumberTexts
 use Rattle.phone_library_text.specs.NumberTexts.{HasNumberText}
 use Rattle.phone_library_text.specs.Viable
@@ -24,7 +24,7 @@ use Rattle.phone_library_text.specs.Written.{IsWritten, most_characters}
 use Rattle.phone_library_text.proofs.ExtensionOnes.{no_extension}
 use Rattle.phone_library_text.proofs.NumbersIn.{no_context, no_subaddress}
 use Rattle.phone_library_text.proofs.Outers.{ends_all, is_inner}
-use Rattle.phone_library_text.proofs.Signed.{nd_early, number_walk, signed_of_walk}
+use Rattle.phone_library_text.proofs.Signed.{number_walk, signed_of_walk}
 use Rattle.phone_library_text.proofs.WrittenOnes.{written_as}
 
 -- ---- ASCII digits

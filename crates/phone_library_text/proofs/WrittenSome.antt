@@ -1,5 +1,5 @@
 -- Each text has a written number, or a reason why it has none.
-use Rattle.std.proofs.Common.{◌≡◌, ◌⊎◌, inl, inr, ⊎_elim, ℕ, ◌≤◌, ◌<◌, ◌==◌, Bool, true, false, not, List, [], ◌∷◌, ◌++◌, length, drop, codes, Option, Some, None, option_map, encode_utf8_all, Result, Ok, Err, zero, suc, refl, ap, sym, subst, ◌∙◌, arith, true≢false, eqb-true, eq-eqb}
+use Rattle.std.proofs.Common.{◌≡◌, ◌⊎◌, inl, inr, ⊎_elim, ℕ, ◌≤◌, ◌<◌, ◌==◌, Bool, true, false, not, List, [], ◌∷◌, ◌++◌, length, drop, codes, Option, Some, None, option_map, encode_utf8_all, Result, Ok, Err, zero, suc, refl, ap, ◌∙◌, arith, true≢false, eqb-true, eq-eqb}
 use Rattle.std.proofs.lemmas.Bool.{cases_lt}
 use Rattle.std.specs.List.{list_all, list_any}
 use Rattle.phone_chars.specs.Characters.{is_nd, is_plus}
@@ -14,7 +14,7 @@ use Rattle.phone_parts.proofs.PrintedCores.{cut_after_last}
 use Rattle.phone_library_text.specs.Announcements
 use Rattle.phone_library_text.specs.Announcements.{Announces, IsLabelled, are_commas, is_blank, is_word_of, pauses, signs, words}
 use Rattle.phone_library_text.specs.Contexts.{IsContext, IsDomain, IsGlobal}
-use Rattle.phone_library_text.specs.Extensions.{HasLongestExtension, HasNoExtension, IsExtension}
+use Rattle.phone_library_text.specs.Extensions.{HasLongestExtension, IsExtension}
 use Rattle.phone_library_text.specs.Letters.{digits_in, is_alike}
 use Rattle.phone_library_text.specs.NumberTexts
 use Rattle.phone_library_text.specs.NumberTexts.{HasNumberText, context_in, context_name, global_part, local_part, without_subaddress}

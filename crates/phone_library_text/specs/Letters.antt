@@ -4,8 +4,8 @@ use Rattle.std.specs.Prelude.{ℕ, ◌+◌, ◌-◌, ◌==◌, ◌||◌, nat_le,
 use Rattle.std.specs.Prelude.{map, count_by, Option, Some, option_map}
 use Rattle.std.specs.List.{find, filter_map}
 use Rattle.std.specs.Str.{bytes_eq}
-use Rattle.phone_chars.specs.Characters.{is_alpha, is_in_run, is_nd, is_one_of, is_separator, is_star}
-use Rattle.phone_chars.specs.Characters.{keypad}
+use Rattle.phone_chars.specs.Characters.{is_alpha, is_in_run, is_nd, is_one_of, is_separator}
+use Rattle.phone_chars.specs.Characters.{is_star, keypad}
 use Rattle.ucd_case.specs.CaseFolding.{simple_fold}
 
 -- a letter's folding; the dotted capital i and the dotless small one fold to i

@@ -1,6 +1,7 @@
 //! What announces an extension, looked for at the end of a text: from its last character on, so
 //! that the time is linear in what stands behind the text's last digit.
-ghost use Rattle.std.specs.Prelude.{◌≡◌, ℕ, ◌∷◌, ◌||◌, ◌&&◌, ◌==◌, [], List, ◌++◌, true, chars, not};
+ghost use Rattle.std.specs.Prelude.{◌≡◌, ℕ, ◌∷◌, ◌||◌, ◌&&◌, ◌==◌, [], List, ◌++◌, true, chars};
+ghost use Rattle.std.specs.Prelude.{not};
 ghost use Rattle.std.specs.Prelude.{IsTrue, IfSome, MatchOption, nat_le};
 ghost use Rattle.phone_parts.specs.Longest.{AreEndsUpTo, IsWithoutLongest};
 ghost use Rattle.phone_library_text.specs.Announcements.{pauses};
@@ -116,8 +117,9 @@ fn is_paused(end: &str, allowed: Allowed, commas: bool, limit: usize) -> bool
     (allowed.pauses && begins_pause(end, limit)) || (allowed.commas && commas)
 }
 
-/// What stands before the longest end of a text that announces an extension of so many digits, which
-/// a number sign follows or not; none where no end does. No announcement has a digit, so none is looked for before the last one.
+/// What stands before the longest end of a text that announces an extension of so many digits,
+/// which a number sign follows or not; none where no end does. No announcement has a digit, so none
+/// is looked for before the last one.
 pub(crate) fn before_announcement(text: &str, digits: usize, signed: bool) -> Option<&str>
     ensures read { MatchOption result
         ((before other : List ℕ) → chars text.now ≡ before ++ other →

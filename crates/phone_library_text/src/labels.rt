@@ -1,5 +1,6 @@
 //! The words, signs and pauses that announce an extension, looked for at the front of a text.
-ghost use Rattle.std.specs.Prelude.{◌≡◌, ◌||◌, ◌&&◌, ◌==◌, ℕ, List, ◌++◌, chars, codes, map, None, Some};
+ghost use Rattle.std.specs.Prelude.{◌≡◌, ◌||◌, ◌&&◌, ◌==◌, ℕ, List, ◌++◌, chars, codes, map, None};
+ghost use Rattle.std.specs.Prelude.{Some};
 ghost use Rattle.std.specs.Prelude.{IfSome, MatchOption};
 ghost use Rattle.std.specs.Borrow.{Bor};
 ghost use Rattle.phone_chars.specs.Characters.{is_one_of};
@@ -107,8 +108,29 @@ fn strip_alike<'a>(text: &'a str, word: &str) -> Option<&'a str>
     Some(rest)
 }
 
-/// Whether the text is `;ext=`, of either case.
+/// Whether the parameter's name begins with this folding.
+fn starts_parameter(folding: char) -> bool
+    ensures { result ≡ (folding == 59) }
+{
+    folding == ';'
+}
+
+/// Whether the text is `;ext=`, of either case. Most texts begin with another character: that is
+/// asked first.
 pub(crate) fn is_parameter(text: &str) -> bool
+    ensures { result ≡ is_alike (chars text.now) (codes ";ext=") }
+{
+    let Some((c, _)) = split_first(text) else {
+        return false;
+    };
+    if !starts_parameter(folded(c)) {
+        return false;
+    }
+    names_parameter(text)
+}
+
+/// The same, by all characters of the text.
+fn names_parameter(text: &str) -> bool
     ensures { result ≡ is_alike (chars text.now) (codes ";ext=") }
 {
     match strip_alike(text, ";ext=") {

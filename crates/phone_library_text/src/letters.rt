@@ -34,6 +34,17 @@ pub(crate) fn is_nd(c: char) -> bool
 pub(crate) fn folded(c: char) -> char
     ensures { result ≡ folded c }
 {
+    if c.is_ascii() {
+        c.to_ascii_lowercase()
+    } else {
+        folded_other(c)
+    }
+}
+
+/// The same, without asking ASCII first.
+fn folded_other(c: char) -> char
+    ensures { result ≡ folded c }
+{
     if matches!(c, '\u{130}' | '\u{131}') {
         'i'
     } else {

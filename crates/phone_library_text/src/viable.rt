@@ -4,7 +4,8 @@ ghost use Rattle.phone_parts.specs.Parts.{IsSlice};
 ghost use Rattle.phone_library_text.specs.Letters.{is_early, is_latin};
 ghost use Rattle.phone_library_text.specs.NumberTexts.{chars_of};
 ghost use Rattle.phone_library_text.specs.Scans.{is_two_digits};
-ghost use Rattle.phone_library_text.specs.Viable.{HasNumber, IsExtended, IsSignedDigits, IsTwoDigits};
+ghost use Rattle.phone_library_text.specs.Viable.{HasNumber, IsExtended, IsSignedDigits};
+ghost use Rattle.phone_library_text.specs.Viable.{IsTwoDigits};
 ghost use Rattle.phone_library_text.specs.Viable.{IsViable};
 
 use crate::extension::find_extension;

@@ -1,5 +1,6 @@
 //! What the premises of reading back take, and why each is there, on the databases B, C, D and E of
-//! the replayed tables; and what those of dialling and of finding take. These functions do nothing; their contracts say it.
+//! the replayed tables; and what those of dialling and of finding take. These functions do nothing;
+//! their contracts say it.
 #![tactic(auto)]
 
 mod dialled;

@@ -1,18 +1,15 @@
-use Rattle.std.proofs.Common.{false, codes, sym, ap, ◌∙◌}
-use Rattle.std.specs.Option.{option_map_or}
+use Rattle.std.proofs.Common.{◌==◌, codes, sym, ap, ◌∙◌}
+use Rattle.std.proofs.lemmas.Str.{chars-nil}
 use Rattle.std.specs.Str.{chars}
-use Rattle.phone_parts.proofs.Endings.{chars_parameter}
-use Rattle.phone_library_text.specs.Scans.{after_alike, is_nil}
-use Rattle.phone_library_text.proofs.Alikes.{is_alike-after}
+use Rattle.phone_library_text.specs.Letters.{is_alike}
+use Rattle.phone_library_text.proofs.Alikes.{not_parameter}
 use Rattle.phone_library_text.proofs.labels.is_parameter.Goals as goal
 
-pub returns-in-Some : goal.returns-in-Some
-returns-in-Some c =
-    let text = chars c.args.text.now in
-    c.is_nothing.ensures
-    ∙ sym (is_alike-after text (codes ";ext=") ∙ ap (λ o. option_map_or is_nil o false) (ap (after_alike text) (sym chars_parameter) ∙ c.in-Some.ensures.read))
+pub returns-in_default : goal.returns-in_default
+returns-in_default c =
+    sym (ap (λ t. is_alike (chars t) (codes ";ext=")) c.in_default.ensures.cut ∙ ap (λ t. is_alike t (codes ";ext=")) chars-nil)
 
-pub returns-in-None : goal.returns-in-None
-returns-in-None c =
-    let text = chars c.args.text.now in
-    sym (is_alike-after text (codes ";ext=") ∙ ap (λ o. option_map_or is_nil o false) (ap (after_alike text) (sym chars_parameter) ∙ c.in-None.ensures.read))
+pub returns-then-not-starts_parameter : goal.returns-then-not-starts_parameter
+returns-then-not-starts_parameter c =
+    sym (ap (λ t. is_alike t (codes ";ext=")) c.in-Some.ensures.read
+    ∙ not_parameter c.in-Some.c _ (ap (λ f. f == 59) (sym c.folded.ensures) ∙ sym c.starts_parameter.ensures ∙ c.if-not-starts_parameter.true))

@@ -1,6 +1,5 @@
-use Rattle.std.proofs.Common.{◌≡◌, inl, inr, List, ℕ, Result, Ok, IfOk, option_map, encode_utf8_all, ap, sym, subst, true≢false, ◌∙◌}
+use Rattle.std.proofs.Common.{◌≡◌, inr, Result, Ok, IfOk, sym, subst, true≢false, ◌∙◌}
 use Rattle.std.specs.Str.{chars}
-use Rattle.phone_library_text.specs.Letters.{digits_in}
 use Rattle.phone_library_text.specs.NumberTexts.{chars_of}
 use Rattle.phone_library_text.specs.Written
 use Rattle.phone_library_text.proofs.WrittenOnes.{written_as}
