@@ -8,7 +8,7 @@ use std::alloc::AllocGlobal;
 use std::fs::{self, Files};
 
 /// The tables, by their files.
-const TABLES: [&str; 19] = [
+const TABLES: [&str; 20] = [
     "calls.tsv",
     "report.tsv",
     "json.tsv",
@@ -28,6 +28,7 @@ const TABLES: [&str; 19] = [
     "found.tsv",
     "values.tsv",
     "programs.tsv",
+    "examples.tsv",
 ];
 
 /// Prints each line whose answer is another one here, then the counts. Gives whether all lines
