@@ -5,6 +5,7 @@ pub mod back;
 pub mod dialling;
 mod fronts;
 pub mod given;
+mod library;
 mod page;
 pub mod premises;
 pub mod printing;
@@ -32,6 +33,9 @@ pub fn of_text(alloc: Global, row: &Row, db: &Database) -> Result<Option<String>
         return Ok(Some(found));
     }
     if let Some(found) = validating::answer(alloc, row, db)? {
+        return Ok(Some(found));
+    }
+    if let Some(found) = library::answer(alloc, row, db)? {
         return Ok(Some(found));
     }
     reading::answer(alloc, row, db)

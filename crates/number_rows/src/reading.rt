@@ -5,7 +5,7 @@ use crate::fronts::fronts;
 use crate::told::{parts, queried, texts};
 use anyhow::Result;
 use phone_meta::Database;
-use phonenumber::{ParseError, PhoneNumber, format_with, parse_with};
+use phonenumber::{Formatter, ParseError, PhoneNumber, format_with, parse_with};
 use rows::marks::{around, begin};
 use rows::readers::made;
 use rows::table::Row;
@@ -73,14 +73,24 @@ pub fn parts_or_refusal(alloc: Global, read: &Result<PhoneNumber, ParseError>) -
     }
 }
 
-/// `ok` and the number's texts in the four modes, its source, kind, region and validity, and its
-/// extension, carrier and national text, parted by tabs.
+/// The number with its kind, region and validity.
 fn report(alloc: Global, db: &Database, number: &PhoneNumber) -> Result<String> {
-    let texts = texts(alloc, format_with(db, number), "")?;
+    let told = queried(alloc, db, number)?;
+    report_with(alloc, format_with(db, number), number, told.as_str())
+}
+
+/// `ok` and what this prints in the four modes, the number's source, what is told of its kind,
+/// region and validity, and its extension, carrier and national text, parted by tabs.
+pub fn report_with(
+    alloc: Global,
+    printer: Formatter<'_, '_, '_>,
+    number: &PhoneNumber,
+    told: &str,
+) -> Result<String> {
+    let texts = texts(alloc, printer, "")?;
     let source = source(number.code().source());
-    let queried = queried(alloc, db, number)?;
     let extension = number.extension().map_or("-", |e| e.as_str());
     let carrier = number.carrier().map_or("-", |c| c.as_str());
     let national = number.national();
-    Ok(format!(in alloc; "ok\t{texts}\t{source}\t{queried}\t{extension}\t{carrier}\t{national}")?)
+    Ok(format!(in alloc; "ok\t{texts}\t{source}\t{told}\t{extension}\t{carrier}\t{national}")?)
 }

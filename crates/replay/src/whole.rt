@@ -8,7 +8,7 @@ use std::alloc::AllocGlobal;
 use std::fs::{self, Files};
 
 /// The tables, by their files.
-const TABLES: [&str; 20] = [
+const TABLES: [&str; 21] = [
     "calls.tsv",
     "report.tsv",
     "json.tsv",
@@ -29,6 +29,7 @@ const TABLES: [&str; 20] = [
     "values.tsv",
     "programs.tsv",
     "examples.tsv",
+    "library.tsv",
 ];
 
 /// Prints each line whose answer is another one here, then the counts. Gives whether all lines

@@ -1,0 +1,4 @@
+pub mod CodeTerritories
+pub mod NationalNumbers
+pub mod TerritoryCodes
+pub mod TriedKinds

@@ -1,0 +1,9 @@
+pub mod Codes
+pub mod Facts
+pub mod Homes
+pub mod Kinds
+pub mod Lengths
+pub mod Lent
+pub mod Readings
+pub mod Stripping
+pub mod Told

@@ -1,0 +1,56 @@
+//! The reading of a text as a phone number, by libphonenumber's rules.
+ghost use Rattle.std.specs.Prelude.{◌≡◌, ◌⊎◌, Err, chars};
+ghost use Rattle.std.specs.Option.{option_copied};
+ghost use Rattle.phone_library.specs.Readings.{ReadsByLibrary};
+ghost use Rattle.phone_read.specs.Hints.{hinted};
+
+use crate::reading::reading_under;
+use phone_core::country::Id;
+use phone_core::{ParseError, Reading};
+use phone_library_text::read_written;
+use phone_meta::{Database, Metadata};
+use phonenumber::PhoneNumber;
+
+/// Reads a text as a phone number by libphonenumber's rules. The hint is the region that a text
+/// without a plus sign is dialled in: its international prefix counts, its calling code where the
+/// text tells none, and its rules where it has told the code. A number with another code is
+/// stripped by the rules of that code's first territory.
+///
+/// `TooLong` for a text of more than 250 characters. `NoNumber` where there is no number in the
+/// text, as for fewer than three digits that aren't two alone. `InvalidCountryCode` where no listed
+/// calling code is found, and there is no hint or no record of it. `TooShortAfterIdd` where at most
+/// two digits follow a plus sign or an international prefix; `TooShortNsn` where fewer than two
+/// follow the calling code; `TooLong` where more than 17 are left, or a value of 2^56 or more.
+/// `Memory` where memory was refused, and nowhere else; the memory is taken by the database's
+/// allocator.
+pub fn parse(database: &Database, hint: Option<Id>, text: &str) -> Result<PhoneNumber, ParseError>
+    ensures { (result ≡ Err ParseError.Memory) ⊎
+        ReadsByLibrary database.now hint (chars text.now) result }
+{
+    let Reading {
+        code,
+        national,
+        extension,
+        carrier,
+    } = read(database, hint, text)?;
+    Ok(PhoneNumber::from_parts(code, national, extension, carrier))
+}
+
+/// The parts of the number that a text is read as.
+fn read(database: &Database, hint: Option<Id>, text: &str) -> Result<Reading, ParseError>
+    ensures { (result ≡ Err ParseError.Memory) ⊎
+        ReadsByLibrary database.now hint (chars text.now) result }
+{
+    let number = read_written(database.allocator(), text)?;
+    reading_under(database, hinted(database, hint), number)
+}
+
+/// The territory of the hint: the last record with its id.
+fn hinted(database: &Database, hint: Option<Id>) -> Option<&Metadata>
+    ensures { option_copied result ≡ hinted database.now hint }
+{
+    match hint {
+        Some(id) => database.by_id(id.as_str()),
+        None => None,
+    }
+}

@@ -1,0 +1,11 @@
+pub mod AlikeCodes
+pub mod AlikeNumbers
+pub mod AlikeReadings
+pub mod AllowedLengths
+pub mod NationalTexts
+pub mod PlusSigns
+pub mod ReadAgain
+pub mod ReadOnce
+pub mod SignedCodes
+pub mod ValidNumbers
+pub mod WhatIsRead

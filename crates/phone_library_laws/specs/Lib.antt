@@ -1,0 +1,4 @@
+pub mod Again
+pub mod Agreement
+pub mod Lengths
+pub mod Signs
