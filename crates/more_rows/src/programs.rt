@@ -95,8 +95,9 @@ fn told(alloc: Global, row: &Row, ended: &Ended) -> Result<String> {
     Ok(format!(in alloc; "{status}\t{told}\t{written}")?)
 }
 
-/// Whether a program that told and wrote this ended for want of memory, what it wrote being a
-/// beginning of a text: it says so, or its sink failed where not all of the text came to it.
+/// Whether a program with this standard error and this output ended because memory was refused, and
+/// wrote a beginning of the text: it says that memory was refused, or it says that its sink failed
+/// and has written less than the whole text.
 fn wants_memory(told: &str, written: &str, wanted: &[u8]) -> bool {
     let written = written.as_bytes();
     wanted.starts_with(written)
