@@ -58,8 +58,9 @@ pub data RunEnds (db : List Metadata) (asked : Asked) (before after : Devices) :
     Result ⊤ TableError → Type 0 where
   no_delimiter : is_delimiter asked.delimiter ≡ false → after ≡ before →
       RunEnds db asked before after (Err Delimiter)
-  no_header : (e : FirstError) → is_delimiter asked.delimiter ≡ true → NoHeader asked.delimiter before after e →
-      IsUntouched before after → RunEnds db asked before after (Err (Header e))
+  no_header : (e : FirstError) → is_delimiter asked.delimiter ≡ true →
+      NoHeader asked.delimiter before after e → IsUntouched before after →
+      RunEnds db asked before after (Err (Header e))
   no_column : (column : Column) (header : Row) → is_delimiter asked.delimiter ≡ true →
       LacksColumn asked column (fields_of header) before after →
       IsUntouched before after → RunEnds db asked before after (Err (NoColumn column header))

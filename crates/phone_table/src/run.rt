@@ -49,14 +49,14 @@ pub enum TableError {
 /// with the number of records.
 ///
 /// A record is read under the region whose id stands in its column of regions, in capital or small
-/// letters, white space around it passed over; where that field is empty, under the hint. Where it
-/// holds anything else its number is refused with the words `unknown region`, and the record goes
-/// on; with `else_hint` it is read under the hint.
+/// letters, with or without white space around; under the hint where that field is empty. Where the
+/// field holds anything else, the number is refused with the words `unknown region`, and the run
+/// goes on; with `else_hint` the number is read under the hint.
 ///
-/// Refused by `Delimiter`: then nothing is read. By `Header` where there is no header: then nothing is written. By `NoColumn` where the
-/// header lacks a column: then nothing is written. By `Rows` as `answer_records` refuses, the
-/// header having been written before the records: `Record` at a record with another count of fields
-/// than the header, with the line feeds in front of it.
+/// Errors: `Delimiter`, before anything is read; `Header` where there is no header, and `NoColumn`
+/// where the header lacks a column, before anything is written; after the header was written `Rows`
+/// as `answer_records` has it, with `Record` at a record that has another count of fields than the
+/// header, and the number of line feeds before that record.
 pub fn write_table<S: ByteSource, W: ByteSink>(
     database: &Database,
     asked: Asked<'_>,
