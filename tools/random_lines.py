@@ -1,0 +1,181 @@
+"""Random lines for the second reading, each a hint and a text: what tools/fuzz --rules library asks of two programs.
+
+Most of the texts are made from a record's own patterns: a number that one of its descriptors takes, behind its prefixes or its
+code, with what libphonenumber's rules tell apart: each form of an extension, `;phone-context=` and `;isub=`, letters of the
+keypad, digits of other scripts, second numbers, a plus sign before what is no code. A part of them is then changed a little;
+the others are of any characters, or about as long as a text may be. A line depends on the seed and its place alone.
+"""
+import random_rows as rows
+
+try:
+    from re import _parser as parser
+except ImportError:  # before Python 3.11
+    import sre_parse as parser
+
+DIGITS = "0123456789"
+# A pattern's open repetition is drawn so often at most beyond its least.
+MOST_REPEATED = 3
+
+# What an extension is written with: what stands before a label, labels, what stands behind one.
+BLANKS = (" ", " ", "\u00a0", "\t", ",", "-", "\u3000")
+LABELS = (
+    "ext", "xt", "extn", "xtn", "extensio", "extension", "extensi\u00f3n", "extensio\u0301n", "EXTENSI\u00d3", "\uff45\uff58\uff54\uff4e",
+    "\uff58\uff54", "\u0434\u043e\u0431", "\u0414\u041e\u0411", "anexo", "ANEXO", "x", "X", "\uff58", "\uff38", "#", "\uff03", "~", "\uff5e",
+    "int", "INT", "\uff49\uff4e\uff54", "e\u017ft", "ex\u0074", "\u0130nt", "\u0131nt", ",,", ";", ",", ",,,", "-", " ", ";ext=", ";EXT=",
+    "e", "ensi", "in", "xx", "##", "ext ext",
+)
+AFTERS = (":", ".", "\uff0e", "", "", "", "::", " :")
+# The greatest counts of digits in the forms, which are drawn with their neighbours.
+MOST_DIGITS = (1, 2, 4, 6, 7, 9, 10, 15, 16, 20, 21)
+# Contexts of `tel:` texts beside those with digits.
+CONTEXTS = (
+    "example.com", "a", "a.", ".", "a..b", "1a", "a1", "a-b.c-d", "-a", "a-", "1.a", "a.1", "\u00e9.com", "+", "+-", "+.1", "+(64)", "+64x",
+    "", " +64", "+ 64", "\uff0b64", "A.B.", "x" * 60,
+)
+ISUBS = (";isub=12", ";isub=", ";isub", ";ISUB=1", "isub=1", ";isub=1;ext=3")
+SECONDS = ("/x", "/ x", "\\ x", "/  x1", "/y", " / ", "\\", "/\tx", "//x", "/X")
+# Letters by which a text has three of them, and some that only look so.
+WORDS = ("ABC", "flowers", "TAXI", "ab", "a\u00e9b", "\u212aex", "\uff21\uff22\uff23", "abcDEF", "z z z")
+# Of so many characters a text may be at most.
+MOST = 250
+NOT_LISTED = ("0", "00", "999", "210", "2", "9", "00", "011")
+
+
+def drawn(rng, items):
+    """Digits that a part of a pattern takes, where it is of digits alone."""
+    text = ""
+    for kind, of in items:
+        name = str(kind)
+        if name == "LITERAL":
+            text += chr(of)
+        elif name == "IN":
+            text += rng.choice([c for c in DIGITS if is_in(ord(c), of)] or ["0"])
+        elif name.endswith("REPEAT"):
+            least, most, part = of
+            text += "".join(drawn(rng, part) for _ in range(rng.randint(least, min(int(most), least + MOST_REPEATED))))
+        elif name == "SUBPATTERN":
+            text += drawn(rng, of[-1])
+        elif name == "BRANCH":
+            text += drawn(rng, rng.choice(of[1]))
+    return text
+
+
+def is_in(number, parts):
+    """Whether a class of a pattern has a digit of this number."""
+    for kind, of in parts:
+        name = str(kind)
+        if name == "LITERAL" and number == of or name == "RANGE" and of[0] <= number <= of[1] or name == "CATEGORY":
+            return True
+    return False
+
+
+class Record:
+    """A record of the table, from which texts are made."""
+
+    def __init__(self, made):
+        self.id, self.code = made["id"], made["country_code"]
+        of = [it["national_number"] for it in made.values() if isinstance(it, dict) and "national_number" in it]
+        self.numbers = [parser.parse(it) for it in of]
+        self.national = [parser.parse(made[name]) for name in ("national_prefix", "national_prefix_for_parsing") if made.get(name)]
+        self.international = parser.parse(made.get("international_prefix") or "00")
+
+    def territory(self, rng):
+        """What random_rows makes a text from, drawn for one text."""
+        prefix = drawn(rng, rng.choice(self.national)) if self.national else ""
+        number = drawn(rng, rng.choice(self.numbers))
+        return rows.Territory(self.id, self.code, [number], prefix, drawn(rng, self.international))
+
+
+def some(rng, texts, most):
+    """Up to so many of these texts."""
+    return "".join(rng.choice(texts) for _ in range(rng.randrange(most + 1)))
+
+
+def scripted(rng, digits):
+    """Digits, mostly as they are, else in another script, or each in any."""
+    if not rows.one_in(rng, 6):
+        return digits
+    zero = ord(rng.choice(rows.ZEROS))
+    is_mixed = rows.one_in(rng, 3)
+    return "".join(chr((ord(rng.choice(rows.ZEROS)) if is_mixed else zero) + int(c)) for c in digits)
+
+
+def digits_near(rng, most):
+    """As many digits as this, or one more or less, or any fewer."""
+    count = rng.choice((most - 1, most, most + 1, rng.randint(1, most)))
+    return scripted(rng, "".join(rng.choice(DIGITS) for _ in range(count)))
+
+
+def extension(rng):
+    """What is an extension, or nearly one."""
+    after = rng.choice(AFTERS) + some(rng, BLANKS, 2)
+    end = rng.choice(("", "", "", "#", "##", ".", " "))
+    return some(rng, BLANKS, 2) + rng.choice(LABELS) + after + digits_near(rng, rng.choice(MOST_DIGITS)) + end
+
+
+def context(rng, record):
+    """A parameter that says where a number is one, mostly rightly."""
+    choice = rng.randrange(4)
+    of = f"+{record.code}" if choice < 2 else "+" + rows.parted(rng, str(record.code), ("-", ".", "(", ")", " "))
+    return ";phone-context=" + (rng.choice(CONTEXTS) if choice == 3 else of)
+
+
+def after_plus(rng, territory):
+    """A plus sign before what may be no code, and a number."""
+    front = rng.choice((rng.choice(NOT_LISTED), territory.international_prefix + str(territory.code), territory.national_prefix, ""))
+    return rng.choice(rows.PLUSES) * rng.randint(1, 2) + front + rows.digits_for(rng, territory)
+
+
+def lettered(rng, territory):
+    """A number with letters of the keypad."""
+    front, number = rng.choice(("", "+", f"+{territory.code} ")), rows.digits_for(rng, territory)
+    place = rng.randrange(len(number) + 1)
+    return front + number[:place] + rng.choice(WORDS) + number[place:]
+
+
+def longest(rng, territory):
+    """A text about as long as one may be."""
+    text = rows.plus(rng, territory)
+    return text + rng.choice((" ", "-", "0", "x", "a", ".")) * (rng.randint(MOST - 4, MOST + 3) - len(text))
+
+
+def great(rng, territory):
+    """A national number of about as many digits as a value holds."""
+    value = (1 << 56) + rng.choice((-1, 0, 1, rng.randrange(-10 ** 16, 10 ** 16)))
+    return f"+{territory.code}" + "0" * rng.randrange(3) + str(value)[:rng.choice((16, 17, 17, 17))] + rng.choice(("", "", "0"))
+
+
+def short(rng, _territory):
+    """A few digits, perhaps parted."""
+    return rows.parted(rng, "".join(rng.choice(DIGITS) for _ in range(rng.randint(1, 6))), rows.PARTINGS)
+
+
+FORMS = (*rows.FORMS, after_plus, after_plus, lettered, lettered, longest, great, short)
+# Of so many texts each has, by chance, one of these behind it.
+ENDS = ((4, lambda rng, _: extension(rng)), (24, lambda rng, _: extension(rng)), (12, context), (24, lambda rng, _: rng.choice(ISUBS)),
+        (24, lambda rng, _: rng.choice(SECONDS) + rng.choice(DIGITS)), (24, lambda rng, _: rng.choice(rows.ENDS)))
+
+
+def hint_for(rng, records, record, form):
+    """A hint: mostly the record's own region, `-` for none."""
+    choice = rng.randrange(16)
+    if choice < 2 or choice >= 9 and form in rows.TELL_CODE:
+        return "-"
+    region = (rng.choice(records) if choice < 4 else record).id
+    return "-" if region == "001" else region
+
+
+def line(seed, place, records):
+    """The hint and the text at a place, which has no line feed."""
+    rng = rows.source(seed, "line", place)
+    record, form = rng.choice(records), rng.choice(FORMS)
+    if form is rows.run and not rows.one_in(rng, 4):
+        form = rows.national
+    text = rng.choice(rows.FRONTS) if rows.one_in(rng, 12) else ""
+    text += form(rng, record.territory(rng))
+    for count, end in ENDS:
+        text += end(rng, record) if rows.one_in(rng, count) else ""
+    if rows.one_in(rng, 4):
+        for _ in range(rng.randint(1, 3)):
+            text = rows.edited(rng, text)
+    return hint_for(rng, records, record, form), text.replace("\n", " ")
