@@ -3,8 +3,13 @@
 Most of the texts are made from a record's own patterns: a number that one of its descriptors takes, behind its prefixes or its
 code, with what libphonenumber's rules tell apart: each form of an extension, `;phone-context=` and `;isub=`, letters of the
 keypad, digits of other scripts, second numbers, a plus sign before what is no code. A part of them is then changed a little;
-the others are of any characters, or about as long as a text may be. A line depends on the seed and its place alone.
+the others are of any characters, or about as long as a text may be. A line depends on the seed, its database's place and its own.
+
+The random databases have closed patterns alone, as data/world.json has, of digits, and else what that table hasn't: several
+records of an id or a code, empty lists of lengths, codes that begin others, leading digits that nothing has.
 """
+import json
+
 import random_rows as rows
 
 try:
@@ -74,7 +79,7 @@ class Record:
 
     def __init__(self, made):
         self.id, self.code = made["id"], made["country_code"]
-        of = [it["national_number"] for it in made.values() if isinstance(it, dict) and "national_number" in it]
+        of = [it["national_number"] for it in made.values() if isinstance(it, dict)]
         self.numbers = [parser.parse(it) for it in of]
         self.national = [parser.parse(made[name]) for name in ("national_prefix", "national_prefix_for_parsing") if made.get(name)]
         self.international = parser.parse(made.get("international_prefix") or "00")
@@ -165,9 +170,9 @@ def hint_for(rng, records, record, form):
     return "-" if region == "001" else region
 
 
-def line(seed, place, records):
-    """The hint and the text at a place, which has no line feed."""
-    rng = rows.source(seed, "line", place)
+def line(seed, database, place, records):
+    """The hint and the text at a place under the database of a place, which has no line feed."""
+    rng = rows.source(seed, "line", database, place)
     record, form = rng.choice(records), rng.choice(FORMS)
     if form is rows.run and not rows.one_in(rng, 4):
         form = rows.national
@@ -179,3 +184,64 @@ def line(seed, place, records):
         for _ in range(rng.randint(1, 3)):
             text = rows.edited(rng, text)
     return hint_for(rng, records, record, form), text.replace("\n", " ")
+
+
+# ------------------------------------------------------------------ databases
+
+IDS = ("NZ", "US", "FR", "CA", "GB", "IT", "BR", "NZ", "001")
+CODES = (1, 1, 7, 12, 39, 44, 64, 64, 376, 37, 999)
+# What is dialled before a national number, each with the transform rules that it allows.
+PARSING = (
+    ("0", ("", "5")), ("0?", ("",)), ("(0)|(1)", ("$1", "$2", "5$2")), (r"0(?:(1[245])(\d{4}))?", ("9$2", "$1", "$1$2")),
+    ("0(?:(1)|(2))", ("$1", "$2")), (r"9(\d+)", ("$1", "8$1", "")), (r"0(\d{2})?", ("$1", "7$1")), ("00|0", ("",)),
+    (r"(\d{2,})0", ("$1",)), ("()0", ("$1", "1$1")), (r"(?:0|)(\d*)", ("$1", "0$1")), (r"(\d)(\d)(\d)", ("$3$2$1", "$1", "+0$1")),
+    (r"([2-9]\d{3})$|1", ("64$1", "0$1")), (r"(1\d)+", ("$1",)), ("0(0)?1?", ("$1", "")),
+)
+INTERNATIONAL = ("00", "00", "011", "0(?:0|11)", "00[39]", r"\d{3}", "0+", "0|00", "(?:0{1,2})+", "1", "")
+
+
+def closed(rng, pieces):
+    """A closed pattern of so many pieces, and digits that it was made for."""
+    drawn_pieces = [rng.choice(rows.PLAIN_PIECES) for _ in range(pieces)]
+    return f"(?:{''.join(text for text, _ in drawn_pieces)})$", rows.digits_of(rng, "".join(shape for _, shape in drawn_pieces))
+
+
+def descriptor(rng, pattern, size):
+    """A descriptor of this pattern, and of this and some other lengths."""
+    lengths = {size, *(size + rng.randint(-3, 3) for _ in range(rng.randrange(3)))}
+    made = {"national_number": pattern, "possible_length": sorted(it for it in lengths if it > 0)}
+    if rows.one_in(rng, 8):
+        made["possible_length"] = []
+    if rows.one_in(rng, 4):
+        made["possible_local_length"] = sorted({rng.randint(2, 9) for _ in range(rng.randint(1, 2))})
+    return made
+
+
+def made_record(rng, code):
+    """A record with this calling code."""
+    pattern, digits = closed(rng, rng.randint(2, 5))
+    record = {"id": rng.choice(IDS), "country_code": code, "general": descriptor(rng, pattern, len(digits))}
+    for kind in rows.KINDS:
+        if rows.one_in(rng, 2 if kind in ("fixed_line", "mobile") else 6):
+            own = (pattern, digits) if rows.one_in(rng, 2) else closed(rng, rng.randint(1, 5))
+            record[kind] = descriptor(rng, own[0], len(own[1]))
+    if not rows.one_in(rng, 6):
+        record["international_prefix"] = rng.choice(INTERNATIONAL)
+    if not rows.one_in(rng, 4):
+        record["national_prefix"] = rng.choice(("0", "1", "8", "06"))
+    if rows.one_in(rng, 2):
+        record["national_prefix_for_parsing"], transforms = rng.choice(PARSING)
+        if rows.one_in(rng, 2):
+            record["national_prefix_transform_rule"] = rng.choice(transforms)
+    if rows.one_in(rng, 3):
+        record["leading_digits"] = digits[:rng.randrange(4)] if rows.one_in(rng, 2) else closed(rng, 1)[0][3:-2]
+    if rows.one_in(rng, 3):
+        record["main_country_for_code"] = True
+    return record
+
+
+def database(seed, place):
+    """The text of the database at a place: of one to six records, mostly of one or two codes."""
+    rng = rows.source(seed, "closed", place)
+    first, second = rng.choice(CODES), rng.choice(CODES)
+    return json.dumps([made_record(rng, rng.choice((first, first, second, rng.randrange(1, 1000)))) for _ in range(rng.randint(1, 6))])
