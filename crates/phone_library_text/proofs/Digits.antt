@@ -117,8 +117,11 @@ key_is_digit c = cond_both (c == 0x131) (Some 52) _ (λ o. IfSome o (λ d. is_di
 pub digits_bytes : (ds : List ℕ) → list_all is_digit ds ≡ true → encode_utf8_all ds ≡ ds
 digits_bytes ds h = encodes-IsAscii ds (IsAscii-from_digits ds (all_digits ds h))
 
+pub values_digits : (t : List ℕ) → list_all is_digit (filter_map value_of t) ≡ true
+values_digits t = list_all-filter_map value_of is_digit value_is_digit t
+
 pub values_bytes : (t : List ℕ) → encode_utf8_all (filter_map value_of t) ≡ filter_map value_of t
-values_bytes t = digits_bytes (filter_map value_of t) (list_all-filter_map value_of is_digit value_is_digit t)
+values_bytes t = digits_bytes (filter_map value_of t) (values_digits t)
 
 pub keys_bytes : (t : List ℕ) → encode_utf8_all (filter_map key_of t) ≡ filter_map key_of t
 keys_bytes t = digits_bytes (filter_map key_of t) (list_all-filter_map key_of is_digit key_is_digit t)

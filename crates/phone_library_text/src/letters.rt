@@ -151,8 +151,9 @@ fn is_lettered(text: &str) -> bool
     count_letters(text) >= 3
 }
 
-/// The values of the text's digits, in a text of their own.
-fn values(alloc: Global, text: &str) -> Result<String, AllocError>
+/// The values of the text's digits of any script, as digits from `0` to `9`, in a text of their
+/// own. Refused only for memory.
+pub fn digit_values(alloc: Global, text: &str) -> Result<String, AllocError>
     ensures { IfOk result (λ s. string_bytes s ≡ filter_map value_of (chars text.now)) }
 {
     let mut out = String::with_capacity(alloc, text.len())?;
@@ -183,7 +184,7 @@ fn own_digits(alloc: Global, text: &str) -> Result<String, AllocError>
     if is_lettered(text) {
         keys(alloc, text)
     } else {
-        values(alloc, text)
+        digit_values(alloc, text)
     }
 }
 

@@ -15,5 +15,6 @@ mod sets;
 mod viable;
 mod written;
 
+pub use letters::digit_values;
 pub use viable::{is_viable, split_extension};
 pub use written::{WrittenNumber, read_written};

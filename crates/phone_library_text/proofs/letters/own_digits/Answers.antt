@@ -11,5 +11,5 @@ returns-then-is_lettered c =
 
 pub returns-else-is_lettered : goal.returns-else-is_lettered
 returns-else-is_lettered c =
-    subst (λ b. IfOk c.values.result (λ s. string_bytes s ≡ filter_map (cond b key_of value_of) (chars c.args.text.now)))
-    (sym (sym c.is_lettered.ensures ∙ c.if-is_lettered.false)) c.values.ensures
+    subst (λ b. IfOk c.digit_values.result (λ s. string_bytes s ≡ filter_map (cond b key_of value_of) (chars c.args.text.now)))
+    (sym (sym c.is_lettered.ensures ∙ c.if-is_lettered.false)) c.digit_values.ensures

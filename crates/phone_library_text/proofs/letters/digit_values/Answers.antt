@@ -6,7 +6,7 @@ use Rattle.std.proofs.lemmas.Iterator.Adapters.{items_from_extend}
 use Rattle.std.proofs.lemmas.Iterator.Consumers.{YieldsList-from_filter_map}
 use Rattle.phone_library_text.specs.Letters.{value_of}
 use Rattle.phone_library_text.proofs.Digits.{values_bytes}
-use Rattle.phone_library_text.proofs.letters.values.Goals as goal
+use Rattle.phone_library_text.proofs.letters.digit_values.Goals as goal
 
 pub returns : goal.returns
 returns c =
