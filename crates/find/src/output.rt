@@ -1,6 +1,7 @@
 //! The lines that tell which numbers were found, and where.
 use crate::places::Place;
 use anyhow::{Result, anyhow};
+use phone_choice::Rules;
 use phone_find::{Found, found};
 use phonenumber::PhoneNumber;
 use phonenumber::country::Id;
@@ -52,7 +53,7 @@ fn write_numbers<W: Write>(output: &mut W, text: &str, all: &[Found<PhoneNumber>
 pub fn tell_found(rt: &HostRuntime, database: &Database, hint: Option<Id>) -> Result<()> {
     let alloc = rt.alloc();
     let text = whole_text(alloc, rt.stdin().lock())?;
-    let all = found(database, hint, text.as_str())?;
+    let all = found(Rules::Crate, database, hint, text.as_str())?;
     let mut output = BufWriter::new(alloc, rt.stdout())?;
     write_numbers(&mut output, text.as_str(), all.as_slice())
 }

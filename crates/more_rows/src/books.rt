@@ -1,8 +1,10 @@
 //! The calls of `phone_book`: lines that are added to a contact book.
+use crate::by_rules::by_rules;
 use anyhow::{Result, anyhow};
 use database_rows::named::load;
 use number_rows::told::parts;
 use phone_book::{Book, BookError, Place};
+use phone_choice::Rules;
 use phone_core::ParseError;
 use phone_core::country::Id;
 use rows::marks::{around, begin};
@@ -20,8 +22,8 @@ type Answer = Result<Place, BookError>;
 /// What a book over the database that a line names answers, as the table writes it; none for any
 /// other call. An error where the line's text has no hint, and where memory is refused.
 pub fn answer<R: Files + AllocGlobal>(rt: &R, row: &Row) -> Result<Option<String>> {
-    match row.call() {
-        "book" | "book-add" | "book-get" => Ok(Some(of_book(rt, row)?)),
+    match by_rules(row) {
+        (_, "book" | "book-add" | "book-get") => Ok(Some(of_book(rt, row)?)),
         _ => Ok(None),
     }
 }
@@ -37,10 +39,10 @@ fn of_book<R: Files + AllocGlobal>(rt: &R, row: &Row) -> Result<String> {
 
 /// What an empty book answers to a line's call.
 fn in_book(alloc: Global, row: &Row, book: &mut Book) -> Result<String> {
-    match row.call() {
-        "book" => all_at_once(alloc, row, book),
-        "book-add" => one_by_one(alloc, row, book),
-        _ => entry(alloc, row, book),
+    match by_rules(row) {
+        (rules, "book") => all_at_once(alloc, rules, row, book),
+        (rules, "book-add") => one_by_one(alloc, rules, row, book),
+        (rules, _) => entry(alloc, rules, row, book),
     }
 }
 
@@ -57,9 +59,13 @@ fn lines(alloc: Global, row: &Row, from: usize) -> Result<Vec<Hinted<'_>>> {
 }
 
 /// The answers of a book to all lines at once, and its numbers.
-fn all_at_once(alloc: Global, row: &Row, book: &mut Book) -> Result<String> {
+fn all_at_once(alloc: Global, rules: Rules, row: &Row, book: &mut Book) -> Result<String> {
     let lines = lines(alloc, row, 1)?;
-    match around(alloc, begin(alloc), book.add_all(lines.as_slice()))? {
+    match around(
+        alloc,
+        begin(alloc),
+        book.add_all_by(rules, lines.as_slice()),
+    )? {
         Ok(answers) => judged(alloc, book, answers.as_slice()),
         Err(_) if book.len() == 0 => Err(anyhow!("out of memory")),
         Err(_) => Ok(String::from_str(alloc, "numbers without answers")?),
@@ -67,25 +73,26 @@ fn all_at_once(alloc: Global, row: &Row, book: &mut Book) -> Result<String> {
 }
 
 /// The same, line by line.
-fn one_by_one(alloc: Global, row: &Row, book: &mut Book) -> Result<String> {
+fn one_by_one(alloc: Global, rules: Rules, row: &Row, book: &mut Book) -> Result<String> {
     let lines = lines(alloc, row, 1)?;
     let mut answers = Vec::with_capacity(alloc, lines.len())?;
     around(
         alloc,
         begin(alloc),
-        add_each(book, lines.as_slice(), &mut answers),
+        add_each(rules, book, lines.as_slice(), &mut answers),
     )??;
     judged(alloc, book, answers.as_slice())
 }
 
 /// Adds each line, and keeps its answer, for which there is room.
 fn add_each(
+    rules: Rules,
     book: &mut Book,
     lines: &[Hinted<'_>],
     answers: &mut Vec<Answer>,
 ) -> Result<(), AllocError> {
     for (hint, text) in lines {
-        answers.push(book.add(*hint, text))?;
+        answers.push(book.add_by(rules, *hint, text))?;
     }
     Ok(())
 }
@@ -166,9 +173,9 @@ fn refused(alloc: Global, error: &ParseError) -> Result<String, AllocError> {
 
 /// How many numbers a book has that was given all lines, and the number at a place as it was
 /// written, or a hyphen.
-fn entry(alloc: Global, row: &Row, book: &mut Book) -> Result<String> {
+fn entry(alloc: Global, rules: Rules, row: &Row, book: &mut Book) -> Result<String> {
     let place = row.argument(1).parse::<usize>()?;
-    add_all(alloc, row, book)?;
+    add_all(alloc, rules, row, book)?;
     let count = book.len();
     let number = match book.get(place) {
         Some(number) => parts(alloc, number)?,
@@ -178,8 +185,8 @@ fn entry(alloc: Global, row: &Row, book: &mut Book) -> Result<String> {
 }
 
 /// Adds the lines behind a place.
-fn add_all(alloc: Global, row: &Row, book: &mut Book) -> Result<()> {
+fn add_all(alloc: Global, rules: Rules, row: &Row, book: &mut Book) -> Result<()> {
     let lines = lines(alloc, row, 2)?;
-    let _answers = book.add_all(lines.as_slice())?;
+    let _answers = book.add_all_by(rules, lines.as_slice())?;
     Ok(())
 }

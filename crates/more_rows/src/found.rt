@@ -1,5 +1,7 @@
 //! The call that asks which numbers stand in a text.
+use crate::by_rules::by_rules;
 use anyhow::{Result, anyhow};
+use phone_choice::Rules;
 use phone_find::{Found, found};
 use phone_meta::Database;
 use phonenumber::PhoneNumber;
@@ -11,16 +13,16 @@ use std::alloc::{AllocError, Global};
 /// The numbers in a line's text, as the table writes them; none for any other call. An error where
 /// memory is refused.
 pub fn answer(alloc: Global, row: &Row, db: &Database) -> Result<Option<String>> {
-    if row.call() != "found" {
-        return Ok(None);
+    match by_rules(row) {
+        (rules, "found") => Ok(Some(of_text(alloc, rules, row, db)?)),
+        _ => Ok(None),
     }
-    Ok(Some(of_text(alloc, row, db)?))
 }
 
 /// The numbers in a line's text.
-fn of_text(alloc: Global, row: &Row, db: &Database) -> Result<String> {
+fn of_text(alloc: Global, rules: Rules, row: &Row, db: &Database) -> Result<String> {
     let (hint, text) = (hint(row.argument(1))?, row.argument(2));
-    let all = around(alloc, begin(alloc), found(db, hint, text))??;
+    let all = around(alloc, begin(alloc), found(rules, db, hint, text))??;
     told(alloc, text, all.as_slice())
 }
 

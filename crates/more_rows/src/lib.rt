@@ -5,6 +5,7 @@
 #![tactic(auto)]
 
 pub mod books;
+mod by_rules;
 pub mod dialled;
 pub mod found;
 pub mod listed;
@@ -14,6 +15,7 @@ mod premises;
 pub mod programs;
 pub mod reports;
 pub mod sameness;
+pub mod tables;
 
 use anyhow::Result;
 use phone_meta::Database;
@@ -47,6 +49,9 @@ pub fn answer(alloc: Global, row: &Row, db: &Database) -> Result<Option<String>>
         return Ok(Some(found));
     }
     if let Some(found) = objects::answer(alloc, row, db)? {
+        return Ok(Some(found));
+    }
+    if let Some(found) = tables::answer(alloc, row, db)? {
         return Ok(Some(found));
     }
     dialled::answer(alloc, row, db)

@@ -1,6 +1,8 @@
 //! The calls that ask what a database lists: its regions, its calling codes, and example numbers.
+use crate::by_rules::by_rules;
 use anyhow::Result;
 use number_rows::told::parts;
+use phone_choice::Rules;
 use phone_core::ParseError;
 use phone_core::country::Id;
 use phone_meta::Database;
@@ -14,10 +16,10 @@ use std::alloc::{AllocError, Global};
 /// What the database lists, as the table writes it; none for any other call. An error where a line
 /// names a region or a kind that isn't there, and where memory is refused.
 pub fn answer(alloc: Global, row: &Row, db: &Database) -> Result<Option<String>> {
-    match row.call() {
-        "regions" => Ok(Some(all_regions(alloc, db)?)),
-        "codes" => Ok(Some(all_codes(alloc, db)?)),
-        "example" => Ok(Some(example_of(alloc, row, db)?)),
+    match by_rules(row) {
+        (Rules::Crate, "regions") => Ok(Some(all_regions(alloc, db)?)),
+        (Rules::Crate, "codes") => Ok(Some(all_codes(alloc, db)?)),
+        (rules, "example") => Ok(Some(example_of(alloc, rules, row, db)?)),
         _ => Ok(None),
     }
 }
@@ -78,9 +80,9 @@ fn push_number(alloc: Global, out: &mut String, code: u16) -> Result<(), AllocEr
 
 /// The parts of the example number of a line's region and kind, a hyphen where there is none, or
 /// the refusal of its text.
-fn example_of(alloc: Global, row: &Row, db: &Database) -> Result<String> {
+fn example_of(alloc: Global, rules: Rules, row: &Row, db: &Database) -> Result<String> {
     let (region, kind) = (row.argument(1).parse::<Id>()?, kind(row.argument(2))?);
-    let found = around(alloc, begin(alloc), example(db, region, kind))?;
+    let found = around(alloc, begin(alloc), example(rules, db, region, kind))?;
     told(alloc, &found)
 }
 

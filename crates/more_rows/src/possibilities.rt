@@ -1,7 +1,9 @@
 //! The calls that ask whether a number is possible: `possible` of one that a line gives by its
 //! parts, `possible-text` of a text under a hint.
+use crate::by_rules::by_rules;
 use anyhow::Result;
 use number_rows::given::number;
+use phone_choice::Rules;
 use phone_meta::Database;
 use phone_more::{possible, possible_text};
 use phonenumber::PhoneNumber;
@@ -13,29 +15,29 @@ use std::alloc::Global;
 /// What its length says of a number, as the table writes it; none for any other call. An error
 /// where a line gives a number that is none, and where memory is refused.
 pub fn answer(alloc: Global, row: &Row, db: &Database) -> Result<Option<String>> {
-    match row.call() {
-        "possible" => Ok(Some(of_number(alloc, row, db)?)),
-        "possible-text" => Ok(Some(of_text(alloc, row, db)?)),
+    match by_rules(row) {
+        (rules, "possible") => Ok(Some(of_number(alloc, rules, row, db)?)),
+        (rules, "possible-text") => Ok(Some(of_text(alloc, rules, row, db)?)),
         _ => Ok(None),
     }
 }
 
 /// What is said of a line's number.
-fn of_number(alloc: Global, row: &Row, db: &Database) -> Result<String> {
+fn of_number(alloc: Global, rules: Rules, row: &Row, db: &Database) -> Result<String> {
     let number = number(row, 1, None, None)?;
-    said(alloc, db, &number)
+    said(alloc, rules, db, &number)
 }
 
 /// What is said of a number.
-fn said(alloc: Global, db: &Database, number: &PhoneNumber) -> Result<String> {
-    let found = around(alloc, begin(alloc), possible(db, number))??;
+fn said(alloc: Global, rules: Rules, db: &Database, number: &PhoneNumber) -> Result<String> {
+    let found = around(alloc, begin(alloc), possible(rules, db, number))??;
     Ok(format!(in alloc; "{found:?}")?)
 }
 
 /// What is said of a line's text, or the refusal.
-fn of_text(alloc: Global, row: &Row, db: &Database) -> Result<String> {
+fn of_text(alloc: Global, rules: Rules, row: &Row, db: &Database) -> Result<String> {
     let (hint, text) = (hint(row.argument(1))?, row.argument(2));
-    match around(alloc, begin(alloc), possible_text(db, hint, text))? {
+    match around(alloc, begin(alloc), possible_text(rules, db, hint, text))? {
         Ok(found) => Ok(format!(in alloc; "{found:?}")?),
         Err(error) => refusal(alloc, &error),
     }

@@ -1,4 +1,5 @@
 //! The call that asks whether two texts are one number.
+use crate::by_rules::by_rules;
 use anyhow::Result;
 use phone_meta::Database;
 use phone_more::same;
@@ -10,11 +11,11 @@ use std::alloc::Global;
 /// How like the numbers of a line's two texts are, or the refusal of one; none for any other call.
 /// An error where memory is refused.
 pub fn answer(alloc: Global, row: &Row, db: &Database) -> Result<Option<String>> {
-    if row.call() != "same" {
+    let (rules, "same") = by_rules(row) else {
         return Ok(None);
-    }
+    };
     let (a, b) = (row.argument(1), row.argument(2));
-    match around(alloc, begin(alloc), same(db, a, b))? {
+    match around(alloc, begin(alloc), same(rules, db, a, b))? {
         Ok(found) => Ok(Some(format!(in alloc; "{found:?}")?)),
         Err(error) => Ok(Some(refusal(alloc, &error)?)),
     }

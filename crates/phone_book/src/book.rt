@@ -5,7 +5,8 @@ ghost use Rattle.std.specs.Option.{option_copied};
 ghost use Rattle.phone_meta.specs.Codes.{is_listed, is_prefix_free};
 ghost use Rattle.phone_core.specs.declared.reading.Reading.{Reading};
 ghost use Rattle.phone_print.specs.Texts.{e164_text};
-ghost use Rattle.phone_book.specs.Answers.{AreAnswered, HasNumbers, HaveNumbers, IsAnswered};
+ghost use Rattle.phone_book.specs.Answers.{AreAnswered, AreAnsweredBy, HasNumbers, HasNumbersBy};
+ghost use Rattle.phone_book.specs.Answers.{HaveNumbers, HaveNumbersBy, IsAnswered, IsAnsweredBy};
 ghost use Rattle.phone_book.specs.Answers.{IsPlaced, line_of};
 ghost use Rattle.phone_book.specs.Firsts.{firsts};
 ghost use Rattle.phone_book.specs.declared.answers.BookNewError.TheVariants as new_error;
@@ -13,11 +14,12 @@ ghost use Rattle.phone_book.specs.declared.answers.BookNewError.TheVariants as n
 use crate::answers::{BookError, BookNewError, Place};
 use crate::iter::Iter;
 use indexmap::IndexMap;
+use phone_choice::laws::code_is_listed;
+use phone_choice::{Rules, parse_by};
 use phone_core::ParseError;
 use phone_core::country::Id;
 use phone_meta::Database;
-use phone_read::number_laws;
-use phonenumber::{PhoneNumber, laws, parse_with};
+use phonenumber::{PhoneNumber, laws};
 use std::alloc::AllocError;
 use std::marker::Model;
 
@@ -131,8 +133,21 @@ impl Book {
         ensures database { self.new.database ≡ self.old.database }
         ensures kept { OnErr result (self.new ≡ self.old) }
     {
-        number_laws::code_is_listed();
-        match parse_with(&self.database, hint, line) {
+        self.add_by(Rules::Crate, hint, line)
+    }
+
+    /// The same, but that the line is read by these rules, as `parse_by` reads it.
+    pub fn add_by(&mut self, rules: Rules, hint: Option<Id>, line: &str) -> Result<Place, BookError>
+        ensures entries { (ns : List Reading) ×
+            (HasNumbersBy rules self.old.database (hint, line.now) result ns) ×
+            (self.new.entries ≡ firsts (self.old.entries ++ ns)) }
+        ensures answer { IsAnsweredBy rules self.old.database self.old.entries (hint, line.now)
+            result self.new.entries }
+        ensures database { self.new.database ≡ self.old.database }
+        ensures kept { OnErr result (self.new ≡ self.old) }
+    {
+        code_is_listed();
+        match parse_by(rules, &self.database, hint, line) {
             Ok(number) => match self.place(number) {
                 Ok(place) => Ok(place),
                 Err(_) => Err(BookError::Memory),
@@ -160,9 +175,26 @@ impl Book {
         ensures database { self.new.database ≡ self.old.database }
         ensures kept { OnErr result (self.new ≡ self.old) }
     {
+        self.add_all_by(Rules::Crate, lines)
+    }
+
+    /// The same, but that the lines are read by these rules, as `parse_by` reads them.
+    pub fn add_all_by(
+        &mut self,
+        rules: Rules,
+        lines: &[(Option<Id>, &str)],
+    ) -> Result<Vec<Result<Place, BookError>>, AllocError>
+        ensures entries { IfOk result (λ answers. (ns : List Reading) ×
+            (HaveNumbersBy rules self.old.database (map line_of lines.now) answers.items ns) ×
+            (self.new.entries ≡ firsts (self.old.entries ++ ns))) }
+        ensures answers { IfOk result (λ answers. AreAnsweredBy rules self.old.database
+            self.old.entries (map line_of lines.now) answers.items self.new.entries) }
+        ensures database { self.new.database ≡ self.old.database }
+        ensures kept { OnErr result (self.new ≡ self.old) }
+    {
         let mut answers = Vec::with_capacity(self.database.allocator(), lines.len())?;
         for (hint, line) in lines {
-            answers.push_reserved(self.add(*hint, line));
+            answers.push_reserved(self.add_by(rules, *hint, line));
         }
         Ok(answers)
     }

@@ -2,6 +2,7 @@ pub mod CutLemmas
 pub mod FeedLemmas
 pub mod AnswerLemmas
 pub mod Progress
+pub mod Counted
 pub mod Ends
 pub mod KitRecords
 pub mod FirstLemmas

@@ -1,11 +1,12 @@
 -- How far a run over records is, and how it ends.
 use Rattle.std.specs.Prelude.{◌≡◌, ◌≢◌, ◌⊎◌, ℕ, ◌-◌, ◌^◌, List, [], ◌++◌, Option, true, false}
+use Rattle.std.specs.List.{flat_map, fold}
 use Rattle.csv.specs.Machine.{Feeds, ends_at_end}
 use Rattle.csv.specs.Records.{fields_of}
 use Rattle.csv.specs.declared.parser.State.{State}
 use Rattle.phone_device.specs.Passing.{Passes, Takes, TakesFront}
 use Rattle.phone_csv.specs.Feeds.{counted, feeds_before, line_feeds, past_line_ends}
-use Rattle.phone_csv.specs.Formats.{Record, reading, state_of}
+use Rattle.phone_csv.specs.Formats.{Record, reading, record_text, state_of}
 use Rattle.phone_csv.specs.Records.{AreCut}
 use Rattle.phone_csv.specs.Reports.{AreAnswers, Gives, IsReportOnFirst}
 use Rattle.phone_csv.specs.declared.cutter.Cutter.{Cutter}
@@ -47,6 +48,19 @@ pub record Holds (is_text : List ℕ → Type 0) (held : List ℕ)
   pub written : List ℕ
   pub taken : Takes before written after
   pub text : is_text (written ++ held)
+
+-- a text is that of some rows, one after the other, each of which was counted
+pub record IsCounted {C : Type 0} (after : C → Record → C) (delimiter : ℕ) (first : C)
+    (text : List ℕ) (now : C) : Type 0 where
+  pub rows : List Record
+  pub written : text ≡ flat_map (record_text delimiter) rows
+  pub counted : now ≡ fold after first rows
+
+-- what the sink took and what is held back is such a text
+abbrev pub HoldsCounted : {C : Type 0} → (C → Record → C) → ℕ → (first now : C) → List ℕ →
+    Option (List ℕ) → Option (List ℕ) → Type 0
+HoldsCounted after delimiter first now held before taken =
+    Holds (λ text. IsCounted after delimiter first text now) held before taken
 
 -- a sink took a beginning of the answers to some first records
 abbrev pub BreaksOff : Gives → ℕ → State → List ℕ → Option (List ℕ) → Option (List ℕ) → Type 0

@@ -35,6 +35,16 @@ pub trait Answers {
         ensures refused { result ≡ Err refusal.Record → refuses self.now (fields_of fields.old) };
 }
 
+/// What counts rows, each a record with its answer, one after the other.
+pub trait Counter {
+    // The counter after one more row.
+    ghost after: { Self → List (List ℕ) → Self };
+
+    /// Counts one more row.
+    fn count(&mut self, row: &ByteRecord)
+        ensures { self.new ≡ after self.old (fields_of row.now) };
+}
+
 /// Puts the text of a record behind a text. Refused only for memory; then the text is as it was.
 pub fn add_record(
     alloc: Global,

@@ -8,12 +8,13 @@ ghost use Rattle.phone_csv.specs.Faults.{sink_faults_of};
 ghost use Rattle.phone_csv.specs.Formats.{state_of};
 ghost use Rattle.phone_csv.specs.Reports.{IsBeginning, IsReport, IsReportBefore};
 ghost use Rattle.phone_csv.specs.Reports.{IsReportOnEnded, IsReportOnFirst};
-ghost use Rattle.phone_csv.specs.Runs.{BreaksOff, Holds, IsFresh, OfRead, Stands, TakesA};
+ghost use Rattle.phone_csv.specs.Runs.{BreaksOff, Holds, HoldsCounted, IsCounted, IsFresh};
+ghost use Rattle.phone_csv.specs.Runs.{OfRead, Stands, TakesA};
 ghost use Rattle.phone_csv.specs.Runs.{most_bytes};
 ghost use Rattle.phone_csv.specs.declared.blocks.End.TheVariants as end;
 ghost use Rattle.phone_csv.specs.declared.blocks.RunError.TheVariants as error;
 
-use crate::answers::{Answers, Refusal};
+use crate::answers::{Answers, Counter, Refusal};
 use crate::cutter::Start;
 use crate::desk::{Desk, Stop};
 use phone_device::{BLOCK_LENGTH, Block, ByteSink, ByteSource, Fault};
@@ -46,9 +47,10 @@ enum End {
 }
 
 /// Reads all blocks, and answers the records that are ended.
-fn take_blocks<A: Answers, S: ByteSource, W: ByteSink>(
+fn take_blocks<A: Answers, C: Counter, S: ByteSource, W: ByteSink>(
     alloc: Global,
     answers: &A,
+    counter: &mut C,
     source: &mut S,
     sink: &mut W,
     desk: &mut Desk,
@@ -56,6 +58,11 @@ fn take_blocks<A: Answers, S: ByteSource, W: ByteSink>(
     requires partial { partial_of desk.old.cutter.fields ≡ [] }
     requires short { vec_len desk.old.answers < BLOCK_LENGTH }
     ensures end { result ≡ Ok end.Whole → IsAtEnd (S.to_come source.new) }
+    ensures counted { result ≡ Ok end.Whole → (first : C) →
+        HoldsCounted C.after desk.old.cutter.delimiter first counter.old desk.old.answers.items
+        (W.taken sink.old) (W.taken sink.old) →
+        HoldsCounted C.after desk.old.cutter.delimiter first counter.new desk.new.answers.items
+        (W.taken sink.old) (W.taken sink.new) }
     ensures partial { result ≡ Ok end.Whole → partial_of desk.new.cutter.fields ≡ [] }
     ensures delimiter { desk.new.cutter.delimiter ≡ desk.old.cutter.delimiter }
     ensures taken { result ≡ Ok end.Whole → (start : State) →
@@ -112,7 +119,7 @@ fn take_blocks<A: Answers, S: ByteSource, W: ByteSink>(
             return Ok(End::Whole);
         }
         read += block.bytes().len() as u64;
-        match desk.take_block(alloc, answers, sink, block.bytes()) {
+        match desk.take_block(alloc, answers, counter, sink, block.bytes()) {
             Ok(()) => {}
             Err(Stop::Fault) => return Err(Fault),
             Err(Stop::Record) => return Ok(End::Record),
@@ -122,9 +129,10 @@ fn take_blocks<A: Answers, S: ByteSource, W: ByteSink>(
 }
 
 /// Reads to the end, and answers all records.
-fn take_all<A: Answers, S: ByteSource, W: ByteSink>(
+fn take_all<A: Answers, C: Counter, S: ByteSource, W: ByteSink>(
     alloc: Global,
     answers: &A,
+    counter: &mut C,
     source: &mut S,
     sink: &mut W,
     desk: &mut Desk,
@@ -132,6 +140,11 @@ fn take_all<A: Answers, S: ByteSource, W: ByteSink>(
     requires partial { partial_of desk.old.cutter.fields ≡ [] }
     requires short { vec_len desk.old.answers < BLOCK_LENGTH }
     ensures end { result ≡ Ok end.Whole → IsAtEnd (S.to_come source.new) }
+    ensures counted { result ≡ Ok end.Whole → (first : C) →
+        HoldsCounted C.after desk.old.cutter.delimiter first counter.old desk.old.answers.items
+        (W.taken sink.old) (W.taken sink.old) →
+        HoldsCounted C.after desk.old.cutter.delimiter first counter.new desk.new.answers.items
+        (W.taken sink.old) (W.taken sink.new) }
     ensures taken { result ≡ Ok end.Whole → (start : State) →
         IsFresh (A.gives answers.now) start desk.old.cutter desk.old.answers.items
         (W.taken sink.old) →
@@ -173,35 +186,39 @@ fn take_all<A: Answers, S: ByteSource, W: ByteSink>(
     ensures sink_no_fault { OnOk result (W.faults sink.new ≡ W.faults sink.old) }
     ensures sink_fault { OnErr result (W.faults sink.new ≡ W.faults sink.old + 1) }
 {
-    match take_blocks(alloc, answers, source, sink, desk) {
+    match take_blocks(alloc, answers, counter, source, sink, desk) {
         Ok(End::Whole) => {}
         Ok(End::Input) => return Ok(End::Input),
         Ok(End::Record) => return Ok(End::Record),
         Ok(End::Memory) => return Ok(End::Memory),
         Err(_) => return Err(Fault),
     }
-    match desk.take_last(alloc, answers) {
+    match desk.take_last(alloc, answers, counter) {
         Ok(()) => Ok(End::Whole),
         Err(Refusal::Record) => Ok(End::Record),
         Err(Refusal::Memory) => Ok(End::Memory),
     }
 }
 
-/// Gives each record of a source back to a sink, unchanged, with the fields of its answer behind
-/// its own, in the order of the records. The source is read in blocks to its end, from this start
-/// in front of a record, as the kit's `csv` reads, and records are written as it writes, with this
-/// delimiter, each ended by a line feed. What is held in memory are a block, the longest record and
-/// its answer: it does not grow with the number of records.
+/// Gives each record of a source back to a sink, unchanged, with the fields of its answer after its
+/// own, in the order of the records, and counts each with its answer. The source is read in blocks
+/// to its end, from this start in front of a record, as the kit's `csv` reads, and records are
+/// written as it writes, with this delimiter, each ended by a line feed. What is held in memory are
+/// a block, the longest record and its answer: it does not grow with the number of records.
 ///
-/// The sink is flushed at the end, but where it failed before. Refused by `Input` where the source failed or 2^64 - 1 bytes were read: then the answers to all
-/// records that are ended are written. By `Output` where the sink failed, or took no byte of some:
-/// then a beginning of the report is written. By `Record` at a record that is not answered, with the
-/// line feeds in front of it, those of the start among them: then
-/// the answers to all records in front of it are written. By `Memory` where there was no room for a
-/// record or its answer: then the answers to some first records are written, each whole.
-pub fn answer_records<A: Answers, S: ByteSource, W: ByteSink>(
+/// The sink is flushed at the end, unless it failed before. Errors, and what was written:
+///
+/// - `Input`: the source failed, or 2^64 - 1 bytes were read. The answers to all records that are
+///   ended are written.
+/// - `Output`: the sink failed, or took no byte of some. A beginning of the report is written.
+/// - `Record`: a record is not answered; the error has the number of line feeds before that record,
+///   those of the start among them. The answers to all records before are written.
+/// - `Memory`: there was no room for a record or its answer. The answers to some first records are
+///   written, each whole.
+pub fn answer_records<A: Answers, C: Counter, S: ByteSource, W: ByteSink>(
     alloc: Global,
     answers: &A,
+    counter: &mut C,
     delimiter: u8,
     start: Start,
     source: &mut S,
@@ -211,6 +228,9 @@ pub fn answer_records<A: Answers, S: ByteSource, W: ByteSink>(
     ensures report { OnOk result (OfRead (S.to_come source.old) (S.to_come source.new)
         (λ bytes. TakesA (IsReport (A.gives answers.now) delimiter (state_of start.place) bytes)
         (W.taken sink.old) (W.taken sink.new))) }
+    ensures counted { OnOk result (TakesA
+        (λ text. IsCounted C.after delimiter counter.old text counter.new)
+        (W.taken sink.old) (W.taken sink.new)) }
     ensures no_fault { OnOk result (S.faults source.new ≡ S.faults source.old) }
     ensures ended { result ≡ Err error.Input →
         OfRead (S.to_come source.old) (S.to_come source.new) (λ bytes. TakesA (IsReportOnEnded
@@ -238,7 +258,7 @@ pub fn answer_records<A: Answers, S: ByteSource, W: ByteSink>(
     ensures handed_on { result ≢ Err error.Output → W.unflushed sink.new ≡ 0 }
 {
     let mut desk = Desk::new(alloc, delimiter, start.place);
-    let Ok(end) = take_all(alloc, answers, source, sink, &mut desk) else {
+    let Ok(end) = take_all(alloc, answers, counter, source, sink, &mut desk) else {
         return Err(RunError::Output);
     };
     let Ok(()) = desk.write_out(sink) else {

@@ -7,11 +7,11 @@ ghost use Rattle.phone_device.specs.Passing.{IsAtEnd, Takes, TakesFront};
 ghost use Rattle.phone_csv.specs.Formats.{Record, record_text};
 ghost use Rattle.phone_csv.specs.Faults.{faults_of};
 ghost use Rattle.phone_csv.specs.Reports.{IsReport, IsReportBefore, IsReportOnFirst};
-ghost use Rattle.phone_csv.specs.Runs.{BreaksOff, Holds, IsSoFar, Stands};
+ghost use Rattle.phone_csv.specs.Runs.{BreaksOff, Holds, HoldsCounted, IsSoFar, Stands};
 ghost use Rattle.phone_csv.specs.declared.desk.Stop.TheVariants as stop;
 ghost use Rattle.phone_csv.specs.declared.answers.Refusal.TheVariants as refusal;
 
-use crate::answers::{Answers, Refusal, add_record};
+use crate::answers::{Answers, Counter, Refusal, add_record};
 use crate::cutter::Cutter;
 use crate::machine::{Place, is_open};
 use phone_device::{BLOCK_LENGTH, ByteSink, Fault, write_all};
@@ -55,9 +55,19 @@ impl Desk {
         }
     }
 
-    /// Answers the last record, where one stands behind the last line end.
-    pub fn take_last<A: Answers>(&mut self, alloc: Global, answers: &A) -> Result<(), Refusal>
+    /// Answers the last record, where one stands behind the last line end, and counts it.
+    pub fn take_last<A: Answers, C: Counter>(
+        &mut self,
+        alloc: Global,
+        answers: &A,
+        counter: &mut C,
+    ) -> Result<(), Refusal>
         requires { partial_of self.old.cutter.fields ≡ [] }
+        ensures counted { OnOk result ((first : C) (before taken : Option (List ℕ)) →
+            HoldsCounted C.after self.old.cutter.delimiter first counter.old
+            self.old.answers.items before taken →
+            HoldsCounted C.after self.old.cutter.delimiter first counter.new
+            self.new.answers.items before taken) }
         ensures taken { OnOk result ((start : State) (bytes : List ℕ)
             (before after : Option (List ℕ)) → Stands (A.gives answers.now) start bytes
             self.old.cutter self.old.answers.items before after →
@@ -78,12 +88,20 @@ impl Desk {
         let Ok(()) = self.cutter.end_field() else {
             return Err(Refusal::Memory);
         };
-        self.answer_record(alloc, answers)
+        self.answer_record(alloc, answers, counter)
     }
 
-    /// Answers the record that is ended, and begins the next one.
-    fn answer_record<A: Answers>(&mut self, alloc: Global, answers: &A) -> Result<(), Refusal>
+    /// Answers the record that is ended, counts it, and begins the next one.
+    fn answer_record<A: Answers, C: Counter>(
+        &mut self,
+        alloc: Global,
+        answers: &A,
+        counter: &mut C,
+    ) -> Result<(), Refusal>
         requires { partial_of self.old.cutter.fields ≡ [] }
+        ensures counted { OnOk result ((row : Record) × (self.new.answers.items ≡
+            self.old.answers.items ++ record_text self.old.cutter.delimiter row) ×
+            (counter.new ≡ C.after counter.old row)) }
         ensures partial { OnOk result (partial_of self.new.cutter.fields ≡ []) }
         ensures delimiter { self.new.cutter.delimiter ≡ self.old.cutter.delimiter }
         ensures place { self.new.cutter.place ≡ self.old.cutter.place }
@@ -104,13 +122,25 @@ impl Desk {
         let Ok(()) = add_record(alloc, delimiter, &self.cutter.fields, &mut self.answers) else {
             return Err(Refusal::Memory);
         };
+        counter.count(&self.cutter.fields);
         self.cutter.fields.clear();
         Ok(())
     }
 
-    /// Takes one more byte. The record that it ends is answered.
-    fn take_byte<A: Answers>(&mut self, alloc: Global, answers: &A, byte: u8) -> Result<(), Refusal>
+    /// Takes one more byte. The record that it ends is answered and counted.
+    fn take_byte<A: Answers, C: Counter>(
+        &mut self,
+        alloc: Global,
+        answers: &A,
+        counter: &mut C,
+        byte: u8,
+    ) -> Result<(), Refusal>
         requires { partial_of self.old.cutter.fields ≡ [] }
+        ensures counted { OnOk result ((first : C) (before taken : Option (List ℕ)) →
+            HoldsCounted C.after self.old.cutter.delimiter first counter.old
+            self.old.answers.items before taken →
+            HoldsCounted C.after self.old.cutter.delimiter first counter.new
+            self.new.answers.items before taken) }
         ensures partial { OnOk result (partial_of self.new.cutter.fields ≡ []) }
         ensures delimiter { self.new.cutter.delimiter ≡ self.old.cutter.delimiter }
         ensures taken { OnOk result ((start : State) (bytes : List ℕ) (written : List ℕ) →
@@ -132,7 +162,7 @@ impl Desk {
         if !is_ended {
             return Ok(());
         }
-        self.answer_record(alloc, answers)
+        self.answer_record(alloc, answers, counter)
     }
 
     /// Writes the answers that are held, once they fill a block.
@@ -171,10 +201,11 @@ impl Desk {
 
     /// Takes the bytes of a block, one after the other. Refused by `Fault` where the sink fails,
     /// by `Record` at a record that is not answered, and by `Memory`.
-    pub fn take_block<A: Answers, W: ByteSink>(
+    pub fn take_block<A: Answers, C: Counter, W: ByteSink>(
         &mut self,
         alloc: Global,
         answers: &A,
+        counter: &mut C,
         sink: &mut W,
         block: &[u8],
     ) -> Result<(), Stop>
@@ -205,11 +236,16 @@ impl Desk {
             Stands (A.gives answers.now) start bytes self.old.cutter self.old.answers.items before
             (W.taken sink.old) → BreaksOff (A.gives answers.now) self.old.cutter.delimiter start
             (bytes ++ block.now) before (W.taken sink.new) }
+        ensures counted { OnOk result ((first : C) (before : Option (List ℕ)) →
+            HoldsCounted C.after self.old.cutter.delimiter first counter.old
+            self.old.answers.items before (W.taken sink.old) →
+            HoldsCounted C.after self.old.cutter.delimiter first counter.new
+            self.new.answers.items before (W.taken sink.new)) }
         ensures faults { W.faults sink.new ≡ W.faults sink.old + faults_of result }
         ensures short { OnOk result (vec_len self.new.answers < BLOCK_LENGTH) }
     {
         for byte in block {
-            match self.take_byte(alloc, answers, *byte) {
+            match self.take_byte(alloc, answers, counter, *byte) {
                 Ok(()) => {}
                 Err(Refusal::Record) => return Err(Stop::Record),
                 Err(Refusal::Memory) => return Err(Stop::Memory),

@@ -40,9 +40,9 @@ pub struct First {
 /// Reads the first record of a source, one byte at a time, so that what follows it is still to
 /// come. A UTF-8 byte-order mark in front of it is passed over, and so are line ends.
 ///
-/// Refused by `Absent` where the source has no record; then it is at its end. By `Input` where it
-/// failed, or 2^64 - 1 bytes were read. By `Memory`. Whatever refuses it, no record was ended by
-/// what was read, but perhaps by its last byte.
+/// Errors: `Absent` where the source has no record, and is at its end; `Input` where the source
+/// failed, or 2^64 - 1 bytes were read; `Memory`. At each of these errors no byte that was read
+/// ended a record, except perhaps the last byte.
 pub fn first_record<S: ByteSource>(
     alloc: Global,
     delimiter: u8,

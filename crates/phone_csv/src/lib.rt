@@ -12,7 +12,7 @@ pub mod laws;
 mod machine;
 mod spelled;
 
-pub use answers::{Answers, Refusal, add_record};
+pub use answers::{Answers, Counter, Refusal, add_record};
 pub use blocks::{RunError, answer_records};
 pub use cutter::Start;
 pub use delimiter::is_delimiter;

@@ -11,8 +11,9 @@ use Rattle.phone_chars.specs.Characters.{is_digit}
 use Rattle.phone_core.specs.declared.country.Id.{Id}
 use Rattle.phone_parts.specs.Texts.{begins}
 use Rattle.phone_records.specs.declared.loader.Metadata.{Metadata}
-use Rattle.phone_read.proofs.ReadingOnes.{reading_same}
-use Rattle.phone_read.specs.Readings.{Reads}
+use Rattle.phone_choice.proofs.OneReading.{reading_same}
+use Rattle.phone_choice.specs.Readings.{ReadsBy}
+use Rattle.phone_choice.specs.declared.rules.Rules.{Rules}
 use Rattle.phone_core.specs.declared.reading.Reading.{Reading}
 use Rattle.phone_find.proofs.Alone.{alone}
 use Rattle.phone_find.proofs.Begins.{candidate_begins, candidate_digit, candidate_opening}
@@ -24,9 +25,9 @@ use Rattle.phone_find.specs.Numbers.{AreNumbers, IsNumberAt, IsNumberBetween}
 use Rattle.phone_find.specs.declared.leniency.Leniency.{Leniency}
 use Rattle.phone_find.specs.declared.search.Found.{Found}
 
-module _ (db : List Metadata) (hint : Option Id) (l : Leniency) (before piece after : List ℕ) (n :
+module _ (rules : Rules) (db : List Metadata) (hint : Option Id) (l : Leniency) (before piece after : List ℕ) (n :
     Reading) (among : IsAmong before piece after)
-    (short : length piece ≤ 250) (is : IsNumberBetween db hint l before piece after n) where
+    (short : length piece ≤ 250) (is : IsNumberBetween rules db hint l before piece after n) where
   abbrev text : List ℕ
   text = before ++ (piece ++ after)
 
@@ -63,12 +64,12 @@ module _ (db : List Metadata) (hint : Option Id) (l : Leniency) (before piece af
       ∙ drop_at piece after (length piece) refl
 
   -- the parts of what is between are those of the text
-  accepted : IsNumberAt db hint l text start end n
+  accepted : IsNumberAt rules db hint l text start end n
   accepted =
-      subst (λ t. IsNumberBetween db hint l t (slice_range text start end) (drop end text) n) (sym
+      subst (λ t. IsNumberBetween rules db hint l t (slice_range text start end) (drop end text) n) (sym
       front_is)
-      (subst (λ t. IsNumberBetween db hint l before t (drop end text) n) (sym piece_is)
-      (subst (λ t. IsNumberBetween db hint l before piece t n) (sym end_is) is))
+      (subst (λ t. IsNumberBetween rules db hint l before t (drop end text) n) (sym piece_is)
+      (subst (λ t. IsNumberBetween rules db hint l before piece t n) (sym end_is) is))
 
   begins_some : (t : List ℕ) → begins is_opening (chars t) ≡ true → 1 ≤ length t
   begins_some [] e = absurd (true≢false (sym e ∙ ap (begins is_opening) chars-nil))
@@ -78,7 +79,7 @@ module _ (db : List Metadata) (hint : Option Id) (l : Leniency) (before piece af
   some = begins_some piece (candidate_opening (chars before) (chars piece) (chars after)
       is.candidate)
 
-  stands : Stands (IsNumberAt db hint l text) text place
+  stands : Stands (IsNumberAt rules db hint l text) text place
   stands = record {
     from_border = IsCharBoundary-at_seam text before (piece ++ after) refl (IsUtf8-append piece
         after among.piece_utf8 among.after_utf8);
@@ -89,7 +90,7 @@ module _ (db : List Metadata) (hint : Option Id) (l : Leniency) (before piece af
     accepted = accepted;
   }
 
-  inside : (g : Found Reading) → Stands (IsNumberAt db hint l text) text g →
+  inside : (g : Found Reading) → Stands (IsNumberAt rules db hint l text) text g →
       (start ≤ g.start) × (g.end ≤ end)
   inside g s = (
     starts_behind is_opening text before (piece ++ after) g.start refl among.before_utf8
@@ -105,11 +106,11 @@ module _ (db : List Metadata) (hint : Option Id) (l : Leniency) (before piece af
         (drop g.end text)) s.accepted.candidate)),
   )
 
-  one : (m : Reading) → IsNumberAt db hint l text start end m → m ≡ n
+  one : (m : Reading) → IsNumberAt rules db hint l text start end m → m ≡ n
   one m at =
-      let read = subst (λ t. Reads db hint (chars t) (Ok m)) piece_is at.number.read in
-      let same : Ok m ≡ Ok n = reading_same db hint (chars piece) (Ok m) (Ok n) read is.number.read
+      let read = subst (λ t. ReadsBy rules db hint (chars t) (Ok m)) piece_is at.number.read in
+      let same : Ok m ≡ Ok n = reading_same rules db hint (chars piece) (Ok m) (Ok n) read is.number.read
       in cc
 
-  pub found_alone : (all : List (Found Reading)) → AreNumbers db hint l text all → all ≡ place ∷ []
-  found_alone = alone (IsNumberAt db hint l text) text place stands inside one
+  pub found_alone : (all : List (Found Reading)) → AreNumbers rules db hint l text all → all ≡ place ∷ []
+  found_alone = alone (IsNumberAt rules db hint l text) text place stands inside one

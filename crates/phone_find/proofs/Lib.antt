@@ -7,6 +7,7 @@ pub mod Ones
 pub mod Places
 pub mod PrintedFound
 pub mod Searches
+pub mod SettledFound
 pub mod Shapes
 pub mod Somes
 pub mod Told

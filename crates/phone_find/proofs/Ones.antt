@@ -4,7 +4,8 @@ use Rattle.std.proofs.Common.{slice_range, arith}
 use Rattle.std.specs.Str.{chars}
 use Rattle.phone_core.specs.declared.country.Id.{Id}
 use Rattle.phone_records.specs.declared.loader.Metadata.{Metadata}
-use Rattle.phone_read.proofs.ReadingOnes.{reading_same}
+use Rattle.phone_choice.proofs.OneReading.{reading_same}
+use Rattle.phone_choice.specs.declared.rules.Rules.{Rules}
 use Rattle.phone_core.specs.declared.reading.Reading.{Reading}
 use Rattle.phone_find.proofs.Alone.{same_found}
 use Rattle.phone_find.specs.Founds
@@ -55,17 +56,17 @@ module _ {N : Type 0} (accepts : Accepts N) (text : List ℕ) where
           ap₂ (λ (h : Found N) hs. h ∷ hs) same (all_same f.end rest others later moved)
 
 -- a piece is read as one number
-one_number : (db : List Metadata) (hint : Option Id) (l : Leniency) (text : List ℕ) (start end : ℕ)
-    (m n : Reading) → IsNumberAt db hint l text start end m →
-    IsNumberAt db hint l text start end n → m ≡ n
-one_number db hint l text start end m n a b =
+one_number : (rules : Rules) (db : List Metadata) (hint : Option Id) (l : Leniency) (text : List ℕ) (start end : ℕ)
+    (m n : Reading) → IsNumberAt rules db hint l text start end m →
+    IsNumberAt rules db hint l text start end n → m ≡ n
+one_number rules db hint l text start end m n a b =
     let same : Ok m ≡ Ok n =
-    reading_same db hint (chars (slice_range text start end)) (Ok m) (Ok n) a.number.read
+    reading_same rules db hint (chars (slice_range text start end)) (Ok m) (Ok n) a.number.read
     b.number.read in
     cc
 
-pub one_answer : (db : List Metadata) (hint : Option Id) (l : Leniency) (text : List ℕ)
-    (all others : List (Found Reading)) → AreNumbers db hint l text all →
-    AreNumbers db hint l text others → all ≡ others
-one_answer db hint l text all others =
-    all_same (IsNumberAt db hint l text) text (one_number db hint l text) 0 all others
+pub one_answer : (rules : Rules) (db : List Metadata) (hint : Option Id) (l : Leniency) (text : List ℕ)
+    (all others : List (Found Reading)) → AreNumbers rules db hint l text all →
+    AreNumbers rules db hint l text others → all ≡ others
+one_answer rules db hint l text all others =
+    all_same (IsNumberAt rules db hint l text) text (one_number rules db hint l text) 0 all others

@@ -36,6 +36,7 @@ use Rattle.phonenumber.proofs.BackTexts.{low_digits}
 use Rattle.phonenumber.proofs.BackViable.{all_from_left}
 use Rattle.phonenumber.specs.Again.{IsReadAs, IsSame}
 use Rattle.phonenumber.specs.Plain.{IsPlainInternational, has_digits}
+use Rattle.phone_choice.specs.declared.rules.Rules.TheVariants.{Crate}
 use Rattle.phone_find.proofs.FoundAlone.{found_alone}
 use Rattle.phone_find.proofs.Shapes.{ends_extended, ends_number, shaped_extended, shaped_number}
 use Rattle.phone_find.specs.Alone.{EndsInDigits, IsAmong, IsPlainEnough, IsShaped, placed}
@@ -64,7 +65,7 @@ spaced_after : (t : List ℕ) → chars (32 ∷ t) ≡ 32 ∷ chars t
 spaced_after t = chars-append (32 ∷ []) t space_utf8 ∙ ap (λ s. s ++ chars t) space_chars
 
 -- between two spaces as between the texts around them
-among_spaces : (before piece after : List ℕ) → IsAmong before piece after →
+pub among_spaces : (before piece after : List ℕ) → IsAmong before piece after →
     IsAmong (before ++ 32 ∷ []) piece (32 ∷ after)
 among_spaces before piece after h = record {
   before_utf8 = IsUtf8-append before (32 ∷ []) h.before_utf8 space_utf8;
@@ -76,6 +77,17 @@ among_spaces before piece after h = record {
       ∙ or_from _ _ h.no_opening refl;
   no_digit = ap (list_any is_digit) (spaced_after after) ∙ h.no_digit;
 }
+
+-- a text between two spaces that is made as a number is may be one
+pub spaced_candidate : (before text after : List ℕ) → IsUtf8 before → begins is_opening (chars text) ≡ true → ends is_digit (chars text) ≡ true →
+    is_number_shaped (chars text) ≡ true → is_candidate (chars (before ++ 32 ∷ [])) (chars text) (chars (32 ∷ after)) ≡ true
+spaced_candidate before text after utf8 opening ended made =
+    let left : ends is_in_word (chars (before ++ 32 ∷ [])) ≡ false =
+    ap (ends is_in_word) (spaced_before before utf8)
+    ∙ ends-push is_in_word (chars before) 32 ∙ space_parts in
+    let right : begins is_in_word (chars (32 ∷ after)) ≡ false =
+    ap (begins is_in_word) (spaced_after after) ∙ space_parts in
+    and_from _ _ (and_from _ _ (and_from _ _ opening ended) (and_from _ _ (ap not left) (ap not right))) made
 
 some_length : (t : List ℕ) → ¬ (t ≡ []) → 1 ≤ length t
 some_length [] some = absurd (some refl)
@@ -100,7 +112,7 @@ module _ (db : List Metadata) (n : Reading) (text : List ℕ) (m : Metadata) (li
 -- whether a number suffices is of its code and national number alone
 suffices_same : (db : List Metadata) (l : Leniency) (n m : Reading) → m.code.value ≡ n.code.value →
     m.national ≡ n.national →
-    suffices db l m ≡ suffices db l n
+    suffices Crate db l m ≡ suffices Crate db l n
 suffices_same db Possible n m code national =
     ap₂ (λ c d. is_possible_count (option_map_or (λ (t : Metadata). possibility_under t (length
     (text_of d)))
@@ -121,18 +133,10 @@ module _ (db : List Metadata) (l : Leniency) (n : Reading) (before text after : 
 
   candidate : is_candidate (chars (before ++ 32 ∷ [])) (chars text) (chars (32 ∷ after)) ≡ true
   candidate =
-      let left : ends is_in_word (chars (before ++ 32 ∷ [])) ≡ false =
-      ap (ends is_in_word) (spaced_before before among.before_utf8)
-      ∙ ends-push is_in_word (chars before) 32 ∙ space_parts in
-      let right : begins is_in_word (chars (32 ∷ after)) ≡ false =
-      ap (begins is_in_word) (spaced_after after) ∙ space_parts in
-      and_from _ _
-      (and_from _ _ (and_from _ _ (plus_first db n text plain.plain.territory
-      plain.plain.plain.listed is) shaped.ended)
-      (and_from _ _ (ap not left) (ap not right)))
-      shaped.made
+      spaced_candidate before text after among.before_utf8
+      (plus_first db n text plain.plain.territory plain.plain.plain.listed is) shaped.ended shaped.made
 
-  number : IsNumberBetween db None l (before ++ 32 ∷ []) text (32 ∷ after) back.0
+  number : IsNumberBetween Crate db None l (before ++ 32 ∷ []) text (32 ∷ after) back.0
   number = record {
     candidate = candidate;
     number = record {
@@ -141,12 +145,12 @@ module _ (db : List Metadata) (l : Leniency) (n : Reading) (before text after : 
     };
   }
 
-  pub printed_found : AreNumbers db None l ((before ++ 32 ∷ []) ++ (text ++ 32 ∷ after)) all →
+  pub printed_found : AreNumbers Crate db None l ((before ++ 32 ∷ []) ++ (text ++ 32 ∷ after)) all →
       (m : Reading) × IsSame n n.extension m × (all ≡ placed (before ++ 32 ∷ []) text m ∷ [])
   printed_found found = (
     back.0,
     back.2,
-    found_alone db None l (before ++ 32 ∷ []) text (32 ∷ after) back.0 (among_spaces before text
+    found_alone Crate db None l (before ++ 32 ∷ []) text (32 ∷ after) back.0 (among_spaces before text
         after among) shaped.short number all found,
   )
 

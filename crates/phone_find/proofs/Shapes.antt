@@ -54,6 +54,13 @@ no_gap [] all = refl
 no_gap (c ∷ cs) all = cond-false _ _ _ (no_space c (and_parts (is_digit c) (list_all is_digit cs)
     all).0)
 
+-- a plus sign and digits
+pub shaped_signed : (cs : List ℕ) → list_all is_digit cs ≡ true → is_number_shaped (43 ∷ cs) ≡ true
+shaped_signed cs all = or_left _ _ (all_wider is_digit is_inner digit_inner cs all)
+
+pub ends_signed : (cs : List ℕ) → list_all is_digit cs ≡ true → 1 ≤ length cs → ends is_digit (43 ∷ cs) ≡ true
+ends_signed cs all some = ends-append is_digit (43 ∷ []) cs (all_end cs all some)
+
 -- an extension announced by the word that is printed where no other is preferred
 is_announced : (e : List ℕ) → list_all is_digit e ≡ true → 1 ≤ length e → length e ≤ 7 →
     is_extension (codes "ext. " ++ e) ≡ true

@@ -7,82 +7,83 @@ use Rattle.phone_core.specs.declared.country.Id.{Id}
 use Rattle.phone_core.specs.declared.error.ParseError.{ParseError}
 use Rattle.phone_core.specs.declared.error.ParseError.TheVariants.{Memory}
 use Rattle.phone_records.specs.declared.loader.Metadata.{Metadata}
-use Rattle.phone_read.proofs.ReadingOnes.{reading_same}
-use Rattle.phone_read.specs.Readings.{Reads}
+use Rattle.phone_choice.proofs.OneReading.{reading_same}
+use Rattle.phone_choice.specs.Readings.{ReadsBy}
+use Rattle.phone_choice.specs.declared.rules.Rules.{Rules}
 use Rattle.phone_core.specs.declared.reading.Reading.{Reading}
 use Rattle.phone_find.specs.Candidates.{is_candidate}
 use Rattle.phone_find.specs.Leniencies.{suffices}
 use Rattle.phone_find.specs.Numbers.{IsNumberBetween, IsReadWell}
 use Rattle.phone_find.specs.declared.leniency.Leniency.{Leniency}
 
-module _ (db : List Metadata) (hint : Option Id) (l : Leniency) (t : List ℕ) where
+module _ (rules : Rules) (db : List Metadata) (hint : Option Id) (l : Leniency) (t : List ℕ) where
   -- the number that the text is read as where it suffices; none where it isn't read as one
   abbrev pub Told : Option Reading → Type 0
-  Told told = MatchOption told ((n : Reading) → ¬ (IsReadWell db hint l t n)) (λ n. IsReadWell db
+  Told told = MatchOption told ((n : Reading) → ¬ (IsReadWell rules db hint l t n)) (λ n. IsReadWell rules db
       hint l t n)
 
-  pub told_refused : (e : ParseError) → Reads db hint (chars t) (Err e) → Told None
-  told_refused e reads n v = let same : Err e ≡ Ok n = reading_same db hint (chars t) (Err e) (Ok n)
+  pub told_refused : (e : ParseError) → ReadsBy rules db hint (chars t) (Err e) → Told None
+  told_refused e reads n v = let same : Err e ≡ Ok n = reading_same rules db hint (chars t) (Err e) (Ok n)
       reads v.read in cc
 
   pub read_number : (x : Result Reading ParseError) (m : Reading) → x ≡ Ok m →
-      (x ≡ Err Memory) ⊎ Reads db hint (chars t) x →
-      Reads db hint (chars t) (Ok m)
+      (x ≡ Err Memory) ⊎ ReadsBy rules db hint (chars t) x →
+      ReadsBy rules db hint (chars t) (Ok m)
   read_number x m is (inl e) = let bad : Ok m ≡ Err Memory = sym is ∙ e in cc
-  read_number x m is (inr reads) = subst (λ y. Reads db hint (chars t) y) is reads
+  read_number x m is (inr reads) = subst (λ y. ReadsBy rules db hint (chars t) y) is reads
 
   read_error : (x : Result Reading ParseError) (e : ParseError) → x ≡ Err e → ¬ (e ≡ Memory) →
-      (x ≡ Err Memory) ⊎ Reads db hint (chars t) x → Reads db hint (chars t) (Err e)
+      (x ≡ Err Memory) ⊎ ReadsBy rules db hint (chars t) x → ReadsBy rules db hint (chars t) (Err e)
   read_error x e is other (inl f) = absurd (other (let same : Err e ≡ Err Memory = sym is ∙ f in
       cc))
-  read_error x e is other (inr reads) = subst (λ y. Reads db hint (chars t) y) is reads
+  read_error x e is other (inr reads) = subst (λ y. ReadsBy rules db hint (chars t) y) is reads
 
   pub if_unread : {E : Type 0} (x : Result Reading ParseError) (e : ParseError) → x ≡ Err e →
-      (x ≡ Err Memory) ⊎ Reads db hint (chars t) x → (r : Result (Option Reading) E) →
+      (x ≡ Err Memory) ⊎ ReadsBy rules db hint (chars t) x → (r : Result (Option Reading) E) →
       IfOk r (λ told. (told ≡ None) × ¬ (e ≡ Memory)) → IfOk r (λ told. Told told)
   if_unread x e is h (Ok told) k = subst (λ (o : Option Reading). Told o) (sym k.0) (told_refused e
       (read_error x e is k.1 h))
   if_unread x e is h (Err f) k = k
 
-  same_number : (m n : Reading) → Reads db hint (chars t) (Ok m) → IsReadWell db hint l t n → m ≡ n
-  same_number m n reads v = let same : Ok m ≡ Ok n = reading_same db hint (chars t) (Ok m) (Ok n)
+  same_number : (m n : Reading) → ReadsBy rules db hint (chars t) (Ok m) → IsReadWell rules db hint l t n → m ≡ n
+  same_number m n reads v = let same : Ok m ≡ Ok n = reading_same rules db hint (chars t) (Ok m) (Ok n)
       reads v.read in cc
 
-  told_invalid : (m : Reading) → Reads db hint (chars t) (Ok m) → suffices db l m ≡ false →
+  told_invalid : (m : Reading) → ReadsBy rules db hint (chars t) (Ok m) → suffices rules db l m ≡ false →
       Told None
-  told_invalid m reads e n v = true≢false (sym v.enough ∙ subst (λ k. suffices db l k ≡ false)
+  told_invalid m reads e n v = true≢false (sym v.enough ∙ subst (λ k. suffices rules db l k ≡ false)
       (same_number m n reads v) e)
 
-  told_from : (m : Reading) → Reads db hint (chars t) (Ok m) → (b : Bool) → suffices db l m ≡ b →
+  told_from : (m : Reading) → ReadsBy rules db hint (chars t) (Ok m) → (b : Bool) → suffices rules db l m ≡ b →
       Told (if b then Some m else None)
   told_from m reads true e = record { read = reads; enough = e }
   told_from m reads false e = told_invalid m reads e
 
-  told_number : (m : Reading) → Reads db hint (chars t) (Ok m) → (told : Option Reading) →
-      told ≡ (if suffices db l m then Some m else None) → Told told
+  told_number : (m : Reading) → ReadsBy rules db hint (chars t) (Ok m) → (told : Option Reading) →
+      told ≡ (if suffices rules db l m then Some m else None) → Told told
   told_number m reads told e = subst (λ (o : Option Reading). Told o) (sym e) (told_from m reads
-      (suffices db l m) refl)
+      (suffices rules db l m) refl)
 
-  pub if_told : {E : Type 0} (m : Reading) → Reads db hint (chars t) (Ok m) →
+  pub if_told : {E : Type 0} (m : Reading) → ReadsBy rules db hint (chars t) (Ok m) →
       (r : Result (Option Reading) E) →
-      IfOk r (λ told. told ≡ (if suffices db l m then Some m else None)) →
+      IfOk r (λ told. told ≡ (if suffices rules db l m then Some m else None)) →
       IfOk r (λ told. Told told)
   if_told m reads (Ok told) e = told_number m reads told e
   if_told m reads (Err e) h = h
 
   -- a reading tells
-  pub some_told : (r : Result Reading ParseError) → Reads db hint (chars t) r →
+  pub some_told : (r : Result Reading ParseError) → ReadsBy rules db hint (chars t) r →
       (told : Option Reading) × Told told
   some_told (Ok m) reads =
-      (if suffices db l m then Some m else None, told_from m reads (suffices db l m) refl)
+      (if suffices rules db l m then Some m else None, told_from m reads (suffices rules db l m) refl)
   some_told (Err e) reads = (None, told_refused e reads)
 
-module _ (db : List Metadata) (hint : Option Id) (l : Leniency) where
+module _ (rules : Rules) (db : List Metadata) (hint : Option Id) (l : Leniency) where
   -- the number that a piece is; none where it is none
   abbrev pub ToldBetween : (before piece after : List ℕ) → Option Reading → Type 0
   ToldBetween before piece after told =
-      MatchOption told ((n : Reading) → ¬ (IsNumberBetween db hint l before piece after n)) (λ n.
-      IsNumberBetween db hint l before piece after n)
+      MatchOption told ((n : Reading) → ¬ (IsNumberBetween rules db hint l before piece after n)) (λ n.
+      IsNumberBetween rules db hint l before piece after n)
 
   pub told_none : (before piece after : List ℕ) (b : Bool) →
       b ≡ is_candidate (chars before) (chars piece) (chars after) → b ≡ false →
@@ -92,13 +93,13 @@ module _ (db : List Metadata) (hint : Option Id) (l : Leniency) where
 
   told_piece : (before piece after : List ℕ) → is_candidate (chars before) (chars piece) (chars
       after) ≡ true → (told : Option Reading) →
-      Told db hint l piece told → ToldBetween before piece after told
+      Told rules db hint l piece told → ToldBetween before piece after told
   told_piece before piece after candidate None h = λ n at. h n at.number
   told_piece before piece after candidate (Some n) h = record { candidate = candidate; number = h }
 
   pub if_told_piece : {E : Type 0} (before piece after : List ℕ) (b : Bool) →
       b ≡ is_candidate (chars before) (chars piece) (chars after) →
-      b ≡ true → (r : Result (Option Reading) E) → IfOk r (λ told. Told db hint l piece told) →
+      b ≡ true → (r : Result (Option Reading) E) → IfOk r (λ told. Told rules db hint l piece told) →
       IfOk r (λ told. ToldBetween before piece after told)
   if_told_piece before piece after b is passed (Ok told) h = told_piece before piece after (sym is
       ∙ passed) told h
@@ -106,7 +107,7 @@ module _ (db : List Metadata) (hint : Option Id) (l : Leniency) where
 
   -- what the piece alone tells, its place tells
   pub some_told_piece : (before piece after : List ℕ) →
-      (told : Option Reading) × Told db hint l piece told →
+      (told : Option Reading) × Told rules db hint l piece told →
       (told : Option Reading) × ToldBetween before piece after told
   some_told_piece before piece after told = by_shape (is_candidate (chars before) (chars piece)
       (chars after)) refl

@@ -14,6 +14,7 @@ use Rattle.phonenumber.specs.Plain.{IsBenign, IsIdle, IsPlainInternational}
 use Rattle.phone_find.specs.Candidates.{is_number_shaped, is_opening}
 use Rattle.phone_find.specs.Founds.{most_bytes}
 use Rattle.phone_find.specs.Leniencies.{suffices}
+use Rattle.phone_choice.specs.declared.rules.Rules.TheVariants.{Crate}
 use Rattle.phone_find.specs.declared.leniency.Leniency.{Leniency}
 use Rattle.phone_find.specs.declared.search.Found.{Found}
 
@@ -36,7 +37,8 @@ pub record IsShaped (text : List ℕ) : Type 0 where
   pub made : is_number_shaped (chars text) ≡ true
   pub ended : ends is_digit (chars text) ≡ true
 
--- a number that suffices and is read back from its international text: it is plain for that,
+-- a number that suffices by the rules of the crate and is read back from its international text: it
+-- is plain for that,
 -- stripping leaves its digits alone, its extension, if any, is announced safely, its code has one
 -- to three digits, and no listed code begins another
 pub record IsPlainEnough (db : List Metadata) (leniency : Leniency) (n : Reading) : Type 0 where
@@ -46,7 +48,7 @@ pub record IsPlainEnough (db : List Metadata) (leniency : Leniency) (n : Reading
   pub some_code : 1 ≤ n.code.value
   pub few_digits : n.code.value ≤ 999
   pub prefix_free : is_prefix_free db ≡ true
-  pub enough : suffices db leniency n ≡ true
+  pub enough : suffices Crate db leniency n ≡ true
 
 -- a laid-out number ends in a digit, and its extension, if any, isn't empty and is announced by
 -- ` ext. `

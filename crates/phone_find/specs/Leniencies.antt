@@ -3,9 +3,10 @@ use Rattle.std.specs.Prelude.{Bool, true, false, List}
 use Rattle.phone_more.specs.Possibilities.{possibility_of}
 use Rattle.phone_more.specs.declared.possibilities.Possibility.{Possibility}
 use Rattle.phone_more.specs.declared.possibilities.Possibility.TheVariants as possibility
-use Rattle.phonenumber.specs.Queries.{is_valid}
 use Rattle.phone_core.specs.declared.reading.Reading.{Reading}
 use Rattle.phone_records.specs.declared.loader.Metadata.{Metadata}
+use Rattle.phone_choice.specs.Facts.{is_valid_by}
+use Rattle.phone_choice.specs.declared.rules.Rules.{Rules}
 use Rattle.phone_find.specs.declared.leniency.Leniency.{Leniency}
 use Rattle.phone_find.specs.declared.leniency.Leniency.TheVariants.{Possible, Valid}
 
@@ -19,10 +20,10 @@ is_possible_count possibility.WrongLength = false
 is_possible_count possibility.UnknownCode = false
 
 -- a number is possible by the count of its digits
-abbrev pub is_possible : List Metadata → Reading → Bool
-is_possible db n = is_possible_count (possibility_of db n)
+abbrev pub is_possible : Rules → List Metadata → Reading → Bool
+is_possible rules db n = is_possible_count (possibility_of rules db n)
 
 -- a number suffices: it is possible, or valid
-abbrev pub suffices : List Metadata → Leniency → Reading → Bool
-suffices db Possible n = is_possible db n
-suffices db Valid n = is_valid db n
+abbrev pub suffices : Rules → List Metadata → Leniency → Reading → Bool
+suffices rules db Possible n = is_possible rules db n
+suffices rules db Valid n = is_valid_by rules db n

@@ -2,6 +2,7 @@
 ghost use Rattle.std.specs.Prelude.{◌≡◌, IfOk};
 ghost use Rattle.phone_find.specs.Leniencies.{is_possible, suffices};
 
+use phone_choice::{Rules, is_valid_by};
 use phone_meta::Database;
 use phone_more::{Possibility, possible};
 use phonenumber::PhoneNumber;
@@ -18,10 +19,10 @@ pub enum Leniency {
 }
 
 /// Whether a number is possible, perhaps only inside its area. Refused only for memory.
-fn is_possible(database: &Database, number: &PhoneNumber) -> Result<bool, AllocError>
-    ensures { IfOk result (λ b. b ≡ is_possible database.now number.now) }
+fn is_possible(rules: Rules, database: &Database, number: &PhoneNumber) -> Result<bool, AllocError>
+    ensures { IfOk result (λ b. b ≡ is_possible rules database.now number.now) }
 {
-    match possible(database, number)? {
+    match possible(rules, database, number)? {
         Possibility::Possible | Possibility::PossibleLocally => Ok(true),
         _ => Ok(false),
     }
@@ -29,14 +30,15 @@ fn is_possible(database: &Database, number: &PhoneNumber) -> Result<bool, AllocE
 
 /// Whether a number suffices. Refused only for memory.
 pub(crate) fn suffices(
+    rules: Rules,
     database: &Database,
     leniency: Leniency,
     number: &PhoneNumber,
 ) -> Result<bool, AllocError>
-    ensures { IfOk result (λ b. b ≡ suffices database.now leniency number.now) }
+    ensures { IfOk result (λ b. b ≡ suffices rules database.now leniency number.now) }
 {
     match leniency {
-        Leniency::Possible => is_possible(database, number),
-        Leniency::Valid => number.is_valid_with(database),
+        Leniency::Possible => is_possible(rules, database, number),
+        Leniency::Valid => is_valid_by(rules, database, number),
     }
 }

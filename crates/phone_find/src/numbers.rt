@@ -8,15 +8,17 @@ ghost use Rattle.phone_find.specs.Numbers.{AreNumbers, IsNumberBetween, IsReadWe
 use crate::candidates::{is_candidate, may_begin};
 use crate::leniency::{Leniency, suffices};
 use crate::search::{Found, Judge, all_accepted};
+use phone_choice::{Rules, parse_by};
 use phone_core::ParseError;
 use phone_core::country::Id;
 use phone_meta::Database;
-use phonenumber::{PhoneNumber, parse_with};
+use phonenumber::PhoneNumber;
 use std::alloc::{AllocError, Global};
 
-/// What accepts the numbers of a database that suffice, read under a hint.
+/// What accepts the numbers of a database that suffice, read by some rules under a hint.
 #[derive(Drop)]
 struct Sufficient<'a> {
+    rules: Rules,
     database: &'a Database,
     hint: Option<Id>,
     leniency: Leniency,
@@ -25,7 +27,8 @@ struct Sufficient<'a> {
 impl<'a> Judge<PhoneNumber> for Sufficient<'a> {
     ghost use Rattle.phone_find.specs.Numbers.{IsNumberAt};
 
-    ghost accepts = { λ s t from to n. IsNumberAt s.database.now s.hint s.leniency t from to n };
+    ghost accepts = { λ s t from to n.
+        IsNumberAt s.rules s.database.now s.hint s.leniency t from to n };
 
     fn may_begin(&self, text: &str, start: usize) -> bool {
         may_begin(&text[..start], &text[start..])
@@ -42,6 +45,7 @@ impl<'a> Judge<PhoneNumber> for Sufficient<'a> {
         let piece = &text[start..end];
         let after = &text[end..];
         number_between(
+            self.rules,
             self.database,
             self.hint,
             self.leniency,
@@ -55,6 +59,7 @@ impl<'a> Judge<PhoneNumber> for Sufficient<'a> {
 /// The number that suffices and that a piece of a text is read as, where it may be a number between
 /// what stands before it and after it. Refused only for memory.
 fn number_between(
+    rules: Rules,
     database: &Database,
     hint: Option<Id>,
     leniency: Leniency,
@@ -64,29 +69,31 @@ fn number_between(
 ) -> Result<Option<PhoneNumber>, AllocError>
     ensures { IfOk result (λ told. MatchOption told
         ((n : Reading) →
-        ¬ (IsNumberBetween database.now hint leniency before.now piece.now after.now n))
-        (λ n. IsNumberBetween database.now hint leniency before.now piece.now after.now n)) }
+        ¬ (IsNumberBetween rules database.now hint leniency before.now piece.now after.now n))
+        (λ n.
+        IsNumberBetween rules database.now hint leniency before.now piece.now after.now n)) }
 {
     if !is_candidate(before, piece, after) {
         return Ok(None);
     }
-    number_in(database, hint, leniency, piece)
+    number_in(rules, database, hint, leniency, piece)
 }
 
 /// The number that a text is read as, where it is read as one that suffices. Refused only for
 /// memory.
 fn number_in(
+    rules: Rules,
     database: &Database,
     hint: Option<Id>,
     leniency: Leniency,
     text: &str,
 ) -> Result<Option<PhoneNumber>, AllocError>
     ensures { IfOk result (λ told. MatchOption told
-        ((n : Reading) → ¬ (IsReadWell database.now hint leniency text.now n))
-        (λ n. IsReadWell database.now hint leniency text.now n)) }
+        ((n : Reading) → ¬ (IsReadWell rules database.now hint leniency text.now n))
+        (λ n. IsReadWell rules database.now hint leniency text.now n)) }
 {
-    match parse_with(database, hint, text) {
-        Ok(number) => where_sufficient(database, leniency, number),
+    match parse_by(rules, database, hint, text) {
+        Ok(number) => where_sufficient(rules, database, leniency, number),
         Err(error) => without_number(error),
     }
 }
@@ -103,15 +110,16 @@ fn without_number(error: ParseError) -> Result<Option<PhoneNumber>, AllocError>
 
 /// The number, where it suffices. Refused only for memory.
 fn where_sufficient(
+    rules: Rules,
     database: &Database,
     leniency: Leniency,
     number: PhoneNumber,
 ) -> Result<Option<PhoneNumber>, AllocError>
     ensures { IfOk result
         (λ told. told ≡
-        (if suffices database.now leniency number then Some number else None)) }
+        (if suffices rules database.now leniency number then Some number else None)) }
 {
-    if suffices(database, leniency, &number)? {
+    if suffices(rules, database, leniency, &number)? {
         Ok(Some(number))
     } else {
         Ok(None)
@@ -122,21 +130,23 @@ fn where_sufficient(
 /// first byte and that behind its last, both between characters. A number is a piece of at most 250
 /// bytes that no letter or digit touches; that begins at a plus sign, an opening bracket or a
 /// digit, and ends in a digit; that is digits, plus signs, and punctuation, and behind them perhaps
-/// an announced extension, as in ` ext. 12`; and that `parse_with` reads, by itself, under the
-/// database and the hint, as a number that suffices.
+/// an announced extension, as in ` ext. 12`; and that `parse_by` reads, by itself, by these rules
+/// under the database and the hint, as a number that suffices by them.
 ///
 /// The numbers come in their order and don't overlap: the piece that begins first counts, and of
 /// those that begin there the longest. The time is linear in the text: at each place at most 250
 /// pieces are looked at. Refused only for memory.
 pub fn found_with(
+    rules: Rules,
     database: &Database,
     hint: Option<Id>,
     leniency: Leniency,
     text: &str,
 ) -> Result<Vec<Found<PhoneNumber>>, AllocError>
-    ensures { IfOk result (λ all. AreNumbers database.now hint leniency text.now all.items) }
+    ensures { IfOk result (λ all. AreNumbers rules database.now hint leniency text.now all.items) }
 {
     let judge = Sufficient {
+        rules,
         database,
         hint,
         leniency,
@@ -146,12 +156,13 @@ pub fn found_with(
 
 /// The valid numbers that stand in a running text: [`found_with`], [`Leniency::Valid`].
 pub fn found(
+    rules: Rules,
     database: &Database,
     hint: Option<Id>,
     text: &str,
 ) -> Result<Vec<Found<PhoneNumber>>, AllocError>
     ensures { IfOk result
-        (λ all. AreNumbers database.now hint leniency.Valid text.now all.items) }
+        (λ all. AreNumbers rules database.now hint leniency.Valid text.now all.items) }
 {
-    found_with(database, hint, Leniency::Valid, text)
+    found_with(rules, database, hint, Leniency::Valid, text)
 }

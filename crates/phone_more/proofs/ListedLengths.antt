@@ -19,7 +19,7 @@ use Rattle.phone_kinds.specs.Kinds.{is_known, is_one_pattern, line_or_mobile, tr
 use Rattle.phone_core.specs.declared.reading.Reading.{Reading}
 use Rattle.phonenumber.specs.Queries.{is_valid}
 use Rattle.phone_more.specs.Possibilities.{counting_descriptors, has_listed_kind, is_among, kind_descriptors}
-use Rattle.phone_more.specs.Possibilities.{lengths_of, lists_lengths, possibility_of, possibility_under}
+use Rattle.phone_more.specs.Possibilities.{lengths_of, lists_lengths, possibility_by_crate, possibility_under}
 use Rattle.phone_more.specs.declared.possibilities.Possibility.TheVariants.{Possible, UnknownCode}
 
 abbrev lengths_in : List Descriptor → List ℕ
@@ -182,10 +182,10 @@ module _ (m : Metadata) (digits : List ℕ) (known : is_known (type_of m digits)
   known_is_possible = cond-true _ _ _ (among_counting m.general refl)
 
 -- a valid number of a kind that lists its lengths is possible
-pub valid_is_possible : (db : List Metadata) (n : Reading) → is_valid db n ≡ true → has_listed_kind db n ≡ true → possibility_of db n ≡ Possible
+pub valid_is_possible : (db : List Metadata) (n : Reading) → is_valid db n ≡ true → has_listed_kind db n ≡ true → possibility_by_crate db n ≡ Possible
 valid_is_possible db n valid lists = at (home db n.code.value (text_of n.national)) refl
   where
-    at : (o : Option Metadata) → home db n.code.value (text_of n.national) ≡ o → possibility_of db n ≡ Possible
+    at : (o : Option Metadata) → home db n.code.value (text_of n.national) ≡ o → possibility_by_crate db n ≡ Possible
     at None e = absurd (true≢false (sym (sym (ap (λ o. option_map_or (λ (m : Metadata). is_known (type_of m (text_of n.national))) o false) e) ∙ valid)))
     at (Some m) e =
         let known : is_known (type_of m (text_of n.national)) ≡ true =

@@ -15,7 +15,8 @@ use Rattle.phone_meta.specs.Codes.{is_listed}
 use Rattle.phone_meta.specs.Records.{last_with}
 use Rattle.phone_records.specs.declared.loader.Descriptor.{Descriptor}
 use Rattle.phone_records.specs.declared.loader.Metadata.{Metadata}
-use Rattle.phone_read.specs.Readings.{Reads}
+use Rattle.phone_choice.specs.Readings.{ReadsBy}
+use Rattle.phone_choice.specs.declared.rules.Rules.{Rules}
 use Rattle.phone_core.specs.declared.reading.Reading.{Reading}
 
 -- a region has a territory
@@ -42,8 +43,9 @@ example_text db region kind = option_and_then
 
 -- the answer to an example: none where there is none, else what it is read as with the region as
 -- hint, or want of memory
-abbrev pub AnswersExample : List Metadata → Id → Option (List ℕ) → Result (Option Reading)
-    ParseError → Type 0
-AnswersExample db region None r = r ≡ Ok None
-AnswersExample db region (Some text) r = (r ≡ Err Memory) ⊎ ((read : Result Reading ParseError) ×
-    Reads db (Some region) (chars text) read × (r ≡ result_map_both Some (λ e. e) read))
+abbrev pub AnswersExample : Rules → List Metadata → Id → Option (List ℕ) →
+    Result (Option Reading) ParseError → Type 0
+AnswersExample rules db region None r = r ≡ Ok None
+AnswersExample rules db region (Some text) r = (r ≡ Err Memory) ⊎
+    ((read : Result Reading ParseError) × ReadsBy rules db (Some region) (chars text) read ×
+    (r ≡ result_map_both Some (λ e. e) read))

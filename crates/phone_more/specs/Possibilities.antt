@@ -7,6 +7,9 @@ use Rattle.phone_core.specs.Numbers.{text_of}
 use Rattle.phone_core.specs.declared.error.ParseError.{ParseError}
 use Rattle.phone_core.specs.declared.error.ParseError.TheVariants as error
 use Rattle.phone_core.specs.declared.kind.«Type».{«Type»}
+use Rattle.phone_core.specs.declared.validator.Validation.{Validation}
+use Rattle.phone_core.specs.declared.validator.Validation.TheVariants as validation
+use Rattle.phone_library.specs.Lengths.{length_in}
 use Rattle.phone_meta.specs.Codes.{first_of, territories}
 use Rattle.phone_territory.specs.Kinds.{descriptor_for, kinds_of}
 use Rattle.phone_records.specs.declared.loader.Descriptor.{Descriptor}
@@ -14,6 +17,8 @@ use Rattle.phone_records.specs.declared.loader.Metadata.{Metadata}
 use Rattle.phone_read.specs.Regions.{home}
 use Rattle.phone_kinds.specs.Kinds.{tried_kinds, type_of}
 use Rattle.phone_core.specs.declared.reading.Reading.{Reading}
+use Rattle.phone_choice.specs.declared.rules.Rules.{Rules}
+use Rattle.phone_choice.specs.declared.rules.Rules.TheVariants.{Library, Crate}
 use Rattle.phone_more.specs.declared.possibilities.Possibility.{Possibility}
 use Rattle.phone_more.specs.declared.possibilities.Possibility.TheVariants.{Possible}
 use Rattle.phone_more.specs.declared.possibilities.Possibility.TheVariants.{PossibleLocally}
@@ -68,23 +73,45 @@ abbrev pub counting_territory : List Metadata → Reading → Option Metadata
 counting_territory db n = option_or (home db n.code.value (text_of n.national))
     (first_of (territories n.code.value db))
 
--- whether a number is possible: by the count of its digits, with its leading zeros
-abbrev pub possibility_of : List Metadata → Reading → Possibility
-possibility_of db n = option_map_or
+-- by the rules of the crate: what the count of a number's digits, with its leading zeros, says
+-- under that territory
+abbrev pub possibility_by_crate : List Metadata → Reading → Possibility
+possibility_by_crate db n = option_map_or
     (λ (m : Metadata). possibility_under m (length (text_of n.national)))
     (counting_territory db n) UnknownCode
 
+-- a verdict on a length, as it is said of a number
+abbrev pub verdict_said : Validation → Possibility
+verdict_said validation.IsPossible = Possible
+verdict_said validation.IsPossibleLocalOnly = PossibleLocally
+verdict_said validation.TooShort = TooShort
+verdict_said validation.TooLong = TooLong
+verdict_said validation.InvalidLength = WrongLength
+verdict_said validation.InvalidCountryCode = UnknownCode
+
+-- by the rules of libphonenumber: what the same count says by the general lengths of the first
+-- territory of the calling code
+abbrev pub possibility_by_library : List Metadata → Reading → Possibility
+possibility_by_library db n = option_map_or
+    (λ (m : Metadata). verdict_said (length_in m (length (text_of n.national))))
+    (first_of (territories n.code.value db)) UnknownCode
+
+-- whether a number is possible, by the rules of either
+abbrev pub possibility_of : Rules → List Metadata → Reading → Possibility
+possibility_of Library db n = possibility_by_library db n
+possibility_of Crate db n = possibility_by_crate db n
+
 -- what is said of a text that is read so: refusals for its length and for its code are answers
-abbrev pub possibility_read : List Metadata → Result Reading ParseError → Result Possibility
-    ParseError
-possibility_read db (Ok n) = Ok (possibility_of db n)
-possibility_read db (Err error.InvalidCountryCode) = Ok UnknownCode
-possibility_read db (Err error.TooShortAfterIdd) = Ok TooShort
-possibility_read db (Err error.TooShortNsn) = Ok TooShort
-possibility_read db (Err error.TooLong) = Ok TooLong
-possibility_read db (Err error.NoNumber) = Err error.NoNumber
-possibility_read db (Err error.MalformedInteger) = Err error.MalformedInteger
-possibility_read db (Err error.Memory) = Err error.Memory
+abbrev pub possibility_read : Rules → List Metadata → Result Reading ParseError →
+    Result Possibility ParseError
+possibility_read rules db (Ok n) = Ok (possibility_of rules db n)
+possibility_read rules db (Err error.InvalidCountryCode) = Ok UnknownCode
+possibility_read rules db (Err error.TooShortAfterIdd) = Ok TooShort
+possibility_read rules db (Err error.TooShortNsn) = Ok TooShort
+possibility_read rules db (Err error.TooLong) = Ok TooLong
+possibility_read rules db (Err error.NoNumber) = Err error.NoNumber
+possibility_read rules db (Err error.MalformedInteger) = Err error.MalformedInteger
+possibility_read rules db (Err error.Memory) = Err error.Memory
 
 -- the kind that the number's digits are of, in their home, lists its lengths
 abbrev pub has_listed_kind : List Metadata → Reading → Bool

@@ -7,6 +7,7 @@ use Rattle.std.specs.List.{ends_with}
 use Rattle.std.specs.Str.{bytes_eq}
 use Rattle.phone_core.specs.declared.error.ParseError.{ParseError}
 use Rattle.phone_records.specs.declared.loader.Metadata.{Metadata}
+use Rattle.phone_choice.specs.declared.rules.Rules.{Rules}
 use Rattle.phone_more.specs.Sides.{IsTaken}
 use Rattle.phone_more.specs.declared.sides.Side.{Side}
 use Rattle.phone_more.specs.declared.sameness.Sameness.{Sameness}
@@ -53,9 +54,10 @@ abbrev pub sameness_of : Side → Side → Sameness
 sameness_of a b = sameness_by a.code b.code a b
 
 -- the answer to two texts: how like their sides are, or the first refusal of a text
-pub data IsAnswer (db : List Metadata) (s t : List ℕ) : Result Sameness ParseError → Type 0 where
-  of_both : (a b : Side) → IsTaken db s (Ok a) → IsTaken db t (Ok b) →
-      IsAnswer db s t (Ok (sameness_of a b))
-  first_refused : (e : ParseError) → IsTaken db s (Err e) → IsAnswer db s t (Err e)
-  second_refused : (a : Side) (e : ParseError) → IsTaken db s (Ok a) → IsTaken db t (Err e) →
-      IsAnswer db s t (Err e)
+pub data IsAnswer (rules : Rules) (db : List Metadata) (s t : List ℕ) :
+    Result Sameness ParseError → Type 0 where
+  of_both : (a b : Side) → IsTaken rules db s (Ok a) → IsTaken rules db t (Ok b) →
+      IsAnswer rules db s t (Ok (sameness_of a b))
+  first_refused : (e : ParseError) → IsTaken rules db s (Err e) → IsAnswer rules db s t (Err e)
+  second_refused : (a : Side) (e : ParseError) → IsTaken rules db s (Ok a) →
+      IsTaken rules db t (Err e) → IsAnswer rules db s t (Err e)

@@ -11,7 +11,12 @@ use Rattle.phone_core.specs.declared.error.ParseError.TheVariants.{InvalidCountr
 use Rattle.phone_parts.specs.Parts.{Parts}
 use Rattle.phone_parts.specs.Readers.{HasParts}
 use Rattle.phone_parts.specs.Texts.{begins}
-use Rattle.phone_read.specs.Readings.{Reads}
+use Rattle.phone_library.specs.Readings.{national_number}
+use Rattle.phone_library_text.specs.Written.{IsWritten}
+use Rattle.phone_library_text.specs.declared.written.WrittenNumber.{WrittenNumber}
+use Rattle.phone_choice.specs.Readings.{ReadsBy}
+use Rattle.phone_choice.specs.declared.rules.Rules.{Rules}
+use Rattle.phone_choice.specs.declared.rules.Rules.TheVariants.{Library, Crate}
 use Rattle.phone_core.specs.declared.reading.Reading.{Reading}
 use Rattle.phone_records.specs.declared.loader.Metadata.{Metadata}
 use Rattle.phone_more.specs.declared.sides.Side.{Side}
@@ -29,7 +34,7 @@ dialled_side p =
       extension = option_map norm p.extension;
     }) (λ e. e) (nsn (norm p.national))
 
--- where no listed code is found: a text that says none is taken as it is dialled
+-- by the rules of the crate: a text that says none is taken as it is dialled
 abbrev pub uncoded_side : Option Parts → Result Side ParseError
 uncoded_side (Some p) = if says_code p then Err InvalidCountryCode else dialled_side p
 uncoded_side None = Err InvalidCountryCode
@@ -42,16 +47,29 @@ side_of n = record {
   extension = n.extension;
 }
 
--- what a text is taken as, by what it is read as without a hint and by its parts
-abbrev pub side_by : Result Reading ParseError → Option Parts → Result Side ParseError
-side_by (Ok n) p = Ok (side_of n)
-side_by (Err InvalidCountryCode) p = uncoded_side p
-side_by (Err e) p = Err e
+-- by those of libphonenumber: where no plus sign is written, the digits that are written are the
+-- national number
+abbrev pub written_side : Result WrittenNumber ParseError → Result Side ParseError
+written_side (Ok w) = if w.has_plus then Err InvalidCountryCode else
+    result_map_both (λ n. record {
+      code = None;
+      national = n;
+      extension = w.extension;
+    }) (λ e. e) (national_number w.digits)
+written_side (Err e) = Err e
 
--- what a text is taken as
-pub record IsTaken (db : List Metadata) (t : List ℕ) (s : Result Side ParseError) : Type 0 where
-  pub reading : Result Reading ParseError
-  pub parts : Option Parts
-  pub read : Reads db None t reading
-  pub cut : HasParts t parts
-  pub side : s ≡ side_by reading parts
+-- what a text without a listed code is taken as
+abbrev pub IsDialled : Rules → List ℕ → Result Side ParseError → Type 0
+IsDialled Library t s = (w : Result WrittenNumber ParseError) × IsWritten t w ×
+    (s ≡ written_side w)
+IsDialled Crate t s = (p : Option Parts) × HasParts t p × (s ≡ uncoded_side p)
+
+-- what a text is taken as: what it is read as without a hint; where no listed code is found, as it
+-- is dialled
+pub data IsTaken (rules : Rules) (db : List Metadata) (t : List ℕ) : Result Side ParseError →
+    Type 0 where
+  read : (n : Reading) → ReadsBy rules db None t (Ok n) → IsTaken rules db t (Ok (side_of n))
+  dialled : (s : Result Side ParseError) → ReadsBy rules db None t (Err InvalidCountryCode) →
+      IsDialled rules t s → IsTaken rules db t s
+  refused : (e : ParseError) → ¬ (e ≡ InvalidCountryCode) → ReadsBy rules db None t (Err e) →
+      IsTaken rules db t (Err e)

@@ -3,10 +3,11 @@ ghost use Rattle.std.specs.Prelude.{◌≡◌, ◌≤◌, IfOk, filter};
 ghost use Rattle.phone_more.specs.Listed.{AnswersExample, example_text, has_region};
 ghost use Rattle.phone_more.specs.Listed.{codes_below, listed_codes, listed_regions};
 
+use phone_choice::{Rules, parse_by};
 use phone_core::country::{ALL, Id};
 use phone_core::{ParseError, Type};
 use phone_meta::Database;
-use phonenumber::{PhoneNumber, parse_with};
+use phonenumber::PhoneNumber;
 use std::alloc::AllocError;
 
 /// The regions that a database has a territory of, each once, by the alphabet of their ids. Refused
@@ -62,15 +63,18 @@ fn codes_below(database: &Database, end: u32) -> Result<Vec<u16>, AllocError>
     Ok(found)
 }
 
-/// The example number of a region and a kind, read with the region as hint; none where the database
-/// has no territory of the region, the territory no descriptor of the kind, or that no example.
-/// Refused as `parse_with` refuses the example's text; `Memory` where memory was refused.
+/// The example number of a region and a kind, read with the region as hint by these rules; none
+/// where the database has no territory of the region, the territory no descriptor of the kind, or
+/// that no example. Refused as `parse_by` refuses the example's text; `Memory` where memory was
+/// refused.
 pub fn example(
+    rules: Rules,
     database: &Database,
     region: Id,
     kind: Type,
 ) -> Result<Option<PhoneNumber>, ParseError>
-    ensures { AnswersExample database.now region (example_text database.now region kind) result }
+    ensures { AnswersExample rules database.now region
+        (example_text database.now region kind) result }
 {
     let Some(territory) = database.by_id(region.as_str()) else {
         return Ok(None);
@@ -79,7 +83,7 @@ pub fn example(
         return Ok(None);
     };
     match descriptor.example() {
-        Some(text) => Ok(Some(parse_with(database, Some(region), text)?)),
+        Some(text) => Ok(Some(parse_by(rules, database, Some(region), text)?)),
         None => Ok(None),
     }
 }

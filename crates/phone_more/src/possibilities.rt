@@ -6,20 +6,23 @@ ghost use Rattle.phone_territory.specs.Kinds.{descriptor_for, kinds_of};
 ghost use Rattle.std.specs.Option.{option_copied};
 ghost use Rattle.phone_core.specs.Numbers.{text_of};
 ghost use Rattle.phone_core.specs.declared.error.ParseError.{ParseError as Refusal};
-ghost use Rattle.phone_read.specs.Readings.{Reads};
 ghost use Rattle.phone_core.specs.declared.reading.Reading.{Reading};
 ghost use Rattle.phone_records.specs.declared.loader.Descriptor as loader;
 ghost use Rattle.phone_more.specs.Possibilities.{counting_descriptors, counting_territory};
 ghost use Rattle.phone_more.specs.Possibilities.{is_among, kind_descriptors, lengths_of};
 ghost use Rattle.phone_more.specs.Possibilities.{local_lengths_of, possibility_by};
-ghost use Rattle.phone_more.specs.Possibilities.{possibility_of, possibility_read};
+ghost use Rattle.phone_more.specs.Possibilities.{possibility_by_crate, possibility_by_library};
+ghost use Rattle.phone_more.specs.Possibilities.{possibility_of, possibility_read, verdict_said};
 ghost use Rattle.phone_more.specs.Possibilities.{possibility_under};
+ghost use Rattle.phone_choice.specs.Readings.{ReadsBy};
 
+use phone_choice::{Rules, parse_by};
 use phone_core::country::Id;
-use phone_core::{ParseError, Type};
+use phone_core::{ParseError, Type, Validation};
+use phone_library::length_in;
 use phone_meta::{Database, Descriptor, Metadata};
 use phone_read::validator::home;
-use phonenumber::{PhoneNumber, parse_with};
+use phonenumber::PhoneNumber;
 use std::alloc::{AllocError, Global};
 
 /// What the length of a number says of it.
@@ -58,12 +61,58 @@ const KINDS: [Type; 10] = [
     Type::Mobile,
 ];
 
-/// Whether a number is possible, by the count of its digits, leading zeros among them. The lengths
-/// that count are those that its territory lists for numbers of any kind; where it lists none,
-/// those of each kind that a number is told to be of. Its territory is the one that its digits
-/// belong to, or else the first of its calling code. Refused only for memory.
-pub fn possible(database: &Database, number: &PhoneNumber) -> Result<Possibility, AllocError>
-    ensures { IfOk result (λ p. p ≡ possibility_of database.now number.now) }
+/// Whether a number is possible, by the count of its digits, leading zeros among them.
+///
+/// By the rules of libphonenumber the lengths that count are those that the first territory of its
+/// calling code lists for numbers of any kind; where it lists none, each is possible.
+///
+/// By those of the crate they are those that the number's territory lists for numbers of any kind;
+/// where it lists none, those of each kind that a number may be of. Its territory is the one that
+/// its digits belong to, or else the first of its calling code.
+///
+/// Refused only for memory.
+pub fn possible(
+    rules: Rules,
+    database: &Database,
+    number: &PhoneNumber,
+) -> Result<Possibility, AllocError>
+    ensures { IfOk result (λ p. p ≡ possibility_of rules database.now number.now) }
+{
+    match rules {
+        Rules::Library => possible_by_library(database, number),
+        Rules::Crate => possible_by_crate(database, number),
+    }
+}
+
+/// The same by the rules of libphonenumber.
+fn possible_by_library(database: &Database, number: &PhoneNumber) -> Result<Possibility, AllocError>
+    ensures { IfOk result (λ p. p ≡ possibility_by_library database.now number.now) }
+{
+    let Some(territory) = database.first_by_code(&number.code().value()) else {
+        return Ok(Possibility::UnknownCode);
+    };
+    let national = number.national();
+    let digits = national.to_string(database.allocator())?;
+    Ok(verdict_said(length_in(territory, digits.len())))
+}
+
+/// A verdict on a length, as it is said of a number.
+fn verdict_said(verdict: Validation) -> Possibility
+    ensures { result ≡ verdict_said verdict }
+{
+    match verdict {
+        Validation::IsPossible => Possibility::Possible,
+        Validation::IsPossibleLocalOnly => Possibility::PossibleLocally,
+        Validation::TooShort => Possibility::TooShort,
+        Validation::TooLong => Possibility::TooLong,
+        Validation::InvalidLength => Possibility::WrongLength,
+        Validation::InvalidCountryCode => Possibility::UnknownCode,
+    }
+}
+
+/// The same by the rules of the crate.
+fn possible_by_crate(database: &Database, number: &PhoneNumber) -> Result<Possibility, AllocError>
+    ensures { IfOk result (λ p. p ≡ possibility_by_crate database.now number.now) }
 {
     let digits = number.national().to_string(database.allocator())?;
     match counting_territory(database, number, digits.as_str())? {
@@ -72,20 +121,23 @@ pub fn possible(database: &Database, number: &PhoneNumber) -> Result<Possibility
     }
 }
 
-/// Whether a text, perhaps not yet whole, is a possible number under a database and a hint.
+/// Whether a text, perhaps not yet whole, is a possible number under a database and a hint, by
+/// these rules.
 /// `TooShort` and `TooLong` also where it is refused as too short or too long, and `UnknownCode`
-/// where it is refused for its calling code. `NoNumber` and `MalformedInteger` as `parse_with`
+/// where it is refused for its calling code. `NoNumber` and `MalformedInteger` as `parse_by`
 /// refuses it; `Memory` where memory was refused.
 pub fn possible_text(
+    rules: Rules,
     database: &Database,
     hint: Option<Id>,
     text: &str,
 ) -> Result<Possibility, ParseError>
     ensures { (result ≡ Err ParseError.Memory) ⊎ ((r : Result Reading Refusal) ×
-        Reads database.now hint (chars text.now) r × (result ≡ possibility_read database.now r)) }
+        ReadsBy rules database.now hint (chars text.now) r ×
+        (result ≡ possibility_read rules database.now r)) }
 {
-    match parse_with(database, hint, text) {
-        Ok(number) => match possible(database, &number) {
+    match parse_by(rules, database, hint, text) {
+        Ok(number) => match possible(rules, database, &number) {
             Ok(possibility) => Ok(possibility),
             Err(_) => Err(ParseError::Memory),
         },

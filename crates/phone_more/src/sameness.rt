@@ -7,6 +7,7 @@ ghost use Rattle.phone_more.specs.Sameness.{sameness_by_end, sameness_under_code
 ghost use Rattle.phone_more.specs.Sameness.{sameness_without_code};
 
 use crate::sides::{Side, taken_as};
+use phone_choice::Rules;
 use phone_core::{Extension, ParseError};
 use phone_meta::Database;
 use std::alloc::{AllocError, Global};
@@ -35,17 +36,18 @@ pub enum Sameness {
     Different,
 }
 
-/// Whether two texts are one number, each perhaps without its calling code. Refused as [`taken_as`]
-/// refuses the first text, else as it refuses the second; `Memory` where memory was refused.
+/// Whether two texts are one number by these rules, each perhaps without its calling code. Refused
+/// as [`taken_as`] refuses the first text, else as it refuses the second; `Memory` where memory was
+/// refused.
 ///
 /// In the other order the answer is the same, and so is a refusal, unless both texts are refused,
 /// each for a reason of its own: then the two refusals change places.
-pub fn same(database: &Database, a: &str, b: &str) -> Result<Sameness, ParseError>
+pub fn same(rules: Rules, database: &Database, a: &str, b: &str) -> Result<Sameness, ParseError>
     ensures { (result ≡ Err ParseError.Memory) ⊎
-        IsAnswer database.now (chars a.now) (chars b.now) result }
+        IsAnswer rules database.now (chars a.now) (chars b.now) result }
 {
-    let a = taken_as(database, a)?;
-    let b = taken_as(database, b)?;
+    let a = taken_as(rules, database, a)?;
+    let b = taken_as(rules, database, b)?;
     Ok(sameness_of(database.allocator(), &a, &b)?)
 }
 

@@ -4,18 +4,24 @@ ghost use Rattle.std.specs.Prelude.{Some, option_map};
 ghost use Rattle.std.specs.Cow.{cow_str_bytes};
 ghost use Rattle.phone_chars.specs.Characters.{is_plus};
 ghost use Rattle.phone_chars.specs.Norm.{norm};
+ghost use Rattle.phone_library.specs.Readings.{national_number};
 ghost use Rattle.phone_core.specs.Nsn.{nsn};
 ghost use Rattle.phone_parts.specs.Parts.{Parts, parts_of};
 ghost use Rattle.phone_parts.specs.Readers.{HasParts};
 ghost use Rattle.phone_parts.specs.Texts.{begins};
-ghost use Rattle.phone_more.specs.Sides.{IsTaken, says_code, side_of, uncoded_side};
+ghost use Rattle.phone_more.specs.Sides.{IsDialled, IsTaken, says_code, side_of, uncoded_side};
+ghost use Rattle.phone_more.specs.Sides.{written_side};
 
 use phone_chars::chars::{is_plus, normalize};
+use phone_choice::Rules;
 use phone_core::consts::{MAX_LENGTH_FOR_NSN, MIN_LENGTH_FOR_NSN};
 use phone_core::{Extension, NationalNumber, ParseError};
+use phone_library_text::{WrittenNumber, read_written};
 use phone_meta::Database;
 use phone_parts::{Number, parts};
+use phone_prefix::trims::without_zeros;
 use phone_read::{Reading, read};
+use phonenumber::PhoneNumber;
 use std::alloc::{AllocError, Global};
 use std::borrow::CowStr;
 
@@ -30,14 +36,108 @@ pub struct Side {
     pub extension: Option<Extension>,
 }
 
-/// What a text is taken as: what it is read as without a hint; where it is refused for want of a
-/// calling code and says none, its digits as they are dialled, without a code. National prefixes
-/// stay then, and the digits have to be 2 to 17. Refused as `parse_with` refuses the text without a
-/// hint, and the digits of a text without a code as it refuses a national number; `Memory` where
-/// memory was refused, and nowhere else.
-pub fn taken_as(database: &Database, text: &str) -> Result<Side, ParseError>
+/// What a text is taken as where it is compared, by these rules. A text that is read without a hint
+/// is taken as that number. A text without a calling code is taken as its digits as they are
+/// dialled, 2 to 17 of them, with national prefixes and without a code.
+///
+/// Errors: those of `parse_by` for the text without a hint; for the digits of a text without a
+/// code, those for a national number. `Memory` where memory was refused, and nowhere else.
+pub fn taken_as(rules: Rules, database: &Database, text: &str) -> Result<Side, ParseError>
     ensures { (result ≡ Err ParseError.Memory) ⊎
-        IsTaken database.now (chars text.now) result }
+        IsTaken rules database.now (chars text.now) result }
+{
+    match rules {
+        Rules::Library => taken_by_library(database, text),
+        Rules::Crate => taken_by_crate(database, text),
+    }
+}
+
+/// The same by the rules of libphonenumber.
+fn taken_by_library(database: &Database, text: &str) -> Result<Side, ParseError>
+    ensures { (result ≡ Err ParseError.Memory) ⊎
+        IsTaken Rules.Library database.now (chars text.now) result }
+{
+    match phone_library::parse(database, None, text) {
+        Ok(number) => side_of_number(&number),
+        Err(error) => {
+            if error == ParseError::InvalidCountryCode {
+                dialled_by_library(database.allocator(), text)
+            } else {
+                Err(error)
+            }
+        }
+    }
+}
+
+/// A number that was read, with its code. Refused only for memory.
+fn side_of_number(number: &PhoneNumber) -> Result<Side, ParseError>
+    ensures { (result ≡ Err ParseError.Memory) ⊎ (result ≡ Ok (side_of number.now)) }
+{
+    let extension = match number.extension() {
+        Some(extension) => Some(extension.clone()?),
+        None => None,
+    };
+    Ok(Side {
+        code: Some(number.code().value()),
+        national: *number.national(),
+        extension,
+    })
+}
+
+/// What a text that is refused for want of a calling code is taken as, by what is written in it.
+fn dialled_by_library(alloc: Global, text: &str) -> Result<Side, ParseError>
+    ensures { (result ≡ Err ParseError.Memory) ⊎
+        IsDialled Rules.Library (chars text.now) result }
+{
+    match read_written(alloc, text) {
+        Ok(number) => written_side(number),
+        Err(error) => Err(error),
+    }
+}
+
+/// What a written number without a known calling code is taken as.
+fn written_side(number: WrittenNumber) -> Result<Side, ParseError>
+    ensures { result ≡ written_side (Ok number) }
+{
+    let WrittenNumber {
+        has_plus,
+        digits,
+        extension,
+    } = number;
+    if has_plus {
+        return Err(ParseError::InvalidCountryCode);
+    }
+    match national_number(digits.as_str()) {
+        Ok(national) => Ok(Side {
+            code: None,
+            national,
+            extension,
+        }),
+        Err(error) => Err(error),
+    }
+}
+
+/// The national number of 2 to 17 digits. The zeros before the last digit are leading zeros, so
+/// zeros alone are a number of value 0.
+fn national_number(digits: &str) -> Result<NationalNumber, ParseError>
+    ensures { result ≡ national_number digits.now }
+{
+    if digits.len() < MIN_LENGTH_FOR_NSN {
+        return Err(ParseError::TooShortNsn);
+    }
+    if digits.len() > MAX_LENGTH_FOR_NSN {
+        return Err(ParseError::TooLong);
+    }
+    if without_zeros(digits).is_empty() {
+        return NationalNumber::new(0, (digits.len() - 1) as u8);
+    }
+    digits.parse::<NationalNumber>()
+}
+
+/// The same by the rules of the crate.
+fn taken_by_crate(database: &Database, text: &str) -> Result<Side, ParseError>
+    ensures { (result ≡ Err ParseError.Memory) ⊎
+        IsTaken Rules.Crate database.now (chars text.now) result }
 {
     match read(database, None, text) {
         Ok(reading) => Ok(side_of(reading)),

@@ -1,13 +1,13 @@
 -- The answer to a number that was read.
-use Rattle.std.proofs.Common.{◌≡◌, ℕ, List, Option, None, Some, option_map, refl, sym, ap, ap₂, ◌∙◌, [], ◌∷◌}
+use Rattle.std.proofs.Common.{◌≡◌, ℕ, List, Option, None, Some, option_map, refl, sym, ap, ap₂, [], ◌∷◌}
 use Rattle.std.proofs.lemmas.Option.{none-some, same_Some}
-use Rattle.phone_core.specs.declared.mode.Mode.{Mode}
 use Rattle.phone_core.specs.declared.mode.Mode.TheVariants.{E164, International, National}
 use Rattle.phone_core.specs.declared.reading.Reading.{Reading}
-use Rattle.phone_records.specs.declared.loader.Format.{Format}
 use Rattle.phone_records.specs.declared.loader.Metadata.{Metadata}
-use Rattle.phonenumber.specs.Printed.{printed}
 use Rattle.phone_print.specs.Texts.{text_by}
+use Rattle.phone_choice.specs.Facts.{printed_as}
+use Rattle.phone_choice.specs.declared.rules.Rules.{Rules}
+use Rattle.phone_choice.specs.declared.rules.Rules.TheVariants.{Library, Crate}
 
 -- the texts of a number in three modes, by one territory
 pub record HaveTexts (o : Option Metadata) (n : Reading) (a b c : List ℕ) : Type 0 where
@@ -28,11 +28,10 @@ three_texts (Some m) n a b c e f g = record {
   national = sym (same_Some _ _ g);
 }
 
--- what a printer of a number under a database, without a layout of its own, prints
-pub printed_own : (db' db : List Metadata) (mode : Mode) (own : Option Format) (n' n : Reading) (text : List ℕ) → db' ≡ db → own ≡ None → n' ≡ n →
-    printed db' mode own n' ≡ Some text → printed db mode None n ≡ Some text
-printed_own db' db mode own n' n text d o e h =
-    sym (ap (λ x. printed x mode own n') d ∙ ap (λ x. printed db mode x n') o ∙ ap (λ x. printed db mode None x) e) ∙ h
+-- a number as it is printed has its code
+pub printed_code : (rules : Rules) (n : Reading) → (printed_as rules n).code ≡ n.code
+printed_code Library n = refl
+printed_code Crate n = refl
 
 -- seven fields that are equal, each to its own
 pub same_seven : (a b c k r v a' b' c' k' r' v' : List ℕ) → a ≡ a' → b ≡ b' → c ≡ c' → k ≡ k' → r ≡ r' → v ≡ v' →

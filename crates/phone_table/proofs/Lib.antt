@@ -6,3 +6,4 @@ pub mod EndLemmas
 pub mod RunLemmas
 pub mod ObjectLemmas
 pub mod RegionLemmas
+pub mod CountLemmas

@@ -5,15 +5,16 @@ use Rattle.serde_json.specs.Read.{max_depth}
 use Rattle.serde_json.specs.Written.{has_float}
 use Rattle.phone_core.specs.declared.country.Id.{Id}
 use Rattle.phone_records.specs.declared.loader.Metadata.{Metadata}
+use Rattle.phone_choice.specs.declared.rules.Rules.{Rules}
 use Rattle.phone_table.specs.Objects.{IsObject}
 use Rattle.phone_table.specs.Objects.IsObject.{no_text, of_text}
 
-pub no_float : (db : List Metadata) (hint : Option Id) (place : ℕ) (line : List ℕ) (d : Data) →
-    IsObject db hint place line d → has_float d ≡ false
-no_float db hint place line _ (no_text fields h a) = refl
-no_float db hint place line _ (of_text fields h a) = refl
+pub no_float : (rules : Rules) (db : List Metadata) (hint : Option Id) (place : ℕ) (line : List ℕ) (d : Data) →
+    IsObject rules db hint place line d → has_float d ≡ false
+no_float rules db hint place line _ (no_text fields h a) = refl
+no_float rules db hint place line _ (of_text fields h a) = refl
 
-pub shallow : (db : List Metadata) (hint : Option Id) (place : ℕ) (line : List ℕ) (d : Data) →
-    IsObject db hint place line d → depth d ≤ max_depth
-shallow db hint place line _ (no_text fields h a) = omega arith
-shallow db hint place line _ (of_text fields h a) = omega arith
+pub shallow : (rules : Rules) (db : List Metadata) (hint : Option Id) (place : ℕ) (line : List ℕ) (d : Data) →
+    IsObject rules db hint place line d → depth d ≤ max_depth
+shallow rules db hint place line _ (no_text fields h a) = omega arith
+shallow rules db hint place line _ (of_text fields h a) = omega arith

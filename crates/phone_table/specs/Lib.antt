@@ -1,5 +1,7 @@
 pub mod Answers
+pub mod Counts
 pub mod Ends
+pub mod Finds
 pub mod Headers
 pub mod Objects
 pub mod Regions

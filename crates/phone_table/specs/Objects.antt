@@ -5,6 +5,7 @@ use Rattle.serde_json.specs.Data.{Data, null, string, number, unsigned, object, 
 use Rattle.phone_core.specs.declared.country.Id.{Id}
 use Rattle.phone_csv.specs.Formats.{Record}
 use Rattle.phone_records.specs.declared.loader.Metadata.{Metadata}
+use Rattle.phone_choice.specs.declared.rules.Rules.{Rules}
 use Rattle.phone_table.specs.Answers.{IsFieldAnswer}
 use Rattle.phone_table.specs.declared.objects.Fields.{Fields}
 
@@ -32,9 +33,9 @@ object_of line text fields = object (
     member (codes "validity") (field fields 5) no_members)))))))))
 
 -- what a line is answered: its object, whose text is null where the line is none
-pub data IsObject (db : List Metadata) (hint : Option Id) (place : ℕ) (line : List ℕ) : Data →
-    Type 0 where
-  no_text : (fields : Record) → ¬ (IsUtf8 line) → IsFieldAnswer db hint line fields →
-      IsObject db hint place line (object_of place null fields)
-  of_text : (fields : Record) → IsUtf8 line → IsFieldAnswer db hint line fields →
-      IsObject db hint place line (object_of place (string line) fields)
+pub data IsObject (rules : Rules) (db : List Metadata) (hint : Option Id) (place : ℕ)
+    (line : List ℕ) : Data → Type 0 where
+  no_text : (fields : Record) → ¬ (IsUtf8 line) → IsFieldAnswer rules db hint line fields →
+      IsObject rules db hint place line (object_of place null fields)
+  of_text : (fields : Record) → IsUtf8 line → IsFieldAnswer rules db hint line fields →
+      IsObject rules db hint place line (object_of place (string line) fields)

@@ -1,5 +1,5 @@
 -- How a run over a table of customers ends.
-use Rattle.std.specs.Prelude.{◌≡◌, ℕ, List, Option, None, Some, Result, Ok, Err, ⊤, option_map}
+use Rattle.std.specs.Prelude.{◌≡◌, ℕ, List, Option, None, Some, Result, Ok, Err, option_map}
 use Rattle.std.specs.Prelude.{IsSome, true, false}
 use Rattle.csv.specs.Records.{Row, fields_of}
 use Rattle.phone_device.specs.Passing.{IsAtEnd}
@@ -12,9 +12,11 @@ use Rattle.phone_csv.specs.declared.first.FirstError.TheVariants.{Absent, Input,
 use Rattle.phone_lines.specs.Ends.{Devices}
 use Rattle.phone_records.specs.declared.loader.Metadata.{Metadata}
 use Rattle.phone_table.specs.Answers.{IsAnswer, IsOfOtherWidth}
+use Rattle.phone_table.specs.Counts.{TakesRows, counts_after, no_counts}
 use Rattle.phone_table.specs.Ends.{Ends, IsUntouched, SourceFails}
 use Rattle.phone_table.specs.Headers.{column_of, columns_of, region_column}
 use Rattle.phone_table.specs.Tables.{IsHeaderAlone}
+use Rattle.phone_table.specs.declared.counts.Counts.{Counts}
 use Rattle.phone_table.specs.declared.header.Column.{Column}
 use Rattle.phone_table.specs.declared.header.Column.TheVariants.{Number, Region}
 use Rattle.phone_table.specs.declared.header.Columns.{Columns}
@@ -53,9 +55,9 @@ pub record LacksColumn (asked : Asked) (column : Column) (header : Record)
 
 -- a run over a table ends so, which its result tells: under a delimiter that is none nothing is
 -- read; without a header or a column that is asked for nothing is written; else as the run over
--- its rows ends, each answered by the region that it names
+-- its rows ends, each answered by the region that it names, and counted
 pub data RunEnds (db : List Metadata) (asked : Asked) (before after : Devices) :
-    Result ⊤ TableError → Type 0 where
+    Result Counts TableError → Type 0 where
   no_delimiter : is_delimiter asked.delimiter ≡ false → after ≡ before →
       RunEnds db asked before after (Err Delimiter)
   no_header : (e : FirstError) → is_delimiter asked.delimiter ≡ true →
@@ -66,9 +68,11 @@ pub data RunEnds (db : List Metadata) (asked : Asked) (before after : Devices) :
       IsUntouched before after → RunEnds db asked before after (Err (NoColumn column header))
   whole : (header : Record) (columns : Columns) → is_delimiter asked.delimiter ≡ true →
       columns_in asked header ≡ Some columns →
-      Ends header (IsAnswer db columns asked.else_hint asked.hint) (IsOfOtherWidth columns)
-      asked.delimiter before after (Ok tt) → RunEnds db asked before after (Ok tt)
+      Ends header (IsAnswer db columns asked) (IsOfOtherWidth columns asked)
+      asked.delimiter before after (Ok tt) → (counts : Counts) →
+      TakesRows counts_after asked.delimiter header no_counts counts before.taken after.taken →
+      RunEnds db asked before after (Ok counts)
   broken_off : (header : Record) (columns : Columns) (e : RunError) →
       is_delimiter asked.delimiter ≡ true → columns_in asked header ≡ Some columns →
-      Ends header (IsAnswer db columns asked.else_hint asked.hint) (IsOfOtherWidth columns)
+      Ends header (IsAnswer db columns asked) (IsOfOtherWidth columns asked)
       asked.delimiter before after (Err e) → RunEnds db asked before after (Err (Rows e))

@@ -4,16 +4,17 @@ ghost use Rattle.csv.specs.Records.{fields_of, partial_of};
 ghost use Rattle.phone_meta.specs.Codes.{first_of, territories};
 ghost use Rattle.phonenumber.specs.Reports.{kind_word, region_word, validity_word};
 ghost use Rattle.phone_records.specs.declared.loader.Metadata as loader;
-ghost use Rattle.phone_table.specs.Answers.{IsFieldAnswer, number_answer};
+ghost use Rattle.phone_table.specs.Answers.{IsFieldAnswer, is_blank, number_answer};
 ghost use Rattle.phone_table.specs.Spelled.{spelled};
 
 use crate::names::push_three;
 use crate::words::refusal_words;
 use csv::ByteRecord;
+use phone_choice::{Rules, facts_by, parse_by, texts_by};
 use phonenumber::country::Id;
 use phonenumber::metadata::Database;
 use phonenumber::report::{kind_word, region_word, validity_word};
-use phonenumber::{FormatError, ParseError, PhoneNumber, Queried, Texts, format_with, parse_with};
+use phonenumber::{FormatError, ParseError, PhoneNumber, Queried, Texts};
 use std::alloc::{AllocError, Global};
 
 /// What the field of a number is answered.
@@ -25,44 +26,57 @@ pub enum Answer {
     Refused(&'static str),
 }
 
-/// What a field is answered. Refused only for memory.
+/// What a field is answered, its number read and described by these rules. A field that is empty,
+/// or white space alone, is refused as `empty`. Refused only for memory.
 pub fn answer_to(
     alloc: Global,
+    rules: Rules,
     database: &Database,
     hint: Option<Id>,
     field: &[u8],
 ) -> Result<Answer, AllocError>
-    ensures { IfOk result (λ a. IsFieldAnswer database.now hint field.now (spelled a)) }
+    ensures { IfOk result (λ a. IsFieldAnswer rules database.now hint field.now (spelled a)) }
 {
     let Ok(text) = std::str::from_utf8(field) else {
         return Ok(Answer::Refused("not UTF-8"));
     };
-    let number = match parse_with(database, hint, text) {
+    if is_blank(text) {
+        return Ok(Answer::Refused("empty"));
+    }
+    let number = match parse_by(rules, database, hint, text) {
         Ok(number) => number,
         Err(error) => return Ok(Answer::Refused(refusal_words(error)?)),
     };
-    match number_answer(alloc, database, &number) {
+    match number_answer(alloc, rules, database, &number) {
         Ok(answer) => Ok(answer),
         Err(FormatError::Memory) => Err(AllocError),
         Err(FormatError::UnknownCode) => unreachable!(),
     }
 }
 
+/// Whether a text has no character but white space.
+fn is_blank(text: &str) -> bool
+    ensures { result ≡ is_blank text.now }
+{
+    text.trim().is_empty()
+}
+
 /// The answer of a number. Refused by `UnknownCode` where no territory has its code, and by
 /// `Memory`.
-fn number_answer(
+pub(crate) fn number_answer(
     alloc: Global,
+    rules: Rules,
     database: &Database,
     number: &PhoneNumber,
 ) -> Result<Answer, FormatError>
     ensures answer { IfOk result (λ a. (m : loader.Metadata) ×
         (first_of (territories number.now.code.value database.now) ≡ Some m) ×
-        (spelled a ≡ number_answer database.now m number.now)) }
+        (spelled a ≡ number_answer rules database.now m number.now)) }
     ensures unknown { result ≡ Err FormatError.UnknownCode →
         first_of (territories number.now.code.value database.now) ≡ None }
 {
-    let texts = format_with(database, number).to_texts(alloc)?;
-    match number.queried(database) {
+    let texts = texts_by(alloc, rules, database, number)?;
+    match facts_by(rules, database, number) {
         Ok(queried) => Ok(Answer::Number(texts, queried)),
         Err(_) => Err(FormatError::Memory),
     }

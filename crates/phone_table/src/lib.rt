@@ -3,6 +3,8 @@
 #![tactic(auto)]
 
 mod answer;
+mod counts;
+pub mod finds;
 mod header;
 mod names;
 pub mod objects;
@@ -15,6 +17,7 @@ mod tool;
 mod words;
 
 pub use answer::{Answer, answer_to};
+pub use counts::Counts;
 pub use header::{Column, Columns, column_of, columns_of};
 pub use phone_csv::{FirstError, RunError};
 pub use run::{Asked, TableError, write_table};

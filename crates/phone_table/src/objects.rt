@@ -9,6 +9,7 @@ ghost use Rattle.phone_table.specs.Spelled.{spelled};
 ghost use Rattle.phone_table.specs.Objects.{IsObject, object_of, spelled_by};
 
 use crate::answer::{Answer, answer_to};
+use phone_choice::Rules;
 use phonenumber::country::Id;
 use phonenumber::metadata::Database;
 use phonenumber::report::{kind_word, region_word, validity_word};
@@ -17,48 +18,50 @@ use std::alloc::{AllocError, Global};
 
 /// The seven fields of an answer.
 #[derive(Clone, Copy)]
-struct Fields<'a> {
-    e164: &'a str,
-    international: &'a str,
-    national: &'a str,
-    kind: &'a str,
-    region: &'a str,
-    validity: &'a str,
-    refusal: &'a str,
+pub(crate) struct Fields<'a> {
+    pub e164: &'a str,
+    pub international: &'a str,
+    pub national: &'a str,
+    pub kind: &'a str,
+    pub region: &'a str,
+    pub validity: &'a str,
+    pub refusal: &'a str,
 }
 
-/// The JSON text of a line's answer, on one line: an object of the line's number, which the caller
-/// counts, its text, and the fields that a table's answer has (`e164`, `international`, `national`,
-/// `type`, `region`, `validity`, `refusal`), each a text. A field that there is none for is
-/// empty, but a region that is none is a hyphen, as in a table. The text is
+/// The JSON text of a line's answer by these rules, on one line: an object of the line's number,
+/// which the caller counts, its text, and the fields that a table's answer has (`e164`,
+/// `international`, `national`, `type`, `region`, `validity`, `refusal`), each a text. A field that
+/// there is none for is empty, but a region that is none is a hyphen, as in a table. The text is
 /// null where the line isn't UTF-8. The line is without its end. Refused only for memory.
 pub fn object_line(
     alloc: Global,
+    rules: Rules,
     database: &Database,
     hint: Option<Id>,
     place: u64,
     line: &[u8],
 ) -> Result<String, AllocError>
     ensures text { IfOk result (λ s. (d : Data) ×
-        IsObject database.now hint place line.now d × (string_bytes s ≡ compact_text d)) }
+        IsObject rules database.now hint place line.now d × (string_bytes s ≡ compact_text d)) }
     ensures read_back { IfOk result (λ s. (d : Data) ×
-        IsObject database.now hint place line.now d × (read (string_bytes s) ≡ Some d)) }
+        IsObject rules database.now hint place line.now d × (read (string_bytes s) ≡ Some d)) }
 {
-    let object = object(alloc, database, hint, place, line)?;
+    let object = object(alloc, rules, database, hint, place, line)?;
     object.to_string(alloc)
 }
 
 /// The object of a line.
 fn object(
     alloc: Global,
+    rules: Rules,
     database: &Database,
     hint: Option<Id>,
     place: u64,
     line: &[u8],
 ) -> Result<Value, AllocError>
-    ensures { IfOk result (λ v. IsObject database.now hint place line.now (view v)) }
+    ensures { IfOk result (λ v. IsObject rules database.now hint place line.now (view v)) }
 {
-    let answer = answer_to(alloc, database, hint, line)?;
+    let answer = answer_to(alloc, rules, database, hint, line)?;
     let fields = fields_of(&answer);
     match std::str::from_utf8(line) {
         Ok(text) => object_of_text(alloc, place, text, fields),
@@ -67,7 +70,7 @@ fn object(
 }
 
 /// The fields of an answer, as a table has them.
-fn fields_of(answer: &Answer) -> Fields<'_>
+pub(crate) fn fields_of(answer: &Answer) -> Fields<'_>
     ensures { spelled_by result ≡ spelled answer.now }
 {
     match answer {

@@ -3,6 +3,7 @@ ghost use Rattle.std.specs.Prelude.{◌≡◌};
 ghost use Rattle.phone_table.specs.Words.{delimiter_of};
 
 use crate::run::Asked;
+use phone_choice::Rules;
 use phone_csv::is_delimiter;
 use phonenumber::country::Id;
 
@@ -91,11 +92,13 @@ pub(crate) fn read_words<'a>(words: &[&'a str]) -> Result<Words<'a>, Refused> {
     };
     let hint = hint_of(rest)?;
     let asked = Asked {
+        rules: Rules::Crate,
         number: *number,
         region,
         delimiter,
         hint,
         else_hint,
+        mark_bad: false,
     };
     Ok(Words { path: *path, asked })
 }

@@ -1,23 +1,25 @@
 //! The rows of a table behind its header.
-ghost use Rattle.std.specs.Prelude.{◌≡◌, ℕ, List, [], Option, IsNone};
+ghost use Rattle.std.specs.Prelude.{◌≡◌, ℕ, List, [], Option, IsNone, OnOk};
 ghost use Rattle.csv.specs.Records.{fields_of, partial_of};
 ghost use Rattle.phone_csv.specs.Runs.{OfRead};
 ghost use Rattle.phone_device.specs.Passing.{IsAtEnd};
 ghost use Rattle.phone_lines.specs.Ends.{seen};
+ghost use Rattle.phone_table.specs.Counts.{TakesRows};
 ghost use Rattle.phone_table.specs.Ends.{Ends};
 ghost use Rattle.phone_table.specs.Tables.{IsHeader};
 
 use crate::names::{HeaderError, write_header};
-use phone_csv::{Answers, First, RunError, answer_records};
+use phone_csv::{Answers, Counter, First, RunError, answer_records};
 use phone_device::{ByteSink, ByteSource};
 use std::alloc::Global;
 
 /// Writes a header that was read with the seven names behind it, and then the records that follow
-/// it, each with its answer. Refused as `answer_records` refuses; where memory is refused for the
-/// header nothing is written.
-pub(crate) fn write_rows<A: Answers, S: ByteSource, W: ByteSink>(
+/// it, each with its answer, and counts these. Refused as `answer_records` refuses; where memory is
+/// refused for the header nothing is written.
+pub(crate) fn write_rows<A: Answers, C: Counter, S: ByteSource, W: ByteSink>(
     alloc: Global,
     answers: &A,
+    counter: &mut C,
     delimiter: u8,
     first: First,
     source: &mut S,
@@ -33,6 +35,8 @@ pub(crate) fn write_rows<A: Answers, S: ByteSource, W: ByteSink>(
         (seen (S.to_come source.new) (S.faults source.new) (W.taken sink.new)
         (W.faults sink.new) (W.unflushed sink.new))
         result }
+    ensures counted { OnOk result (TakesRows C.after delimiter (fields_of first.fields)
+        counter.old counter.new (W.taken sink.old) (W.taken sink.new)) }
 {
     let First { fields, rest } = first;
     match write_header(alloc, delimiter, fields, sink) {
@@ -41,7 +45,7 @@ pub(crate) fn write_rows<A: Answers, S: ByteSource, W: ByteSink>(
         Err(HeaderError::Memory) => return Err(RunError::Memory),
     }
     match rest {
-        Some(start) => answer_records(alloc, answers, delimiter, start, source, sink),
+        Some(start) => answer_records(alloc, answers, counter, delimiter, start, source, sink),
         None => match sink.flush() {
             Ok(()) => Ok(()),
             Err(_) => Err(RunError::Output),

@@ -2,10 +2,12 @@
 ghost use Rattle.phone_lines.specs.Ends.{seen};
 ghost use Rattle.phone_table.specs.Runs.{RunEnds};
 
+use crate::counts::Counts;
 use crate::header::{Column, columns_of};
 use crate::rows::write_rows;
 use crate::table::Table;
 use csv::ByteRecord;
+use phone_choice::Rules;
 use phone_csv::{FirstError, RunError, first_record, is_delimiter};
 use phone_device::{ByteSink, ByteSource};
 use phonenumber::country::Id;
@@ -14,6 +16,8 @@ use phonenumber::metadata::Database;
 /// What is asked of a table.
 #[derive(Clone, Copy)]
 pub struct Asked<'a> {
+    /// By whose rules the numbers are read and described.
+    pub rules: Rules,
     /// The name of the column of the numbers.
     pub number: &'a str,
     /// The name of the column of the regions, where there is one.
@@ -24,6 +28,9 @@ pub struct Asked<'a> {
     pub hint: Option<Id>,
     /// Whether a record is read so too that names no region that there is.
     pub else_hint: bool,
+    /// Whether a record with another count of fields than the header is given back with a refusal,
+    /// and doesn't end the run.
+    pub mark_bad: bool,
 }
 
 /// Why a table was not answered whole.
@@ -44,9 +51,12 @@ pub enum TableError {
 /// unchanged, each with its answer behind its fields. The first record is the header, a byte-order
 /// mark in front of it passed over. The answer to a number is its texts in three modes, its kind,
 /// the id of its region or `-`, `valid` or `invalid`, and an empty field; that to a refusal are six
-/// empty fields and its words; that to bytes that aren't UTF-8 the same, with `not UTF-8`. What is
+/// empty fields and its words; that to bytes that aren't UTF-8 the same, with `not UTF-8`; and that
+/// to a field that is empty, or white space alone, with `empty`. Numbers are read and described by
+/// the rules that are asked for. What is
 /// read and written is CSV as the kit's `csv` has it, with this delimiter. Nothing in memory grows
-/// with the number of records.
+/// with the number of records. It gives how many records there were, and how many of them were
+/// answered otherwise than by a valid number.
 ///
 /// A record is read under the region whose id stands in its column of regions, in capital or small
 /// letters, with or without white space around; under the hint where that field is empty. Where the
@@ -56,13 +66,14 @@ pub enum TableError {
 /// Errors: `Delimiter`, before anything is read; `Header` where there is no header, and `NoColumn`
 /// where the header lacks a column, before anything is written; after the header was written `Rows`
 /// as `answer_records` has it, with `Record` at a record that has another count of fields than the
-/// header, and the number of line feeds before that record.
+/// header, and the number of line feeds before that record. With `mark_bad` such a record is given
+/// back as it is instead, and after its fields the answer to a refusal, `wrong count of fields`.
 pub fn write_table<S: ByteSource, W: ByteSink>(
     database: &Database,
     asked: Asked<'_>,
     source: &mut S,
     sink: &mut W,
-) -> Result<(), TableError>
+) -> Result<Counts, TableError>
     ensures ends { RunEnds database.now asked.entry
         (seen (S.to_come source.old) (S.faults source.old) (W.taken sink.old)
         (W.faults sink.old) (W.unflushed sink.old))
@@ -84,12 +95,20 @@ pub fn write_table<S: ByteSource, W: ByteSink>(
     };
     let table = Table {
         database,
-        hint: asked.hint,
-        else_hint: asked.else_hint,
+        asked,
         columns,
     };
-    match write_rows(alloc, &table, asked.delimiter, first, source, sink) {
-        Ok(()) => Ok(()),
+    let mut counts = Counts::new();
+    match write_rows(
+        alloc,
+        &table,
+        &mut counts,
+        asked.delimiter,
+        first,
+        source,
+        sink,
+    ) {
+        Ok(()) => Ok(counts),
         Err(error) => Err(TableError::Rows(error)),
     }
 }

@@ -1,29 +1,28 @@
 //! What answers the records of a table.
-ghost use Rattle.std.specs.Prelude.{◌≡◌, IfOk};
+ghost use Rattle.std.specs.Prelude.{◌≡◌, Err, IfErr, IfOk, codes, true, false};
 ghost use Rattle.csv.specs.Records.{fields_of};
-ghost use Rattle.phone_table.specs.Answers.{IsNumberAnswer};
+ghost use Rattle.phone_table.specs.Answers.{IsAnswer, IsNumberAnswer, IsOfOtherWidth};
+ghost use Rattle.phone_table.specs.Answers.{refused_answer};
 ghost use Rattle.phone_table.specs.Regions.{RecordNames, field_in};
 ghost use Rattle.phone_table.specs.Spelled.{spelled};
 
 use crate::answer::{Answer, answer_to, push_answer};
 use crate::header::Columns;
 use crate::region::{Named, hint_under, region_named};
+use crate::run::Asked;
 use csv::ByteRecord;
 use phone_csv::{Answers, Refusal};
-use phonenumber::country::Id;
 use phonenumber::metadata::Database;
 use std::alloc::{AllocError, Global};
 use std::marker::Model;
 
-/// What answers the records of a table, under a database and a hint.
+/// What answers the records of a table under a database, by what is asked of it.
 #[derive(Clone, Copy)]
 pub struct Table<'d> {
     /// The database that reads, prints and tells.
     pub database: &'d Database,
-    /// The region under which a record is read that names none.
-    pub hint: Option<Id>,
-    /// Whether a record is read so too that names no region that there is.
-    pub else_hint: bool,
+    /// What is asked of the table.
+    pub asked: Asked<'d>,
     /// Its columns.
     pub columns: Columns,
 }
@@ -42,19 +41,49 @@ impl<'d> Table<'d> {
     /// The answer to a record. Refused only for memory.
     fn answer_to_record(&self, alloc: Global, fields: &ByteRecord) -> Result<Answer, AllocError>
         ensures { IfOk result (λ a. IsNumberAnswer self.now.database.now self.now.columns
-            self.now.else_hint self.now.hint (fields_of fields.now) (spelled a)) }
+            self.now.asked (fields_of fields.now) (spelled a)) }
     {
         let named = self.region_of(fields);
-        let Some(hint) = hint_under(self.else_hint, self.hint, named) else {
+        let Some(hint) = hint_under(self.asked.else_hint, self.asked.hint, named) else {
             return Ok(Answer::Refused("unknown region"));
         };
         let field = field_in(fields, self.columns.number);
-        answer_to(alloc, self.database, hint, field)
+        answer_to(alloc, self.asked.rules, self.database, hint, field)
+    }
+
+    /// The answer to a record, whatever the count of its fields; or why it isn't answered.
+    fn answer_or_refusal(&self, alloc: Global, fields: &ByteRecord) -> Result<Answer, Refusal>
+        ensures given { IfOk result (λ a. IsAnswer self.now.database.now self.now.columns
+            self.now.asked (fields_of fields.now) (spelled a)) }
+        ensures refused { result ≡ Err Refusal.Record →
+            IsOfOtherWidth self.now.columns self.now.asked (fields_of fields.now) }
+    {
+        if fields.len() != self.columns.width {
+            return self.marked();
+        }
+        match self.answer_to_record(alloc, fields) {
+            Ok(answer) => Ok(answer),
+            Err(_) => Err(Refusal::Memory),
+        }
+    }
+
+    /// The answer to a record with another count of fields than the header, where such are marked.
+    fn marked(&self) -> Result<Answer, Refusal>
+        ensures given { IfOk result (λ a. (self.now.asked.mark_bad ≡ true) ×
+            (spelled a ≡ refused_answer (codes "wrong count of fields"))) }
+        ensures refused { IfErr result (λ e. (self.now.asked.mark_bad ≡ false) ×
+            (e ≡ Refusal.Record)) }
+    {
+        if self.asked.mark_bad {
+            Ok(Answer::Refused("wrong count of fields"))
+        } else {
+            Err(Refusal::Record)
+        }
     }
 }
 
 /// The field of a record in a column; empty where it has none.
-fn field_in(fields: &ByteRecord, column: usize) -> &[u8]
+pub(crate) fn field_in(fields: &ByteRecord, column: usize) -> &[u8]
     ensures { result.now ≡ field_in (fields_of fields.now) column }
 {
     match fields.get(column) {
@@ -67,18 +96,16 @@ impl<'d> Answers for Table<'d> {
     ghost use Rattle.phone_table.specs.Answers.{IsAnswer, IsOfOtherWidth};
 
     ghost gives = { λ t fields answer.
-        IsAnswer t.database.now t.columns t.else_hint t.hint fields answer };
+        IsAnswer t.database.now t.columns t.asked fields answer };
 
-    ghost refuses = { λ t fields. IsOfOtherWidth t.columns fields };
+    ghost refuses = { λ t fields. IsOfOtherWidth t.columns t.asked fields };
 
     /// Puts the seven fields of the answer behind those of a record. A record with another count of
-    /// fields than the table has columns isn't answered.
+    /// fields than the table has columns isn't answered, unless such are marked.
     fn answer(&self, alloc: Global, fields: &mut ByteRecord) -> Result<(), Refusal> {
-        if fields.len() != self.columns.width {
-            return Err(Refusal::Record);
-        }
-        let Ok(answer) = self.answer_to_record(alloc, fields) else {
-            return Err(Refusal::Memory);
+        let answer = match self.answer_or_refusal(alloc, fields) {
+            Ok(answer) => answer,
+            Err(refusal) => return Err(refusal),
         };
         match push_answer(fields, &answer) {
             Ok(()) => Ok(()),

@@ -42,7 +42,7 @@ pub fn program<R: Files + AllocGlobal, S: ByteSource, W: ByteSink, E: ByteSink>(
         Err(error) => return told(errors, database_refused(error.number()), 3),
     };
     match write_table(&database, asked, source, sink) {
-        Ok(()) => 0,
+        Ok(_) => 0,
         Err(error) => explained(errors, &asked, &error),
     }
 }

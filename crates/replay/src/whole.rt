@@ -8,7 +8,7 @@ use std::alloc::AllocGlobal;
 use std::fs::{self, Files};
 
 /// The tables, by their files.
-const TABLES: [&str; 21] = [
+const TABLES: [&str; 22] = [
     "calls.tsv",
     "report.tsv",
     "json.tsv",
@@ -30,6 +30,7 @@ const TABLES: [&str; 21] = [
     "programs.tsv",
     "examples.tsv",
     "library.tsv",
+    "rules.tsv",
 ];
 
 /// Prints each line whose answer is another one here, then the counts. Gives whether all lines

@@ -1,5 +1,6 @@
 //! The lines that are answered.
 use anyhow::Result;
+use phone_choice::Rules;
 use phone_table::objects::object_line;
 use phonenumber::country::Id;
 use phonenumber::metadata::Database;
@@ -26,6 +27,7 @@ fn write_object<W: Write>(
     let line = line?;
     let object = object_line(
         alloc,
+        Rules::Crate,
         database,
         hint,
         place,

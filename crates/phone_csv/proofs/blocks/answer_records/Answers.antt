@@ -2,7 +2,8 @@ use Rattle.std.proofs.Common.{Ok, ap, inl, inr, sym, ◌∙◌}
 use Rattle.phone_device.specs.Passing.{IsAtEnd}
 use Rattle.phone_csv.specs.Formats.{state_of}
 use Rattle.phone_csv.specs.Reports.{IsBeginning, IsReport, IsReportBefore, IsReportOnEnded, IsReportOnFirst}
-use Rattle.phone_csv.specs.Runs.{Holds, IsFresh, OfRead, TakesA}
+use Rattle.phone_csv.specs.Runs.{Holds, IsCounted, IsFresh, OfRead, TakesA}
+use Rattle.phone_csv.proofs.Counted.{held-nothing}
 use Rattle.phone_csv.proofs.Ends.{by_end, same_feeds}
 use Rattle.phone_csv.proofs.Progress.{BreaksOff-begins, Holds-begins, Holds-out, IsReportBefore-from, Stands-nothing}
 use Rattle.phone_csv.proofs.blocks.answer_records.Goals as goal
@@ -77,3 +78,11 @@ pub returns-clause-first : goal.returns-clause-first
 returns-clause-first g c is =
     let r = rw c.new-desk.ensures.delimiter at (c.in-Ok.ensures.memory (ap Ok c.in-Memory.is) _ (fresh g (goal.at.returns-clause-first g c).After-new-desk)) in
     (r.0, r.1, Holds-out _ c.take_all.new.desk.answers.items _ _ _ r.2 c.in-Ok-write_out.ensures.all)
+
+pub returns-in-Whole-clause-counted : goal.returns-in-Whole-clause-counted
+returns-in-Whole-clause-counted g c =
+    let after = g.C.Counter.after in
+    let was = c.args.counter.now in
+    let nothing = held-nothing after c.args.delimiter was c.new-desk.result.answers.items (g.W.ByteSink.taken c.args.sink.now) c.new-desk.ensures.answers in
+    let held = rw c.new-desk.ensures.delimiter at (c.in-Ok.ensures.counted (ap Ok c.in-Whole.is) was) in
+    Holds-out (λ text. IsCounted after c.args.delimiter was text c.take_all.new.counter) c.take_all.new.desk.answers.items _ _ _ (held nothing) c.in-Ok-write_out.ensures.all

@@ -29,3 +29,8 @@ returns-in-Err-Memory-clause-memory g c is start fresh =
       rw c.in-Err-Memory.ensures.kept
           (rw (append-nil t.0, c.in-Ok-Whole.ensures.delimiter) at (Stands-first gives start t.0 [] c.take_blocks.new.desk.cutter c.take_blocks.new.desk.answers.items before after t.2)),
     )
+
+pub returns-in-Ok-clause-counted : goal.returns-in-Ok-clause-counted
+returns-in-Ok-clause-counted g c is first fresh =
+    let t = c.in-Ok-Whole.ensures.counted (ap Ok c.in-Ok-Whole.field-0-is) first fresh in
+    rw c.in-Ok-Whole.ensures.delimiter at (c.in-Ok.ensures.counted first (g.W.ByteSink.taken c.args.sink.now) (g.W.ByteSink.taken c.take_blocks.new.sink)) t

@@ -35,6 +35,8 @@ blocks-2-preserved g c =
           λ start fresh. c.in-Ok-take_block.ensures.taken start was.0 _ (was.2.1 start fresh),
         ),
       );
+      counted = λ first fresh.
+          rw c.blocks-2.invariant.same_delimiter at (c.in-Ok-take_block.ensures.counted first (g.W.ByteSink.taken c.args.sink.now)) (c.blocks-2.invariant.counted first fresh);
       partial = c.in-Ok-take_block.ensures.partial;
       same_delimiter = c.in-Ok-take_block.ensures.delimiter ∙ c.blocks-2.invariant.same_delimiter;
       source_faults = c.in-Ok.ensures.no_fault ∙ c.blocks-2.invariant.source_faults;

@@ -1,6 +1,7 @@
 use Rattle.std.proofs.Common.{None, Ok, subst, if◌then◌else◌, Bool, chars}
 use Rattle.phone_more.proofs.Printed.{back_alike, e164_of_international, e164_of_rfc3966}
 use Rattle.phone_more.proofs.Swaps.{is_one_extension-itself}
+use Rattle.phone_choice.specs.declared.rules.Rules.TheVariants.{Crate}
 use Rattle.phone_more.specs.Sameness.{IsAnswer}
 use Rattle.phone_more.specs.declared.sameness.Sameness.TheVariants.{Exact, Number}
 use Rattle.phone_more.proofs.laws.printed_alike.Goals as goal
@@ -19,7 +20,7 @@ returns-clause-international c db n e164 text bounded utf8 plain idle some few f
 
 pub returns-clause-both : goal.returns-clause-both
 returns-clause-both c db n rfc3966 text bounded utf8 tel plain idle some few free benign e f =
-    subst (λ (b : Bool). IsAnswer db (chars rfc3966) (chars text) (Ok (if b then Exact else Number))) (is_one_extension-itself n.extension)
+    subst (λ (b : Bool). IsAnswer Crate db (chars rfc3966) (chars text) (Ok (if b then Exact else Number))) (is_one_extension-itself n.extension)
     (back_alike db (chars rfc3966) (chars text) n n.extension n.extension
     (c.rfc3966_back.ensures db n rfc3966 bounded tel idle e)
     (c.international_back.ensures db n text bounded utf8 plain idle some few free benign f))

@@ -5,6 +5,7 @@ use Rattle.phone_csv.specs.Formats.{record_text}
 use Rattle.phone_csv.specs.Runs.{OfRead}
 use Rattle.phone_table.specs.Headers.{names}
 use Rattle.phone_table.specs.Tables.{IsHeader}
+use Rattle.phone_table.proofs.CountLemmas.{OnOk-weaker, no_rows, rows_taken}
 use Rattle.phone_table.proofs.EndLemmas.{header_ends, header_refused, only_ends, only_held, rows_end}
 use Rattle.phone_table.proofs.rows.write_rows.Goals as goal
 
@@ -12,13 +13,13 @@ pub returns-in-Err-Output : goal.returns-in-Err-Output
 returns-in-Err-Output g c =
     let e = c.in-Err-Output.ensures in
     let is = ap Err c.in-Err-Output.field-0-is in
-    record { ends = λ before h. header_ends _ _ _ c.args.delimiter before _ _ _ _ _ _ _ _ c.args.first.rest h (e.beginning is) (e.fault is) }
+    record { ends = λ before h. header_ends _ _ _ c.args.delimiter before _ _ _ _ _ _ _ _ c.args.first.rest h (e.beginning is) (e.fault is); counted = tt }
 
 pub returns-in-Err-Memory : goal.returns-in-Err-Memory
 returns-in-Err-Memory g c =
     let e = c.in-Err-Memory.ensures in
     let is = ap Err c.in-Err-Memory.field-0-is in
-    record { ends = λ before h. header_refused _ _ _ c.args.delimiter before _ _ _ _ _ _ _ _ c.args.first.rest h (e.nothing is) (e.nothing_held is) (e.no_fault_without_memory is) }
+    record { ends = λ before h. header_refused _ _ _ c.args.delimiter before _ _ _ _ _ _ _ _ c.args.first.rest h (e.nothing is) (e.nothing_held is) (e.no_fault_without_memory is); counted = tt }
 
 pub returns-in-Some : goal.returns-in-Some
 returns-in-Some g c =
@@ -30,6 +31,7 @@ returns-in-Some g c =
       ends = λ before h. rows_end header (g.A.Answers.gives c.args.answers.now) (g.A.Answers.refuses c.args.answers.now) d before (g.S.ByteSource.to_come c.args.source.now) _ _ _ _ _ _ c.in-Some.start _ _ _ _ _ c.answer_records.result
           (subst (λ rest. OfRead before (g.S.ByteSource.to_come c.args.source.now) (λ bytes. IsHeader d header rest bytes)) c.in-Some.is h)
           t.written t.no_fault r.end r.report r.no_fault r.ended r.cause r.beginning r.before r.first r.no_fault_at_a_record r.no_fault_without_memory r.sink_faults r.handed_on;
+      counted = OnOk-weaker c.answer_records.result (rows_taken g.C.Counter.after d header c.args.counter.now c.answer_records.new.counter _ _ _ t.written) r.counted;
     }
 
 pub returns-in-Ok-flush : goal.returns-in-Ok-flush
@@ -43,6 +45,7 @@ returns-in-Ok-flush g c =
     record {
       ends = λ before h. only_ends header _ _ d before source _ _ _ _ _ _ _ (subst (λ rest. OfRead before source (λ bytes. IsHeader d header rest bytes)) c.in-None.is h)
           (end refl) (subst (λ w. Takes (g.W.ByteSink.taken c.args.sink.now) (record_text d (header ++ names)) w) (sym f.kept) t.written) (f.no_fault ∙ t.no_fault) f.handed_on;
+      counted = no_rows g.C.Counter.after d header c.args.counter.now _ _ (subst (λ w. Takes (g.W.ByteSink.taken c.args.sink.now) (record_text d (header ++ names)) w) (sym f.kept) t.written);
     }
 
 pub returns-in-Err : goal.returns-in-Err
@@ -55,4 +58,5 @@ returns-in-Err g c =
     record {
       ends = λ before h. only_held header _ _ d before source _ _ _ _ _ _ _ (subst (λ rest. OfRead before source (λ bytes. IsHeader d header rest bytes)) c.in-None.is h)
           (subst (λ w. Takes (g.W.ByteSink.taken c.args.sink.now) (record_text d (header ++ names)) w) (sym f.kept) t.written) (f.fault ∙ ap (λ n. n + 1) t.no_fault);
+      counted = tt;
     }

@@ -1,5 +1,6 @@
-use Rattle.std.proofs.Common.{rules, refl}
+use Rattle.std.proofs.Common.{rules, refl, subst}
 use Rattle.csv.specs.Records.{fields_of}
+use Rattle.phone_table.specs.Counts.{TakesRows, counts_after}
 use Rattle.phone_table.specs.Runs.RunEnds.{broken_off, no_column, no_delimiter, no_header, whole}
 use Rattle.phone_table.proofs.TableLemmas.{alone}
 use Rattle.phone_table.proofs.RunLemmas.{ends_from, header_read, lacks_by, no_header_by}
@@ -33,7 +34,8 @@ returns-in-Ok-write_rows g c =
     record {
       ends = whole (fields_of first.fields) c.in-Ok-columns_of.columns (search rules) c.in-Ok-columns_of.ensures.found
           (ends_from f.no_fault (c.in-Ok-write_rows.ensures.ends (g.S.ByteSource.to_come c.args.source.now)
-          (header_read c.args.asked.delimiter (fields_of first.fields) first.rest _ _ f.ended f.only)));
+          (header_read c.args.asked.delimiter (fields_of first.fields) first.rest _ _ f.ended f.only)))
+          c.write_rows.new.counter (subst (λ n. TakesRows counts_after c.args.asked.delimiter (fields_of first.fields) n c.write_rows.new.counter (g.W.ByteSink.taken c.args.sink.now) (g.W.ByteSink.taken c.write_rows.new.sink)) c.new-counts.ensures c.in-Ok-write_rows.ensures.counted);
     }
 
 pub returns-in-Err-write_rows : goal.returns-in-Err-write_rows

@@ -2,6 +2,7 @@ use Rattle.std.proofs.Common.{◌++◌, ◌∷◌, ◌+◌, [], Err, take, drop,
 use Rattle.phone_csv.specs.Reports.{IsReportBefore, IsReportOnFirst}
 use Rattle.phone_csv.specs.Runs.{Holds, Stands}
 use Rattle.phone_csv.proofs.Progress.{Holds-breaks, Stands-advanced, Stands-first, Stands-handed, Stands-holds, at_place, from_place, next_place}
+use Rattle.phone_csv.proofs.Counted.{held-handed}
 use Rattle.phone_csv.proofs.desk.Desk.take_block.Goals as goal
 
 pub returns-in-Err-Record-clause-refused : goal.returns-in-Err-Record-clause-refused
@@ -61,6 +62,13 @@ loop-byte-preserved g c = record {
       rw c.in-Ok-hand_on.ensures.cutter
       (subst (λ t. Stands gives start t c.take_byte.new.self.cutter c.hand_on.new.self.answers.items before (g.W.ByteSink.taken c.hand_on.new.sink))
       (next_place bytes block i 0 c.loop-byte-test.true) next);
+  counted = λ first before s.
+      let d = c.args.self.now.cutter.delimiter in
+      let was = c.loop-byte.invariant.counted first before s in
+      let now = rw c.loop-byte.invariant.same_delimiter at (c.in-Ok.ensures.counted first before (g.W.ByteSink.taken c.loop-byte.sink)) in
+      let handed = c.in-Ok-hand_on.ensures.handed in
+      held-handed g.C.Counter.after d first c.take_byte.new.counter c.take_byte.new.self.answers.items handed.0 c.hand_on.new.self.answers.items before
+      (g.W.ByteSink.taken c.loop-byte.sink) (g.W.ByteSink.taken c.hand_on.new.sink) (now was) handed.1 handed.2;
   partial = rw c.in-Ok-hand_on.ensures.cutter c.in-Ok.ensures.partial;
   same_delimiter = rw c.in-Ok-hand_on.ensures.cutter (c.in-Ok.ensures.delimiter ∙ c.loop-byte.invariant.same_delimiter);
   same_faults = c.in-Ok-hand_on.ensures.no_fault ∙ c.loop-byte.invariant.same_faults;

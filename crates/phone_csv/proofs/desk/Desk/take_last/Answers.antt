@@ -2,6 +2,7 @@ use Rattle.std.proofs.Common.{rules, ◌≡◌, ◌∙◌, true, false}
 use Rattle.csv.specs.Machine.{ends_at_end}
 use Rattle.phone_csv.specs.Formats.{state_of}
 use Rattle.phone_csv.proofs.Progress.{Stands-last, Stands-last-refused, Stands-whole, both_ok}
+use Rattle.phone_csv.proofs.Counted.{held-row}
 use Rattle.phone_csv.proofs.desk.Desk.take_last.Goals as goal
 
 pub returns-then-not-is_open-clause-taken : goal.returns-then-not-is_open-clause-taken
@@ -24,3 +25,10 @@ returns-clause-refused g c is start bytes before after to_come end s =
     let f = c.in-Ok.ensures in
     let a = c.answer_record.ensures in
     rw (rw is at a.answers_kept) (Stands-last-refused (g.A.Answers.gives c.args.answers.now) (g.A.Answers.refuses c.args.answers.now) start bytes c.args.self.now.cutter _ _ before after to_come _ e f.fields end (a.feeds_before ∙ f.feeds_before) s (a.refused is))
+
+pub returns-clause-counted : goal.returns-clause-counted
+returns-clause-counted g c =
+    let a = c.answer_record.ensures in
+    both_ok c.answer_record.result a.counted a.counted (λ row _ first before taken s.
+    held-row (g.C.Counter.after) c.args.self.now.cutter.delimiter first c.args.counter.now c.answer_record.new.counter c.args.self.now.answers.items c.answer_record.new.self.answers.items
+    (row.0, rw c.in-Ok.ensures.delimiter at row.1, row.2) before taken s)

@@ -9,13 +9,13 @@ use Rattle.phone_table.proofs.table.Table.answer_to_record.Goals as goal
 pub returns-in_default : goal.returns-in_default
 returns-in_default c =
     let t = c.args.self.now in
-    let none : hint_under t.else_hint t.hint c.region_of-named.result ≡ None = search rules in
+    let none : hint_under t.asked.else_hint t.asked.hint c.region_of-named.result ≡ None = search rules in
     (c.region_of-named.result, c.region_of-named.ensures, rw none refl)
 
 pub returns : goal.returns
 returns c =
     let t = c.args.self.now in
     let fields = fields_of c.args.fields.now in
-    let some : hint_under t.else_hint t.hint c.region_of-named.result ≡ Some c.in-Some.hint = search rules in
-    IfOk-weaker c.answer_to.result _ (λ a. IsNumberAnswer t.database.now t.columns t.else_hint t.hint fields (spelled a))
+    let some : hint_under t.asked.else_hint t.asked.hint c.region_of-named.result ≡ Some c.in-Some.hint = search rules in
+    IfOk-weaker c.answer_to.result _ (λ a. IsNumberAnswer t.database.now t.columns t.asked fields (spelled a))
     (λ a given. (c.region_of-named.result, c.region_of-named.ensures, rw (some, ← c.field_in-field.ensures) given)) c.answer_to.ensures

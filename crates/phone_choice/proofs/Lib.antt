@@ -1,0 +1,3 @@
+pub mod ListedCodes
+pub mod OneReading
+pub mod PrintedOwn

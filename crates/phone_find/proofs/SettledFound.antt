@@ -1,0 +1,58 @@
+-- A settled number's E.164 text between two spaces is found alone, by the rules of libphonenumber.
+use Rattle.std.proofs.Common.{◌≡◌, ℕ, ◌≤◌, true, List, [], ◌∷◌, ◌++◌, length, Option, Ok, refl, ap, ◌∙◌, arith}
+use Rattle.std.specs.Fmt.{decimal}
+use Rattle.std.specs.Str.{chars}
+use Rattle.phone_chars.specs.Characters.{is_digit}
+use Rattle.phone_choice.specs.Readings.{ReadsBy}
+use Rattle.phone_choice.specs.declared.rules.Rules.TheVariants.{Library}
+use Rattle.phone_core.specs.Numbers.{text_of}
+use Rattle.phone_core.specs.declared.country.Id.{Id}
+use Rattle.phone_core.specs.declared.reading.Reading.{Reading}
+use Rattle.phone_library_laws.proofs.ReadAgain.{settled_characters, settled_digits, settled_enough, settled_few}
+use Rattle.phone_library_laws.specs.Again.{IsSettled, e164_reading}
+use Rattle.phone_parts.specs.Texts.{begins, ends}
+use Rattle.phone_print.specs.Texts.{e164_text}
+use Rattle.phone_records.specs.declared.loader.Metadata.{Metadata}
+use Rattle.phone_find.proofs.FoundAlone.{found_alone}
+use Rattle.phone_find.proofs.PrintedFound.{among_spaces, spaced_candidate}
+use Rattle.phone_find.proofs.Shapes.{ends_signed, shaped_signed}
+use Rattle.phone_find.specs.Alone.{IsAmong, placed}
+use Rattle.phone_find.specs.Candidates.{is_candidate, is_number_shaped, is_opening}
+use Rattle.phone_find.specs.Leniencies.{suffices}
+use Rattle.phone_find.specs.Numbers.{AreNumbers, IsNumberBetween}
+use Rattle.phone_find.specs.declared.leniency.Leniency.{Leniency}
+use Rattle.phone_find.specs.declared.leniency.Leniency.TheVariants.{Possible, Valid}
+use Rattle.phone_find.specs.declared.search.Found.{Found}
+
+-- whether a number suffices is of its code and national number alone
+suffices_again : (db : List Metadata) (l : Leniency) (n : Reading) → suffices Library db l (e164_reading n) ≡ suffices Library db l n
+suffices_again db Possible n = refl
+suffices_again db Valid n = refl
+
+module _ (db : List Metadata) (hint : Option Id) (l : Leniency) (n : Reading) (before after : List ℕ) (all : List (Found Reading))
+    (settled : IsSettled db n) (enough : suffices Library db l n ≡ true) (among : IsAmong before (e164_text n) after)
+    (again : ReadsBy Library db hint (chars (e164_text n)) (Ok (e164_reading n))) where
+  abbrev digits : List ℕ
+  digits = decimal n.code.value ++ text_of n.national
+
+  read : chars (e164_text n) ≡ 43 ∷ digits
+  read = settled_characters db n settled
+
+  candidate : is_candidate (chars (before ++ 32 ∷ [])) (chars (e164_text n)) (chars (32 ∷ after)) ≡ true
+  candidate =
+      let all_digits = settled_digits db n settled in
+      let some : 1 ≤ length digits = (let enough = settled_enough db n settled in omega (arith, enough)) in
+      spaced_candidate before (e164_text n) after among.before_utf8 (ap (begins is_opening) read) (ap (ends is_digit) read ∙ ends_signed digits all_digits some)
+      (ap is_number_shaped read ∙ shaped_signed digits all_digits)
+
+  number : IsNumberBetween Library db hint l (before ++ 32 ∷ []) (e164_text n) (32 ∷ after) (e164_reading n)
+  number = record {
+    candidate = candidate;
+    number = record { read = again; enough = suffices_again db l n ∙ enough };
+  }
+
+  pub settled_found : AreNumbers Library db hint l ((before ++ 32 ∷ []) ++ (e164_text n ++ 32 ∷ after)) all →
+      all ≡ placed (before ++ 32 ∷ []) (e164_text n) (e164_reading n) ∷ []
+  settled_found found =
+      found_alone Library db hint l (before ++ 32 ∷ []) (e164_text n) (32 ∷ after) (e164_reading n) (among_spaces before (e164_text n) after among)
+      (settled_few db n settled) number all found

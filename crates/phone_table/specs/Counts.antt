@@ -1,0 +1,62 @@
+-- How many rows of a table were written, and what their last two fields say: the validity of a
+-- number, and the words of a refusal.
+use Rattle.std.specs.Prelude.{◌≡◌, ℕ, ◌+◌, ◌-◌, ◌&&◌, not, Bool, true, if◌then◌else◌, List}
+use Rattle.std.specs.Prelude.{◌++◌, codes, length, Option}
+use Rattle.std.specs.Str.{bytes_eq}
+use Rattle.phone_csv.specs.Feeds.{counted}
+use Rattle.phone_csv.specs.Formats.{Record, record_text}
+use Rattle.phone_csv.specs.Runs.{IsCounted, TakesA}
+use Rattle.phone_table.specs.Headers.{names}
+use Rattle.phone_table.specs.Regions.{field_in}
+use Rattle.phone_table.specs.declared.counts.Counts.{Counts}
+
+-- a row has this word so many fields from its end
+abbrev pub tells : Record → ℕ → List ℕ → Bool
+tells row place word = bytes_eq (field_in row (length row - place)) word
+
+-- a row is refused with these words; with none, where it isn't refused
+abbrev pub has_refusal : List ℕ → Record → Bool
+has_refusal words row = tells row 1 words
+
+-- a row is refused with other words than those for a region, an empty field and a count of fields
+abbrev pub is_junk : Record → Bool
+is_junk row = not (has_refusal (codes "") row) && not (has_refusal (codes "unknown region") row) &&
+    not (has_refusal (codes "empty") row) && not (has_refusal (codes "wrong count of fields") row)
+
+-- a row's number isn't valid
+abbrev pub is_invalid : Record → Bool
+is_invalid row = tells row 2 (codes "invalid")
+
+-- a count, and one more where this holds
+abbrev pub counted_if : Bool → ℕ → ℕ
+counted_if holds n = if holds then counted (n + 1) else n
+
+-- the counts after one more row
+abbrev pub counts_after : Counts → Record → Counts
+counts_after c row = record {
+  records = counted_if true c.records;
+  unknown_region = counted_if (has_refusal (codes "unknown region") row) c.unknown_region;
+  empty = counted_if (has_refusal (codes "empty") row) c.empty;
+  wrong_count = counted_if (has_refusal (codes "wrong count of fields") row) c.wrong_count;
+  no_number = counted_if (is_junk row) c.no_number;
+  invalid = counted_if (is_invalid row) c.invalid;
+}
+
+-- no row was counted
+abbrev pub no_counts : Counts
+no_counts = record {
+  records = 0;
+  unknown_region = 0;
+  empty = 0;
+  wrong_count = 0;
+  no_number = 0;
+  invalid = 0;
+}
+
+-- a sink took a header with the seven names behind its own, and then rows that were counted, from
+-- one count on to another
+abbrev pub TakesRows : {C : Type 0} → (C → Record → C) → ℕ → Record → (first now : C) →
+    Option (List ℕ) → Option (List ℕ) → Type 0
+TakesRows after delimiter header first now before taken = TakesA (λ text. (body : List ℕ) ×
+    (text ≡ record_text delimiter (header ++ names) ++ body) ×
+    IsCounted after delimiter first body now) before taken

@@ -1,0 +1,34 @@
+-- What is told of a number that was found in a text.
+use Rattle.std.specs.Prelude.{◌≡◌, ℕ, List, [], codes, Some, unwrap_or}
+use Rattle.serde_json.specs.Data.{Data, string, number, unsigned, object, member, no_members}
+use Rattle.serde_json.specs.Written.{compact_text}
+use Rattle.phone_choice.specs.declared.rules.Rules.{Rules}
+use Rattle.phone_core.specs.declared.reading.Reading.{Reading}
+use Rattle.phone_csv.specs.Formats.{Record}
+use Rattle.phone_meta.specs.Codes.{first_of, territories}
+use Rattle.phone_records.specs.declared.loader.Metadata.{Metadata}
+use Rattle.phone_table.specs.Answers.{number_answer}
+use Rattle.phone_table.specs.Objects.{field}
+use Rattle.phone_table.specs.declared.finds.Spot.{Spot}
+
+-- the object of a number that was found: its line and column, the piece of the text, six fields of
+-- its answer by their names, and its extension, in the order of the alphabet
+abbrev pub object_of_found : Spot → List ℕ → Record → Data
+object_of_found spot extension fields = object (
+    member (codes "column") (number (unsigned spot.column)) (
+    member (codes "e164") (field fields 0) (
+    member (codes "extension") (string extension) (
+    member (codes "international") (field fields 1) (
+    member (codes "line") (number (unsigned spot.line)) (
+    member (codes "national") (field fields 2) (
+    member (codes "region") (field fields 4) (
+    member (codes "text") (string spot.piece.now) (
+    member (codes "type") (field fields 3) (
+    member (codes "validity") (field fields 5) no_members))))))))))
+
+-- this text is that object, the number's answer being by the first territory of its code
+abbrev pub IsFoundObject : Rules → List Metadata → Spot → Reading → List ℕ → Type 0
+IsFoundObject rules db spot n text = (m : Metadata) ×
+    (first_of (territories n.code.value db) ≡ Some m) ×
+    (text ≡ compact_text (object_of_found spot (unwrap_or n.extension [])
+    (number_answer rules db m n)))

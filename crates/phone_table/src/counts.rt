@@ -1,0 +1,103 @@
+//! How many records of a table were answered, and how.
+ghost use Rattle.std.specs.Prelude.{◌≡◌};
+ghost use Rattle.csv.specs.Records.{fields_of};
+ghost use Rattle.phone_table.specs.Counts.{counted_if, counts_after, has_refusal, is_junk};
+ghost use Rattle.phone_table.specs.Counts.{is_invalid, no_counts, tells};
+
+use crate::table::field_in;
+use csv::ByteRecord;
+use phone_csv::Counter;
+
+/// How many records of a table were answered, and how many of them not as a valid number: each at
+/// most 2^64 - 1.
+#[derive(Clone, Copy, PartialEq, Eq, Debug)]
+pub struct Counts {
+    /// All of them.
+    pub records: u64,
+    /// Those that name no region that there is.
+    pub unknown_region: u64,
+    /// Those whose field of the number is empty, or white space alone.
+    pub empty: u64,
+    /// Those with another count of fields than the header.
+    pub wrong_count: u64,
+    /// Those in whose field no number was read.
+    pub no_number: u64,
+    /// Those whose number isn't valid.
+    pub invalid: u64,
+}
+
+impl Counts {
+    /// None yet.
+    pub fn new() -> Counts
+        ensures { result ≡ no_counts }
+    {
+        Counts {
+            records: 0,
+            unknown_region: 0,
+            empty: 0,
+            wrong_count: 0,
+            no_number: 0,
+            invalid: 0,
+        }
+    }
+}
+
+impl Counter for Counts {
+    ghost use Rattle.phone_table.specs.Counts.{counts_after};
+
+    ghost after = { counts_after };
+
+    /// Counts one more row, by its last two fields: the validity, and the words of a refusal.
+    fn count(&mut self, row: &ByteRecord) {
+        *self = Counts {
+            records: counted_if(true, self.records),
+            unknown_region: counted_if(has_refusal(row, "unknown region"), self.unknown_region),
+            empty: counted_if(has_refusal(row, "empty"), self.empty),
+            wrong_count: counted_if(has_refusal(row, "wrong count of fields"), self.wrong_count),
+            no_number: counted_if(is_junk(row), self.no_number),
+            invalid: counted_if(is_invalid(row), self.invalid),
+        };
+    }
+}
+
+/// A count, and one more where this holds; 2^64 - 1 at most.
+fn counted_if(holds: bool, count: u64) -> u64
+    ensures { result ≡ counted_if holds count }
+{
+    if holds {
+        count.saturating_add(1)
+    } else {
+        count
+    }
+}
+
+/// Whether a row has this word so many fields from its end.
+fn tells(row: &ByteRecord, place: usize, word: &str) -> bool
+    ensures { result ≡ tells (fields_of row.now) place word.now }
+{
+    field_in(row, row.len().saturating_sub(place)) == word.as_bytes()
+}
+
+/// Whether a row is refused with these words.
+fn has_refusal(row: &ByteRecord, words: &str) -> bool
+    ensures { result ≡ has_refusal words.now (fields_of row.now) }
+{
+    tells(row, 1, words)
+}
+
+/// Whether a row is refused since no number was read.
+fn is_junk(row: &ByteRecord) -> bool
+    ensures { result ≡ is_junk (fields_of row.now) }
+{
+    !has_refusal(row, "")
+        && !has_refusal(row, "unknown region")
+        && !has_refusal(row, "empty")
+        && !has_refusal(row, "wrong count of fields")
+}
+
+/// Whether a row's number isn't valid.
+fn is_invalid(row: &ByteRecord) -> bool
+    ensures { result ≡ is_invalid (fields_of row.now) }
+{
+    tells(row, 2, "invalid")
+}
