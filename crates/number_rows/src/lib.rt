@@ -11,6 +11,7 @@ pub mod premises;
 pub mod printing;
 pub mod queries;
 pub mod reading;
+mod short;
 pub mod told;
 pub mod validating;
 
@@ -36,6 +37,9 @@ pub fn of_text(alloc: Global, row: &Row, db: &Database) -> Result<Option<String>
         return Ok(Some(found));
     }
     if let Some(found) = library::answer(alloc, row, db)? {
+        return Ok(Some(found));
+    }
+    if let Some(found) = short::answer(alloc, row, db)? {
         return Ok(Some(found));
     }
     reading::answer(alloc, row, db)

@@ -8,7 +8,7 @@ use std::alloc::AllocGlobal;
 use std::fs::{self, Files};
 
 /// The tables, by their files.
-const TABLES: [&str; 22] = [
+const TABLES: [&str; 23] = [
     "calls.tsv",
     "report.tsv",
     "json.tsv",
@@ -31,6 +31,7 @@ const TABLES: [&str; 22] = [
     "examples.tsv",
     "library.tsv",
     "rules.tsv",
+    "short.tsv",
 ];
 
 /// Prints each line whose answer is another one here, then the counts. Gives whether all lines

@@ -1,0 +1,44 @@
+//! What of a text is dialled.
+ghost use Rattle.std.specs.Prelude.{◌≡◌, IfOk, chars, string_bytes, true};
+ghost use Rattle.std.specs.List.{list_all};
+ghost use Rattle.phone_chars.specs.Characters.{is_digit};
+ghost use Rattle.phone_short.specs.Texts.{digits_in, is_dialled_within};
+
+use phone_chars::chars::{is_nd, is_plus};
+use phone_chars::cuts::{CharSet, after_run, split_first};
+use phone_library_text::digit_values;
+use std::alloc::{AllocError, Global};
+
+/// Characters at which no number starts: all but plus signs and the digits of any script.
+struct BeforeStart;
+
+impl CharSet for BeforeStart {
+    ghost use Rattle.std.specs.Prelude.{not};
+    ghost use Rattle.phone_parts.specs.Cores.{is_start};
+
+    ghost members = { λ _ c. not (is_start c) };
+
+    fn has(&self, c: char) -> bool {
+        !(is_plus(c) || is_nd(c))
+    }
+}
+
+/// Whether a text is dialled within a region: the first of its plus signs and digits is a digit.
+/// It takes no memory.
+pub(crate) fn is_dialled_within(text: &str) -> bool
+    ensures { result ≡ is_dialled_within (chars text.now) }
+{
+    match split_first(after_run(text, &BeforeStart)) {
+        Some((c, _)) => is_nd(c),
+        None => false,
+    }
+}
+
+/// The digits of a text, from `0` to `9`: the values of its digits of any script. Refused only for
+/// memory.
+pub(crate) fn digits_in(alloc: Global, text: &str) -> Result<String, AllocError>
+    ensures values { IfOk result (λ s. string_bytes s ≡ digits_in (chars text.now)) }
+    ensures digits { IfOk result (λ s. list_all is_digit (string_bytes s) ≡ true) }
+{
+    digit_values(alloc, text)
+}
