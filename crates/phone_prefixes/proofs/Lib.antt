@@ -1,0 +1,9 @@
+pub mod Cuts
+pub mod Entries
+pub mod Found
+pub mod Loads
+pub mod Longest
+pub mod Marked
+pub mod Parted
+pub mod Taken
+pub mod Trees
