@@ -43,6 +43,9 @@ fn on_database(
     if let Some(found) = number_rows::of_number(alloc, row, db, layouts)? {
         return Ok(Some(found));
     }
+    if let Some(found) = typed_rows::answer(alloc, row, db)? {
+        return Ok(Some(found));
+    }
     more_rows::answer(alloc, row, db)
 }
 

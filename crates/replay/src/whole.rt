@@ -8,7 +8,7 @@ use std::alloc::AllocGlobal;
 use std::fs::{self, Files};
 
 /// The tables, by their files.
-const TABLES: [&str; 23] = [
+const TABLES: [&str; 24] = [
     "calls.tsv",
     "report.tsv",
     "json.tsv",
@@ -32,6 +32,7 @@ const TABLES: [&str; 23] = [
     "library.tsv",
     "rules.tsv",
     "short.tsv",
+    "typed.tsv",
 ];
 
 /// Prints each line whose answer is another one here, then the counts. Gives whether all lines

@@ -1,0 +1,8 @@
+use Rattle.std.proofs.Common.{◌≡◌, drop, map}
+use Rattle.phone_records.specs.Missing.{first_given}
+use Rattle.phone_typed.specs.Typed.{partial_text}
+use Rattle.phone_typed.proofs.layouts.first_of_nines.Given as goal
+
+abbrev pub invariant-loop-layout : goal.invariant-loop-layout
+invariant-loop-layout l =
+    first_given (map (partial_text l.m l.mode l.n l.digits l.keys) l.layouts) ≡ first_given (map (partial_text l.m l.mode l.n l.digits l.keys) (drop l.layout-index l.layouts))

@@ -1,0 +1,4 @@
+pub mod Fields
+pub mod Keys
+pub mod Printed
+pub mod Typed

@@ -1,0 +1,101 @@
+//! The keys that are pressed while a number is typed, and how a text shows them.
+ghost use Rattle.std.specs.Prelude.{◌≡◌, string_bytes, take, chars, IfOk, IsCharBoundary, OnErr, OnOk};
+ghost use Rattle.phone_typed.specs.Keys.{is_key, is_mark, key_of, keys_in, shows, up_to_key};
+ghost use Rattle.phone_typed.specs.Keys.{with_key};
+
+use crate::digits::value_of;
+use phone_chars::chars::is_plus;
+use phone_chars::cuts::split_first;
+use std::alloc::{AllocError, Global};
+
+/// Whether a byte is a key: a digit, or the plus sign.
+fn is_key(byte: u8) -> bool
+    ensures { result ≡ is_key byte }
+{
+    byte.is_ascii_digit() || byte == b'+'
+}
+
+/// Whether a byte is a mark that layouts write between keys.
+fn is_mark(byte: u8) -> bool
+    ensures { result ≡ is_mark byte }
+{
+    matches!(byte, b' ' | b'(' | b')' | b'-' | b'.')
+}
+
+/// The key of a character that is typed after these keys: the digit of its value, in any script;
+/// before all other keys also a plus sign, U+002B or the wide U+FF0B, as U+002B. None for all other
+/// characters.
+fn key_of(keys: &str, c: char) -> Option<char>
+    ensures { result ≡ key_of keys.now c }
+{
+    if keys.is_empty() && is_plus(c) {
+        Some('+')
+    } else {
+        value_of(c)
+    }
+}
+
+/// Puts the key of a character after these keys. Refused only for memory; then the keys stay.
+pub(crate) fn push_key(keys: &mut String, c: char) -> Result<(), AllocError>
+    ensures pushed { OnOk result (string_bytes keys.new ≡ with_key (string_bytes keys.old) c) }
+    ensures kept { OnErr result (string_bytes keys.new ≡ string_bytes keys.old) }
+{
+    match key_of(keys.as_str(), c) {
+        Some(key) => keys.push(key),
+        None => Ok(()),
+    }
+}
+
+/// The keys of a text. Refused only for memory.
+pub(crate) fn keys_in(alloc: Global, text: &str) -> Result<String, AllocError>
+    ensures { IfOk result (λ keys. string_bytes keys ≡ keys_in (chars text.now)) }
+{
+    let mut keys = String::new(alloc);
+    let mut rest = text;
+    while let Some((c, after)) = split_first(rest) {
+        push_key(&mut keys, c)?;
+        rest = after;
+    }
+    Ok(keys)
+}
+
+/// Whether a text shows these keys: whether they are all that stands in it, but for marks.
+pub(crate) fn shows(keys: &str, text: &str) -> bool
+    ensures { result ≡ shows keys.now text.now }
+{
+    let mut left = keys.as_bytes();
+    let mut rest = text.as_bytes();
+    while let Some((byte, after)) = rest.split_first() {
+        if is_key(*byte) {
+            let Some((key, others)) = left.split_first() else {
+                return false;
+            };
+            if key != byte {
+                return false;
+            }
+            left = others;
+        } else if !is_mark(*byte) {
+            return false;
+        }
+        rest = after;
+    }
+    left.is_empty()
+}
+
+/// After how many bytes of a text its n-th key stands; all of them where it has fewer keys.
+pub(crate) fn end_of_key(text: &str, n: usize) -> usize
+    ensures place { take result text.now ≡ up_to_key n text.now }
+    ensures border { IsCharBoundary text.now result }
+{
+    let bytes = text.as_bytes();
+    let mut left = n;
+    for at in 0..bytes.len() {
+        if left == 0 {
+            return at;
+        }
+        if is_key(bytes[at]) {
+            left -= 1;
+        }
+    }
+    bytes.len()
+}

@@ -1,0 +1,258 @@
+//! What layouts print of a number that is typed, whole or its beginning.
+ghost use Rattle.std.specs.Prelude.{◌≡◌, None, IfOk, map, option_map, string_bytes};
+ghost use Rattle.phone_print.specs.Layouts.{layouts_for, template_for};
+ghost use Rattle.phone_records.specs.Missing.{first_given};
+ghost use Rattle.phone_territory.specs.Layouts.{laid_by};
+ghost use Rattle.phone_typed.specs.Keys.{up_to_key};
+ghost use Rattle.phone_typed.specs.Typed.{complete_text, first_complete, first_partial, if_shows};
+ghost use Rattle.phone_typed.specs.Typed.{lays_out, lays_out_all, partial_text, text_of_keys};
+ghost use Rattle.phone_typed.specs.Typed.{is_short, with_nines};
+ghost use Rattle.std.specs.Option.{option_or};
+
+use crate::keys::{end_of_key, shows};
+use phone_core::Mode;
+use phone_territory::{FirstGroup, Format, Metadata};
+use phone_texts::together::instead;
+use std::alloc::{AllocError, Global};
+
+/// Fewer digits are shown as they are.
+const FEWEST_DIGITS: usize = 3;
+
+/// The digits of a longest number that are not typed yet.
+const NINES: &str = "999999999999999";
+
+/// The digits, and as many nines after them as are lacking to fifteen. Refused only for memory.
+fn with_nines(alloc: Global, digits: &str) -> Result<String, AllocError>
+    ensures { IfOk result (λ t. string_bytes t ≡ with_nines digits.now) }
+{
+    let mut text = String::with_capacity(alloc, NINES.len())?;
+    text.push_str(digits)?;
+    text.push_str(NINES.get(digits.len()..).unwrap_or(""))?;
+    Ok(text)
+}
+
+/// The layouts that a territory has for a mode.
+fn layouts_for(m: &Metadata, mode: Mode) -> &[Format]
+    ensures { result.now ≡ layouts_for m.now mode }
+{
+    let others = m.international_formats();
+    match mode {
+        Mode::National => m.formats(),
+        _ if others.is_empty() => m.formats(),
+        _ => others,
+    }
+}
+
+/// Whether a layout lays out all of these digits: it is meant for them, and its pattern matches them
+/// whole. Refused only for memory.
+fn lays_out_all(layout: &Format, digits: &str) -> Result<bool, AllocError>
+    ensures { IfOk result (λ b. b ≡ lays_out_all digits.now layout.now) }
+{
+    if !layout.is_led(digits)? {
+        return Ok(false);
+    }
+    layout.whole_pattern().is_whole_match(digits)
+}
+
+/// Whether a layout lays out the first n of these digits: it is meant for them, and its pattern's
+/// first match begins at the first and has at least n. Refused only for memory.
+fn lays_out(layout: &Format, n: usize, digits: &str) -> Result<bool, AllocError>
+    ensures { IfOk result (λ b. b ≡ lays_out n digits.now layout.now) }
+{
+    if !layout.is_led(digits)? {
+        return Ok(false);
+    }
+    match layout.whole_pattern().first_span(digits)? {
+        Some((start, end)) => Ok(start == 0 && end >= n),
+        None => Ok(false),
+    }
+}
+
+/// The digits laid out by a layout in a mode. Refused only for memory.
+fn lay_out(
+    finder: &FirstGroup,
+    m: &Metadata,
+    mode: Mode,
+    layout: &Format,
+    digits: &str,
+) -> Result<String, AllocError>
+    ensures { IfOk result (λ t. string_bytes t ≡
+        laid_by layout.now (template_for layout.now m.now mode None) digits.now) }
+{
+    match mode {
+        Mode::National => layout.lay_out_nationally(finder, m.national_prefix(), None, digits),
+        _ => layout.lay_out(digits),
+    }
+}
+
+/// The text, if it shows the keys.
+fn if_shows(keys: &str, text: String) -> Option<String>
+    ensures { option_map string_bytes result ≡ if_shows keys.now (string_bytes text) }
+{
+    if shows(keys, text.as_str()) {
+        Some(text)
+    } else {
+        None
+    }
+}
+
+/// By a layout, of a complete number: what it prints of the national digits, if that shows the keys.
+/// Refused only for memory.
+fn complete_text(
+    finder: &FirstGroup,
+    m: &Metadata,
+    mode: Mode,
+    national: &str,
+    keys: &str,
+    layout: &Format,
+) -> Result<Option<String>, AllocError>
+    ensures { IfOk result (λ t. option_map string_bytes t ≡
+        complete_text m.now mode national.now keys.now layout.now) }
+{
+    if !lays_out_all(layout, national)? {
+        return Ok(None);
+    }
+    let text = lay_out(finder, m, mode, layout, national)?;
+    Ok(if_shows(keys, text))
+}
+
+/// By a layout, of the beginning of a number: that of what it prints of n national digits that have
+/// others after them, if that shows the keys. Refused only for memory.
+fn partial_text(
+    finder: &FirstGroup,
+    m: &Metadata,
+    mode: Mode,
+    n: usize,
+    digits: &str,
+    keys: &str,
+    layout: &Format,
+) -> Result<Option<String>, AllocError>
+    ensures { IfOk result (λ t. option_map string_bytes t ≡
+        partial_text m.now mode n digits.now keys.now layout.now) }
+{
+    if !lays_out(layout, n, digits)? {
+        return Ok(None);
+    }
+    let text = lay_out(finder, m, mode, layout, digits)?;
+    Ok(if_shows(keys, beginning(text, keys.len())))
+}
+
+/// The beginning of a text up to its n-th key.
+fn beginning(text: String, n: usize) -> String
+    ensures { string_bytes result ≡ up_to_key n (string_bytes text) }
+{
+    let mut text = text;
+    let end = end_of_key(text.as_str(), n);
+    text.truncate(end);
+    text
+}
+
+/// Of a complete number, by the first layout that gives a text that shows the keys. Refused only
+/// for memory.
+fn first_complete(
+    finder: &FirstGroup,
+    m: &Metadata,
+    mode: Mode,
+    national: &str,
+    keys: &str,
+) -> Result<Option<String>, AllocError>
+    ensures { IfOk result (λ t. option_map string_bytes t ≡
+        first_complete m.now mode national.now keys.now) }
+{
+    let layouts = layouts_for(m, mode);
+    for layout in layouts {
+        if let Some(text) = complete_text(finder, m, mode, national, keys, layout)? {
+            return Ok(Some(text));
+        }
+    }
+    Ok(None)
+}
+
+/// Of the beginning of a number, by the first layout that gives a text that shows the keys. Refused
+/// only for memory.
+fn first_partial(
+    alloc: Global,
+    finder: &FirstGroup,
+    m: &Metadata,
+    mode: Mode,
+    national: &str,
+    keys: &str,
+) -> Result<Option<String>, AllocError>
+    ensures { IfOk result (λ t. option_map string_bytes t ≡
+        first_partial m.now mode national.now keys.now) }
+{
+    let digits = with_nines(alloc, national)?;
+    let text = first_of_nines(finder, m, mode, national.len(), digits.as_str(), keys);
+    instead(digits, text)
+}
+
+/// The same of n digits with others after them.
+fn first_of_nines(
+    finder: &FirstGroup,
+    m: &Metadata,
+    mode: Mode,
+    n: usize,
+    digits: &str,
+    keys: &str,
+) -> Result<Option<String>, AllocError>
+    ensures { IfOk result (λ t. option_map string_bytes t ≡ first_given
+        (map (partial_text m.now mode n digits.now keys.now) (layouts_for m.now mode))) }
+{
+    let layouts = layouts_for(m, mode);
+    for layout in layouts {
+        if let Some(text) = partial_text(finder, m, mode, n, digits, keys, layout)? {
+            return Ok(Some(text));
+        }
+    }
+    Ok(None)
+}
+
+/// Whether digits are so few that they are shown as they are.
+fn is_short(digits: &str) -> bool
+    ensures { result ≡ is_short digits.now }
+{
+    digits.len() < FEWEST_DIGITS
+}
+
+/// What is shown of keys that give these national digits: as of a complete number, else as of a
+/// beginning; the keys as they are where they are too short, and where no layout's text shows them.
+/// Refused only for memory.
+pub(crate) fn text_of_keys(
+    alloc: Global,
+    finder: &FirstGroup,
+    m: &Metadata,
+    mode: Mode,
+    national: &str,
+    keys: &str,
+) -> Result<String, AllocError>
+    ensures { IfOk result (λ t. string_bytes t ≡
+        text_of_keys m.now mode national.now keys.now) }
+{
+    if is_short(national) || is_short(keys) {
+        return String::from_str(alloc, keys);
+    }
+    match by_layouts(alloc, finder, m, mode, national, keys)? {
+        Some(text) => Ok(text),
+        None => String::from_str(alloc, keys),
+    }
+}
+
+/// As of a complete number, else as of a beginning, where the text of a layout shows the keys.
+/// Refused only for memory.
+fn by_layouts(
+    alloc: Global,
+    finder: &FirstGroup,
+    m: &Metadata,
+    mode: Mode,
+    national: &str,
+    keys: &str,
+) -> Result<Option<String>, AllocError>
+    ensures { IfOk result (λ t. option_map string_bytes t ≡ option_or
+        (first_complete m.now mode national.now keys.now)
+        (first_partial m.now mode national.now keys.now)) }
+{
+    match first_complete(finder, m, mode, national, keys)? {
+        Some(text) => Ok(Some(text)),
+        None => first_partial(alloc, finder, m, mode, national, keys),
+    }
+}

@@ -1,0 +1,146 @@
+//! What is shown of keys under a database and a hint.
+ghost use Rattle.std.specs.Prelude.{◌≡◌, ◌∷◌, ◌++◌, IfOk, chars, drop, length, string_bytes, take};
+ghost use Rattle.std.specs.Prelude.{true};
+ghost use Rattle.std.specs.Fmt.{decimal};
+ghost use Rattle.std.specs.Option.{option_copied, option_map_or};
+ghost use Rattle.phone_core.specs.declared.mode.Mode.TheVariants as mode;
+ghost use Rattle.phone_parts.specs.Texts.{is_front};
+ghost use Rattle.phone_read.specs.Hints.{hinted};
+ghost use Rattle.phone_typed.specs.Keys.{keys_in};
+ghost use Rattle.phone_typed.specs.Typed.{layout_territory, text_abroad, text_at, text_of_code};
+ghost use Rattle.phone_typed.specs.Typed.{text_of_keys, typed};
+
+use crate::keys::keys_in;
+use crate::layouts::text_of_keys;
+use phone_core::Mode;
+use phone_core::country::Id;
+use phone_meta::{Database, Metadata};
+use phone_parts::Number;
+use phone_prefix::stripping::national_number;
+use phone_prefix::trims::behind_number;
+use phone_print::written::ROOM;
+use phone_texts::together::instead;
+use std::alloc::AllocError;
+
+/// What is shown of a number while it is typed, once these keys are: the digits of a text by their
+/// values in any script, and a plus sign before them; all else in it is dropped.
+///
+/// Under the hint's region, or after a plus sign and a listed calling code, that is what is printed
+/// of the number, where a layout has all its digits; else the beginning of what is printed of it
+/// with nines after its digits. Where a layout doesn't show the keys as they are, and where there
+/// is none, they stand without marks. A code is followed by a space. Refused only for memory, which
+/// the database's allocator takes.
+pub fn typed(database: &Database, hint: Option<Id>, text: &str) -> Result<String, AllocError>
+    ensures { IfOk result (λ t. string_bytes t ≡ typed database.now hint (keys_in (chars text.now))) }
+{
+    let keys = keys_in(database.allocator(), text)?;
+    let shown = text_of(database, hint, keys.as_str());
+    instead(keys, shown)
+}
+
+/// What is shown of keys. Refused only for memory.
+pub(crate) fn text_of(db: &Database, hint: Option<Id>, keys: &str) -> Result<String, AllocError>
+    ensures { IfOk result (λ t. string_bytes t ≡ typed db.now hint keys.now) }
+{
+    if let Some(digits) = keys.strip_prefix('+') {
+        return text_abroad(db, digits);
+    }
+    match layout_territory(db, hint) {
+        Some(m) => text_at(db, m, keys),
+        None => String::from_str(db.allocator(), keys),
+    }
+}
+
+/// The first territory of the calling code of the hint.
+fn layout_territory(db: &Database, hint: Option<Id>) -> Option<&Metadata>
+    ensures { option_copied result ≡ layout_territory db.now hint }
+{
+    let m = hinted(db, hint)?;
+    db.first_by_code(&m.country_code())
+}
+
+/// The territory of the hint: the last record with its id.
+fn hinted(db: &Database, hint: Option<Id>) -> Option<&Metadata>
+    ensures { option_copied result ≡ hinted db.now hint }
+{
+    match hint {
+        Some(id) => db.by_id(id.as_str()),
+        None => None,
+    }
+}
+
+/// What is shown of digits that are typed in a territory. Refused only for memory.
+fn text_at(db: &Database, m: &Metadata, keys: &str) -> Result<String, AllocError>
+    ensures { IfOk result (λ t. string_bytes t ≡ text_at m.now keys.now) }
+{
+    let number = national_number(m, Number::of(keys))?;
+    let shown = text_of_keys(
+        db.allocator(),
+        db.first_group_finder(),
+        m,
+        Mode::National,
+        number.national.as_str(),
+        keys,
+    );
+    instead(number, shown)
+}
+
+/// What is shown of digits that are typed after a plus sign. Refused only for memory.
+fn text_abroad(db: &Database, digits: &str) -> Result<String, AllocError>
+    ensures { IfOk result (λ t. string_bytes t ≡ text_abroad db.now digits.now) }
+{
+    match db.shortest(digits) {
+        Some(code) => text_of_code(db, code, digits),
+        None => signed(db, digits),
+    }
+}
+
+/// The digits after a plus sign. Refused only for memory.
+fn signed(db: &Database, digits: &str) -> Result<String, AllocError>
+    ensures { IfOk result (λ t. string_bytes t ≡ 43 ∷ digits.now) }
+{
+    let mut text = String::with_capacity(db.allocator(), ROOM)?;
+    text.push('+')?;
+    text.push_str(digits)?;
+    Ok(text)
+}
+
+/// What is shown of digits after a plus sign that begin with this calling code. Refused only for
+/// memory.
+fn text_of_code(db: &Database, code: u16, digits: &str) -> Result<String, AllocError>
+    requires { is_front (decimal code) digits.now ≡ true }
+    ensures { IfOk result (λ t. string_bytes t ≡ text_of_code db.now digits.now code) }
+{
+    let Some(m) = db.first_by_code(&code) else {
+        return signed(db, digits);
+    };
+    let at = behind_number(digits, code);
+    let (front, rest) = (&digits[..at], &digits[at..]);
+    let shown = text_of_keys(
+        db.allocator(),
+        db.first_group_finder(),
+        m,
+        Mode::International,
+        rest,
+        rest,
+    )?;
+    after_code(db, front, shown)
+}
+
+/// A calling code after a plus sign, a space, and a text. Refused only for memory.
+fn after_code(db: &Database, code: &str, text: String) -> Result<String, AllocError>
+    ensures { IfOk result (λ t. string_bytes t ≡ 43 ∷ (code.now ++ 32 ∷ string_bytes text)) }
+{
+    let shown = joined(db, code, text.as_str());
+    instead(text, shown)
+}
+
+/// The same with a text that is lent.
+fn joined(db: &Database, code: &str, text: &str) -> Result<String, AllocError>
+    ensures { IfOk result (λ t. string_bytes t ≡ 43 ∷ (code.now ++ 32 ∷ text.now)) }
+{
+    let mut shown = signed(db, code)?;
+    shown.push(' ')?;
+    shown.push_str(text)?;
+    Ok(shown)
+}
