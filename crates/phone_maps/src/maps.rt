@@ -1,5 +1,6 @@
 //! What tables of prefixes tell of a number.
-ghost use Rattle.std.specs.Prelude.{◌≡◌, ◌&&◌, ◌||◌, false, IfOk, true, not, None};
+ghost use Rattle.std.specs.Prelude.{◌≡◌, ◌&&◌, ◌||◌, ◌≢◌, false, IfOk, true, not, None};
+ghost use Rattle.std.specs.Fmt.{decimal};
 ghost use Rattle.phone_maps.specs.Maps.{code_digits, digits_of, has_carrier, is_first};
 ghost use Rattle.phone_maps.specs.Maps.{is_geographical, IsTextOf};
 ghost use Rattle.phone_core.specs.declared.kind.«Type».TheVariants.{Unknown};
@@ -43,11 +44,10 @@ pub fn time_zones_of<'a>(
         return Ok(None);
     }
     if is_geographical(kind, code) {
-        let digits = digits_of(alloc, number)?;
-        return Ok(text_of(zones, digits.as_str()));
+        text_of_number(alloc, zones, number)
+    } else {
+        Ok(text_of_code(zones, code))
     }
-    let mut buffer = Buffer::new();
-    Ok(text_of(zones, buffer.format(code)))
 }
 
 /// The text of a number's carrier; none where its kind has no mobile carrier, and none for
@@ -67,8 +67,7 @@ pub fn carrier_of<'a>(
         IfOk result (λ text. text ≡ None) }
 {
     if has_carrier(kind) && (owner == Owner::First || !is_portable) {
-        let digits = digits_of(alloc, number)?;
-        Ok(text_of(carriers, digits.as_str()))
+        text_of_number(alloc, carriers, number)
     } else {
         Ok(None)
     }
@@ -88,11 +87,31 @@ pub fn area_of<'a>(
         IfOk result (λ text. text ≡ None) }
 {
     if is_geographical(kind, number.code().value()) {
-        let digits = digits_of(alloc, number)?;
-        Ok(text_of(areas, digits.as_str()))
+        text_of_number(alloc, areas, number)
     } else {
         Ok(None)
     }
+}
+
+/// The text of the longest prefix that begins a number's digits. Refused only for memory.
+fn text_of_number<'a>(
+    alloc: Global,
+    table: &'a Prefixes,
+    number: &PhoneNumber,
+) -> Result<Option<&'a str>, AllocError>
+    ensures { IfOk result (IsTextOf table.now (digits_of number.now)) }
+{
+    let digits = digits_of(alloc, number)?;
+    Ok(text_of(table, digits.as_str()))
+}
+
+/// The text of the longest prefix that begins a calling code.
+fn text_of_code(table: &Prefixes, code: u16) -> Option<&str>
+    ensures { IsTextOf table.now (decimal code) result }
+{
+    let mut buffer = Buffer::new();
+    let digits = buffer.format(code);
+    text_of(table, digits)
 }
 
 /// The text of the longest prefix that begins these digits.

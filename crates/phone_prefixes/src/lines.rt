@@ -1,6 +1,7 @@
 //! One line of a table.
 ghost use Rattle.std.specs.Prelude.{◌≡◌, ◌==◌, ◌≤◌, ◌<◌, false, drop, length, slice_index};
-ghost use Rattle.std.specs.Prelude.{IfNone, IfOk, IfSome, MatchOption, MatchResult, slice_range, take};
+ghost use Rattle.std.specs.Prelude.{IfNone, IfOk, IfSome, MatchOption, MatchResult, slice_range};
+ghost use Rattle.std.specs.Prelude.{take};
 ghost use Rattle.std.specs.Char.{is_ascii_digit};
 ghost use Rattle.std.specs.List.{list_all, list_any};
 ghost use Rattle.phone_lines.specs.Lines.{IsUnbroken};

@@ -1,5 +1,6 @@
 //! The trie.
-ghost use Rattle.std.specs.Prelude.{◌≡◌, ◌≤◌, ◌<◌, ◌+◌, ◌++◌, ◌∷◌, ℕ, List, [], length, reverse, Ok, None};
+ghost use Rattle.std.specs.Prelude.{◌≡◌, ◌≤◌, ◌<◌, ◌+◌, ◌++◌, ◌∷◌, ℕ, List, [], length, reverse};
+ghost use Rattle.std.specs.Prelude.{Ok, None};
 ghost use Rattle.std.specs.Prelude.{Some, IfOk, MatchOption, OnOk, true, false, IsSome};
 ghost use Rattle.std.specs.Char.{is_ascii_digit};
 ghost use Rattle.std.specs.List.{list_all};
