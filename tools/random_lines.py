@@ -190,14 +190,16 @@ def line(seed, database, place, records):
 
 IDS = ("NZ", "US", "FR", "CA", "GB", "IT", "BR", "NZ", "001")
 CODES = (1, 1, 7, 12, 39, 44, 64, 64, 376, 37, 999)
-# What is dialled before a national number, each with the transform rules that it allows.
+# What is dialled before a national number, each with the transform rules that it allows: rules of digits
+# alone, and none where no group is, for which the rules leave open what holds.
 PARSING = (
-    ("0", ("", "5")), ("0?", ("",)), ("(0)|(1)", ("$1", "$2", "5$2")), (r"0(?:(1[245])(\d{4}))?", ("9$2", "$1", "$1$2")),
+    ("0", ("", "")), ("0?", ("",)), ("(0)|(1)", ("$1", "$2", "5$2")), (r"0(?:(1[245])(\d{4}))?", ("9$2", "$1", "$1$2")),
     ("0(?:(1)|(2))", ("$1", "$2")), (r"9(\d+)", ("$1", "8$1", "")), (r"0(\d{2})?", ("$1", "7$1")), ("00|0", ("",)),
-    (r"(\d{2,})0", ("$1",)), ("()0", ("$1", "1$1")), (r"(?:0|)(\d*)", ("$1", "0$1")), (r"(\d)(\d)(\d)", ("$3$2$1", "$1", "+0$1")),
+    (r"(\d{2,})0", ("$1",)), ("()0", ("$1", "1$1")), (r"(?:0|)(\d*)", ("$1", "0$1")), (r"(\d)(\d)(\d)", ("$3$2$1", "$1", "0$1")),
     (r"([2-9]\d{3})$|1", ("64$1", "0$1")), (r"(1\d)+", ("$1",)), ("0(0)?1?", ("$1", "")),
 )
-INTERNATIONAL = ("00", "00", "011", "0(?:0|11)", "00[39]", r"\d{3}", "0+", "0|00", "(?:0{1,2})+", "1", "")
+# No pattern is empty: one that is matches at the front, and the rules leave open whether it is one.
+INTERNATIONAL = ("00", "00", "011", "0(?:0|11)", "00[39]", r"\d{3}", "0+", "0|00", "(?:0{1,2})+", "1", "00?")
 
 
 def closed(rng, pieces):

@@ -1,8 +1,8 @@
 -- What is shown of a number while it is typed: the beginning of what is printed of it once it is
 -- complete, up to the last key. Texts are bytes.
-use Rattle.std.specs.Prelude.{ℕ, ◌==◌, ◌&&◌, ◌||◌, nat_le, nat_lt, Bool, false, if◌then◌else◌, List, []}
-use Rattle.std.specs.Prelude.{◌∷◌, ◌++◌, codes, drop, length, map, take, Option, None, Some}
-use Rattle.std.specs.Prelude.{unwrap_or}
+use Rattle.std.specs.Prelude.{ℕ, ◌==◌, ◌&&◌, ◌||◌, nat_le, nat_lt, Bool, false, if◌then◌else◌}
+use Rattle.std.specs.Prelude.{List, [], ◌∷◌, ◌++◌, codes, drop, length, map, take, Option, None}
+use Rattle.std.specs.Prelude.{Some, unwrap_or}
 use Rattle.std.specs.Fmt.{decimal}
 use Rattle.std.specs.Option.{option_and_then, option_map_or, option_or}
 use Rattle.phone_core.specs.declared.country.Id.{Id}
@@ -36,7 +36,8 @@ with_nines digits = digits ++ drop (length digits) nines
 abbrev pub lays_out_all : List ℕ → Format → Bool
 lays_out_all digits f = is_led digits f && is_whole_match (layout_pattern f) digits
 
--- it lays out the first n of them: its pattern's first match begins at the first, and has at least n
+-- it lays out the first n of them: its pattern's first match begins at the first, and has at least
+-- n
 abbrev pub lays_out : ℕ → List ℕ → Format → Bool
 lays_out n digits f = is_led digits f && option_map_or (λ (s : ℕ × ℕ). (s.0 == 0) && nat_le n s.1)
     (first_span (layout_pattern f) digits) false

@@ -1,5 +1,6 @@
 //! The keys that are pressed while a number is typed, and how a text shows them.
-ghost use Rattle.std.specs.Prelude.{◌≡◌, string_bytes, take, chars, IfOk, IsCharBoundary, OnErr, OnOk};
+ghost use Rattle.std.specs.Prelude.{◌≡◌, string_bytes, take, chars, IfOk, IsCharBoundary};
+ghost use Rattle.std.specs.Prelude.{OnErr, OnOk};
 ghost use Rattle.phone_typed.specs.Keys.{is_key, is_mark, key_of, keys_in, shows, up_to_key};
 ghost use Rattle.phone_typed.specs.Keys.{with_key};
 

@@ -43,8 +43,8 @@ fn layouts_for(m: &Metadata, mode: Mode) -> &[Format]
     }
 }
 
-/// Whether a layout lays out all of these digits: it is meant for them, and its pattern matches them
-/// whole. Refused only for memory.
+/// Whether a layout lays out all of these digits: it is meant for them, and its pattern matches
+/// them whole. Refused only for memory.
 fn lays_out_all(layout: &Format, digits: &str) -> Result<bool, AllocError>
     ensures { IfOk result (λ b. b ≡ lays_out_all digits.now layout.now) }
 {
@@ -96,8 +96,8 @@ fn if_shows(keys: &str, text: String) -> Option<String>
     }
 }
 
-/// By a layout, of a complete number: what it prints of the national digits, if that shows the keys.
-/// Refused only for memory.
+/// By a layout, of a complete number: what it prints of the national digits, if that shows the
+/// keys. Refused only for memory.
 fn complete_text(
     finder: &FirstGroup,
     m: &Metadata,

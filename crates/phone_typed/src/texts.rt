@@ -31,7 +31,8 @@ use std::alloc::AllocError;
 /// is none, they stand without marks. A code is followed by a space. Refused only for memory, which
 /// the database's allocator takes.
 pub fn typed(database: &Database, hint: Option<Id>, text: &str) -> Result<String, AllocError>
-    ensures { IfOk result (λ t. string_bytes t ≡ typed database.now hint (keys_in (chars text.now))) }
+    ensures { IfOk result (λ t. string_bytes t ≡
+        typed database.now hint (keys_in (chars text.now))) }
 {
     let keys = keys_in(database.allocator(), text)?;
     let shown = text_of(database, hint, keys.as_str());
