@@ -1,11 +1,10 @@
-# Records of a CSV text, as ./phone needs them where its program isn't built: the names of the columns, and parts of whole
-# records. The rules are those of phone_csv: a quote opens a field only at its begin, and a line end between quotes is the field's.
+# Cuts a CSV text into parts of whole records, as ./phone runs them. The rules are those of phone_csv: a quote opens a field only at
+# its begin, and a line end between quotes is the field's.
 #
-# LC_ALL=C awk -v delimiter=, -v want=columns -f tools/records.awk FILE                    each column's name in a line
-# LC_ALL=C awk -v delimiter=, -v want=parts -v front=PATH -v most=BYTES -f tools/records.awk FILE
+# LC_ALL=C awk -v delimiter=, -v front=PATH -v most=BYTES -f tools/records.awk FILE
 #     writes PATH.0001, PATH.0002, .. : the header, and records of at most so many bytes with their answers. For each of these
-#     files a line goes to standard output: its path, the lines of its header, and the line of FILE on which its first record
-#     begins. Where FILE has no line end at its end, -v unended=1 says so.
+#     files a line goes to standard output: its path, the lines of its header, and how many lines of FILE stand between the header
+#     and its first record. Where FILE has no line end at its end, -v unended=1 says so.
 BEGIN { state = "S"; lines = 0; quoted = "\"" }
 
 # the state after a line: S at a field's begin, F in a field, Q between quotes, A behind a quote between them
@@ -21,30 +20,12 @@ function walk(line,    i, c, n) {
     if (state != "Q") state = "S"
 }
 
-# writes a name of a column in one line
-function put(name) { gsub(/[\r\n]+/, " ", name); print name }
-
-# the fields of a record, each in a line
-function fields(text,    i, c, n, s, field, any) {
-    n = length(text); s = "S"
-    for (i = 1; i <= n; i++) {
-        c = substr(text, i, 1)
-        if (s == "Q") { if (c == quoted) s = "A"; else field = field c }
-        else if (c == quoted && s == "A") { s = "Q"; field = field c }
-        else if (c == quoted && s == "S") s = "Q"
-        else if (c == delimiter) { put(field); field = ""; s = "S" }
-        else if (c == "\r" || c == "\n") break
-        else { s = "F"; field = field c }
-    }
-    put(field)
-}
-
 # a new part begins, with the header in front, at this line
 function begin_part(at) {
     if (path != "") close(path)
     path = sprintf("%s.%04d", front, ++parts)
     printf "%s", header > path
-    print path, header_lines, at
+    print path, header_lines, at - 1 - header_lines
     size = header_size
 }
 
@@ -56,7 +37,6 @@ NR == 1 { sub(/^\357\273\277/, "") }
     if (state != "S") next
     if (!has_header) {
         has_header = 1; header = record; header_lines = lines; header_size = length(record)
-        if (want == "columns") { fields(header); done = 1; exit }
     } else {
         if (path == "" || size + length(record) + 250 > most) begin_part(NR - lines + 1)
         printf "%s", record > path
@@ -65,13 +45,11 @@ NR == 1 { sub(/^\357\273\277/, "") }
     record = ""; lines = 0
 }
 END {
-    if (done) exit
     # a last record with a quote that isn't closed
     if (unended) record = substr(record, 1, length(record) - 1)
     if (record != "" && !has_header) {
-        if (want == "columns") fields(record)
-        else { header = record; header_lines = lines; begin_part(NR + 1) }
-    } else if (want == "parts") {
+        header = record; header_lines = lines; begin_part(NR + 1)
+    } else {
         if (path == "" && has_header) begin_part(NR - lines + 1)
         if (record != "") printf "%s", record > path
     }

@@ -1,5 +1,5 @@
-//! The calls of programs over their words, what they read, and devices in memory: `table` of
-//! `phone_table`, `phone-tool` of `phonenumber::report`.
+//! The calls of programs over their words, what they read, and devices in memory: `phone` of
+//! `phone_cli`, `phone-tool` of `phonenumber::report`.
 use anyhow::{Result, anyhow};
 use phone_device::{Limit, Script, Then};
 use rows::devices::{fault, sink};
@@ -26,7 +26,7 @@ struct Ended {
 /// it writes, parted by tabs; none for any other call. An error where memory is refused.
 pub fn answer<R: Files + AllocGlobal>(rt: &R, row: &Row) -> Result<Option<String>> {
     match row.call() {
-        "table" | "phone-tool" => {
+        "phone" | "phone-tool" => {
             let ended = run(rt, row)?;
             Ok(Some(told(rt.alloc(), row, &ended)?))
         }
@@ -77,7 +77,7 @@ fn program<R: Files + AllocGlobal>(
     told: &mut Limit,
 ) -> u8 {
     match row.call() {
-        "table" => phone_table::program(rt, words, source, written, told),
+        "phone" => phone_cli::program(rt, words, source, written, told),
         _ => phonenumber::report::program(rt, words, source, written, told),
     }
 }
@@ -102,9 +102,9 @@ fn wants_memory(told: &str, written: &str, wanted: &[u8]) -> bool {
     let written = written.as_bytes();
     wanted.starts_with(written)
         && match told {
-            "out of memory\n" | "database refused: 7\n" => true,
-            "output failed\n" => written.len() < wanted.len(),
-            _ => false,
+            "out of memory\n" | "phone: out of memory\n" | "database refused: 7\n" => true,
+            "output failed\n" | "phone: output failed\n" => written.len() < wanted.len(),
+            _ => told.contains(" is refused: 7"),
         }
 }
 

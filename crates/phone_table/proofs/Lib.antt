@@ -7,3 +7,4 @@ pub mod RunLemmas
 pub mod ObjectLemmas
 pub mod RegionLemmas
 pub mod CountLemmas
+pub mod KeyLemmas

@@ -8,4 +8,3 @@ pub mod Regions
 pub mod Runs
 pub mod Spelled
 pub mod Tables
-pub mod Words

@@ -30,8 +30,8 @@ fn find_id(ids: &[Id], text: &str) -> Option<Id>
     ids.iter().copied().find(|id| is_id(*id, text))
 }
 
-/// The id that a text is.
-fn id_in(text: &str) -> Option<Id>
+/// The id that a text is, its letters capital or small.
+pub fn id_in(text: &str) -> Option<Id>
     ensures { result ≡ id_in text.now }
 {
     find_id(&ALL, text)

@@ -23,6 +23,9 @@ fn without_database<R: Files + AllocGlobal>(rt: &R, row: &Row) -> Result<Option<
     if let Some(found) = value_rows::answer(rt.alloc(), row)? {
         return Ok(Some(found));
     }
+    if let Some(found) = prefix_rows::answer(rt, row)? {
+        return Ok(Some(found));
+    }
     more_rows::without_database(rt, row)
 }
 

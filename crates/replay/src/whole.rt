@@ -8,7 +8,7 @@ use std::alloc::AllocGlobal;
 use std::fs::{self, Files};
 
 /// The tables, by their files.
-const TABLES: [&str; 24] = [
+const TABLES: [&str; 25] = [
     "calls.tsv",
     "report.tsv",
     "json.tsv",
@@ -33,6 +33,7 @@ const TABLES: [&str; 24] = [
     "rules.tsv",
     "short.tsv",
     "typed.tsv",
+    "prefixes.tsv",
 ];
 
 /// Prints each line whose answer is another one here, then the counts. Gives whether all lines

@@ -1,0 +1,87 @@
+//! What is told of a failure, by file and cause.
+ghost use Rattle.std.specs.Prelude.{◌≡◌, ◌≤◌};
+
+use crate::command::{Call, Command};
+use crate::inputs::{Failure, is_standard};
+use crate::jobs::JobError;
+use crate::say::{say, say_columns};
+use itoa::Buffer;
+use phone_csv::RunError;
+use phone_device::ByteSink;
+use phone_table::{Column, TableError};
+use phonenumber::metadata::LoadMetadata;
+use std::alloc::Global;
+
+/// Tells why a database was refused: its file, the number of its refusal, and the words. It gives
+/// the status.
+pub(crate) fn say_refusal<E: ByteSink>(
+    alloc: Global,
+    path: &str,
+    refusal: &LoadMetadata,
+    errors: &mut E,
+) -> u8
+    ensures { result ≡ 3 }
+{
+    let mut number = Buffer::new();
+    let number = number.format(refusal.number());
+    match refusal.to_string(alloc) {
+        Ok(words) => {
+            let words = words.as_str();
+            say(
+                errors,
+                &["the database ", path, " is refused: ", number, ", ", words],
+                3,
+            )
+        }
+        Err(_) => say(errors, &["the database ", path, " is refused: ", number], 3),
+    }
+}
+
+/// Tells what failed in an input, and gives the status.
+pub(crate) fn say_failure<E: ByteSink>(
+    call: &Call<'_>,
+    failure: &Failure<'_>,
+    is_closed: bool,
+    errors: &mut E,
+) -> u8
+    ensures { result ≤ 3 }
+{
+    match failure {
+        Failure::Unopened(name) => say(errors, &[*name, " can't be read"], 1),
+        Failure::In(name, JobError::Input) if is_standard(name) => {
+            say(errors, &["input failed"], 1)
+        }
+        Failure::In(name, JobError::Input) => say(errors, &[*name, ": input failed"], 1),
+        Failure::In(_, JobError::Output) if is_closed => 1,
+        Failure::In(_, JobError::Output) => say(errors, &["output failed"], 1),
+        Failure::In(_, JobError::Memory) => say(errors, &["out of memory"], 1),
+        Failure::In(_, JobError::Table(error)) => say_table(call, error, errors),
+    }
+}
+
+/// Tells what is wrong with a table, and gives the status.
+fn say_table<E: ByteSink>(call: &Call<'_>, error: &TableError, errors: &mut E) -> u8
+    ensures { result ≤ 3 }
+{
+    match error {
+        TableError::NoColumn(column, header) => {
+            say_columns(errors, column_name(call.command, *column), header)
+        }
+        TableError::Rows(RunError::Record(feeds)) => {
+            let line = feeds.saturating_add(call.skipped).saturating_add(1);
+            let mut buffer = Buffer::new();
+            let more = ": the record has another count of fields than the header";
+            say(errors, &["line ", buffer.format(line), more], 1)
+        }
+        _ => say(errors, &["there is no header"], 2),
+    }
+}
+
+/// The name of a column that was asked for.
+fn column_name<'w>(command: Command<'w>, column: Column) -> &'w str {
+    match (command, column) {
+        (Command::Table(table), Column::Number) => table.column,
+        (Command::Table(table), Column::Region) => table.region_column.unwrap_or(""),
+        _ => "",
+    }
+}

@@ -1,0 +1,126 @@
+//! The inputs of a call: files, one after the other, or standard input.
+ghost use Rattle.std.specs.Prelude.{◌≡◌, IfSome};
+
+use crate::jobs::{Job, JobError};
+use crate::say::say;
+use phone_device::{ByteSink, ByteSource, Std};
+use phone_table::id_in;
+use phonenumber::country::Id;
+use std::alloc::AllocGlobal;
+use std::fs::{self, Files};
+
+/// The region and the files that operands name: the first one is a region's id, in capital or small
+/// letters, or a file.
+pub(crate) fn hint_and_files<'l, 'w>(operands: &'l [&'w str]) -> (Option<Id>, &'l [&'w str]) {
+    match operands {
+        [first, rest @ ..] => match id_in(first) {
+            Some(id) => (Some(id), rest),
+            None => (None, operands),
+        },
+        [] => (None, operands),
+    }
+}
+
+/// Whether a name is standard input's.
+pub(crate) fn is_standard(name: &str) -> bool {
+    name == "-"
+}
+
+/// Whether a name may be meant as a region's: it has two or three bytes.
+fn is_like_region(name: &str) -> bool {
+    name.len() == 2 || name.len() == 3
+}
+
+/// What is wrong with the file of a name: that it isn't there, or is a folder.
+#[derive(Clone, Copy, PartialEq, Eq, Debug)]
+enum Wrong {
+    Absent,
+    Folder,
+}
+
+/// What is wrong with the file of a name, where anything is.
+fn wrong_file<R: Files>(rt: &R, name: &str) -> Option<Wrong> {
+    if is_standard(name) {
+        return None;
+    }
+    match fs::metadata(rt, name) {
+        Ok(metadata) if metadata.is_dir() => Some(Wrong::Folder),
+        Ok(_) => None,
+        Err(_) => Some(Wrong::Absent),
+    }
+}
+
+/// Tells of the first file that isn't there or is a folder, and gives the status; none where all
+/// are there. Where there is no region, the first name may be meant as one.
+pub(crate) fn say_missing<R: Files, E: ByteSink>(
+    rt: &R,
+    hint: Option<Id>,
+    files: &[&str],
+    errors: &mut E,
+) -> Option<u8>
+    ensures { IfSome result (λ status. status ≡ 2) }
+{
+    let mut is_first = hint.is_none();
+    for name in files {
+        let name = *name;
+        match wrong_file(rt, name) {
+            Some(Wrong::Folder) => return Some(say(errors, &[name, " is a folder"], 2)),
+            Some(Wrong::Absent) if is_first && is_like_region(name) => {
+                let more = ", nor is there such a file; --regions lists the ids";
+                return Some(say(errors, &["unknown region ", name, more], 2));
+            }
+            Some(Wrong::Absent) => return Some(say(errors, &["there is no file ", name], 2)),
+            None => {}
+        }
+        is_first = false;
+    }
+    None
+}
+
+/// Why a call was not answered whole: what failed, and in which file.
+#[derive(Drop)]
+pub(crate) enum Failure<'f> {
+    /// A file can't be opened.
+    Unopened(&'f str),
+    /// What failed in an input of this name.
+    In(&'f str, JobError),
+}
+
+/// Answers the file of a name, or standard input.
+fn on_input<'f, R: Files + AllocGlobal, S: ByteSource, W: ByteSink, J: Job<'f>>(
+    rt: &R,
+    name: &'f str,
+    input: &mut S,
+    sink: &mut W,
+    job: &mut J,
+) -> Result<(), Failure<'f>> {
+    let end = if is_standard(name) {
+        job.answer(rt.alloc(), name, input, sink)
+    } else {
+        match fs::open(rt, name) {
+            Ok(file) => job.answer(rt.alloc(), name, &mut Std::new(file), sink),
+            Err(_) => return Err(Failure::Unopened(name)),
+        }
+    };
+    match end {
+        Ok(()) => Ok(()),
+        Err(error) => Err(Failure::In(name, error)),
+    }
+}
+
+/// Answers each file in its turn; standard input where there is none.
+pub(crate) fn on_inputs<'f, R: Files + AllocGlobal, S: ByteSource, W: ByteSink, J: Job<'f>>(
+    rt: &R,
+    files: &[&'f str],
+    input: &mut S,
+    sink: &mut W,
+    job: &mut J,
+) -> Result<(), Failure<'f>> {
+    if files.is_empty() {
+        return on_input(rt, "-", input, sink, job);
+    }
+    for name in files {
+        on_input(rt, *name, input, sink, job)?;
+    }
+    Ok(())
+}

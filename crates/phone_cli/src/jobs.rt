@@ -1,0 +1,160 @@
+//! What a call does with an input: the report, a table, or lines that are taken one by one.
+use crate::firsts::FirstRecords;
+use crate::lines::take_lines;
+use crate::takers::{Finder, Firsts, Objects};
+use phone_csv::FirstError;
+use phone_device::{ByteSink, ByteSource};
+use phone_lines::RunError;
+use phone_table::{Asked, TableError, write_table};
+use phonenumber::country::Id;
+use phonenumber::metadata::Database;
+use phonenumber::report;
+use std::alloc::Global;
+
+/// Why an input was not answered whole.
+#[derive(Drop)]
+pub(crate) enum JobError {
+    /// The input failed.
+    Input,
+    /// The output failed, or took no byte of some.
+    Output,
+    /// There was no memory.
+    Memory,
+    /// The table is none, or has a record that is none of it.
+    Table(TableError),
+}
+
+/// What is done with each input.
+pub(crate) trait Job<'f> {
+    /// Answers an input of this name to its end.
+    fn answer<S: ByteSource, W: ByteSink>(
+        &mut self,
+        alloc: Global,
+        name: &'f str,
+        source: &mut S,
+        sink: &mut W,
+    ) -> Result<(), JobError>;
+}
+
+/// A run over lines as a job's end.
+fn ended(end: Result<(), RunError>) -> Result<(), JobError> {
+    match end {
+        Ok(()) => Ok(()),
+        Err(RunError::Input) => Err(JobError::Input),
+        Err(RunError::Output) => Err(JobError::Output),
+        Err(RunError::Memory) => Err(JobError::Memory),
+    }
+}
+
+/// The report on lines.
+#[derive(Drop)]
+pub(crate) struct Report<'d> {
+    pub database: &'d Database,
+    pub hint: Option<Id>,
+}
+
+impl<'d, 'f> Job<'f> for Report<'d> {
+    fn answer<S: ByteSource, W: ByteSink>(
+        &mut self,
+        _alloc: Global,
+        _name: &'f str,
+        source: &mut S,
+        sink: &mut W,
+    ) -> Result<(), JobError> {
+        ended(report::run(self.database, self.hint, source, sink))
+    }
+}
+
+impl<'d, 'f> Job<'f> for Objects<'d> {
+    fn answer<S: ByteSource, W: ByteSink>(
+        &mut self,
+        alloc: Global,
+        _name: &'f str,
+        source: &mut S,
+        sink: &mut W,
+    ) -> Result<(), JobError> {
+        ended(take_lines(alloc, self, source, sink))
+    }
+}
+
+impl<'d, 'f> Job<'f> for Finder<'d, 'f> {
+    /// Lines are counted anew in each input.
+    fn answer<S: ByteSource, W: ByteSink>(
+        &mut self,
+        alloc: Global,
+        name: &'f str,
+        source: &mut S,
+        sink: &mut W,
+    ) -> Result<(), JobError> {
+        self.place = self.first;
+        self.name = name;
+        ended(take_lines(alloc, self, source, sink))
+    }
+}
+
+impl<'f> Job<'f> for Firsts {
+    fn answer<S: ByteSource, W: ByteSink>(
+        &mut self,
+        alloc: Global,
+        _name: &'f str,
+        source: &mut S,
+        sink: &mut W,
+    ) -> Result<(), JobError> {
+        ended(take_lines(alloc, self, source, sink))
+    }
+}
+
+/// A table of customers.
+#[derive(Drop)]
+pub(crate) struct Customers<'d, 'w> {
+    pub database: &'d Database,
+    pub asked: Asked<'w>,
+    /// Whether the first record of each number is kept alone.
+    pub is_unique: bool,
+    /// How many records were left out.
+    pub left_out: u64,
+}
+
+/// Why a table was not answered whole, as a job's error.
+fn table_error(error: TableError) -> JobError {
+    match error {
+        TableError::Header(FirstError::Input) => JobError::Input,
+        TableError::Header(FirstError::Memory) => JobError::Memory,
+        TableError::Rows(phone_csv::RunError::Input) => JobError::Input,
+        TableError::Rows(phone_csv::RunError::Output) => JobError::Output,
+        TableError::Rows(phone_csv::RunError::Memory) => JobError::Memory,
+        error => JobError::Table(error),
+    }
+}
+
+impl<'d, 'w> Customers<'d, 'w> {
+    /// Writes the table to a sink.
+    fn write<S: ByteSource, W: ByteSink>(
+        &self,
+        source: &mut S,
+        sink: &mut W,
+    ) -> Result<(), JobError> {
+        match write_table(self.database, self.asked, source, sink) {
+            Ok(_) => Ok(()),
+            Err(error) => Err(table_error(error)),
+        }
+    }
+}
+
+impl<'d, 'w, 'f> Job<'f> for Customers<'d, 'w> {
+    fn answer<S: ByteSource, W: ByteSink>(
+        &mut self,
+        alloc: Global,
+        _name: &'f str,
+        source: &mut S,
+        sink: &mut W,
+    ) -> Result<(), JobError> {
+        if !self.is_unique {
+            return self.write(source, sink);
+        }
+        let mut firsts = FirstRecords::new(alloc, self.asked.delimiter, sink);
+        let end = self.write(source, &mut firsts);
+        self.left_out = firsts.left_out();
+        end
+    }
+}

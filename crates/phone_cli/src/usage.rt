@@ -1,0 +1,54 @@
+//! What the program says of itself.
+
+/// Which program this is.
+pub(crate) const NAME: &str =
+    "phonenumber, a port of the Rust crate phonenumber 0.3.10 to Rattle\n";
+
+/// How the program is called.
+pub(crate) const HELP: &str = "\
+Reads phone numbers, one a line, and writes one report line for each; or reads a table of customers,
+and writes it back with what is known of each number. Input are the files that are named, one after
+the other, where - is standard input; without a file it is standard input.
+
+usage: ./phone [REGION] [FILE..]
+       ./phone --unique [REGION] [FILE..]
+       ./phone --json [REGION] [FILE..]
+       ./phone --find [REGION] [FILE..]
+       ./phone --csv COLUMN [--region-column COLUMN [--else-hint]] [-d D] [--unique] [REGION] [FILE]
+       ./phone --regions | --version | --help
+       ./phone --prove
+
+with each:  --database FILE   the database, a JSON text, in place of the table of the world
+            -o, --output FILE what is written goes there
+            --jobs N          N parts of the input are read side by side (not with --unique)
+            --skipped N       lines are counted as if N stood before them (of a table: after its
+                              header)
+            --                the words after it are a region and files
+
+REGION is where the numbers were dialled, by its id in capital or small letters, as NZ; --regions
+lists the ids. The table of the world comes with the repository, data/world.json; --version tells
+its version. An option's value is the next word, or follows it: --csv=phone, -d';'.
+
+A report line, its fields parted by tabs: ok, the E.164, international, national and RFC 3966 text,
+how the calling code was found, the kind of number, its region or -, valid or invalid; or error, a
+number and its words.
+
+--unique (--find-duplicates) writes in place of the report the first line of each number: its E.164
+text, a tab, the line as it came. How many lines were new, repeated or refused is told on standard
+error. With --csv it leaves out each record whose number was in a record before it; records without
+a number stay.
+--json writes a JSON object a line: the line's number and text, and the fields that --csv gives.
+--csv gives a CSV file back, its records as they are and in their order, each with seven fields
+after its own: e164, international, national, type, region, validity, refusal. COLUMN is the name of
+the column of the numbers, in the file's first record. Where --region-column names one too, a record
+is read under the region whose id stands there, or under REGION where nothing does; where anything
+else does, its number is refused as of an unknown region, unless --else-hint is given: then it is
+read under REGION too. D is one ASCII character, or tab.
+--find finds the valid numbers in running text, and writes for each its line, its column, its E.164
+text and the piece of the text, parted by tabs; the file's name before them where several are named.
+--prove proves and builds, once, the two programs; until then each run tries its program without
+proof, which takes minutes.
+
+Statuses: 0 all was written, 1 input, output, memory or a record of a table failed, 2 wrong words,
+3 the database was refused.
+";
