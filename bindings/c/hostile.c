@@ -159,6 +159,13 @@ int main(int argc, char **argv) {
         && !memcmp(out, "libphonenumber 9.0.35", 21) && is_untouched(21));
     fill();
     CHECK(105, phone_table_version(out, 20, &wrote) == PHONE_TOO_SMALL && wrote == 21 && is_untouched(0));
+    fill();
+    CHECK(106, phone_refusal_words(PHONE_NO_NUMBER, out, sizeof out, &wrote) == PHONE_OK && wrote == 12
+        && !memcmp(out, "not a number", 12) && is_untouched(12));
+    fill();
+    CHECK(107, phone_refusal_words(PHONE_NO_NUMBER, out, 11, &wrote) == PHONE_TOO_SMALL && wrote == 12 && is_untouched(0));
+    fill();
+    CHECK(108, phone_refusal_words(8, out, sizeof out, &wrote) == PHONE_NO_REFUSAL && wrote == 0 && is_untouched(0));
     FILE *file = argc > 1 ? fopen(argv[1], "rb") : NULL;
     CHECK(101, file != NULL);
     static uint8_t text[1 << 20];

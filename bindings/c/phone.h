@@ -48,7 +48,8 @@ enum {
     PHONE_NO_REGION = 19,            /* the hint is no region's id */
     PHONE_UNKNOWN_CODE = 20,         /* no territory of the database has the number's calling code */
     PHONE_BAD_NUMBER = 21,           /* the plain numbers and bytes are no phone number */
-    PHONE_NO_MODE = 22               /* the mode is none of the four */
+    PHONE_NO_MODE = 22,              /* the mode is none of the four */
+    PHONE_NO_REFUSAL = 23            /* no refusal of a text has the number */
 };
 
 /* Where a text stands that may be absent, in bytes beside the number. */
@@ -126,13 +127,13 @@ uint32_t phone_format(phone_handle *handle, const phone_number *number, const ui
  * not looked at. For each but PHONE_OK `told` is as it was. */
 uint32_t phone_kind(phone_handle *handle, const phone_number *number, uint32_t *told);
 
-/* Tells whether a number is valid: 1, else 0. Its statuses are those of phone_kind. */
-uint32_t phone_is_valid(phone_handle *handle, const phone_number *number, uint8_t *told);
-
 /* Writes the id of a number's region, as "NZ", or no byte where it has none. Its statuses are those of
  * phone_kind, and PHONE_TOO_SMALL. */
 uint32_t phone_region(phone_handle *handle, const phone_number *number, uint8_t *out, size_t out_len,
                       size_t *wrote);
+
+/* Tells whether a number is valid: 1, else 0. Its statuses are those of phone_kind. */
+uint32_t phone_is_valid(phone_handle *handle, const phone_number *number, uint8_t *told);
 
 /* Writes the E.164 text of a number, by which tables are keyed. It needs no database. Equal texts mean
  * equal calling code and national number where no calling code of the database begins another, as in
@@ -142,6 +143,12 @@ uint32_t phone_key(const phone_number *number, uint8_t *out, size_t out_len, siz
 /* Tells whether a text may be a number at all: 1, else 0. It needs no database and takes no memory.
  * PHONE_NOT_UTF8 exactly where the text isn't UTF-8; `told` is then as it was. */
 uint32_t phone_is_viable(const uint8_t *text, size_t text_len, uint8_t *told);
+
+/* Writes the words of the refusal of a text that has this number, 1 to 6 as phone_parse answers it, or
+ * 7, to the front of `out`, and their length to `wrote`: as "not a number" of 1. It needs no database
+ * and takes no memory. PHONE_NO_REFUSAL exactly where no refusal has the number, PHONE_TOO_SMALL as
+ * phone_report has it. */
+uint32_t phone_refusal_words(uint32_t number, uint8_t *out, size_t out_len, size_t *wrote);
 
 /* The version of these calls: PHONE_VERSION where the library fits this header. */
 uint32_t phone_version(void);

@@ -67,15 +67,8 @@ TABLE_VERSION = _version_of(TABLE)
 _OK, _MEMORY, _CLOSED, _TOO_SMALL, _NOT_UTF8, _NO_REGION = 0, 7, 16, 17, 18, 19
 _UNKNOWN_CODE, _VERSION = 20, 1
 
-_NO_NUMBER = {
-    1: "not a number",
-    2: "invalid country code",
-    3: "the number is too short after IDD",
-    4: "the number is too short after the country code",
-    5: "the number is too long",
-    6: "malformed integer part in phone number",
-    _NOT_UTF8: "not UTF-8",
-}
+#: The statuses of a text that is no number.
+_NO_NUMBER = range(1, 7)
 
 _REFUSALS = {
     1: "a record lacks a value that it must have",
@@ -195,8 +188,12 @@ def _library() -> ctypes.CDLL:
     lib.phone_region.argtypes = [handle, number, text, size, wrote]
     lib.phone_key.argtypes = [number, text, size, wrote]
     lib.phone_is_viable.argtypes = [text, size, ctypes.POINTER(ctypes.c_uint8)]
+    lib.phone_refusal_words.argtypes = [ctypes.c_uint32, text, size, wrote]
     lib.phone_version.argtypes = []
-    for name in ("report", "parse", "format", "kind", "is_valid", "region", "key", "is_viable", "version"):
+    for name in (
+        "report", "parse", "format", "kind", "is_valid", "region", "key", "is_viable", "refusal_words",
+        "version",
+    ):
         getattr(lib, "phone_" + name).restype = ctypes.c_uint32
     if lib.phone_version() != _VERSION:
         raise ImportError(f"{path} has version {lib.phone_version()} of these calls, not {_VERSION}")
@@ -232,6 +229,11 @@ def _text(call: Callable[..., int], room: int = 64) -> bytes:
         if status != _TOO_SMALL:
             _refuse(status)
         room = wrote.value
+
+
+def _refusal_words(number: int) -> str:
+    """The words of the refusal of a text that has this number."""
+    return _text(lambda *out: _lib.phone_refusal_words(number, *out)).decode()
 
 
 def is_viable(text: Union[str, bytes]) -> bool:
@@ -298,18 +300,18 @@ class PhoneNumber:
         return Kind(told.value) if status == _OK else _refuse(status)
 
     @property
+    def region(self) -> Optional[str]:
+        """The id of the number's region, as `NZ`."""
+        number, handle = ctypes.byref(self._number), self._database._borrowed()
+        return _text(lambda *out: _lib.phone_region(handle, number, *out)).decode() or None
+
+    @property
     def is_valid(self) -> bool:
         """Whether such numbers are given out."""
         told = ctypes.c_uint8()
         handle = self._database._borrowed()
         status = _lib.phone_is_valid(handle, ctypes.byref(self._number), ctypes.byref(told))
         return told.value == 1 if status == _OK else _refuse(status)
-
-    @property
-    def region(self) -> Optional[str]:
-        """The id of the number's region, as `NZ`."""
-        number, handle = ctypes.byref(self._number), self._database._borrowed()
-        return _text(lambda *out: _lib.phone_region(handle, number, *out)).decode() or None
 
     def _key(self) -> Tuple[object, ...]:
         return (self.code, self.source, self.national, self.extension, self.carrier)
@@ -359,7 +361,9 @@ class Database:
             if status == _OK:
                 return PhoneNumber(self, number, texts.raw[: wrote.value])
             if status in _NO_NUMBER:
-                raise NoNumber(status, _NO_NUMBER[status])
+                raise NoNumber(status, _refusal_words(status))
+            if status == _NOT_UTF8:
+                raise NoNumber(status, "not UTF-8")
             if status != _TOO_SMALL:
                 _refuse(status, hint)
             room = wrote.value

@@ -66,7 +66,6 @@ unsafe extern "C" {
         wrote: *mut usize,
     ) -> u32;
     pub(crate) fn phone_kind(handle: *mut Handle, number: *const Number, told: *mut u32) -> u32;
-    pub(crate) fn phone_is_valid(handle: *mut Handle, number: *const Number, told: *mut u8) -> u32;
     pub(crate) fn phone_region(
         handle: *mut Handle,
         number: *const Number,
@@ -74,6 +73,8 @@ unsafe extern "C" {
         out_len: usize,
         wrote: *mut usize,
     ) -> u32;
+    pub(crate) fn phone_is_valid(handle: *mut Handle, number: *const Number, told: *mut u8) -> u32;
     pub(crate) fn phone_key(number: *const Number, out: *mut u8, out_len: usize, wrote: *mut usize) -> u32;
     pub(crate) fn phone_is_viable(text: *const u8, len: usize, told: *mut u8) -> u32;
+    pub(crate) fn phone_refusal_words(number: u32, out: *mut u8, out_len: usize, wrote: *mut usize) -> u32;
 }

@@ -79,22 +79,33 @@ impl Error {
     }
 }
 
+/// Writes the words of the refusal of a text that has this number; none takes more than 64 bytes.
+fn write_refusal(number: u32, f: &mut fmt::Formatter<'_>) -> fmt::Result {
+    let (mut out, mut wrote) = ([0u8; 64], 0);
+    // SAFETY: the buffer is valid for its length, and apart from the length that is written.
+    let status = unsafe { ffi::phone_refusal_words(number, out.as_mut_ptr(), out.len(), &mut wrote) };
+    match out.get(..wrote).map(std::str::from_utf8) {
+        Some(Ok(words)) if status == ffi::OK => f.write_str(words),
+        _ => write!(f, "refused: {number}"),
+    }
+}
+
 impl fmt::Display for Error {
     fn fmt(&self, f: &mut fmt::Formatter<'_>) -> fmt::Result {
-        f.write_str(match self {
-            Error::NoNumber => "not a number",
-            Error::InvalidCountryCode => "invalid country code",
-            Error::TooShortAfterIdd => "the number is too short after IDD",
-            Error::TooShortNsn => "the number is too short after the country code",
-            Error::TooLong => "the number is too long",
-            Error::MalformedInteger => "malformed integer part in phone number",
-            Error::UnknownCode => "unknown calling code",
-            Error::Database(number) => return write!(f, "database refused: {number}"),
-            Error::NotUtf8 => "not UTF-8",
-            Error::NoRegion => "unknown region",
-            Error::Memory => "out of memory",
-            Error::Io => "I/O error",
-        })
+        match self {
+            Error::NoNumber => write_refusal(1, f),
+            Error::InvalidCountryCode => write_refusal(2, f),
+            Error::TooShortAfterIdd => write_refusal(3, f),
+            Error::TooShortNsn => write_refusal(4, f),
+            Error::TooLong => write_refusal(5, f),
+            Error::MalformedInteger => write_refusal(6, f),
+            Error::Memory => write_refusal(ffi::MEMORY, f),
+            Error::UnknownCode => f.write_str("unknown calling code"),
+            Error::Database(number) => write!(f, "database refused: {number}"),
+            Error::NotUtf8 => f.write_str("not UTF-8"),
+            Error::NoRegion => f.write_str("unknown region"),
+            Error::Io => f.write_str("I/O error"),
+        }
     }
 }
 
@@ -347,6 +358,15 @@ impl<'d> PhoneNumber<'d> {
         }
     }
 
+    /// The id of the number's region, as `NZ`.
+    pub fn region(&self) -> Result<Option<String>, Error> {
+        let id = text_of(8, |out, len, wrote| {
+            // SAFETY: as in `Database::parse`.
+            unsafe { ffi::phone_region(&mut *self.database.handle.borrow_mut(), &self.number, out, len, wrote) }
+        })?;
+        Ok(String::from_utf8(id).ok().filter(|id| !id.is_empty()))
+    }
+
     /// Whether such numbers are given out.
     pub fn is_valid(&self) -> Result<bool, Error> {
         let mut told = 0;
@@ -355,15 +375,6 @@ impl<'d> PhoneNumber<'d> {
             ffi::OK => Ok(told == 1),
             status => Err(Error::of(status)),
         }
-    }
-
-    /// The id of the number's region, as `NZ`.
-    pub fn region(&self) -> Result<Option<String>, Error> {
-        let id = text_of(8, |out, len, wrote| {
-            // SAFETY: as in `Database::parse`.
-            unsafe { ffi::phone_region(&mut *self.database.handle.borrow_mut(), &self.number, out, len, wrote) }
-        })?;
-        Ok(String::from_utf8(id).ok().filter(|id| !id.is_empty()))
     }
 }
 

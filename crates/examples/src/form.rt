@@ -1,10 +1,9 @@
 //! Checking a form's field: whether its text may be a number at all, whether it is one, whether
 //! numbers of its country have its length, and whether it is valid.
 use anyhow::Result;
-use phone_read::validator;
 use phonenumber::country::Id;
 use phonenumber::metadata::Database;
-use phonenumber::{ParseError, PhoneNumber, Type, is_valid_with, is_viable, parse_with};
+use phonenumber::{ParseError, PhoneNumber, Type, is_valid_with, is_viable, parse_with, validator};
 use std::alloc::{AllocError, AllocGlobal};
 
 /// Whether numbers of this one's country have its length.

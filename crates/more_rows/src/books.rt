@@ -159,15 +159,7 @@ fn numbers(alloc: Global, book: &Book) -> Result<String, AllocError> {
 
 /// `Refused`, and the number of a refusal, with a tab.
 fn refused(alloc: Global, error: &ParseError) -> Result<String, AllocError> {
-    let number = match error {
-        ParseError::NoNumber => 1u8,
-        ParseError::InvalidCountryCode => 2,
-        ParseError::TooShortAfterIdd => 3,
-        ParseError::TooShortNsn => 4,
-        ParseError::TooLong => 5,
-        ParseError::MalformedInteger => 6,
-        ParseError::Memory => 7,
-    };
+    let number = error.number();
     format!(in alloc; "Refused {number}\t")
 }
 

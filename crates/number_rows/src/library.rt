@@ -31,13 +31,13 @@ fn read(alloc: Global, row: &Row, db: &Database) -> Result<String> {
 /// The number with what these rules tell of it; it is printed without its carrier.
 fn report(alloc: Global, db: &Database, number: &PhoneNumber) -> Result<String> {
     let NumberFacts {
-        region,
         kind,
+        region,
         is_valid,
     } = facts(db, number)?;
     let told = Queried {
-        region,
         kind,
+        region,
         is_valid,
     };
     let told = asked(alloc, told)?;

@@ -54,8 +54,8 @@ pub fn queried(alloc: Global, database: &Database, number: &PhoneNumber) -> Resu
 /// Kind of a number, its region or a hyphen, `valid` or `invalid`, parted by tabs.
 pub fn asked(alloc: Global, found: Queried) -> Result<String, AllocError> {
     let Queried {
-        region,
         kind,
+        region,
         is_valid,
     } = found;
     let kind = format!(in alloc; "{kind:?}")?;

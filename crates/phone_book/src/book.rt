@@ -104,7 +104,7 @@ impl Book {
         ensures database { self.new.database ≡ self.old.database }
         ensures kept { OnErr result (self.new ≡ self.old) }
     {
-        number.keeps_bounds();
+        let _national = number.national();
         laws::key();
         let key = self.key_of(&number)?;
         if let Some(n) = self.entries.get_index_of(&key) {

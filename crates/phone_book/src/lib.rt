@@ -5,7 +5,7 @@
 mod answers;
 mod book;
 mod iter;
-pub mod rows;
+mod rows;
 
 pub use answers::{BookError, BookNewError, Place};
 pub use book::Book;

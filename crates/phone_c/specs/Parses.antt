@@ -1,10 +1,7 @@
 -- What a text is read as, told in plain numbers and a buffer.
 use Rattle.std.specs.Prelude.{◌≡◌, ℕ, List, Result, Ok, Err, IsSomeAnd, chars}
+use Rattle.phone_core.specs.Refusals.{refusal_number, refusal_words}
 use Rattle.phone_core.specs.declared.error.ParseError.{ParseError}
-use Rattle.phone_core.specs.declared.error.ParseError.TheVariants.{NoNumber, InvalidCountryCode}
-use Rattle.phone_core.specs.declared.error.ParseError.TheVariants.{TooShortAfterIdd, TooShortNsn}
-use Rattle.phone_core.specs.declared.error.ParseError.TheVariants.{TooLong, MalformedInteger}
-use Rattle.phone_core.specs.declared.error.ParseError.TheVariants.{Memory}
 use Rattle.phone_records.specs.declared.loader.Metadata.{Metadata}
 use Rattle.phone_read.specs.Readings.{Reads}
 use Rattle.phone_core.specs.declared.reading.Reading.{Reading}
@@ -12,16 +9,6 @@ use Rattle.phone_c.specs.Buffers.{IsTooLong, IsWritten}
 use Rattle.phone_c.specs.Hints.{hint_of}
 use Rattle.phone_c.specs.Numbers.{IsNumber, texts_of}
 use Rattle.phone_c.specs.declared.number.Number as plain
-
--- the number of a refusal, as the report gives it
-abbrev pub refusal_number : ParseError → ℕ
-refusal_number NoNumber = 1
-refusal_number InvalidCountryCode = 2
-refusal_number TooShortAfterIdd = 3
-refusal_number TooShortNsn = 4
-refusal_number TooLong = 5
-refusal_number MalformedInteger = 6
-refusal_number Memory = 7
 
 -- the bytes are a hint, and under it the text is read so
 abbrev pub ReadsAs : List Metadata → (hint text : List ℕ) → Result Reading ParseError → Type 0
@@ -46,3 +33,12 @@ pub record IsParsedTooLong (db : List Metadata) (hint text : List ℕ) (before a
 abbrev pub IsRefusedAs : List Metadata → (hint text : List ℕ) → ℕ → Type 0
 IsRefusedAs db hint text status =
     (e : ParseError) × ReadsAs db hint text (Err e) × (status ≡ refusal_number e)
+
+-- the words of the refusal that has this number
+abbrev pub IsWordsOf : ℕ → List ℕ → Type 0
+IsWordsOf number words =
+    (e : ParseError) × (number ≡ refusal_number e) × (words ≡ refusal_words e)
+
+-- no refusal has this number
+abbrev pub IsNoRefusal : ℕ → Type 0
+IsNoRefusal number = (e : ParseError) → ¬ (number ≡ refusal_number e)

@@ -136,31 +136,6 @@ pub extern "C" fn phone_kind(
     status
 }
 
-/// Tells whether a number that is given as plain numbers is valid: 1, else 0. Its statuses are
-/// those of `phone_kind`.
-#[unsafe(no_mangle)]
-pub extern "C" fn phone_is_valid(
-    alloc: Global,
-    handle: &mut Handle,
-    number: &Number,
-    told: &mut u8,
-) -> u32
-    ensures told { result ≡ OK → IsValidity handle.old.records number.now told.new }
-    ensures closed { (result ≡ CLOSED) ↔ IsClosed handle.old }
-    ensures bad { (result ≡ BAD_NUMBER) ↔ (¬ (IsClosed handle.old) × AreNone number.now) }
-    ensures other { ¬ (result ≡ OK) → ¬ (result ≡ CLOSED) → ¬ (result ≡ BAD_NUMBER) →
-        result ≡ MEMORY }
-    ensures untouched { ¬ (result ≡ OK) → told.new ≡ told.old }
-    ensures kept { IsKept handle.old handle.new }
-{
-    let Some(database) = take(alloc, handle) else {
-        return CLOSED;
-    };
-    let status = validity(&*database, number, told);
-    put(alloc, handle, database);
-    status
-}
-
 /// Writes the id of the region of a number that is given as plain numbers; no byte where it has
 /// none.
 ///
@@ -191,6 +166,31 @@ pub extern "C" fn phone_region(
         return CLOSED;
     };
     let status = region(&*database, number, out, wrote);
+    put(alloc, handle, database);
+    status
+}
+
+/// Tells whether a number that is given as plain numbers is valid: 1, else 0. Its statuses are
+/// those of `phone_kind`.
+#[unsafe(no_mangle)]
+pub extern "C" fn phone_is_valid(
+    alloc: Global,
+    handle: &mut Handle,
+    number: &Number,
+    told: &mut u8,
+) -> u32
+    ensures told { result ≡ OK → IsValidity handle.old.records number.now told.new }
+    ensures closed { (result ≡ CLOSED) ↔ IsClosed handle.old }
+    ensures bad { (result ≡ BAD_NUMBER) ↔ (¬ (IsClosed handle.old) × AreNone number.now) }
+    ensures other { ¬ (result ≡ OK) → ¬ (result ≡ CLOSED) → ¬ (result ≡ BAD_NUMBER) →
+        result ≡ MEMORY }
+    ensures untouched { ¬ (result ≡ OK) → told.new ≡ told.old }
+    ensures kept { IsKept handle.old handle.new }
+{
+    let Some(database) = take(alloc, handle) else {
+        return CLOSED;
+    };
+    let status = validity(&*database, number, told);
     put(alloc, handle, database);
     status
 }

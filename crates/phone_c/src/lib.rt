@@ -12,6 +12,7 @@ ghost use Rattle.phone_c.specs.Buffers.{IsTooLong, IsTooLongA, IsWritten, IsWrit
 ghost use Rattle.phone_c.specs.Handles.{IsClosed, IsKept, IsOpenedBy};
 ghost use Rattle.phone_c.specs.Hints.{hint_of};
 ghost use Rattle.phone_c.specs.Openings.{IsRefusalOf};
+ghost use Rattle.phone_c.specs.Parses.{IsNoRefusal, IsWordsOf};
 ghost use Rattle.phone_c.specs.Reports.{IsReportOf};
 
 mod asked;
@@ -25,6 +26,7 @@ pub mod number;
 mod opening;
 mod parse;
 mod print;
+mod refusal;
 mod report;
 pub mod status;
 
@@ -32,8 +34,9 @@ use buffer::give;
 use handle::{Handle, put, take};
 use opening::opened;
 use phonenumber::is_viable;
+use refusal::refusal_words;
 use report::report;
-use status::{CLOSED, MEMORY, NO_REGION, NOT_UTF8, OK, TOO_SMALL};
+use status::{CLOSED, MEMORY, NO_REFUSAL, NO_REGION, NOT_UTF8, OK, TOO_SMALL};
 use std::alloc::Global;
 
 /// Opens the database that a text is, as `Database::parse` reads it. What the handle had open is
@@ -125,6 +128,27 @@ pub extern "C" fn phone_is_viable(text: &[u8], told: &mut u8) -> u32
     };
     *told = if is_viable(text) { 1 } else { 0 };
     OK
+}
+
+/// Writes the words of the refusal of a text that has this number, 1 to 7, as `phone_parse` answers
+/// it and as `ParseError` is displayed. It needs no database.
+///
+/// `OK`: the words stand at the front of `out`, which is else as it was, and `wrote` is their
+/// length. `TOO_SMALL` where `out` is shorter: then `out` is as it was, and `wrote` is the length
+/// of the words. `NO_REFUSAL` exactly where no refusal has this number: then `out` is as it was,
+/// and `wrote` is 0.
+#[unsafe(no_mangle)]
+pub extern "C" fn phone_refusal_words(number: u32, out: &mut [u8], wrote: &mut usize) -> u32
+    ensures written { result ≡ OK →
+        IsWrittenA (IsWordsOf number) out.old out.new wrote.new }
+    ensures too_small { result ≡ TOO_SMALL →
+        IsTooLongA (IsWordsOf number) out.old out.new wrote.new }
+    ensures none { (result ≡ NO_REFUSAL) ↔ IsNoRefusal number }
+    ensures status { (result ≡ OK) ⊎ (result ≡ TOO_SMALL) ⊎ (result ≡ NO_REFUSAL) }
+    ensures untouched { result ≡ NO_REFUSAL → out.new ≡ out.old }
+    ensures no_length { result ≡ NO_REFUSAL → wrote.new ≡ 0 }
+{
+    refusal_words(number, out, wrote)
 }
 
 /// The version of these calls. A change to what one of them takes or means gives it a new number.

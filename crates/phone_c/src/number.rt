@@ -111,7 +111,6 @@ pub(crate) fn number_of(read: &PhoneNumber, extension: Part, carrier: Part) -> N
     ensures extension { result.extension ≡ extension }
     ensures carrier { result.carrier ≡ carrier }
 {
-    read.keeps_bounds();
     Number {
         value: read.national().value(),
         extension,

@@ -3,29 +3,14 @@ ghost use Rattle.std.specs.Prelude.{◌≡◌, ◌⊎◌, ◌↔◌, None, IsUtf
 ghost use Rattle.phone_c.specs.Buffers.{IsTooLong, IsWritten};
 ghost use Rattle.phone_c.specs.Hints.{hint_of};
 ghost use Rattle.phone_c.specs.Numbers.{IsNumber, texts_of};
-ghost use Rattle.phone_c.specs.Parses.{IsParsed, IsParsedTooLong, IsRefusedAs, refusal_number};
+ghost use Rattle.phone_c.specs.Parses.{IsParsed, IsParsedTooLong, IsRefusedAs};
 
 use crate::buffer::give_two;
 use crate::hint::hint_of;
 use crate::number::{Number, carrier_of, extension_of, number_of, or_empty, part_of};
 use crate::status::{MEMORY, NO_REGION, NOT_UTF8, OK, TOO_SMALL};
 use phone_meta::Database;
-use phonenumber::{ParseError, PhoneNumber, parse_with};
-
-/// The number of a refusal.
-fn refusal_number(error: &ParseError) -> u32
-    ensures { result ≡ refusal_number error.now }
-{
-    match error {
-        ParseError::NoNumber => 1,
-        ParseError::InvalidCountryCode => 2,
-        ParseError::TooShortAfterIdd => 3,
-        ParseError::TooShortNsn => 4,
-        ParseError::TooLong => 5,
-        ParseError::MalformedInteger => 6,
-        ParseError::Memory => 7,
-    }
-}
+use phonenumber::{PhoneNumber, parse_with};
 
 /// The plain numbers of a number, its texts at the front of a buffer, and their length; only the
 /// length where the buffer is too short.
@@ -80,6 +65,6 @@ pub(crate) fn parse(
     };
     match parse_with(database, hint, text) {
         Ok(read) => lay(&read, number, out, wrote),
-        Err(error) => refusal_number(&error),
+        Err(error) => u32::from(error.number()),
     }
 }

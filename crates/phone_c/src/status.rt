@@ -27,3 +27,6 @@ pub const BAD_NUMBER: u32 = 21;
 
 /// The mode is none of the four.
 pub const NO_MODE: u32 = 22;
+
+/// No refusal of a text has the number.
+pub const NO_REFUSAL: u32 = 23;

@@ -52,10 +52,13 @@ impl NationalNumber {
         })
     }
 
-    /// The number without its leading zeros.
+    /// The number without its leading zeros. Every number has at most 255 zeros and a value below
+    /// 2^56.
     pub fn value(&self) -> u64
-        ensures { result ≡ self.now.value }
+        ensures value { result ≡ self.now.value }
+        ensures held { IsHeld self.now }
     {
+        self.keeps_bounds();
         self.word % (1 << 56)
     }
 
@@ -67,7 +70,7 @@ impl NationalNumber {
     }
 
     /// A law, which does nothing: every number has at most 255 zeros and a value below 2^56.
-    pub fn keeps_bounds(&self)
+    fn keeps_bounds(&self)
         ensures { IsHeld self.now }
     {
         let _word = self.word;

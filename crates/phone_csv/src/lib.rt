@@ -18,3 +18,4 @@ pub use cutter::Start;
 pub use delimiter::is_delimiter;
 pub use first::{First, FirstError, first_record};
 pub use machine::Place;
+pub use phone_device::{ByteSink, ByteSource};

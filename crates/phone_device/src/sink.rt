@@ -18,8 +18,8 @@ pub trait ByteSink {
     ghost unflushed: { Self → ℕ };
 
     /// Writes once. At `Ok(n)` the first n bytes of the slice were taken; n is at most its length.
-    /// A call that fails takes none, and counts as one fault; so does one that takes 0 bytes of a
-    /// slice that has some. What was taken may be held back until a flush.
+    /// A call that fails takes no byte and counts as one fault; so does a call that takes 0 bytes
+    /// of a slice that has some. The sink may hold back what it took until a flush.
     fn write(&mut self, bytes: &[u8]) -> Result<usize, Fault>
         ensures within { IfOk result (λ n. n ≤ length bytes.now) }
         ensures takes { IfOk result (λ n. Takes (taken self.old) (take n bytes.now)
@@ -39,8 +39,8 @@ pub trait ByteSink {
         ensures kept { taken self.new ≡ taken self.old };
 }
 
-/// Writes all bytes of a slice, by as many writes as the sink wants. At `Err` one write failed or
-/// took none, and a beginning of the bytes was taken. It takes no memory of its own.
+/// Writes all bytes of a slice, by as many writes as the sink needs. At `Err` one write failed or
+/// took no byte, and the sink has taken a beginning of the bytes. The call takes no memory itself.
 pub fn write_all<S: ByteSink>(sink: &mut S, bytes: &[u8]) -> Result<(), Fault>
     ensures all { OnOk result (Takes (S.taken sink.old) bytes.now (S.taken sink.new)) }
     ensures no_fault { OnOk result (S.faults sink.new ≡ S.faults sink.old) }

@@ -57,8 +57,8 @@ impl From<AllocError> for ReadError {
     }
 }
 
-/// Reads all bytes that are to come, block by block. It is refused by `Fault` where a read failed,
-/// and by `Memory` where the bytes found no room; then some bytes have passed and are lost.
+/// Reads all bytes that are to come, block by block. Errors: `Fault` where a read failed, `Memory`
+/// where there was no room for the bytes. At an error some bytes have passed and are lost.
 pub fn read_all<S: ByteSource>(alloc: Global, source: &mut S) -> Result<Vec<u8>, ReadError>
     ensures all { IfOk result (λ v. IsAll (S.to_come source.old) v.items) }
     ensures end { OnOk result (IsAtEnd (S.to_come source.new)) }

@@ -24,10 +24,10 @@ use std::alloc::AllocError;
 /// What a database tells of a number.
 #[derive(Clone, Copy, PartialEq, Eq, Debug)]
 pub struct NumberFacts {
-    /// The region's id, where the number has one.
-    pub region: Option<Id>,
     /// The kind of number.
     pub kind: Type,
+    /// The region's id, where the number has one.
+    pub region: Option<Id>,
     /// Whether it is valid.
     pub is_valid: bool,
 }
@@ -107,8 +107,8 @@ fn facts_in(database: &Database, code: u16, digits: &str) -> Result<NumberFacts,
 {
     let (region, kind) = region_and_kind_in(database, code, digits)?;
     Ok(NumberFacts {
-        region,
         kind,
+        region,
         is_valid: is_known(kind),
     })
 }

@@ -44,11 +44,12 @@ follows text word = option_map_or is_mark_gap (after_alike text word) false
 abbrev pub follows_some : List (List ℕ) → List ℕ → Bool
 follows_some words text = list_any (follows text) words
 
--- the foldings of the characters that words and signs begin with, and those of pauses
+-- the foldings of the characters that words and signs begin with
 abbrev pub label_starts : List ℕ
 label_starts =
     101 ∷ 120 ∷ 97 ∷ 105 ∷ 35 ∷ 126 ∷ 0x434 ∷ 0xFF45 ∷ 0xFF58 ∷ 0xFF49 ∷ 0xFF03 ∷ 0xFF5E ∷ []
 
+-- the foldings of the characters that pauses begin with
 abbrev pub pause_starts : List ℕ
 pause_starts = 44 ∷ 59 ∷ []
 

@@ -35,8 +35,8 @@ impl RunError {
     }
 }
 
-/// Reads all blocks, and answers all lines. It gives how the run ends once the answers are written
-/// that are held then; it is refused where the sink fails before.
+/// Reads all blocks, and answers all lines. Returns how the run ends, once the answers that are
+/// still held are written; an error where the sink fails earlier.
 fn take_all<A: Answers, S: ByteSource, W: ByteSink>(
     alloc: Global,
     answers: &A,
@@ -90,13 +90,15 @@ fn take_all<A: Answers, S: ByteSource, W: ByteSink>(
 /// feed. What is held in memory are a block, the longest line and its answer: it does not grow with
 /// the number of lines.
 ///
-/// The sink is flushed at the end, but where it failed before. Refused by `Input` where the source
-/// failed or 2^64 - 1 bytes were read: then the answers to all lines that a line feed ended are
-/// written. By `Output` where the sink failed, or took no byte of some: then the answers to some
-/// first lines are written, each whole, and a beginning of the answer to the next line, but nothing
-/// of a line after it; what no line feed ends is such a line only where the source was at its end.
-/// By `Memory` where there was no room for a line or its answer: then the answers to some first
-/// lines are written, each whole.
+/// The sink is flushed at the end, unless it failed before. Errors, and what was written:
+///
+/// - `Input`: the source failed, or 2^64 - 1 bytes were read. The answers to all lines that a line
+///   feed ended are written.
+/// - `Output`: the sink failed, or took no byte of some. The answers to some first lines are
+///   written, each whole, then a beginning of the next answer, and nothing of a later answer. The
+///   bytes after the last line feed count as a line only if the source was at its end.
+/// - `Memory`: there was no room for a line or its answer. The answers to some first lines are
+///   written, each whole.
 pub fn answer_lines<A: Answers, S: ByteSource, W: ByteSink>(
     alloc: Global,
     answers: &A,

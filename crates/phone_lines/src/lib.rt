@@ -8,3 +8,4 @@ pub mod laws;
 
 pub use answers::{Answers, without_return};
 pub use blocks::{RunError, answer_lines};
+pub use phone_device::{ByteSink, ByteSource};

@@ -109,14 +109,18 @@ impl Database {
     /// keys are the record's fields. An absent key and `null` mean none, an empty list, false or an
     /// empty record. Of a repeated key the last value counts.
     ///
-    /// Refused by `Json` exactly where the text is no JSON, or nests more than 127 deep; with a
-    /// byte-order mark in front it is none. Then by the first fault that is met, record by record:
-    /// by `Metadata(UnhandledElement)` for keys that may not stand there, with the least of them in
-    /// byte order; by `Kind` for a value of the wrong kind, with the record's kind and the field,
-    /// or with `database` and `records` where the text isn't an array of objects. A number that
-    /// isn't whole or is above 65535 is of the wrong kind. Then as `from` refuses the records: by
-    /// `Metadata(MissingValue)`, or by `Regex`. Refused by `Memory` where memory is refused; never
-    /// by `Io`.
+    /// Errors, in this order:
+    ///
+    /// - `Json` exactly where the text is no JSON, or nests more than 127 deep; a text with a
+    ///   byte-order mark in front is no JSON.
+    /// - The first fault, record by record. `Metadata(UnhandledElement)` for keys that may not
+    ///   stand in a record, with the least of them in byte order. `Kind` for a value of the wrong
+    ///   kind, with the record's kind and the field, or with `database` and `records` where the
+    ///   text isn't an array of objects. A number that isn't whole or is above 65535 is of the
+    ///   wrong kind.
+    /// - Those of `from` for the records: `Metadata(MissingValue)`, or `Regex`.
+    ///
+    /// `Memory` where memory is refused; never `Io`.
     pub fn parse(alloc: Global, text: &str) -> Result<Database, LoadMetadata>
         ensures accepted { IfOk result (λ d. records_of text.now ≡ Ok d) }
         ensures complete { IfOk result (λ d. first_missing d ≡ None) }
@@ -129,12 +133,12 @@ impl Database {
         Database::from(alloc, phone_json::records(alloc, text)?)
     }
 
-    /// The database whose text, in UTF-8, is all the bytes that a source has to come: they are read
-    /// to their end, and then answered as `parse` answers them.
+    /// The database whose text, in UTF-8, is all bytes that a source has to come, as `parse` makes
+    /// it of the text. The source is read to its end.
     ///
-    /// Refused by `Io` exactly where a read failed; some bytes have passed then, and are lost.
-    /// Refused by `Json` where the bytes are no UTF-8, else as `parse` refuses the text. Refused by
-    /// `Memory` where memory is refused, also that for the bytes.
+    /// Errors: `Io` exactly where a read failed, and then some bytes have passed and are lost;
+    /// `Json` where the bytes are no UTF-8; else those of `parse` for the text; `Memory` where
+    /// memory is refused, for the bytes or after them.
     pub fn read_from<S: ByteSource>(alloc: Global, source: &mut S) -> Result<Database, LoadMetadata>
         ensures io { S.faults source.new ≡ S.faults source.old + faults_of result }
         ensures accepted { IfOk result (λ d.
@@ -173,12 +177,11 @@ impl Database {
         }
     }
 
-    /// The database whose text, in UTF-8, is the file at a path: its bytes are answered as
-    /// `read_from` answers them.
+    /// The database whose text, in UTF-8, is the file at a path, as `read_from` reads the file.
     ///
-    /// Refused by `Io` where the file can't be opened or a read of it fails, as that of a folder
-    /// does, and one that is interrupted; else as `read_from` refuses its bytes. No contract says
-    /// that these are the file's bytes.
+    /// Errors: `Io` where the file can't be opened, or a read fails, as a read of a folder does and
+    /// a read that is interrupted; else those of `read_from`. No contract says that the bytes that
+    /// are read are the file's.
     pub fn load<R: Files + AllocGlobal>(rt: &R, path: &str) -> Result<Database, LoadMetadata>
         ensures complete { IfOk result (λ d. first_missing d ≡ None) }
         ensures read { IfOk result (λ d. AllByRecursion IsPattern (patterns d)) }

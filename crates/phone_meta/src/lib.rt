@@ -10,6 +10,7 @@ mod of_code;
 pub use database::Database;
 pub use iter::Iter;
 pub use of_code::{Placed, WithLast, WithLasts};
+pub use phone_device::ByteSource;
 pub use phone_index::Steps;
 pub use phone_territory::{
     Captured, Descriptor, Descriptors, FirstGroup, Format, LoadMetadata, Metadata, Pattern, loader,

@@ -12,7 +12,7 @@ pub mod printed;
 pub mod printed_international;
 mod readers;
 pub mod rfc3966;
-pub mod rows;
+mod rows;
 mod sets;
 mod suffix;
 mod tails;

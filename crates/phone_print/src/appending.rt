@@ -1,6 +1,6 @@
 //! What printed texts are made of, put behind a text that is there already, so that a line of many
-//! of them is made in one piece. Each is refused only for memory; then a part of it may stand there,
-//! behind the text.
+//! of them is made in one piece. Each is refused only for memory; then a part of it may stand
+//! there, behind the text.
 ghost use Rattle.std.specs.Prelude.{◌≡◌, ◌∷◌, ◌++◌, OnErr, OnOk, chars, codes, encode_utf8_all};
 ghost use Rattle.std.specs.Prelude.{string_bytes};
 ghost use Rattle.phone_print.specs.Behind.{IsBehind};

@@ -261,8 +261,9 @@ fn push_laid(
     abroad: &str,
     at_home: &str,
 ) -> Result<(), AllocError>
-    ensures texts { OnOk result (string_bytes line.new ≡ string_bytes line.old ++ 9 ∷ texts_laid m.now
-        number.now (decimal number.now.code.value) digits.now abroad.now at_home.now) }
+    ensures texts { OnOk result (string_bytes line.new ≡ string_bytes line.old ++ 9 ∷
+        texts_laid m.now number.now (decimal number.now.code.value) digits.now abroad.now
+        at_home.now) }
     ensures behind { OnErr result (IsBehind (string_bytes line.old) (string_bytes line.new)) }
 {
     let mut buffer = Buffer::new();

@@ -45,25 +45,25 @@ pub(crate) struct DialledNumber<'a, 'd> {
     pub(crate) territory: Option<&'d Metadata>,
 }
 
-/// A number with its calling code: its source, what is left of its digits, and as prefix the
-/// reader's one or the code in decimal, after
+/// A number with its calling code: the source of the code, the digits that are left, and as prefix
+/// the reader's prefix, or the code in decimal where the reader has none. Plus signs and
+/// international prefixes are those of
 /// [`international_prefix`](crate::helper::international_prefix) with the pattern of the hint's
-/// territory. After a plus sign or an international prefix the code is the number of the reader's
-/// prefix, else the shortest listed code at the front of the digits, which is cut off. Otherwise it
-/// is the code of the hint's territory; where the digits begin with it and, as they stand, don't
-/// look like a number of the territory or have no possible length, it is cut off and the source is
-/// `Number`.
+/// territory. After one of these the code is the number of the reader's prefix, else the shortest
+/// listed code at the front of the digits, which is cut off. Otherwise the code is that of the
+/// hint's territory. Digits that begin with this code lose it, and the source is `Number`, where
+/// the digits as they stand don't look like a number of the territory or have no possible length.
 ///
 /// `TooShortNsn` where at most two digits follow a sign or an international prefix, or stand beside
 /// the reader's prefix; then `MalformedInteger` for a prefix that is no number below 65536;
-/// `InvalidCountryCode` where the code isn't listed, none is at the front, or there is no hint or
-/// no record of it; `Memory` where memory was refused. Where the hint has no international prefix,
-/// and the parts are ASCII digits after the leading plus signs, each of the other refusals is told
-/// without asking for memory.
+/// `InvalidCountryCode` where the code isn't listed, no listed code is at the front, or there is no
+/// hint or no record of the hint; `Memory` where memory was refused. Where the hint has no
+/// international prefix, and the parts are ASCII digits after the leading plus signs, each of the
+/// other errors is returned without a request for memory.
 ///
-/// A borrowed national part of ASCII digits, leading plus signs aside, stays borrowed, and a code
-/// that is cut off it is borrowed from it too. So where the prefix and the extension are ASCII
-/// digits as well, and there is no hint or no record of it, the answer is never `Memory`.
+/// A borrowed national part of ASCII digits, leading plus signs aside, stays borrowed, and the code
+/// that is cut off is borrowed from the national part too. So the result is never `Memory` where
+/// prefix and extension are ASCII digits as well, and there is no hint or no record of the hint.
 pub fn country_code<'a>(
     db: &Database,
     hint: Option<Id>,

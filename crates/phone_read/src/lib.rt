@@ -8,7 +8,7 @@ mod hints;
 pub mod laws;
 pub mod number_laws;
 mod reading;
-pub mod rows;
+mod rows;
 pub mod validator;
 
 pub use phone_core::Reading;

@@ -25,16 +25,16 @@ use phone_texts::together::{both, instead};
 use std::alloc::{AllocError, Global};
 use std::borrow::CowStr;
 
-/// Reads a text as a number under a database. The hint is the region whose international prefix
-/// counts, whose calling code counts where the text doesn't tell one, and by whose rules the
-/// national number is stripped, whatever its code is; without a hint it is stripped by those of the
-/// territory that its digits without leading zeros belong to.
+/// Reads a text as a number under a database. The hint is a region. The hint's international prefix
+/// counts; the hint's calling code counts where the text has none; the hint's rules strip the
+/// national number, also that of another calling code. Without a hint the rules of the territory
+/// strip to which the digits without their leading zeros belong.
 ///
 /// `NoNumber` for a text that neither reader takes, or whose national part isn't viable; then the
 /// refusals of [`country_code`](crate::helper::country_code); then `TooShortNsn` for a national
 /// text of fewer than 2 bytes, `TooLong` for one of more than 17 and for a value from 2^56 on,
-/// `MalformedInteger` for one that is no number, as that of zeros alone. `Memory` where memory was
-/// refused, and nowhere else.
+/// `MalformedInteger` for a national text that is no number, as zeros alone. `Memory` where memory
+/// was refused, and nowhere else.
 pub fn read(db: &Database, hint: Option<Id>, text: &str) -> Result<Reading, ParseError>
     ensures { (result ≡ Err ParseError.Memory) ⊎ Reads db.now hint (chars text.now) result }
 {

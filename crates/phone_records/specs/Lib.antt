@@ -1,3 +1,4 @@
 pub mod Empty
 pub mod Kinds
+pub mod Members
 pub mod Missing

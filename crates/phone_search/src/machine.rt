@@ -39,9 +39,9 @@ pub struct Captured {
 /// How many bytes of states without groups a machine keeps.
 const KEPT: usize = 0x1_0000;
 
-/// So many bytes searched, and so many more a state of the pattern, are what the kept states serve:
-/// with more the kit gives each state its columns for pairs of bytes, which takes memory that
-/// searches of short texts never win back. So the states are forgotten first.
+/// How many bytes are searched with the kept states: this many, and `WIDE_PER_STATE` more for each
+/// state of the pattern. After more bytes the kit would give each state columns for pairs of bytes,
+/// whose memory searches of short texts never win back. So the states are forgotten before that.
 const WIDE: usize = 0x1000;
 
 const WIDE_PER_STATE: usize = 0x80;

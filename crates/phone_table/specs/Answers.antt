@@ -1,8 +1,9 @@
 -- What a record of a table is answered: seven fields behind its own.
 use Rattle.std.specs.Prelude.{◌≡◌, ◌⊎◌, ◌==◌, ℕ, Bool, true, false, List, [], ◌∷◌, codes}
 use Rattle.std.specs.Prelude.{chars, length}
-use Rattle.std.specs.Prelude.{Option, Some, None, Ok, Err, get_or}
+use Rattle.std.specs.Prelude.{Option, Some, None, Ok, Err}
 use Rattle.std.specs.Str.{IsUtf8, trim}
+use Rattle.phone_core.specs.Refusals.{report_words}
 use Rattle.phone_core.specs.declared.country.Id.{Id}
 use Rattle.phone_core.specs.declared.error.ParseError.{ParseError}
 use Rattle.phone_core.specs.declared.mode.Mode.TheVariants.{E164, International, National}
@@ -10,7 +11,7 @@ use Rattle.phone_csv.specs.Formats.{Record}
 use Rattle.phone_meta.specs.Codes.{first_of, territories}
 use Rattle.phone_records.specs.declared.loader.Metadata.{Metadata}
 use Rattle.phone_core.specs.declared.reading.Reading.{Reading}
-use Rattle.phonenumber.specs.Reports.{kind_word, refusal_fields, region_word, validity_word}
+use Rattle.phonenumber.specs.Reports.{kind_word, region_word, validity_word}
 use Rattle.phone_print.specs.Texts.{text_by}
 use Rattle.phone_choice.specs.Facts.{is_valid_by, kind_by, printed_as, region_by}
 use Rattle.phone_choice.specs.Readings.{ReadsBy}
@@ -31,10 +32,6 @@ number_answer rules db m n = text_by m E164 None (printed_as rules n) ∷
 abbrev pub refused_answer : List ℕ → Record
 refused_answer words = [] ∷ [] ∷ [] ∷ [] ∷ [] ∷ [] ∷ words ∷ []
 
--- the words of a refusal, as a report line has them behind its number
-abbrev pub refusal_words : ParseError → List ℕ
-refusal_words e = get_or (refusal_fields e) 1 []
-
 -- a field has no character but white space
 abbrev pub is_blank : List ℕ → Bool
 is_blank field = length (trim field) == 0
@@ -49,7 +46,7 @@ pub data IsFieldAnswer (rules : Rules) (db : List Metadata) (hint : Option Id) (
       IsFieldAnswer rules db hint field (refused_answer (codes "empty"))
   refused : (e : ParseError) → IsUtf8 field → is_blank field ≡ false →
       ReadsBy rules db hint (chars field) (Err e) →
-      IsFieldAnswer rules db hint field (refused_answer (refusal_words e))
+      IsFieldAnswer rules db hint field (refused_answer (report_words e))
   read : (n : Reading) (m : Metadata) → IsUtf8 field → is_blank field ≡ false →
       ReadsBy rules db hint (chars field) (Ok n) →
       first_of (territories n.code.value db) ≡ Some m →

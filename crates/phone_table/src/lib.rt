@@ -19,7 +19,7 @@ pub use answer::{Answer, answer_to};
 pub use counts::Counts;
 pub use header::{Column, Columns, column_of, columns_of};
 pub use key::{ANSWER_WIDTH, e164_of};
-pub use phone_csv::{FirstError, RunError};
+pub use phone_csv::{ByteSink, ByteSource, FirstError, RunError};
 pub use region::id_in;
 pub use run::{Asked, TableError, write_table};
 pub use table::Table;

@@ -1,13 +1,11 @@
 //! A list that contracts see as its items.
 ghost use Rattle.std.specs.Prelude.{◌≡◌, [], IfOk};
 
-use serde::{Deserialize, Serialize};
 use std::alloc::{AllocError, Global};
 use std::marker::Model;
 
 /// A list of a record.
-#[derive(Debug, Drop, Serialize, Deserialize)]
-#[serde(transparent)]
+#[derive(Debug, Drop)]
 pub struct Items<T> {
     items: Vec<T>,
 }

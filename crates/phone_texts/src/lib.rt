@@ -4,6 +4,7 @@
 
 pub mod error;
 pub mod fault;
+mod forms;
 pub mod items;
 pub mod text;
 pub mod together;

@@ -2,13 +2,11 @@
 ghost use Rattle.std.specs.Prelude.{◌≡◌, IfOk, string_bytes};
 
 use crate::items::TryCopy;
-use serde::{Deserialize, Serialize};
 use std::alloc::{AllocError, Global};
 use std::marker::Model;
 
 /// A text of a record.
-#[derive(Debug, Drop, Serialize, Deserialize)]
-#[serde(transparent)]
+#[derive(Debug, Drop)]
 pub struct Text {
     text: String,
 }

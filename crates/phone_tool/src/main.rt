@@ -3,8 +3,7 @@
 //! with, is told at `program`.
 #![tactic(auto)]
 
-use phone_device::Std;
-use phonenumber::report::told;
+use phone_device::{Std, write_all};
 pub use phonenumber::report::{RunError, program, run};
 use std::env::{self, Args};
 use std::io::{ErrorKind, Lock};
@@ -36,7 +35,10 @@ fn main(rt: HostRuntime) -> ExitCode {
     let status = match env::args(&rt) {
         Ok(words) => on_words(&rt, words),
         Err(error) if error.kind() == ErrorKind::InvalidData => on_devices(&rt, &[]),
-        Err(_) => told(&mut Std::new(rt.stderr()), "out of memory\n", 1),
+        Err(_) => {
+            let _written = write_all(&mut Std::new(rt.stderr()), b"out of memory\n");
+            1
+        }
     };
     ExitCode::from(status)
 }

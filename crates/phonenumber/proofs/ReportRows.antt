@@ -50,9 +50,11 @@ one_too_few = not_viable (codes "1") (λ e. cc) refl
 pub refused : IsReportLine (nz ∷ []) (Some NZ) (codes "1") (codes "error\t1\tnot a number")
 unfolding name
 refused =
-    Reports.refused NoNumber (IsUtf8-low (codes "1") refl)
+    subst (λ n. IsReportLine (nz ∷ []) (Some NZ) (codes "1") (tabbed (codes "error" ∷ n ∷ codes "not a number" ∷ [])))
+    (decimal_digit 1 (omega arith))
+    (Reports.refused NoNumber (IsUtf8-low (codes "1") refl)
     (subst (λ t. Reads (nz ∷ []) (Some NZ) t (Err NoNumber)) (sym (chars-low (codes "1") refl))
-    (thin_reads (nz ∷ []) nz_is_thin (Some NZ) (codes "1") refl (Err NoNumber) (Thin.not_viable one_too_few)))
+    (thin_reads (nz ∷ []) nz_is_thin (Some NZ) (codes "1") refl (Err NoNumber) (Thin.not_viable one_too_few))))
 
 decimal_12 : decimal 12 ≡ codes "12"
 decimal_12 = decimal_step 12 (omega arith) (omega arith) ∙ ap (λ t. t ++ 50 ∷ []) (decimal_digit 1 (omega arith))

@@ -1,17 +1,15 @@
 -- What the report says of one line of its input: fields parted by one tab.
 use Rattle.std.specs.Prelude.{◌≡◌, ℕ, Bool, if◌then◌else◌, List, [], ◌∷◌, chars, codes}
 use Rattle.std.specs.Prelude.{Option, Some, None, Ok, Err}
+use Rattle.std.specs.Fmt.{decimal}
 use Rattle.std.specs.Option.{option_map_or}
 use Rattle.std.specs.Str.{IsUtf8}
 use Rattle.phone_core.specs.Ids.{name}
+use Rattle.phone_core.specs.Refusals.{refusal_number, report_words}
 use Rattle.phone_core.specs.declared.country.Id.{Id}
 use Rattle.phone_core.specs.declared.country.Source.{Source}
 use Rattle.phone_core.specs.declared.country.Source.TheVariants.{Plus, Idd, Number, Default}
 use Rattle.phone_core.specs.declared.error.ParseError.{ParseError}
-use Rattle.phone_core.specs.declared.error.ParseError.TheVariants.{NoNumber, InvalidCountryCode}
-use Rattle.phone_core.specs.declared.error.ParseError.TheVariants.{TooShortAfterIdd, TooShortNsn}
-use Rattle.phone_core.specs.declared.error.ParseError.TheVariants.{TooLong, MalformedInteger}
-use Rattle.phone_core.specs.declared.error.ParseError.TheVariants.{Memory}
 use Rattle.phone_core.specs.declared.kind.«Type».{«Type»}
 use Rattle.phone_core.specs.declared.kind.«Type».TheVariants.{FixedLine, Mobile, FixedLineOrMobile}
 use Rattle.phone_core.specs.declared.kind.«Type».TheVariants.{TollFree, PremiumRate, SharedCost}
@@ -65,13 +63,7 @@ validity_word valid = if valid then codes "valid" else codes "invalid"
 
 -- a refusal's number and its words
 abbrev pub refusal_fields : ParseError → List (List ℕ)
-refusal_fields NoNumber = codes "1" ∷ codes "not a number" ∷ []
-refusal_fields InvalidCountryCode = codes "2" ∷ codes "invalid country code" ∷ []
-refusal_fields TooShortAfterIdd = codes "3" ∷ codes "the number is too short after IDD" ∷ []
-refusal_fields TooShortNsn = codes "4" ∷ codes "the number is too short after the country code" ∷ []
-refusal_fields TooLong = codes "5" ∷ codes "the number is too long" ∷ []
-refusal_fields MalformedInteger = codes "6" ∷ codes "malformed integer" ∷ []
-refusal_fields Memory = codes "7" ∷ codes "out of memory" ∷ []
+refusal_fields e = decimal (refusal_number e) ∷ report_words e ∷ []
 
 -- the line of a number of a listed code: its texts in the four modes, then what is known of it
 abbrev pub number_line : List Metadata → Metadata → Reading → List ℕ

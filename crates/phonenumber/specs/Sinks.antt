@@ -15,4 +15,5 @@ IsWrittenWhole gives text before result after =
 -- one `write_str` of a formatter: where it is answered by `Ok` the text is written
 abbrev pub puts : {W : Type 0} → (W → List ℕ → W → Type 0) → Formatter W → List ℕ →
     Result ⊤ Error → Formatter W → Type 0
-puts took f text result g = (WritesOnOk took f result text g) × (WritesStyledOnOk took f result text g)
+puts took f text result g =
+    (WritesOnOk took f result text g) × (WritesStyledOnOk took f result text g)

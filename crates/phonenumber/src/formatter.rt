@@ -178,11 +178,12 @@ impl Formatter<'_, '_, '_> {
 }
 
 impl Formatter<'_, '_, '_> {
-    /// Puts the texts in the four modes behind a line, each after one tab: E.164, international,
-    /// national, RFC 3966, each as `to_text` would give it, whatever the printer's own mode is. It
-    /// takes memory of the database's allocator, where the line doesn't grow: for a national number
-    /// that is laid out, or has leading zeros. `UnknownCode` exactly where the database lists no
-    /// territory of the code, `Memory` where memory was refused: then the line is as it was.
+    /// Appends the texts in the four modes to a line, each after one tab: E.164, international,
+    /// national, RFC 3966, each as `to_text` returns it, whatever the printer's own mode is. Where
+    /// the line doesn't grow, the call takes memory, of the database's allocator, only for a
+    /// national number that is laid out or has leading zeros. `UnknownCode` exactly where the
+    /// database lists no territory of the code, `Memory` where memory was refused; after an error
+    /// the line is as it was.
     pub fn push_texts(&self, line: &mut String) -> Result<(), FormatError>
         ensures texts { OnOk result ((texts : List ℕ) × (texts_of self.now ≡ Some texts) ×
             (string_bytes line.new ≡ string_bytes line.old ++ 9 ∷ texts)) }
@@ -211,9 +212,10 @@ impl Formatter<'_, '_, '_> {
 }
 
 impl Formatter<'_, '_, '_> {
-    /// Writes the printed text to a sink: it is made whole first, with the database's allocator,
-    /// and handed to the sink in one call, whose answer is given. Where `to_text` would refuse it
-    /// an error is answered, and the sink is as it was.
+    /// Writes the printed text to a sink. The whole text is made first, with the database's
+    /// allocator; then one call hands the text to the sink, and the result of that call is
+    /// returned. Where `to_text` would return an error, an error is returned, and the sink is as it
+    /// was.
     pub fn write_to<S: TextSink>(&self, sink: &mut S) -> fmt::Result
         ensures { IsWrittenWhole S.gives (text_of self.now) sink.old result sink.new }
     {
@@ -230,8 +232,8 @@ impl fmt::Display for Formatter<'_, '_, '_> {
 
     ghost output = { λ f. text_of f };
 
-    /// Writes the printed text as `write_to` does: in one `write_str`, or an error is answered and
-    /// nothing is written.
+    /// Writes the printed text as `write_to` does: in one `write_str`, or not at all and with an
+    /// error.
     fn fmt<W: fmt::Write>(&self, f: &mut fmt::Formatter<W>) -> fmt::Result
         ensures writes { DisplaysOnOk W.write_str_gives f.old result (text_of self.now) f.new }
         ensures styled { DisplaysStyledOnOk W.write_str_gives f.old result None f.new }

@@ -10,7 +10,7 @@ mod parser;
 mod phone_number;
 mod queries;
 pub mod report;
-pub mod rows;
+mod rows;
 mod text_sink;
 
 pub use formatter::{FormatError, Formatter, format_with};
@@ -22,6 +22,7 @@ pub use phone_core::{
 };
 pub use phone_number::PhoneNumber;
 pub use phone_print::Texts;
+pub use phone_read::validator;
 pub use phone_texts::MetadataError;
 pub use queries::{Country, Queried, is_valid_with};
 pub use text_sink::TextSink;

@@ -1,2 +1,4 @@
 //! The territories that numbers are read and printed under.
-pub use phone_meta::{Database, Descriptor, Descriptors, Format, LoadMetadata, Metadata, loader};
+pub use phone_meta::{
+    ByteSource, Database, Descriptor, Descriptors, Format, LoadMetadata, Metadata, Steps, loader,
+};

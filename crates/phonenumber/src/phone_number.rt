@@ -73,10 +73,13 @@ impl PhoneNumber {
         &self.code
     }
 
-    /// The national number, with its leading zeros.
+    /// The national number, with its leading zeros. Every number has at most 255 of them, a value
+    /// below 2^56, and a calling code below 2^16.
     pub fn national(&self) -> &NationalNumber
-        ensures { result.now ≡ self.now.national }
+        ensures national { result.now ≡ self.now.national }
+        ensures bounded { IsBounded self.now }
     {
+        self.keeps_bounds();
         &self.national
     }
 
@@ -103,10 +106,10 @@ impl PhoneNumber {
 
     /// A law, which does nothing: the national number of every number has at most 255 zeros and a
     /// value below 2^56, and its calling code is below 2^16.
-    pub fn keeps_bounds(&self)
+    pub(crate) fn keeps_bounds(&self)
         ensures { IsBounded self.now }
     {
-        self.national.keeps_bounds();
+        let _value = self.national.value();
         let _code = self.code.value();
     }
 
@@ -172,8 +175,8 @@ impl DeserializeOwned for PhoneNumber {
 
 impl SameValue for PhoneNumber {
     fn is_same(&self, other: &PhoneNumber) -> bool {
-        self.national.keeps_bounds();
-        other.national.keeps_bounds();
+        let _value = self.national.value();
+        let _other = other.national.value();
         self == other
     }
 }

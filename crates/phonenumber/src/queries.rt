@@ -1,4 +1,4 @@
-//! What a database tells of a number: its territory, its region, its kind, whether it is valid.
+//! What a database tells of a number: its territory, its kind, its region, whether it is valid.
 ghost use Rattle.std.specs.Prelude.{◌≡◌, IfOk, false};
 ghost use Rattle.std.specs.Option.{option_and_then, option_copied, option_map_or};
 ghost use Rattle.phone_core.specs.Ids.{id_of};
@@ -22,10 +22,10 @@ use std::marker::Model;
 /// What a database tells of a number.
 #[derive(Clone, Copy, PartialEq, Eq, Debug)]
 pub struct Queried {
-    /// The region's id, where it has one.
-    pub region: Option<Id>,
     /// The kind of number.
     pub kind: Type,
+    /// The region's id, where it has one.
+    pub region: Option<Id>,
     /// Whether it is valid.
     pub is_valid: bool,
 }
@@ -108,12 +108,12 @@ impl PhoneNumber {
         region_and_kind_of(database, self.code().value(), value)
     }
 
-    /// The number's region, kind and validity at once, as `country`, `number_type` and
+    /// The number's kind, region and validity at once, as `number_type`, `country` and
     /// `is_valid_with` tell them: its territory and its kind are looked for once where the number
     /// has no leading zeros. Refused only for memory.
     pub fn queried(&self, database: &Database) -> Result<Queried, AllocError>
-        ensures region { IfOk result (λ q. q.region ≡ region_of_number database.now self.now) }
         ensures kind { IfOk result (λ q. q.kind ≡ kind_of_number database.now self.now) }
+        ensures region { IfOk result (λ q. q.region ≡ region_of_number database.now self.now) }
         ensures is_valid { IfOk result (λ q. q.is_valid ≡ is_valid database.now self.now) }
     {
         let (region, kind) = self.region_and_kind(database)?;
@@ -122,8 +122,8 @@ impl PhoneNumber {
             _ => self.is_valid_with(database)?,
         };
         Ok(Queried {
-            region,
             kind,
+            region,
             is_valid,
         })
     }

@@ -4,13 +4,13 @@ ghost use Rattle.std.specs.declared.fmt.Error.{Error};
 
 use std::fmt;
 
-/// Where printed texts go, each in one call. A sink tells what a call leaves that is answered so;
-/// one that takes nothing of a text that it refuses says it there.
+/// Where printed texts go, each in one call. `gives` says what a call leaves, by its result; for a
+/// sink that takes nothing of a text that it refuses, `gives` says that too.
 pub trait TextSink {
-    // What a call with a text leaves, by its answer.
+    // What a call with a text leaves, by its result.
     ghost gives: { Self → List ℕ → Result ⊤ Error → Self → Type 0 };
 
-    /// Takes a text, or answers an error.
+    /// Takes a text, or returns an error.
     fn put(&mut self, text: &str) -> fmt::Result
         ensures { gives self.old text.now result self.new };
 }
@@ -20,7 +20,8 @@ impl<W: fmt::Write> TextSink for fmt::Formatter<W> {
 
     ghost gives = { puts W.write_str_gives };
 
-    /// Writes the text, by one `write_str`. Its writer tells nothing of a call that failed.
+    /// Writes the text, by one `write_str`. The contract of a writer says nothing of a call that
+    /// failed.
     fn put(&mut self, text: &str) -> fmt::Result {
         self.write_str(text)
     }

@@ -172,17 +172,10 @@ fn verdict(alloc: Global, name: &str) -> Result<String, AllocError> {
     Ok(out)
 }
 
-/// The text of the refusal of this number.
+/// The text of the refusal of this number; that of want of memory where none has it.
 fn refusal_text(alloc: Global, number: &str) -> Result<String> {
-    let error = match number {
-        "1" => ParseError::NoNumber,
-        "2" => ParseError::InvalidCountryCode,
-        "3" => ParseError::TooShortAfterIdd,
-        "4" => ParseError::TooShortNsn,
-        "5" => ParseError::TooLong,
-        "6" => ParseError::MalformedInteger,
-        _ => ParseError::Memory,
-    };
+    let number = number.parse::<u8>()?;
+    let error = ParseError::with_number(number).unwrap_or(ParseError::Memory);
     let text = around(alloc, begin(alloc), written(alloc, &error))??;
     Ok(text)
 }

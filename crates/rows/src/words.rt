@@ -83,14 +83,9 @@ pub fn source(source: Source) -> &'static str {
 /// How a refusal is written: `error`, its number and its text. Want of memory is no answer, but an
 /// error.
 pub fn refusal(alloc: Global, error: &ParseError) -> Result<String> {
-    let text = match error {
-        ParseError::NoNumber => "error\t1\tnot a number",
-        ParseError::InvalidCountryCode => "error\t2\tinvalid country code",
-        ParseError::TooShortAfterIdd => "error\t3\tthe number is too short after IDD",
-        ParseError::TooShortNsn => "error\t4\tthe number is too short after the country code",
-        ParseError::TooLong => "error\t5\tthe number is too long",
-        ParseError::MalformedInteger => "error\t6\tmalformed integer",
-        ParseError::Memory => return Err(anyhow!("out of memory")),
-    };
-    Ok(String::from_str(alloc, text)?)
+    if let ParseError::Memory = error {
+        return Err(anyhow!("out of memory"));
+    }
+    let (number, words) = (error.number(), error.report_words());
+    Ok(format!(in alloc; "error\t{number}\t{words}")?)
 }

@@ -24,13 +24,14 @@ use phone_read::laws::some_reading;
 /// its words. A line that isn't UTF-8: `error`, `0`, `not UTF-8`. Nothing in memory grows with the
 /// number of lines.
 ///
-/// The sink is flushed at the end, but where it failed before. Refused by `Input` where the source
-/// failed, or 2^64 - 1 bytes were read: then the report on all lines that a line feed ended is
-/// written. By `Output` where the sink failed, or took no byte of some: then the report lines of
-/// some first lines are written, each whole, and a beginning of the next one, but nothing of a line
-/// after it; what no line feed ends is such a line only where the source was at its end. By
-/// `Memory` where memory was refused: then the report lines of some first lines are written, each
-/// whole.
+/// The sink is flushed at the end, unless it failed before. Errors, and what was written:
+///
+/// - `Input`: the source failed, or 2^64 - 1 bytes were read. The report on all lines that a line
+///   feed ended is written.
+/// - `Output`: the sink failed, or took no byte of some. The report lines of some first lines are
+///   written, each whole, then a beginning of the next report line, and nothing of a later one. The
+///   bytes after the last line feed count as a line only if the source was at its end.
+/// - `Memory`: memory was refused. The report lines of some first lines are written, each whole.
 pub fn run<S: ByteSource, W: ByteSink>(
     database: &Database,
     hint: Option<Id>,
@@ -62,8 +63,8 @@ pub fn begins_each_report()
         TakesBeginning db hint bytes before after }
 {}
 
-/// A line has a report line under each database and hint. A text is read, since that it has a
-/// reading is what the readers show.
+/// A line has a report line under each database and hint. The body reads the text, since the
+/// contract of reading shows that the text has a reading.
 pub fn some_report_line(line: &[u8])
     ensures { (db : List loader.Metadata) (hint : Option Id) →
         (answer : List ℕ) × IsReportLine db hint line.now answer }

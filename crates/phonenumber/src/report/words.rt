@@ -67,14 +67,10 @@ pub(crate) fn refusal_line(alloc: Global, error: ParseError) -> Result<String, A
     ensures line { IfOk result (λ line. string_bytes line ≡ refusal_line error) }
     ensures memory { error ≡ refusal.Memory → IsErr result }
 {
-    let line = match error {
-        ParseError::NoNumber => "error\t1\tnot a number",
-        ParseError::InvalidCountryCode => "error\t2\tinvalid country code",
-        ParseError::TooShortAfterIdd => "error\t3\tthe number is too short after IDD",
-        ParseError::TooShortNsn => "error\t4\tthe number is too short after the country code",
-        ParseError::TooLong => "error\t5\tthe number is too long",
-        ParseError::MalformedInteger => "error\t6\tmalformed integer",
-        ParseError::Memory => return Err(AllocError),
-    };
-    String::from_str(alloc, line)
+    if let ParseError::Memory = error {
+        return Err(AllocError);
+    }
+    let number = error.number();
+    let words = error.report_words();
+    format!(in alloc; "error\t{number}\t{words}")
 }

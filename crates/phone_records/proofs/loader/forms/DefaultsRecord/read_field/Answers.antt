@@ -1,0 +1,10 @@
+use Rattle.std.proofs.Common.{◌∷◌, [], codes, refl, ap}
+use Rattle.serde.specs.Event.{boolean}
+use Rattle.phone_records.specs.Members.{defaults_written, descriptor_written, format_written, given, number_written, sequence, text_written}
+use Rattle.phone_records.proofs.Written.{but_for-cons}
+use Rattle.phone_records.proofs.loader.forms.DefaultsRecord.read_field.Goals as goal
+
+pub returns : goal.returns
+returns g c =
+    (but_for-cons c.args.name.now (codes "format") _ _ _ _ (λ ne. ap (format_written) (c.in_ok-read.ensures ne))
+    (but_for-cons c.args.name.now (codes "descriptor") _ _ _ _ (λ ne. ap (descriptor_written) (c.in_ok-read-2.ensures ne)) refl))
