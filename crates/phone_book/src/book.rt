@@ -2,7 +2,7 @@
 ghost use Rattle.std.specs.Prelude.{◌≡◌, ◌↔◌, ◌++◌, [], List, false, true, length, map, slice_get};
 ghost use Rattle.std.specs.Prelude.{string_bytes, IfErr, IfOk, IsErr, OnErr};
 ghost use Rattle.std.specs.Option.{option_copied};
-ghost use Rattle.phone_meta.specs.Codes.{is_listed, is_prefix_free};
+ghost use Rattle.phone_meta.specs.CodeLookUps.{is_listed, is_prefix_free};
 ghost use Rattle.phone_core.specs.declared.reading.Reading.{Reading};
 ghost use Rattle.phone_print.specs.Texts.{e164_text};
 ghost use Rattle.phone_book.specs.Answers.{AreAnswered, AreAnsweredBy, HasNumbers, HasNumbersBy};
@@ -35,7 +35,7 @@ pub struct Book {
 impl Model for Book {
     ghost use Rattle.std.specs.Prelude.{◌≡◌, true};
     ghost use Rattle.indexmap.specs.IndexMap.{values};
-    ghost use Rattle.phone_meta.specs.Codes.{is_prefix_free};
+    ghost use Rattle.phone_meta.specs.CodeLookUps.{is_prefix_free};
     ghost use Rattle.phone_book.specs.Books.{AreKept, Contacts};
     ghost use Rattle.phone_book.specs.Firsts.{firsts};
 

@@ -23,7 +23,7 @@ use Rattle.phone_c.specs.Answers.{kind_number, mode_number}
 use Rattle.phone_c.specs.Hints.{hint_of}
 use Rattle.phone_c.specs.Numbers.{HasNumbers, IsNumber, IsPart, source_number}
 use Rattle.phone_c.specs.Parses.{ReadsAs}
-use Rattle.phone_c.specs.Reports.{IsReportOf}
+use Rattle.phone_c.specs.TextReports.{IsReportOf}
 use Rattle.phone_c.specs.declared.number.Number as plain
 use Rattle.phone_c.specs.declared.number.Part.{Part}
 

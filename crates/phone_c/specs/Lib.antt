@@ -6,4 +6,4 @@ pub mod Numbers
 pub mod Openings
 pub mod Owned
 pub mod Parses
-pub mod Reports
+pub mod TextReports

@@ -2,8 +2,8 @@
 use Rattle.std.specs.Prelude.{◌≡◌, ◌⊎◌, ℕ, List, None, Ok, IsUtf8}
 use Rattle.std.specs.List.{AllByRecursion}
 use Rattle.phone_json.specs.Records.{records_of}
-use Rattle.phone_texts.specs.Errors.{told}
-use Rattle.phone_texts.specs.declared.error.LoadMetadata.{LoadMetadata}
+use Rattle.phone_base.specs.Errors.{told}
+use Rattle.phone_base.specs.declared.error.LoadMetadata.{LoadMetadata}
 use Rattle.phone_records.specs.Missing.{first_missing}
 use Rattle.phone_records.specs.declared.loader.Metadata.{Metadata}
 use Rattle.phone_territory.specs.First.{IsPattern}

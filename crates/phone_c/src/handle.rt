@@ -3,7 +3,7 @@ ghost use Rattle.std.specs.Prelude.{◌≡◌, List, MatchOption};
 ghost use denote.RawPtr.{null_ptr, InBlock};
 ghost use Rattle.phone_records.specs.declared.loader.Metadata.{Metadata};
 
-use crate::loose::Loose;
+use crate::raw_box::RawBox;
 use phone_meta::Database;
 use std::alloc::Global;
 use std::marker::Model;
@@ -24,7 +24,7 @@ impl Model for Handle {
 
 impl Handle {
     /// A handle behind which nothing is open.
-    fn closed() -> Handle
+    fn empty() -> Handle
         ensures { result.at ≡ null_ptr }
     {
         Handle {
@@ -33,16 +33,16 @@ impl Handle {
     }
 
     /// The handle at the pointer of a boxed database.
-    fn of_loose(loose: Loose<Database, Global>) -> Handle
+    fn of_raw(loose: RawBox<Database, Global>) -> Handle
         ensures open { InBlock result.at }
         ensures records { result.records ≡ loose.value }
     {
-        let Loose { at, alloc: _ } = loose;
+        let RawBox { at, alloc: _ } = loose;
         Handle { at: at as *mut u8 }
     }
 
     /// The pointer of the boxed database, where one is open.
-    fn into_loose(self, alloc: Global) -> Option<Loose<Database, Global>>
+    fn into_raw(self, alloc: Global) -> Option<RawBox<Database, Global>>
         ensures { MatchOption result (self.at ≡ null_ptr)
             (λ l. InBlock self.at × (l.value ≡ self.records)) }
     {
@@ -50,7 +50,7 @@ impl Handle {
         if at.is_null() {
             None
         } else {
-            Some(Loose {
+            Some(RawBox {
                 at: at as *mut Database,
                 alloc,
             })
@@ -64,8 +64,8 @@ pub(crate) fn take(alloc: Global, handle: &mut Handle) -> Option<Box<Database>>
         (λ b. InBlock handle.old.at × (b.value ≡ handle.old.records)) }
     ensures closed { handle.new.at ≡ null_ptr }
 {
-    let whole = std::mem::replace(handle, Handle::closed());
-    match whole.into_loose(alloc) {
+    let whole = std::mem::replace(handle, Handle::empty());
+    match whole.into_raw(alloc) {
         Some(loose) => Some(loose.into_box()),
         None => None,
     }
@@ -76,8 +76,8 @@ pub(crate) fn put(alloc: Global, handle: &mut Handle, database: Box<Database>)
     ensures open { InBlock handle.new.at }
     ensures records { handle.new.records ≡ database.value }
 {
-    let before = std::mem::replace(handle, Handle::of_loose(Loose::of(database)));
-    if let Some(loose) = before.into_loose(alloc) {
+    let before = std::mem::replace(handle, Handle::of_raw(RawBox::of(database)));
+    if let Some(loose) = before.into_raw(alloc) {
         drop(loose.into_box());
     }
 }

@@ -8,7 +8,7 @@ ghost use Rattle.phone_c.specs.Answers.{IsKey, IsKind, IsPrinted, IsRegion, IsVa
 ghost use Rattle.phone_c.specs.Answers.{IsUnprinted};
 ghost use Rattle.phone_c.specs.Numbers.{IsNumber};
 ghost use Rattle.phone_c.specs.Parses.{ReadsAs};
-ghost use Rattle.phone_c.specs.Reports.{IsReportOf};
+ghost use Rattle.phone_c.specs.TextReports.{IsReportOf};
 ghost use Rattle.phone_c.specs.declared.number.Number as plain;
 
 /// Plain numbers, with the bytes beside them, are one number at most, and have one kind, one

@@ -13,7 +13,7 @@ ghost use Rattle.phone_c.specs.Handles.{IsClosed, IsKept, IsOpenedBy};
 ghost use Rattle.phone_c.specs.Hints.{hint_of};
 ghost use Rattle.phone_c.specs.Openings.{IsRefusalOf};
 ghost use Rattle.phone_c.specs.Parses.{IsNoRefusal, IsWordsOf};
-ghost use Rattle.phone_c.specs.Reports.{IsReportOf};
+ghost use Rattle.phone_c.specs.TextReports.{IsReportOf};
 
 mod asked;
 mod buffer;
@@ -21,7 +21,7 @@ mod calls;
 mod handle;
 mod hint;
 pub mod laws;
-mod loose;
+mod raw_box;
 pub mod number;
 mod opening;
 mod parse;
@@ -32,7 +32,7 @@ pub mod status;
 
 use buffer::give;
 use handle::{Handle, put, take};
-use opening::opened;
+use opening::open_database;
 use phonenumber::is_viable;
 use refusal::refusal_words;
 use report::report;
@@ -55,7 +55,7 @@ pub extern "C" fn phone_open(alloc: Global, text: &[u8], handle: &mut Handle) ->
     if let Some(old) = take(alloc, handle) {
         drop(old);
     }
-    match opened(alloc, text) {
+    match open_database(alloc, text) {
         Ok(database) => {
             put(alloc, handle, database);
             OK

@@ -180,7 +180,7 @@ fn slice_at(part: Part, bytes: &[u8]) -> Option<&[u8]>
 }
 
 /// The texts of an extension and a carrier as a number's; none where there is none.
-fn owned(
+fn own_texts(
     alloc: Global,
     extension: Option<&str>,
     carrier: Option<&str>,
@@ -200,7 +200,7 @@ fn owned(
 }
 
 /// The number of plain numbers with its texts; `BAD_NUMBER` where they are none, else `MEMORY`.
-pub(crate) fn whole(alloc: Global, number: &Number, bytes: &[u8]) -> Result<PhoneNumber, u32>
+pub(crate) fn to_phone_number(alloc: Global, number: &Number, bytes: &[u8]) -> Result<PhoneNumber, u32>
     ensures found { IfOk result (λ n. IsNumber number.now bytes.now n) }
     ensures bad { (result ≡ Err BAD_NUMBER) ↔ AreNoNumber number.now bytes.now }
     ensures refused { IfErr result (λ s. (s ≡ MEMORY) ⊎ (s ≡ BAD_NUMBER)) }
@@ -214,7 +214,7 @@ pub(crate) fn whole(alloc: Global, number: &Number, bytes: &[u8]) -> Result<Phon
     let Some(carrier) = text_at(number.carrier, bytes) else {
         return Err(BAD_NUMBER);
     };
-    match owned(alloc, extension, carrier) {
+    match own_texts(alloc, extension, carrier) {
         Ok((extension, carrier)) => {
             let code = *plain.code();
             Ok(PhoneNumber::from_parts(code, *plain.national(), extension, carrier))

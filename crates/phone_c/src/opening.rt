@@ -1,6 +1,6 @@
 //! The database that a text is, in a box.
 ghost use Rattle.std.specs.Prelude.{◌≡◌, IfOk, IfErr};
-ghost use Rattle.phone_texts.specs.Errors.{told};
+ghost use Rattle.phone_base.specs.Errors.{told};
 ghost use Rattle.phone_c.specs.Openings.{IsDatabaseOf, IsRefused};
 
 use crate::status::{MEMORY, NOT_UTF8};
@@ -8,7 +8,7 @@ use phone_meta::{Database, LoadMetadata};
 use std::alloc::Global;
 
 /// The database that a text is, or the status of the refusal.
-pub(crate) fn opened(alloc: Global, text: &[u8]) -> Result<Box<Database>, u32>
+pub(crate) fn open_database(alloc: Global, text: &[u8]) -> Result<Box<Database>, u32>
     ensures opened { IfOk result (λ b. IsDatabaseOf text.now b.value) }
     ensures refused { IfErr result (IsRefused text.now) }
 {
@@ -16,7 +16,7 @@ pub(crate) fn opened(alloc: Global, text: &[u8]) -> Result<Box<Database>, u32>
         return Err(NOT_UTF8);
     };
     match Database::parse(alloc, text) {
-        Ok(database) => boxed(alloc, database),
+        Ok(database) => box_database(alloc, database),
         Err(error) => Err(status_of(&error)),
     }
 }
@@ -29,7 +29,7 @@ fn status_of(error: &LoadMetadata) -> u32
 }
 
 /// A database in a box; `MEMORY` where memory is refused.
-fn boxed(alloc: Global, database: Database) -> Result<Box<Database>, u32>
+fn box_database(alloc: Global, database: Database) -> Result<Box<Database>, u32>
     ensures database { IfOk result (λ b. b.value ≡ database) }
     ensures refused { IfErr result (λ status. status ≡ MEMORY) }
 {

@@ -14,7 +14,7 @@ use phonenumber::{PhoneNumber, parse_with};
 
 /// The plain numbers of a number, its texts at the front of a buffer, and their length; only the
 /// length where the buffer is too short.
-fn lay(read: &PhoneNumber, number: &mut Number, out: &mut [u8], wrote: &mut usize) -> u32
+fn write_number(read: &PhoneNumber, number: &mut Number, out: &mut [u8], wrote: &mut usize) -> u32
     ensures number { result ≡ OK → IsNumber number.new out.new read.now }
     ensures written { result ≡ OK → IsWritten (texts_of read.now) out.old out.new wrote.new }
     ensures too_long { result ≡ TOO_SMALL →
@@ -64,7 +64,7 @@ pub(crate) fn parse(
         return NOT_UTF8;
     };
     match parse_with(database, hint, text) {
-        Ok(read) => lay(&read, number, out, wrote),
+        Ok(read) => write_number(&read, number, out, wrote),
         Err(error) => u32::from(error.number()),
     }
 }

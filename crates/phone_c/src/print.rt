@@ -7,7 +7,7 @@ ghost use Rattle.phone_c.specs.Buffers.{IsTooLongA, IsWrittenA};
 ghost use Rattle.phone_c.specs.Numbers.{AreNoNumber};
 
 use crate::buffer::give;
-use crate::number::{Number, whole};
+use crate::number::{Number, to_phone_number};
 use crate::status::{BAD_NUMBER, MEMORY, NO_MODE, OK, TOO_SMALL, UNKNOWN_CODE};
 use phone_meta::Database;
 use phonenumber::{FormatError, Mode, PhoneNumber, format_with};
@@ -70,7 +70,7 @@ pub(crate) fn print(
     let Some(mode) = mode_of(mode) else {
         return NO_MODE;
     };
-    let number = match whole(alloc, number, bytes) {
+    let number = match to_phone_number(alloc, number, bytes) {
         Ok(number) => number,
         Err(status) => return status,
     };

@@ -2,7 +2,7 @@
 ghost use Rattle.std.specs.Prelude.{◌≡◌, ◌↔◌, None};
 ghost use Rattle.phone_c.specs.Buffers.{IsTooLongA, IsWrittenA};
 ghost use Rattle.phone_c.specs.Hints.{hint_of};
-ghost use Rattle.phone_c.specs.Reports.{IsReportOf};
+ghost use Rattle.phone_c.specs.TextReports.{IsReportOf};
 
 use crate::buffer::give;
 use crate::hint::hint_of;

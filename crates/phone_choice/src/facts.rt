@@ -5,29 +5,29 @@ ghost use Rattle.phone_choice.specs.Facts.{is_valid_by, kind_by, region_by};
 use crate::rules::Rules;
 use phone_library::{NumberFacts, facts};
 use phone_meta::Database;
-use phonenumber::{PhoneNumber, Queried};
+use phonenumber::{PhoneNumber, Facts};
 use std::alloc::AllocError;
 
 /// The region of a number, its kind, and whether it is valid: by the rules of libphonenumber as
-/// `phone_library::facts` answers, by those of the crate as `PhoneNumber::queried` does. Refused
+/// `phone_library::facts` answers, by those of the crate as `PhoneNumber::facts` does. Refused
 /// only for memory.
 pub fn facts_by(
     rules: Rules,
     database: &Database,
     number: &PhoneNumber,
-) -> Result<Queried, AllocError>
+) -> Result<Facts, AllocError>
     ensures region { IfOk result (λ q. q.region ≡ region_by rules database.now number.now) }
     ensures kind { IfOk result (λ q. q.kind ≡ kind_by rules database.now number.now) }
     ensures is_valid { IfOk result (λ q. q.is_valid ≡ is_valid_by rules database.now number.now) }
 {
     match rules {
         Rules::Library => library_facts(database, number),
-        Rules::Crate => number.queried(database),
+        Rules::Crate => number.facts(database),
     }
 }
 
 /// The same by the rules of libphonenumber.
-fn library_facts(database: &Database, number: &PhoneNumber) -> Result<Queried, AllocError>
+fn library_facts(database: &Database, number: &PhoneNumber) -> Result<Facts, AllocError>
     ensures region { IfOk result
         (λ q. q.region ≡ region_by Rules.Library database.now number.now) }
     ensures kind { IfOk result (λ q. q.kind ≡ kind_by Rules.Library database.now number.now) }
@@ -39,7 +39,7 @@ fn library_facts(database: &Database, number: &PhoneNumber) -> Result<Queried, A
         kind,
         is_valid,
     } = facts(database, number)?;
-    Ok(Queried {
+    Ok(Facts {
         region,
         kind,
         is_valid,

@@ -2,7 +2,7 @@
 use crate::lines::LineTaker;
 use phone_book::{Book, BookError, Place};
 use phone_choice::Rules;
-use phone_find::{Found, found};
+use phone_find::{Found, find_numbers};
 use phone_table::objects::object_line;
 use phonenumber::PhoneNumber;
 use phonenumber::country::Id;
@@ -111,7 +111,7 @@ impl<'d, 'f> LineTaker for Finder<'d, 'f> {
         answers: &mut Vec<u8>,
     ) -> Result<(), AllocError> {
         let text = String::from_utf8_lossy(alloc, line)?;
-        let all = found(Rules::Crate, self.database, self.hint, text.as_str())?;
+        let all = find_numbers(Rules::Crate, self.database, self.hint, text.as_str())?;
         self.push_all(alloc, text.as_str(), all.as_slice(), answers)?;
         self.place = self.place.saturating_add(1);
         Ok(())

@@ -2,8 +2,8 @@
 use Rattle.std.proofs.Common.{ℕ, List, [], ◌∷◌, ◌++◌, sym, subst, append_assoc}
 use Rattle.std.proofs.lemmas.List.{append-nil}
 use Rattle.phone_csv.specs.Formats.{Record, record_text}
-use Rattle.phone_csv.specs.Reports.{AreAnswers, Gives}
-use Rattle.phone_csv.specs.Reports.AreAnswers.{none, next}
+use Rattle.phone_csv.specs.RecordReports.{AreAnswers, Gives}
+use Rattle.phone_csv.specs.RecordReports.AreAnswers.{none, next}
 
 -- the answer to one more record
 pub AreAnswers-then : (gives : Gives) (d : ℕ) (records : List Record) (text : List ℕ) (fields answer : Record) →

@@ -9,7 +9,7 @@ use Rattle.csv.specs.declared.parser.State.TheVariants as st
 use Rattle.phone_csv.specs.Formats.{Record, reading}
 use Rattle.phone_csv.specs.Records.{AreCut}
 use Rattle.phone_csv.specs.Records.AreCut.{none, next}
-use Rattle.phone_csv.specs.Reports.{AreAll}
+use Rattle.phone_csv.specs.RecordReports.{AreAll}
 use Rattle.phone_csv.proofs.Progress.{feeds_rest, feeds_then}
 
 -- the records that are ended are reached

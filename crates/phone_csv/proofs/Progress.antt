@@ -15,8 +15,8 @@ use Rattle.csv.proofs.ReadFacts.{feeds-push}
 use Rattle.phone_csv.specs.Feeds.{counted, feeds_before}
 use Rattle.phone_csv.specs.Formats.{Record, reading, record_text, state_of}
 use Rattle.phone_csv.specs.Records.{IsEnded}
-use Rattle.phone_csv.specs.Reports.{AreAnswers, Gives, IsBeginning, IsReport, IsReportBefore, IsReportOnEnded, IsReportOnFirst, last_record}
-use Rattle.phone_csv.specs.Reports.AreAnswers.{none as unanswered}
+use Rattle.phone_csv.specs.RecordReports.{AreAnswers, Gives, IsBeginning, IsReport, IsReportBefore, IsReportOnEnded, IsReportOnFirst, last_record}
+use Rattle.phone_csv.specs.RecordReports.AreAnswers.{none as unanswered}
 use Rattle.phone_csv.specs.Records.AreCut.{none as uncut}
 use Rattle.phone_csv.specs.Runs.{BreaksOff, Holds, IsSoFar, Stands, TakesA}
 use Rattle.phone_csv.specs.declared.cutter.Cutter.{Cutter}

@@ -13,9 +13,9 @@ use Rattle.csv.proofs.RoundTrip.{read-write}
 use Rattle.phone_csv.specs.Formats.{Record, reading}
 use Rattle.phone_csv.specs.Records.{AreCut, IsEnded}
 use Rattle.phone_csv.specs.Records.AreCut.{none as uncut, next as cut}
-use Rattle.phone_csv.specs.Reports.{AreAll, AreAnswered, AreAnswers, Gives, last_record}
-use Rattle.phone_csv.specs.Reports.AreAnswers.{none, next}
-use Rattle.phone_csv.specs.Reports.AreAnswered.{none as none_answered, next as next_answered}
+use Rattle.phone_csv.specs.RecordReports.{AreAll, AreAnswered, AreAnswers, Gives, last_record}
+use Rattle.phone_csv.specs.RecordReports.AreAnswers.{none, next}
+use Rattle.phone_csv.specs.RecordReports.AreAnswered.{none as none_answered, next as next_answered}
 use Rattle.phone_csv.proofs.Progress.{feeds_then}
 use Rattle.std.specs.List.{AllByRecursion}
 

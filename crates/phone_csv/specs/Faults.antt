@@ -2,8 +2,8 @@
 use Rattle.std.specs.Prelude.{ℕ, Result, Ok, Err}
 use Rattle.phone_csv.specs.declared.blocks.RunError.{RunError}
 use Rattle.phone_csv.specs.declared.blocks.RunError.TheVariants as error
-use Rattle.phone_csv.specs.declared.desk.Stop.{Stop}
-use Rattle.phone_csv.specs.declared.desk.Stop.TheVariants.{Fault, Memory, Record}
+use Rattle.phone_csv.specs.declared.pending_output.Stop.{Stop}
+use Rattle.phone_csv.specs.declared.pending_output.Stop.TheVariants.{Fault, Memory, Record}
 
 -- the faults of a sink that took a block: one where that stopped it
 abbrev pub faults_of : {X : Type 0} → Result X Stop → ℕ

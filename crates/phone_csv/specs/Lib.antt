@@ -3,5 +3,5 @@ pub mod Feeds
 pub mod Firsts
 pub mod Formats
 pub mod Records
-pub mod Reports
+pub mod RecordReports
 pub mod Runs

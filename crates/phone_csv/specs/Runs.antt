@@ -8,7 +8,7 @@ use Rattle.phone_device.specs.Passing.{Passes, Takes, TakesFront}
 use Rattle.phone_csv.specs.Feeds.{counted, feeds_before, line_feeds, past_line_ends}
 use Rattle.phone_csv.specs.Formats.{Record, reading, record_text, state_of}
 use Rattle.phone_csv.specs.Records.{AreCut}
-use Rattle.phone_csv.specs.Reports.{AreAnswers, Gives, IsReportOnFirst}
+use Rattle.phone_csv.specs.RecordReports.{AreAnswers, Gives, IsReportOnFirst}
 use Rattle.phone_csv.specs.declared.cutter.Cutter.{Cutter}
 
 -- a record that isn't ended yet counts the line feeds of bytes, and, once it has begun, those in

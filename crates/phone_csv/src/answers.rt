@@ -4,7 +4,7 @@ ghost use Rattle.csv.specs.Records.{fields_of, partial_of};
 ghost use Rattle.phone_csv.specs.Formats.{Record, record_text};
 ghost use Rattle.phone_csv.specs.declared.answers.Refusal.TheVariants as refusal;
 
-use crate::spelled::spelled;
+use crate::spelled::record_text;
 use csv::ByteRecord;
 use std::alloc::{AllocError, Global};
 
@@ -56,6 +56,6 @@ pub fn add_record(
         text.old.items ++ record_text delimiter (fields_of fields.now)) }
     ensures kept { OnErr result (text.new.items ≡ text.old.items) }
 {
-    let written = spelled(alloc, delimiter, fields)?;
+    let written = record_text(alloc, delimiter, fields)?;
     text.extend_from_slice(written.as_slice())
 }

@@ -6,8 +6,8 @@ ghost use Rattle.csv.specs.declared.parser.State.{State};
 ghost use Rattle.phone_device.specs.Passing.{IsAtEnd};
 ghost use Rattle.phone_csv.specs.Faults.{sink_faults_of};
 ghost use Rattle.phone_csv.specs.Formats.{state_of};
-ghost use Rattle.phone_csv.specs.Reports.{IsBeginning, IsReport, IsReportBefore};
-ghost use Rattle.phone_csv.specs.Reports.{IsReportOnEnded, IsReportOnFirst};
+ghost use Rattle.phone_csv.specs.RecordReports.{IsBeginning, IsReport, IsReportBefore};
+ghost use Rattle.phone_csv.specs.RecordReports.{IsReportOnEnded, IsReportOnFirst};
 ghost use Rattle.phone_csv.specs.Runs.{BreaksOff, Holds, HoldsCounted, IsCounted, IsFresh};
 ghost use Rattle.phone_csv.specs.Runs.{OfRead, Stands, TakesA};
 ghost use Rattle.phone_csv.specs.Runs.{most_bytes};
@@ -16,7 +16,7 @@ ghost use Rattle.phone_csv.specs.declared.blocks.RunError.TheVariants as error;
 
 use crate::answers::{Answers, Counter, Refusal};
 use crate::cutter::Start;
-use crate::desk::{Desk, Stop};
+use crate::pending_output::{PendingOutput, Stop};
 use phone_device::{BLOCK_LENGTH, Block, ByteSink, ByteSource, Fault};
 use std::alloc::Global;
 
@@ -53,50 +53,50 @@ fn take_blocks<A: Answers, C: Counter, S: ByteSource, W: ByteSink>(
     counter: &mut C,
     source: &mut S,
     sink: &mut W,
-    desk: &mut Desk,
+    pending: &mut PendingOutput,
 ) -> Result<End, Fault>
-    requires partial { partial_of desk.old.cutter.fields ≡ [] }
-    requires short { vec_len desk.old.answers < BLOCK_LENGTH }
+    requires partial { partial_of pending.old.cutter.fields ≡ [] }
+    requires short { vec_len pending.old.answers < BLOCK_LENGTH }
     ensures end { result ≡ Ok end.Whole → IsAtEnd (S.to_come source.new) }
     ensures counted { result ≡ Ok end.Whole → (first : C) →
-        HoldsCounted C.after desk.old.cutter.delimiter first counter.old desk.old.answers.items
+        HoldsCounted C.after pending.old.cutter.delimiter first counter.old pending.old.answers.items
         (W.taken sink.old) (W.taken sink.old) →
-        HoldsCounted C.after desk.old.cutter.delimiter first counter.new desk.new.answers.items
+        HoldsCounted C.after pending.old.cutter.delimiter first counter.new pending.new.answers.items
         (W.taken sink.old) (W.taken sink.new) }
-    ensures partial { result ≡ Ok end.Whole → partial_of desk.new.cutter.fields ≡ [] }
-    ensures delimiter { desk.new.cutter.delimiter ≡ desk.old.cutter.delimiter }
+    ensures partial { result ≡ Ok end.Whole → partial_of pending.new.cutter.fields ≡ [] }
+    ensures delimiter { pending.new.cutter.delimiter ≡ pending.old.cutter.delimiter }
     ensures taken { result ≡ Ok end.Whole → (start : State) →
-        IsFresh (A.gives answers.now) start desk.old.cutter desk.old.answers.items
+        IsFresh (A.gives answers.now) start pending.old.cutter pending.old.answers.items
         (W.taken sink.old) →
         OfRead (S.to_come source.old) (S.to_come source.new) (λ bytes. Stands
-        (A.gives answers.now) start bytes desk.new.cutter desk.new.answers.items
+        (A.gives answers.now) start bytes pending.new.cutter pending.new.answers.items
         (W.taken sink.old) (W.taken sink.new)) }
     ensures input { result ≡ Ok end.Input → (start : State) →
-        IsFresh (A.gives answers.now) start desk.old.cutter desk.old.answers.items
+        IsFresh (A.gives answers.now) start pending.old.cutter pending.old.answers.items
         (W.taken sink.old) →
         OfRead (S.to_come source.old) (S.to_come source.new) (λ bytes. Holds (IsReportOnEnded
-        (A.gives answers.now) desk.old.cutter.delimiter start bytes) desk.new.answers.items
+        (A.gives answers.now) pending.old.cutter.delimiter start bytes) pending.new.answers.items
         (W.taken sink.old) (W.taken sink.new)) }
     ensures cause { result ≡ Ok end.Input → (S.faults source.new ≡ S.faults source.old + 1) ⊎
         OfRead (S.to_come source.old) (S.to_come source.new) (λ bytes. length bytes ≡ most_bytes) }
     ensures refused { result ≡ Ok end.Record → (start : State) →
-        IsFresh (A.gives answers.now) start desk.old.cutter desk.old.answers.items
+        IsFresh (A.gives answers.now) start pending.old.cutter pending.old.answers.items
         (W.taken sink.old) →
         OfRead (S.to_come source.old) (S.to_come source.new) (λ bytes. Holds (IsReportBefore
-        (A.gives answers.now) (A.refuses answers.now) desk.old.cutter.delimiter start
-        0 desk.new.cutter.feeds_before (S.to_come source.new) bytes) desk.new.answers.items
+        (A.gives answers.now) (A.refuses answers.now) pending.old.cutter.delimiter start
+        0 pending.new.cutter.feeds_before (S.to_come source.new) bytes) pending.new.answers.items
         (W.taken sink.old) (W.taken sink.new)) }
     ensures memory { result ≡ Ok end.Memory → (start : State) →
-        IsFresh (A.gives answers.now) start desk.old.cutter desk.old.answers.items
+        IsFresh (A.gives answers.now) start pending.old.cutter pending.old.answers.items
         (W.taken sink.old) →
         OfRead (S.to_come source.old) (S.to_come source.new) (λ bytes. Holds (IsReportOnFirst
-        (A.gives answers.now) desk.old.cutter.delimiter start bytes) desk.new.answers.items
+        (A.gives answers.now) pending.old.cutter.delimiter start bytes) pending.new.answers.items
         (W.taken sink.old) (W.taken sink.new)) }
     ensures broken { OnErr result ((start : State) →
-        IsFresh (A.gives answers.now) start desk.old.cutter desk.old.answers.items
+        IsFresh (A.gives answers.now) start pending.old.cutter pending.old.answers.items
         (W.taken sink.old) →
         OfRead (S.to_come source.old) (S.to_come source.new) (λ bytes. BreaksOff
-        (A.gives answers.now) desk.old.cutter.delimiter start bytes (W.taken sink.old)
+        (A.gives answers.now) pending.old.cutter.delimiter start bytes (W.taken sink.old)
         (W.taken sink.new))) }
     ensures no_fault { result ≡ Ok end.Whole → S.faults source.new ≡ S.faults source.old }
     ensures no_fault_at_a_record { result ≡ Ok end.Record →
@@ -119,7 +119,7 @@ fn take_blocks<A: Answers, C: Counter, S: ByteSource, W: ByteSink>(
             return Ok(End::Whole);
         }
         read += block.bytes().len() as u64;
-        match desk.take_block(alloc, answers, counter, sink, block.bytes()) {
+        match pending.take_block(alloc, answers, counter, sink, block.bytes()) {
             Ok(()) => {}
             Err(Stop::Fault) => return Err(Fault),
             Err(Stop::Record) => return Ok(End::Record),
@@ -135,48 +135,48 @@ fn take_all<A: Answers, C: Counter, S: ByteSource, W: ByteSink>(
     counter: &mut C,
     source: &mut S,
     sink: &mut W,
-    desk: &mut Desk,
+    pending: &mut PendingOutput,
 ) -> Result<End, Fault>
-    requires partial { partial_of desk.old.cutter.fields ≡ [] }
-    requires short { vec_len desk.old.answers < BLOCK_LENGTH }
+    requires partial { partial_of pending.old.cutter.fields ≡ [] }
+    requires short { vec_len pending.old.answers < BLOCK_LENGTH }
     ensures end { result ≡ Ok end.Whole → IsAtEnd (S.to_come source.new) }
     ensures counted { result ≡ Ok end.Whole → (first : C) →
-        HoldsCounted C.after desk.old.cutter.delimiter first counter.old desk.old.answers.items
+        HoldsCounted C.after pending.old.cutter.delimiter first counter.old pending.old.answers.items
         (W.taken sink.old) (W.taken sink.old) →
-        HoldsCounted C.after desk.old.cutter.delimiter first counter.new desk.new.answers.items
+        HoldsCounted C.after pending.old.cutter.delimiter first counter.new pending.new.answers.items
         (W.taken sink.old) (W.taken sink.new) }
     ensures taken { result ≡ Ok end.Whole → (start : State) →
-        IsFresh (A.gives answers.now) start desk.old.cutter desk.old.answers.items
+        IsFresh (A.gives answers.now) start pending.old.cutter pending.old.answers.items
         (W.taken sink.old) →
         OfRead (S.to_come source.old) (S.to_come source.new) (λ bytes. Holds (IsReport
-        (A.gives answers.now) desk.old.cutter.delimiter start bytes) desk.new.answers.items
+        (A.gives answers.now) pending.old.cutter.delimiter start bytes) pending.new.answers.items
         (W.taken sink.old) (W.taken sink.new)) }
     ensures input { result ≡ Ok end.Input → (start : State) →
-        IsFresh (A.gives answers.now) start desk.old.cutter desk.old.answers.items
+        IsFresh (A.gives answers.now) start pending.old.cutter pending.old.answers.items
         (W.taken sink.old) →
         OfRead (S.to_come source.old) (S.to_come source.new) (λ bytes. Holds (IsReportOnEnded
-        (A.gives answers.now) desk.old.cutter.delimiter start bytes) desk.new.answers.items
+        (A.gives answers.now) pending.old.cutter.delimiter start bytes) pending.new.answers.items
         (W.taken sink.old) (W.taken sink.new)) }
     ensures cause { result ≡ Ok end.Input → (S.faults source.new ≡ S.faults source.old + 1) ⊎
         OfRead (S.to_come source.old) (S.to_come source.new) (λ bytes. length bytes ≡ most_bytes) }
     ensures refused { result ≡ Ok end.Record → (start : State) →
-        IsFresh (A.gives answers.now) start desk.old.cutter desk.old.answers.items
+        IsFresh (A.gives answers.now) start pending.old.cutter pending.old.answers.items
         (W.taken sink.old) →
         OfRead (S.to_come source.old) (S.to_come source.new) (λ bytes. Holds (IsReportBefore
-        (A.gives answers.now) (A.refuses answers.now) desk.old.cutter.delimiter start
-        0 desk.new.cutter.feeds_before (S.to_come source.new) bytes) desk.new.answers.items
+        (A.gives answers.now) (A.refuses answers.now) pending.old.cutter.delimiter start
+        0 pending.new.cutter.feeds_before (S.to_come source.new) bytes) pending.new.answers.items
         (W.taken sink.old) (W.taken sink.new)) }
     ensures memory { result ≡ Ok end.Memory → (start : State) →
-        IsFresh (A.gives answers.now) start desk.old.cutter desk.old.answers.items
+        IsFresh (A.gives answers.now) start pending.old.cutter pending.old.answers.items
         (W.taken sink.old) →
         OfRead (S.to_come source.old) (S.to_come source.new) (λ bytes. Holds (IsReportOnFirst
-        (A.gives answers.now) desk.old.cutter.delimiter start bytes) desk.new.answers.items
+        (A.gives answers.now) pending.old.cutter.delimiter start bytes) pending.new.answers.items
         (W.taken sink.old) (W.taken sink.new)) }
     ensures broken { OnErr result ((start : State) →
-        IsFresh (A.gives answers.now) start desk.old.cutter desk.old.answers.items
+        IsFresh (A.gives answers.now) start pending.old.cutter pending.old.answers.items
         (W.taken sink.old) →
         OfRead (S.to_come source.old) (S.to_come source.new) (λ bytes. BreaksOff
-        (A.gives answers.now) desk.old.cutter.delimiter start bytes (W.taken sink.old)
+        (A.gives answers.now) pending.old.cutter.delimiter start bytes (W.taken sink.old)
         (W.taken sink.new))) }
     ensures no_fault { result ≡ Ok end.Whole → S.faults source.new ≡ S.faults source.old }
     ensures no_fault_at_a_record { result ≡ Ok end.Record →
@@ -186,14 +186,14 @@ fn take_all<A: Answers, C: Counter, S: ByteSource, W: ByteSink>(
     ensures sink_no_fault { OnOk result (W.faults sink.new ≡ W.faults sink.old) }
     ensures sink_fault { OnErr result (W.faults sink.new ≡ W.faults sink.old + 1) }
 {
-    match take_blocks(alloc, answers, counter, source, sink, desk) {
+    match take_blocks(alloc, answers, counter, source, sink, pending) {
         Ok(End::Whole) => {}
         Ok(End::Input) => return Ok(End::Input),
         Ok(End::Record) => return Ok(End::Record),
         Ok(End::Memory) => return Ok(End::Memory),
         Err(_) => return Err(Fault),
     }
-    match desk.take_last(alloc, answers, counter) {
+    match pending.take_last(alloc, answers, counter) {
         Ok(()) => Ok(End::Whole),
         Err(Refusal::Record) => Ok(End::Record),
         Err(Refusal::Memory) => Ok(End::Memory),
@@ -257,17 +257,17 @@ pub fn answer_records<A: Answers, C: Counter, S: ByteSource, W: ByteSink>(
     ensures sink_faults { W.faults sink.new ≡ W.faults sink.old + sink_faults_of result }
     ensures handed_on { result ≢ Err error.Output → W.unflushed sink.new ≡ 0 }
 {
-    let mut desk = Desk::new(alloc, delimiter, start.place);
-    let Ok(end) = take_all(alloc, answers, counter, source, sink, &mut desk) else {
+    let mut pending = PendingOutput::new(alloc, delimiter, start.place);
+    let Ok(end) = take_all(alloc, answers, counter, source, sink, &mut pending) else {
         return Err(RunError::Output);
     };
-    let Ok(()) = desk.write_out(sink) else {
+    let Ok(()) = pending.write_out(sink) else {
         return Err(RunError::Output);
     };
     match end {
         End::Whole => Ok(()),
         End::Input => Err(RunError::Input),
-        End::Record => Err(RunError::Record(start.feeds.saturating_add(desk.cutter.feeds_before))),
+        End::Record => Err(RunError::Record(start.feeds.saturating_add(pending.cutter.feeds_before))),
         End::Memory => Err(RunError::Memory),
     }
 }

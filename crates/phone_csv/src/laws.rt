@@ -5,7 +5,7 @@ ghost use Rattle.csv.specs.Reading.{AreRecords};
 ghost use Rattle.csv.specs.declared.parser.State.{State};
 ghost use Rattle.csv.specs.declared.parser.State.TheVariants as st;
 ghost use Rattle.phone_csv.specs.Formats.{Record, reading};
-ghost use Rattle.phone_csv.specs.Reports.{AreAll, AreAnswered, IsReport};
+ghost use Rattle.phone_csv.specs.RecordReports.{AreAll, AreAnswered, IsReport};
 
 use crate::Answers;
 

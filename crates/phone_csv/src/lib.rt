@@ -5,7 +5,7 @@ mod answers;
 mod blocks;
 mod cutter;
 mod delimiter;
-mod desk;
+mod pending_output;
 mod first;
 mod front;
 pub mod laws;

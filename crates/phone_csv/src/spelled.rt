@@ -106,7 +106,7 @@ fn push_end(text: &mut Vec<u8>) -> Result<(), AllocError>
 }
 
 /// The text of a record. Refused only for memory.
-pub(crate) fn spelled(
+pub(crate) fn record_text(
     alloc: Global,
     delimiter: u8,
     fields: &ByteRecord,

@@ -73,7 +73,7 @@ impl Limit {
     }
 
     /// The bytes taken so far.
-    pub fn taken(&self) -> &[u8]
+    pub fn bytes(&self) -> &[u8]
         ensures { result.now ≡ self.now.taken }
     {
         self.bytes.as_slice()

@@ -14,10 +14,10 @@ use Rattle.ucd_category.proofs.Computing.{ucd_category}
 use Rattle.phone_chars.specs.Characters.{is_digit, is_punctuation}
 use Rattle.phone_core.specs.Numbers.{text_of}
 use Rattle.phone_core.specs.declared.mode.Mode.TheVariants.{International}
-use Rattle.phone_meta.specs.Codes.{first_of, territories}
+use Rattle.phone_meta.specs.CodeLookUps.{first_of, territories}
 use Rattle.phonenumber.specs.Bounds.{IsBounded}
-use Rattle.phone_more.specs.Possibilities.{possibility_under}
-use Rattle.phone_more.specs.declared.possibilities.Possibility.TheVariants.{UnknownCode}
+use Rattle.phone_util.specs.Possibilities.{possibility_under}
+use Rattle.phone_util.specs.declared.possibilities.Possibility.TheVariants.{UnknownCode}
 use Rattle.phone_print.specs.Texts.{extension_part, international_text, laid_out, text_by}
 use Rattle.phonenumber.specs.Printed.{printed}
 use Rattle.phone_parts.proofs.AnnouncedParts.{announced_parts}
@@ -27,14 +27,14 @@ use Rattle.phone_parts.specs.Texts.{begins, ends}
 use Rattle.phone_records.specs.declared.loader.Metadata.{Metadata}
 use Rattle.phone_core.specs.declared.reading.Reading.{Reading}
 use Rattle.phone_read.specs.Regions.{home}
-use Rattle.phone_kinds.specs.Kinds.{is_known, type_of}
+use Rattle.phone_rules.specs.Kinds.{is_known, type_of}
 use Rattle.phonenumber.proofs.BackLaws.{international_back, punctuated}
 use Rattle.phonenumber.proofs.BackNumbers.{list_all-decimal, list_all-text_of}
 use Rattle.phonenumber.proofs.BackPrefixes.{announced_safely}
 use Rattle.phonenumber.proofs.BackTexts.{IsUtf8-low, chars-international_text, chars-low, is_low}
 use Rattle.phonenumber.proofs.BackTexts.{low_digits}
 use Rattle.phonenumber.proofs.BackViable.{all_from_left}
-use Rattle.phonenumber.specs.Again.{IsReadAs, IsSame}
+use Rattle.phonenumber.specs.RoundTrips.{IsReadAs, IsSame}
 use Rattle.phonenumber.specs.Plain.{IsPlainInternational, has_digits}
 use Rattle.phone_choice.specs.declared.rules.Rules.TheVariants.{Crate}
 use Rattle.phone_find.proofs.FoundAlone.{found_alone}

@@ -10,7 +10,7 @@ ghost use Rattle.phone_core.specs.declared.reading.Reading.{Reading};
 ghost use Rattle.phone_records.specs.declared.loader.Metadata as loader;
 ghost use Rattle.phone_library_laws.specs.Again.{IsSettled, e164_reading};
 ghost use Rattle.phone_print.specs.Texts.{e164_text};
-ghost use Rattle.phonenumber.specs.Again.{IsSame};
+ghost use Rattle.phonenumber.specs.RoundTrips.{IsSame};
 ghost use Rattle.phonenumber.specs.Plain.{IsPlainInternational};
 ghost use Rattle.phone_find.specs.Alone.{EndsInDigits, IsAmong, IsPlainEnough, IsShaped, placed};
 ghost use Rattle.phone_find.specs.Founds.{IsDecided, IsOrdered, most_bytes};

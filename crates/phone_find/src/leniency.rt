@@ -4,7 +4,7 @@ ghost use Rattle.phone_find.specs.Leniencies.{is_possible, suffices};
 
 use phone_choice::{Rules, is_valid_by};
 use phone_meta::Database;
-use phone_more::{Possibility, possible};
+use phone_util::{Possibility, possibility_of};
 use phonenumber::PhoneNumber;
 use std::alloc::AllocError;
 
@@ -22,7 +22,7 @@ pub enum Leniency {
 fn is_possible(rules: Rules, database: &Database, number: &PhoneNumber) -> Result<bool, AllocError>
     ensures { IfOk result (λ b. b ≡ is_possible rules database.now number.now) }
 {
-    match possible(rules, database, number)? {
+    match possibility_of(rules, database, number)? {
         Possibility::Possible | Possibility::PossibleLocally => Ok(true),
         _ => Ok(false),
     }

@@ -13,5 +13,5 @@ mod sets;
 
 pub use candidates::{is_candidate, may_begin};
 pub use leniency::Leniency;
-pub use numbers::{found, found_with};
+pub use numbers::{find_numbers, find_numbers_with};
 pub use search::{Found, Judge, all_accepted};

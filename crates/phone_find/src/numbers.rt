@@ -136,7 +136,7 @@ fn where_sufficient(
 /// The numbers come in their order and don't overlap: the piece that begins first counts, and of
 /// those that begin there the longest. The time is linear in the text: at each place at most 250
 /// pieces are looked at. Refused only for memory.
-pub fn found_with(
+pub fn find_numbers_with(
     rules: Rules,
     database: &Database,
     hint: Option<Id>,
@@ -154,8 +154,8 @@ pub fn found_with(
     all_accepted(database.allocator(), &judge, text)
 }
 
-/// The valid numbers that stand in a running text: [`found_with`], [`Leniency::Valid`].
-pub fn found(
+/// The valid numbers that stand in a running text: [`find_numbers_with`], [`Leniency::Valid`].
+pub fn find_numbers(
     rules: Rules,
     database: &Database,
     hint: Option<Id>,
@@ -164,5 +164,5 @@ pub fn found(
     ensures { IfOk result
         (λ all. AreNumbers rules database.now hint leniency.Valid text.now all.items) }
 {
-    found_with(rules, database, hint, Leniency::Valid, text)
+    find_numbers_with(rules, database, hint, Leniency::Valid, text)
 }

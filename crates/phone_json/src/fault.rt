@@ -1,11 +1,11 @@
 //! What may be wrong with a value of a database text.
 ghost use Rattle.std.specs.Prelude.{◌≡◌, IfOk, string_bytes};
-ghost use Rattle.phone_texts.specs.Errors.{told};
+ghost use Rattle.phone_base.specs.Errors.{told};
 ghost use Rattle.phone_json.specs.Told.{refusal_of};
 
 use crate::steps::both;
 use phone_records::LoadMetadata;
-use phone_texts::MetadataError;
+use phone_base::MetadataError;
 use std::alloc::{AllocError, Global};
 
 /// Why a value is refused.
@@ -24,11 +24,11 @@ impl<'v> Fault<'v> {
     {
         match self {
             Fault::UnknownKey { phase, key } => {
-                let (phase, name) = owned(alloc, phase, key)?;
+                let (phase, name) = own_texts(alloc, phase, key)?;
                 Ok(LoadMetadata::Metadata(MetadataError::UnhandledElement { phase, name }))
             }
             Fault::WrongKind { phase, name } => {
-                let (phase, name) = owned(alloc, phase, name)?;
+                let (phase, name) = own_texts(alloc, phase, name)?;
                 Ok(LoadMetadata::Kind { phase, name })
             }
         }
@@ -36,7 +36,7 @@ impl<'v> Fault<'v> {
 }
 
 /// Two texts as strings of their own.
-fn owned(alloc: Global, a: &str, b: &str) -> Result<(String, String), AllocError>
+fn own_texts(alloc: Global, a: &str, b: &str) -> Result<(String, String), AllocError>
     ensures { IfOk result (λ pair. (string_bytes pair.0 ≡ a.now) × (string_bytes pair.1 ≡ b.now)) }
 {
     both(String::from_str(alloc, a), String::from_str(alloc, b))

@@ -5,8 +5,8 @@ ghost use Rattle.std.specs.Prelude.{◌≡◌, ◌⊎◌, Err, IfOk, IfErr, None
 ghost use Rattle.std.specs.Result.{result_map_both};
 ghost use Rattle.serde_json.specs.Read.{read};
 ghost use Rattle.serde_json.specs.View.{view};
-ghost use Rattle.phone_texts.specs.Errors.{told};
-ghost use Rattle.phone_texts.specs.declared.error.LoadMetadata.TheVariants as error;
+ghost use Rattle.phone_base.specs.Errors.{told};
+ghost use Rattle.phone_base.specs.declared.error.LoadMetadata.TheVariants as error;
 ghost use Rattle.phone_json.specs.Records.{records_in, records_of};
 
 mod build;

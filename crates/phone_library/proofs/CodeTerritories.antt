@@ -6,7 +6,7 @@ use Rattle.std.specs.List.{find}
 use Rattle.std.specs.Option.{option_or}
 use Rattle.phone_library.specs.Kinds.{has_digits, territory_among, territory_in}
 use Rattle.phone_meta.proofs.CodeLemmas.{filter-filter}
-use Rattle.phone_meta.specs.Codes.{is_main_of, is_other_of, territories}
+use Rattle.phone_meta.specs.CodeLookUps.{is_main_of, is_other_of, territories}
 use Rattle.phone_meta.specs.Records.{has_code}
 use Rattle.phone_records.specs.declared.loader.Metadata.{Metadata}
 

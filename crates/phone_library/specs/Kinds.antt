@@ -6,8 +6,8 @@ use Rattle.std.specs.List.{find}
 use Rattle.std.specs.Option.{option_map_or}
 use Rattle.phone_core.specs.declared.kind.«Type».{«Type»}
 use Rattle.phone_core.specs.declared.kind.«Type».TheVariants.{FixedLine, FixedLineOrMobile, Unknown}
-use Rattle.phone_kinds.specs.Kinds.{is_known, tried_kinds}
-use Rattle.phone_meta.specs.Codes.{territories}
+use Rattle.phone_rules.specs.Kinds.{is_known, tried_kinds}
+use Rattle.phone_meta.specs.CodeLookUps.{territories}
 use Rattle.phone_records.specs.declared.loader.Descriptor.{Descriptor}
 use Rattle.phone_records.specs.declared.loader.Metadata.{Metadata}
 use Rattle.phone_territory.specs.First.{at_start, is_whole_match}

@@ -1,4 +1,4 @@
-pub mod Codes
+pub mod LibraryCodes
 pub mod Facts
 pub mod Homes
 pub mod Kinds

@@ -9,13 +9,13 @@ use Rattle.phone_core.specs.declared.country.Source.TheVariants.{Default}
 use Rattle.phone_core.specs.declared.error.ParseError.{ParseError}
 use Rattle.phone_core.specs.declared.error.ParseError.TheVariants.{TooShortNsn, TooLong}
 use Rattle.phone_core.specs.declared.reading.Reading.{Reading}
-use Rattle.phone_library.specs.Codes.{code_in}
+use Rattle.phone_library.specs.LibraryCodes.{code_in}
 -- what a territory strips off digits
 pub use Rattle.phone_library.specs.Stripping.{stripped}
 use Rattle.phone_library_text.specs.Written.{IsWritten}
 use Rattle.phone_library_text.specs.declared.written.WrittenNumber.{WrittenNumber}
-use Rattle.phone_meta.specs.Codes.{first_of, territories}
-use Rattle.phone_prefix.specs.Strips.{Stripped}
+use Rattle.phone_meta.specs.CodeLookUps.{first_of, territories}
+use Rattle.phone_rules.specs.Strips.{Stripped}
 use Rattle.phone_read.specs.Hints.{Coded, hinted}
 use Rattle.phone_records.specs.declared.loader.Metadata.{Metadata}
 

@@ -4,13 +4,13 @@ ghost use Rattle.std.specs.Prelude.{if◌then◌else◌};
 ghost use Rattle.std.specs.Cow.{cow_str_bytes};
 ghost use Rattle.std.specs.Option.{option_copied};
 ghost use Rattle.std.specs.Result.{result_map_both};
-ghost use Rattle.phone_library.specs.Codes.{behind_code, code_after_sign, code_by_hint};
-ghost use Rattle.phone_library.specs.Codes.{code_by_territory, code_in, cut_off, has_code};
+ghost use Rattle.phone_library.specs.LibraryCodes.{behind_code, code_after_sign, code_by_hint};
+ghost use Rattle.phone_library.specs.LibraryCodes.{code_by_territory, code_in, cut_off, has_code};
 ghost use Rattle.phone_library.specs.Kinds.{matches_whole};
 ghost use Rattle.phone_library.specs.Lent.{told};
 ghost use Rattle.phone_library.specs.Stripping.{strip};
 ghost use Rattle.phone_parts.specs.Texts.{begins};
-ghost use Rattle.phone_prefix.specs.Dialling.{after_match, found_in};
+ghost use Rattle.phone_rules.specs.Dialling.{after_match, found_in};
 
 use crate::kinds::matches_general;
 use crate::lengths::{is_too_long, length_in};
@@ -18,8 +18,8 @@ use crate::stripping::strip;
 use phone_core::ParseError;
 use phone_core::country::Source;
 use phone_meta::{Database, Metadata};
-use phone_prefix::trims::{begins_with_number, behind_number};
-use phone_texts::together::{beside, instead};
+use phone_rules::trims::{begins_with_number, behind_number};
+use phone_base::together::{beside, instead};
 use std::alloc::AllocError;
 use std::borrow::CowStr;
 

@@ -2,7 +2,7 @@
 ghost use Rattle.std.specs.Prelude.{◌≡◌, IfOk};
 ghost use Rattle.std.specs.List.{find};
 ghost use Rattle.std.specs.Option.{option_copied};
-ghost use Rattle.phone_kinds.specs.Kinds.{is_known};
+ghost use Rattle.phone_rules.specs.Kinds.{is_known};
 ghost use Rattle.phone_library.specs.Kinds.{is_number_of, kind_in, line_or_mobile, matches_whole};
 ghost use Rattle.phone_territory.specs.First.{is_whole_match};
 ghost use Rattle.phone_territory.specs.Kinds.{descriptor_for};

@@ -4,7 +4,7 @@ ghost use Rattle.std.specs.List.{list_any};
 ghost use Rattle.phone_library.specs.Lengths.{is_too_long, length_in, may_be_left};
 
 use phone_core::{Type, Validation};
-use phone_kinds::kinds::length_of;
+use phone_rules::kinds::length_of;
 use phone_territory::Metadata;
 
 /// What so many national digits, whatever their kind, are in a territory: a number that is

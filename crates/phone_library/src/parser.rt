@@ -42,11 +42,11 @@ fn read(database: &Database, hint: Option<Id>, text: &str) -> Result<Reading, Pa
         ReadsByLibrary database.now hint (chars text.now) result }
 {
     let number = read_written(database.allocator(), text)?;
-    reading_under(database, hinted(database, hint), number)
+    reading_under(database, hint_territory(database, hint), number)
 }
 
 /// The territory of the hint: the last record with its id.
-fn hinted(database: &Database, hint: Option<Id>) -> Option<&Metadata>
+fn hint_territory(database: &Database, hint: Option<Id>) -> Option<&Metadata>
     ensures { option_copied result ≡ hinted database.now hint }
 {
     match hint {

@@ -7,14 +7,14 @@ ghost use Rattle.phone_library.specs.Readings.{after_code, national_number, read
 ghost use Rattle.phone_library.specs.Readings.{reading_under, stripped, stripping_territory};
 
 use crate::codes::{Coded, code_in};
-use crate::stripping::{Left, stripped};
+use crate::stripping::{Left, strip_national_prefix};
 use phone_core::consts::{MAX_LENGTH_FOR_NSN, MIN_LENGTH_FOR_NSN};
 use phone_core::country::{Code, Source};
 use phone_core::{Carrier, NationalNumber, ParseError, Reading};
 use phone_library_text::WrittenNumber;
 use phone_meta::{Database, Metadata};
-use phone_prefix::trims::without_zeros;
-use phone_texts::together::{beside, instead};
+use phone_rules::trims::without_zeros;
+use phone_base::together::{beside, instead};
 use std::alloc::{AllocError, Global};
 
 /// The number that was written so, under a hint's territory.
@@ -142,7 +142,7 @@ fn left_after_code<'a>(
         stripped (option_copied territory.entry) digits.entry.now) }
 {
     match territory {
-        Some(m) => stripped(m, digits),
+        Some(m) => strip_national_prefix(m, digits),
         None => Ok(None),
     }
 }

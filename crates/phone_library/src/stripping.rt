@@ -6,14 +6,14 @@ ghost use Rattle.phone_library.specs.Kinds.{matches_whole};
 ghost use Rattle.phone_library.specs.Lent.{left_of};
 ghost use Rattle.phone_library.specs.Stripping.{left_by_match, left_by_pattern, left_by_prefix};
 ghost use Rattle.phone_library.specs.Stripping.{left_by_text, strip, stripped};
-ghost use Rattle.phone_prefix.specs.Strips.{held};
+ghost use Rattle.phone_rules.specs.Strips.{held};
 ghost use Rattle.phone_territory.specs.First.{AreCuts, IsCut, last_group};
 
 use crate::kinds::matches_general;
 use crate::lengths::{length_in, may_be_left};
-use phone_prefix::trims::{has_front, trim};
+use phone_rules::trims::{has_front, trim};
 use phone_territory::{Captured, Metadata, Pattern};
-use phone_texts::together::{beside, instead};
+use phone_base::together::{beside, instead};
 use std::alloc::AllocError;
 use std::borrow::CowStr;
 
@@ -28,7 +28,7 @@ pub(crate) struct Left<'a> {
 
 /// What a territory's stripping leaves of digits; none where they stay, as they do where fewer than
 /// a number has would be left, or not as many as one can have.
-pub(crate) fn stripped<'a>(m: &Metadata, digits: &'a str) -> Result<Option<Left<'a>>, AllocError>
+pub(crate) fn strip_national_prefix<'a>(m: &Metadata, digits: &'a str) -> Result<Option<Left<'a>>, AllocError>
     ensures { IfOk result (λ left. left_of digits.entry.now left ≡
         stripped (Some m.now) digits.entry.now) }
 {
@@ -119,7 +119,7 @@ fn left_by_pattern<'a>(
     if !pattern.is_at_start(digits)? {
         return Ok(None);
     }
-    match pattern.captured(digits)? {
+    match pattern.captures(digits)? {
         Some(found) if found.span.0 == 0 => {
             Ok(Some(left_by_match(rule, pattern, digits, found)?))
         }
@@ -140,7 +140,7 @@ fn left_by_match<'a>(
 {
     match (rule, found.last) {
         (Some(rule), Some(_)) => {
-            let written = pattern.replaced(rule, digits)?;
+            let written = pattern.replace(rule, digits)?;
             Ok(Left {
                 national: CowStr::Owned(written),
                 carrier: if has_two_groups(pattern) {

@@ -12,17 +12,17 @@ use Rattle.phone_core.specs.declared.country.Id.{Id}
 use Rattle.phone_core.specs.declared.country.Source.TheVariants.{Plus, Idd, Default}
 use Rattle.phone_core.specs.declared.error.ParseError.{ParseError}
 use Rattle.phone_core.specs.declared.error.ParseError.TheVariants.{InvalidCountryCode}
-use Rattle.phone_library.specs.Codes.{behind_code, code_after_sign, code_in, or_by_hint}
-use Rattle.phone_library.specs.Codes as second
+use Rattle.phone_library.specs.LibraryCodes.{behind_code, code_after_sign, code_in, or_by_hint}
+use Rattle.phone_library.specs.LibraryCodes as second
 use Rattle.phone_library.specs.Kinds.{matches_whole}
 use Rattle.phone_library.specs.Lengths.{is_too_long, length_in}
 use Rattle.phone_library_laws.specs.Agreement
 use Rattle.phone_library_laws.specs.Agreement.{IsCodedAlike, after_prefix, digits_text}
-use Rattle.phone_meta.specs.Codes.{shortest}
+use Rattle.phone_meta.specs.CodeLookUps.{shortest}
 use Rattle.phone_parts.specs.Texts.{begins, is_front}
-use Rattle.phone_prefix.specs.Dialling.{after_match, found_in, source_of, unsigned}
+use Rattle.phone_rules.specs.Dialling.{after_match, found_in, source_of, unsigned}
 use Rattle.phone_read.proofs.ListedFronts.{more_than_two}
-use Rattle.phone_read.specs.Codes.{code_by, code_by_front, code_of, international_prefix_of}
+use Rattle.phone_read.specs.CallingCodes.{code_by, code_by_front, code_of, international_prefix_of}
 use Rattle.phone_read.specs.Hints.{Coded, hinted, looks_national}
 use Rattle.phone_read.specs.Hints as first
 use Rattle.phone_records.specs.declared.loader.Metadata.{Metadata}

@@ -11,8 +11,8 @@ use Rattle.phone_core.specs.declared.country.Id.{Id}
 use Rattle.phone_core.specs.declared.country.Source.TheVariants.{Default}
 use Rattle.phone_core.specs.declared.error.ParseError.{ParseError}
 use Rattle.phone_core.specs.declared.reading.Reading.{Reading}
-use Rattle.phone_kinds.specs.Verdicts.{is_too_short, verdict}
-use Rattle.phone_library.specs.Codes.{code_in}
+use Rattle.phone_rules.specs.Verdicts.{is_too_short, verdict}
+use Rattle.phone_library.specs.LibraryCodes.{code_in}
 use Rattle.phone_library.specs.Kinds.{matches_whole}
 use Rattle.phone_library.specs.Lengths.{length_in, may_be_left}
 use Rattle.phone_library.specs.Readings as second
@@ -23,8 +23,8 @@ use Rattle.phone_library_laws.specs.Again.{IsSettled, e164_reading}
 use Rattle.phone_library_laws.specs.Agreement
 use Rattle.phone_library_laws.specs.Agreement.{IsOwnNumber, IsReadAlike, IsSettledAlike, IsStrippedAlike, after_prefix}
 use Rattle.phone_parts.specs.Texts.{without_front}
-use Rattle.phone_prefix.specs.Strips as strips
-use Rattle.phone_prefix.specs.Strips.{Cut, Stripped, by_match, left_by, off_prefix, stay, step}
+use Rattle.phone_rules.specs.Strips as strips
+use Rattle.phone_rules.specs.Strips.{Cut, Stripped, by_match, left_by, off_prefix, stay, step}
 use Rattle.phone_print.specs.Texts.{e164_text}
 use Rattle.phone_read.specs.Hints.{Coded, hinted}
 use Rattle.phone_read.specs.Readings as first

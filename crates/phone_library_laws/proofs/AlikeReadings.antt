@@ -11,7 +11,7 @@ use Rattle.phone_core.specs.Numbers.{National}
 use Rattle.phone_core.specs.declared.country.Id.{Id}
 use Rattle.phone_core.specs.declared.error.ParseError.{ParseError}
 use Rattle.phone_core.specs.declared.reading.Reading.{Reading}
-use Rattle.phone_library.specs.Codes.{code_in}
+use Rattle.phone_library.specs.LibraryCodes.{code_in}
 use Rattle.phone_library.specs.Readings as second
 use Rattle.phone_library.specs.Readings.{ReadsByLibrary, after_code_if_any}
 use Rattle.phone_library_laws.specs.Agreement.{IsReadAlike, IsStrippedAlike, digits_text}
@@ -21,10 +21,10 @@ use Rattle.phone_parts.proofs.PrintedE164.{e164_parts}
 use Rattle.phone_parts.specs.Readers
 use Rattle.phone_parts.specs.Readers.{HasParts}
 use Rattle.phone_parts.specs.Texts.{begins, ends}
-use Rattle.phone_prefix.specs.Strips as strips
-use Rattle.phone_prefix.specs.Strips.{Stripped}
+use Rattle.phone_rules.specs.Strips as strips
+use Rattle.phone_rules.specs.Strips.{Stripped}
 use Rattle.phone_read.proofs.ReadingOnes as first_proofs
-use Rattle.phone_read.specs.Codes.{code_of}
+use Rattle.phone_read.specs.CallingCodes.{code_of}
 use Rattle.phone_read.specs.Hints.{Coded, hinted}
 use Rattle.phone_read.specs.Numbering as numbering
 use Rattle.phone_read.specs.Readings as first

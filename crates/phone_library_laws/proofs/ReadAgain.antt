@@ -11,15 +11,15 @@ use Rattle.phone_core.specs.Numbers.{text_of}
 use Rattle.phone_core.specs.declared.country.Id.{Id}
 use Rattle.phone_core.specs.declared.country.Source.TheVariants.{Plus}
 use Rattle.phone_core.specs.declared.reading.Reading.{Reading}
-use Rattle.phone_library.specs.Codes.{code_after_sign, code_in, or_by_hint}
+use Rattle.phone_library.specs.LibraryCodes.{code_after_sign, code_in, or_by_hint}
 use Rattle.phone_library.specs.Readings
 use Rattle.phone_library.specs.Readings.{ReadsByLibrary, after_code, after_code_if_any, reading_of, reading_under}
 use Rattle.phone_library_laws.specs.Again.{IsSettled, e164_reading}
 use Rattle.phone_library_text.specs.Written.{IsWritten, most_characters}
 use Rattle.phone_library_text.specs.declared.written.WrittenNumber.{WrittenNumber}
-use Rattle.phone_meta.specs.Codes.{shortest}
+use Rattle.phone_meta.specs.CodeLookUps.{shortest}
 use Rattle.phone_print.specs.Texts.{e164_text}
-use Rattle.phone_read.specs.Codes.{code_by_front}
+use Rattle.phone_read.specs.CallingCodes.{code_by_front}
 use Rattle.phone_read.specs.Hints.{Coded, hinted}
 use Rattle.phone_records.specs.declared.loader.Metadata.{Metadata}
 use Rattle.phonenumber.proofs.BackCodes.{shortest-decimal}

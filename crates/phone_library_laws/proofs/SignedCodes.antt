@@ -9,13 +9,13 @@ use Rattle.phone_core.specs.declared.country.Source.TheVariants.{Plus, Idd, Numb
 use Rattle.phone_core.specs.declared.error.ParseError.{ParseError}
 use Rattle.phone_core.specs.declared.error.ParseError.TheVariants.{InvalidCountryCode, TooShortAfterIdd}
 use Rattle.phone_core.specs.declared.reading.Reading.{Reading}
-use Rattle.phone_library.specs.Codes.{code_by_hint, code_in, cut_off, or_by_hint}
+use Rattle.phone_library.specs.LibraryCodes.{code_by_hint, code_in, cut_off, or_by_hint}
 use Rattle.phone_library.specs.Readings
 use Rattle.phone_library.specs.Readings.{ReadsByLibrary, after_code_if_any, reading_under}
 use Rattle.phone_library_laws.specs.Signs.{is_told_by_sign, without_sign}
 use Rattle.phone_library_text.specs.Written.{IsWritten}
 use Rattle.phone_library_text.specs.declared.written.WrittenNumber.{WrittenNumber}
-use Rattle.phone_meta.specs.Codes.{shortest}
+use Rattle.phone_meta.specs.CodeLookUps.{shortest}
 use Rattle.phone_read.specs.Hints.{Coded, hinted}
 use Rattle.phone_records.specs.declared.loader.Metadata.{Metadata}
 use Rattle.phone_library_laws.proofs.ReadOnce.{OneWritten, read_if_refused, read_if_written}

@@ -9,10 +9,10 @@ use Rattle.phone_core.specs.Numbers.{text_of}
 use Rattle.phone_core.specs.declared.kind.«Type».{«Type»}
 use Rattle.phone_core.specs.declared.kind.«Type».TheVariants as kind
 use Rattle.phone_core.specs.declared.reading.Reading.{Reading}
-use Rattle.phone_kinds.specs.Kinds.{is_known}
+use Rattle.phone_rules.specs.Kinds.{is_known}
 use Rattle.phone_library.specs.Facts.{is_valid_number, kind_of_number, territory_of_number}
 use Rattle.phone_library.specs.Kinds.{has_digits, kind_in, territory_among}
-use Rattle.phone_meta.specs.Codes.{is_main_of, is_other_of, territories}
+use Rattle.phone_meta.specs.CodeLookUps.{is_main_of, is_other_of, territories}
 use Rattle.phone_meta.specs.Records.{has_code}
 use Rattle.phone_records.specs.declared.loader.Metadata.{Metadata}
 

@@ -16,7 +16,7 @@ use Rattle.phone_core.specs.declared.country.Source.TheVariants.{Plus, Idd, Numb
 use Rattle.phone_core.specs.declared.error.ParseError.{ParseError}
 use Rattle.phone_core.specs.declared.error.ParseError.TheVariants as refusal
 use Rattle.phone_core.specs.declared.reading.Reading.{Reading}
-use Rattle.phone_library.specs.Codes.{behind_code, code_after_sign, code_by_hint, code_by_territory, code_in, cut_off, has_code, or_by_hint}
+use Rattle.phone_library.specs.LibraryCodes.{behind_code, code_after_sign, code_by_hint, code_by_territory, code_in, cut_off, has_code, or_by_hint}
 use Rattle.phone_library.specs.Readings
 use Rattle.phone_library.specs.Readings.{ReadsByLibrary, after_code, after_code_if_any, national_number, reading_of, reading_under, stripping_territory}
 use Rattle.phone_library.specs.Stripping.{stripped}
@@ -24,15 +24,15 @@ use Rattle.phone_library_laws.specs.Again.{IsSettled, IsSettledIfRead}
 use Rattle.phone_library_text.specs.Written
 use Rattle.phone_library_text.specs.Written.{IsWritten, IsWrittenIn}
 use Rattle.phone_library_text.specs.declared.written.WrittenNumber.{WrittenNumber}
-use Rattle.phone_meta.specs.Codes.{is_listed, shortest}
+use Rattle.phone_meta.specs.CodeLookUps.{is_listed, shortest}
 use Rattle.phone_meta.specs.Records.{has_id, last_where}
 use Rattle.phone_meta.specs.Records as records
 use Rattle.phone_parts.specs.Texts.{begins}
-use Rattle.phone_prefix.specs.Dialling.{after_match, found_in}
-use Rattle.phone_prefix.specs.Strips.{Stripped}
+use Rattle.phone_rules.specs.Dialling.{after_match, found_in}
+use Rattle.phone_rules.specs.Strips.{Stripped}
 use Rattle.phone_read.proofs.ListedFronts.{shortest-listed}
 use Rattle.phone_read.proofs.ReadNumbers.{nsn-own}
-use Rattle.phone_read.specs.Codes.{code_by_front}
+use Rattle.phone_read.specs.CallingCodes.{code_by_front}
 use Rattle.phone_read.specs.Hints.{Coded, hinted}
 use Rattle.phone_read.specs.TransformRules.{rules_have_no_plus}
 use Rattle.phone_records.specs.declared.loader.Metadata.{Metadata}

@@ -8,16 +8,16 @@ use Rattle.phone_chars.specs.Characters.{is_digit}
 use Rattle.phone_core.specs.Numbers.{text_of}
 use Rattle.phone_core.specs.declared.country.Id.{Id}
 use Rattle.phone_core.specs.declared.reading.Reading.{Reading}
-use Rattle.phone_library.specs.Codes.{code_in}
+use Rattle.phone_library.specs.LibraryCodes.{code_in}
 use Rattle.phone_library.specs.Readings as second
 use Rattle.phone_library.specs.Stripping.{untouched}
 use Rattle.phone_library_laws.specs.Again.{IsSettled}
 use Rattle.phone_library_text.specs.Written.{most_characters}
-use Rattle.phone_meta.specs.Codes.{shortest}
+use Rattle.phone_meta.specs.CodeLookUps.{shortest}
 use Rattle.phone_parts.specs.Texts.{is_front}
-use Rattle.phone_prefix.specs.Dialling.{after_match, found_in}
-use Rattle.phone_prefix.specs.Strips as first
-use Rattle.phone_read.specs.Codes.{international_prefix_of}
+use Rattle.phone_rules.specs.Dialling.{after_match, found_in}
+use Rattle.phone_rules.specs.Strips as first
+use Rattle.phone_read.specs.CallingCodes.{international_prefix_of}
 use Rattle.phone_read.specs.Hints.{Coded, hinted}
 use Rattle.phone_read.specs.Readings as first_reading
 use Rattle.phone_read.specs.Regions.{home}

@@ -7,7 +7,7 @@ ghost use Rattle.phone_library_text.specs.Contexts.{IsContext, IsDomain, IsGloba
 ghost use Rattle.phone_library_text.specs.Contexts.{are_global_digits, is_alphanumeric, is_label};
 ghost use Rattle.phone_library_text.specs.Contexts.{may_follow};
 
-use crate::places::{is_nothing, parted};
+use crate::places::{is_nothing, split_at_word};
 use phone_chars::chars::{is_alpha, is_nd};
 use phone_chars::cuts::{split_first, split_last};
 
@@ -121,7 +121,7 @@ fn is_domain(text: &str) -> bool
     ensures { IsTrue result ↔ IsDomain (chars text.now) }
 {
     let mut rest = text;
-    while let Some((label, after)) = parted(rest, ".") {
+    while let Some((label, after)) = split_at_word(rest, ".") {
         if is_nothing(after) {
             return is_last_label(label);
         }

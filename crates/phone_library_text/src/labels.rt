@@ -11,7 +11,7 @@ ghost use Rattle.phone_library_text.specs.Scans.{IsMarkGap, after_alike, follows
 ghost use Rattle.phone_library_text.specs.Scans.{is_named, is_nil, label_starts, pause_starts};
 
 use crate::announcement::Allowed;
-use crate::letters::folded;
+use crate::letters::fold;
 use phone_chars::cuts::split_first;
 
 const WORDS: [&str; 22] = [
@@ -77,7 +77,7 @@ fn pauses() -> &'static [&'static str]
 fn same_folded(a: char, b: char) -> bool
     ensures { result ≡ (folded a == folded b) }
 {
-    folded(a) == folded(b)
+    fold(a) == fold(b)
 }
 
 /// Whether the text has no character.
@@ -123,7 +123,7 @@ pub(crate) fn is_parameter(text: &str) -> bool
     let Some((c, _)) = split_first(text) else {
         return false;
     };
-    if !starts_parameter(folded(c)) {
+    if !starts_parameter(fold(c)) {
         return false;
     }
     names_parameter(text)
@@ -208,7 +208,7 @@ pub(crate) fn begins_named(text: &str, allowed: Allowed, limit: usize) -> bool
     let Some((c, _)) = split_first(text) else {
         return false;
     };
-    if !starts_label(folded(c)) {
+    if !starts_label(fold(c)) {
         return false;
     }
     is_named(text, allowed, limit)
@@ -222,7 +222,7 @@ pub(crate) fn begins_pause(text: &str, limit: usize) -> bool
     let Some((c, _)) = split_first(text) else {
         return false;
     };
-    if !starts_pause(folded(c)) {
+    if !starts_pause(fold(c)) {
         return false;
     }
     follows_some(text, pauses(), limit)

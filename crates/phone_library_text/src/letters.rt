@@ -31,7 +31,7 @@ pub(crate) fn is_nd(c: char) -> bool
 
 /// The letter that the character is without case: its simple folding, and `i` for U+0130 and
 /// U+0131.
-pub(crate) fn folded(c: char) -> char
+pub(crate) fn fold(c: char) -> char
     ensures { result ≡ folded c }
 {
     if c.is_ascii() {

@@ -9,7 +9,7 @@ ghost use Rattle.phone_library_text.specs.NumberTexts.{without_subaddress};
 ghost use Rattle.phone_library_text.specs.Places.{before_first, parted};
 
 use crate::contexts::is_context;
-use crate::places::{before_first, is_nothing, parted};
+use crate::places::{before_first, is_nothing, split_at_word};
 use phone_parts::helper::extract;
 use std::alloc::{AllocError, Global};
 use std::borrow::CowStr;
@@ -30,16 +30,16 @@ pub(crate) fn number_text(alloc: Global, text: &str) -> Result<Option<CowStr<'_>
         (option_map (λ t. chars (cow_str_bytes t)) n)) }
 {
     if !text.contains(';') {
-        return Ok(lent(plain_text(text)));
+        return Ok(lend(plain_text(text)));
     }
-    match parted(text, CONTEXT_NAME) {
+    match split_at_word(text, CONTEXT_NAME) {
         Some((front, after)) => with_context(alloc, text, front, before_first(after, ";")),
-        None => Ok(lent(free_text(text))),
+        None => Ok(lend(free_text(text))),
     }
 }
 
 /// A text that is lent, where there is one.
-fn lent(text: Option<&str>) -> Option<CowStr<'_>>
+fn lend(text: Option<&str>) -> Option<CowStr<'_>>
     ensures { option_map (λ t. chars (cow_str_bytes t)) result ≡ chars_of text.entry }
 {
     match text {
@@ -84,13 +84,13 @@ fn with_context<'a>(
     }
     let local = local_part(text, front);
     if context.starts_with('+') {
-        return Ok(Some(CowStr::Owned(joined(alloc, context, local)?)));
+        return Ok(Some(CowStr::Owned(join(alloc, context, local)?)));
     }
     Ok(Some(CowStr::Borrowed(without_subaddress(local))))
 }
 
 /// A global context and the local number after it, without a subaddress.
-fn joined(alloc: Global, context: &str, local: &str) -> Result<String, AllocError>
+fn join(alloc: Global, context: &str, local: &str) -> Result<String, AllocError>
     ensures { IfOk result (λ s. chars (string_bytes s) ≡
         chars context.now ++ before_first (codes ";isub=") (chars local.now)) }
 {
@@ -104,9 +104,9 @@ fn joined(alloc: Global, context: &str, local: &str) -> Result<String, AllocErro
 fn local_part<'a>(text: &str, front: &'a str) -> &'a str
     ensures { chars result.now ≡ local_part (chars text.now) (chars front.now) }
 {
-    match parted(front, SCHEME) {
+    match split_at_word(front, SCHEME) {
         Some((_, local)) => local,
-        None => unless_told(front, parted(text, SCHEME).is_some()),
+        None => unless_told(front, split_at_word(text, SCHEME).is_some()),
     }
 }
 
@@ -121,7 +121,7 @@ fn unless_told(text: &str, is_told: bool) -> &str
 fn without_subaddress(text: &str) -> &str
     ensures { chars result.now ≡ without_subaddress (chars text.now) }
 {
-    match parted(text, SUBADDRESS_NAME) {
+    match split_at_word(text, SUBADDRESS_NAME) {
         Some((front, _)) => unless_empty(front, text),
         None => text,
     }

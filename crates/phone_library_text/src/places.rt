@@ -7,7 +7,7 @@ use phone_chars::cuts::{before, split_first};
 
 /// What stands before the first place of a word in a text, and what follows the word there; none
 /// where the word stands nowhere in it. No part is copied.
-pub(crate) fn parted<'a>(text: &'a str, word: &str) -> Option<(&'a str, &'a str)>
+pub(crate) fn split_at_word<'a>(text: &'a str, word: &str) -> Option<(&'a str, &'a str)>
     ensures parted { MatchOption result (parted (chars word.now) (chars text.now) ≡ None)
         (λ p. parted (chars word.now) (chars text.now) ≡ Some (chars p.0.now, chars p.1.now)) }
     ensures whole { IfSome result (λ p. text.now ≡ p.0.now ++ (word.now ++ p.1.now)) }
@@ -27,7 +27,7 @@ pub(crate) fn parted<'a>(text: &'a str, word: &str) -> Option<(&'a str, &'a str)
 pub(crate) fn before_first<'a>(text: &'a str, word: &str) -> &'a str
     ensures { chars result.now ≡ before_first (chars word.now) (chars text.now) }
 {
-    match parted(text, word) {
+    match split_at_word(text, word) {
         Some((front, _)) => front,
         None => text,
     }

@@ -13,8 +13,8 @@ use crate::viable::{is_viable, split_extension};
 use phone_chars::chars::is_plus;
 use phone_chars::cuts::split_first;
 use phone_core::{Extension, ParseError};
-use phone_texts::Text;
-use phone_texts::together::{both, instead};
+use phone_base::Text;
+use phone_base::together::{both, instead};
 use std::alloc::Global;
 
 /// A number as it is written.

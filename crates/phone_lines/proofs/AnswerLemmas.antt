@@ -1,8 +1,8 @@
 -- Lines and their answers: that there are some, and no others.
 use Rattle.std.proofs.Common.{◌≡◌, ℕ, List, [], ◌∷◌, ◌++◌, refl, sym, ap₂, ◌∙◌, append_assoc, subst}
 use Rattle.phone_lines.specs.Lines.{AreLines, last_line, without_return}
-use Rattle.phone_lines.specs.Reports.{AreAnswers, Gives, HasAnAnswer, HasOneAnswer, IsReport}
-use Rattle.phone_lines.specs.Reports.AreAnswers.{none, next}
+use Rattle.phone_lines.specs.LineReports.{AreAnswers, Gives, HasAnAnswer, HasOneAnswer, IsReport}
+use Rattle.phone_lines.specs.LineReports.AreAnswers.{none, next}
 use Rattle.phone_lines.proofs.CutLemmas.{cut_of, same_cut}
 
 -- bytes have lines

@@ -3,10 +3,10 @@ use Rattle.std.proofs.Common.{◌≡◌, ◌⊎◌, inl, inr, ⊎_elim, ℕ, Lis
 use Rattle.std.proofs.lemmas.List.{append-nil}
 use Rattle.phone_device.specs.Passing.{IsAtEnd}
 use Rattle.phone_lines.specs.Lines.{AreLines, last_line}
-use Rattle.phone_lines.specs.Reports.{AreAnswers, AreLinesSoFar, BeginsAnswer, Gives, HasOneAnswer}
-use Rattle.phone_lines.specs.Reports.{IsBeginning, IsReport, IsReportOnFirst, TakesA, TakesBeginning}
-use Rattle.phone_lines.specs.Reports.AreAnswers.{none, next}
-use Rattle.phone_lines.specs.Reports.BeginsAnswer.{nothing, some}
+use Rattle.phone_lines.specs.LineReports.{AreAnswers, AreLinesSoFar, BeginsAnswer, Gives, HasOneAnswer}
+use Rattle.phone_lines.specs.LineReports.{IsBeginning, IsReport, IsReportOnFirst, TakesA, TakesBeginning}
+use Rattle.phone_lines.specs.LineReports.AreAnswers.{none, next}
+use Rattle.phone_lines.specs.LineReports.BeginsAnswer.{nothing, some}
 use Rattle.phone_lines.proofs.AnswerLemmas.{AreAnswers-then, answers_after}
 use Rattle.phone_lines.proofs.CutLemmas.{same_cut}
 

@@ -5,7 +5,7 @@ use Rattle.std.specs.Prelude.{⊤}
 use Rattle.phone_device.specs.Passing.{IsAtEnd, Passes}
 use Rattle.phone_lines.specs.Ends.{Devices, Ends, most_bytes, seen}
 use Rattle.phone_lines.specs.Ends.Ends.{input_failed, no_memory, output_failed, whole}
-use Rattle.phone_lines.specs.Reports.{Gives, IsReport, IsReportOnFirst, TakesA}
+use Rattle.phone_lines.specs.LineReports.{Gives, IsReport, IsReportOnFirst, TakesA}
 use Rattle.phone_lines.specs.Runs.{Halts, Holds, IsSoFar}
 use Rattle.phone_lines.specs.declared.blocks.RunError.{RunError}
 use Rattle.phone_lines.specs.declared.blocks.RunError.TheVariants.{Input, Memory}

@@ -3,8 +3,8 @@ use Rattle.std.proofs.Common.{◌≡◌, ◌==◌, ℕ, false, length, List, [],
 use Rattle.phone_device.specs.Passing.{Takes, TakesFront}
 use Rattle.phone_device.proofs.PassingLemmas.{TakenSoFar-all, TakenSoFar-nothing}
 use Rattle.phone_lines.specs.Lines.{last_line, without_return}
-use Rattle.phone_lines.specs.Reports.{AreAnswers, Gives, IsBeginning, IsReport, IsReportOnFirst, TakesA}
-use Rattle.phone_lines.specs.Reports.AreAnswers.{none}
+use Rattle.phone_lines.specs.LineReports.{AreAnswers, Gives, IsBeginning, IsReport, IsReportOnFirst, TakesA}
+use Rattle.phone_lines.specs.LineReports.AreAnswers.{none}
 use Rattle.phone_lines.specs.Runs.{Holds, IsSoFar, Stands}
 use Rattle.phone_lines.proofs.AnswerLemmas.{AreAnswers-then}
 use Rattle.phone_lines.proofs.Beginnings.{IsBeginning-front, IsReportSoFar}

@@ -2,8 +2,8 @@
 use Rattle.std.specs.Prelude.{◌≡◌, ◌⊎◌, ℕ, ◌+◌, ◌-◌, ◌^◌, List, length, Option, Result, Ok, Err}
 use Rattle.std.specs.Prelude.{⊤}
 use Rattle.phone_device.specs.Passing.{IsAtEnd, Passes}
-use Rattle.phone_lines.specs.Reports.{IsBeginning, IsReport, IsReportOnEnded, IsReportOnFirst}
-use Rattle.phone_lines.specs.Reports.{TakesA}
+use Rattle.phone_lines.specs.LineReports.{IsBeginning, IsReport, IsReportOnEnded, IsReportOnFirst}
+use Rattle.phone_lines.specs.LineReports.{TakesA}
 use Rattle.phone_lines.specs.declared.blocks.RunError.{RunError}
 use Rattle.phone_lines.specs.declared.blocks.RunError.TheVariants.{Input, Memory, Output}
 

@@ -1,7 +1,7 @@
 -- What a refusal tells: how often a sink failed, and its number.
 use Rattle.std.specs.Prelude.{ℕ, Result, Ok, Err}
-use Rattle.phone_lines.specs.declared.desk.Refusal.{Refusal}
-use Rattle.phone_lines.specs.declared.desk.Refusal.TheVariants.{Fault, Memory}
+use Rattle.phone_lines.specs.declared.pending_output.Refusal.{Refusal}
+use Rattle.phone_lines.specs.declared.pending_output.Refusal.TheVariants.{Fault, Memory}
 use Rattle.phone_lines.specs.declared.blocks.RunError.{RunError}
 use Rattle.phone_lines.specs.declared.blocks.RunError.TheVariants.{Input, Output}
 use Rattle.phone_lines.specs.declared.blocks.RunError.TheVariants.{Memory as NoMemory}

@@ -1,5 +1,5 @@
 pub mod Ends
 pub mod Faults
 pub mod Lines
-pub mod Reports
+pub mod LineReports
 pub mod Runs

@@ -3,7 +3,7 @@ use Rattle.std.specs.Prelude.{ℕ, ◌+◌, List, ◌++◌, Option, Result, Err,
 use Rattle.phone_device.specs.Passing.{Takes, TakesFront}
 use Rattle.phone_lines.specs.Ends.{Devices, Ends, seen}
 use Rattle.phone_lines.specs.Lines.{AreCut}
-use Rattle.phone_lines.specs.Reports.{AreAnswers, Gives}
+use Rattle.phone_lines.specs.LineReports.{AreAnswers, Gives}
 use Rattle.phone_lines.specs.declared.blocks.RunError.{RunError}
 use Rattle.phone_lines.specs.declared.blocks.RunError.TheVariants.{Output}
 

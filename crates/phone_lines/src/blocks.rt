@@ -5,7 +5,7 @@ ghost use Rattle.phone_lines.specs.Faults.{number_of};
 ghost use Rattle.phone_lines.specs.Runs.{Halts};
 
 use crate::answers::Answers;
-use crate::desk::{Desk, Refusal};
+use crate::pending_output::{PendingOutput, Refusal};
 use phone_device::{Block, ByteSink, ByteSource, Fault};
 use std::alloc::Global;
 
@@ -42,16 +42,16 @@ fn take_all<A: Answers, S: ByteSource, W: ByteSink>(
     answers: &A,
     source: &mut S,
     sink: &mut W,
-    desk: &mut Desk,
+    pending: &mut PendingOutput,
 ) -> Result<Result<(), RunError>, Fault>
-    requires line { desk.old.line.items ≡ [] }
-    requires answers { desk.old.answers.items ≡ [] }
+    requires line { pending.old.line.items ≡ [] }
+    requires answers { pending.old.answers.items ≡ [] }
     ensures halts { IfOk result (λ end. Halts (A.gives answers.now)
         (seen (S.to_come source.old) (S.faults source.old) (W.taken sink.old)
         (W.faults sink.old) (W.unflushed sink.old))
         (seen (S.to_come source.new) (S.faults source.new) (W.taken sink.new)
         (W.faults sink.new) (W.unflushed sink.new))
-        desk.new.answers.items end) }
+        pending.new.answers.items end) }
     ensures broken { OnErr result (Ends (A.gives answers.now)
         (seen (S.to_come source.old) (S.faults source.old) (W.taken sink.old)
         (W.faults sink.old) (W.unflushed sink.old))
@@ -70,13 +70,13 @@ fn take_all<A: Answers, S: ByteSource, W: ByteSink>(
         };
         let bytes = block.bytes();
         if bytes.is_empty() {
-            return match desk.take_last(alloc, answers) {
+            return match pending.take_last(alloc, answers) {
                 Ok(()) => Ok(Ok(())),
                 Err(_) => Ok(Err(RunError::Memory)),
             };
         }
         read += bytes.len() as u64;
-        match desk.take_block(alloc, answers, sink, bytes) {
+        match pending.take_block(alloc, answers, sink, bytes) {
             Ok(()) => {}
             Err(Refusal::Fault) => return Err(Fault),
             Err(Refusal::Memory) => return Ok(Err(RunError::Memory)),
@@ -112,11 +112,11 @@ pub fn answer_lines<A: Answers, S: ByteSource, W: ByteSink>(
         (W.faults sink.new) (W.unflushed sink.new))
         result }
 {
-    let mut desk = Desk::new(alloc);
-    let Ok(end) = take_all(alloc, answers, source, sink, &mut desk) else {
+    let mut pending = PendingOutput::new(alloc);
+    let Ok(end) = take_all(alloc, answers, source, sink, &mut pending) else {
         return Err(RunError::Output);
     };
-    let Ok(()) = desk.write_out(sink) else {
+    let Ok(()) = pending.write_out(sink) else {
         return Err(RunError::Output);
     };
     end

@@ -2,8 +2,8 @@
 //! statements.
 ghost use Rattle.std.specs.Prelude.{◌≡◌, ℕ, List, Option};
 ghost use Rattle.phone_lines.specs.Lines.{AreLines};
-ghost use Rattle.phone_lines.specs.Reports.{HasAnAnswer, HasOneAnswer};
-ghost use Rattle.phone_lines.specs.Reports.{IsBeginning, IsReport, TakesA, TakesBeginning};
+ghost use Rattle.phone_lines.specs.LineReports.{HasAnAnswer, HasOneAnswer};
+ghost use Rattle.phone_lines.specs.LineReports.{IsBeginning, IsReport, TakesA, TakesBeginning};
 
 use crate::Answers;
 

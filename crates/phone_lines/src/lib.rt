@@ -3,7 +3,7 @@
 
 mod answers;
 mod blocks;
-mod desk;
+mod pending_output;
 pub mod laws;
 
 pub use answers::{Answers, without_return};

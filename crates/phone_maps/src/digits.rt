@@ -4,7 +4,7 @@ ghost use Rattle.phone_maps.specs.Maps.{digits_of};
 ghost use Rattle.phone_prefixes.specs.Tables.{IsLongest, NoneBegins};
 
 use phone_prefixes::Prefixes;
-use phone_print::written::written;
+use phone_print::written::text_of_value;
 use phonenumber::PhoneNumber;
 use std::alloc::{AllocError, Global};
 
@@ -15,7 +15,7 @@ pub fn digits_of(alloc: Global, number: &PhoneNumber) -> Result<String, AllocErr
 {
     let code = number.code().value();
     let national = number.national();
-    written(alloc, format_args!("{code}{national}"))
+    text_of_value(alloc, format_args!("{code}{national}"))
 }
 
 /// The prefix and the text of the entry whose prefix is the longest that begins a number's digits;

@@ -11,7 +11,7 @@ use Rattle.std.specs.Bool.{Decides}
 use Rattle.std.specs.Fmt.{decimal}
 use Rattle.std.specs.List.{find, last_or}
 use Rattle.std.specs.Option.{option_or}
-use Rattle.phone_meta.specs.Codes.{begins, first_of, if_any, is_main_of, is_other_of, territories}
+use Rattle.phone_meta.specs.CodeLookUps.{begins, first_of, if_any, is_main_of, is_other_of, territories}
 use Rattle.phone_records.specs.declared.loader.Metadata.{Metadata}
 
 pub first_of-append : {X : Type 0} (xs ys : List X) → first_of (xs ++ ys) ≡ option_or (first_of xs) (first_of ys)

@@ -6,7 +6,7 @@ use Rattle.std.proofs.lemmas.List.{map-append, reverse-append, take_more}
 use Rattle.std.proofs.lemmas.List.Elements.{filter-append}
 use Rattle.std.specs.List.{find, list_all, list_any}
 use Rattle.std.specs.Str.{bytes_eq}
-use Rattle.phone_meta.specs.Codes.{begins, is_listed, is_prefix_free}
+use Rattle.phone_meta.specs.CodeLookUps.{begins, is_listed, is_prefix_free}
 use Rattle.phone_territory.specs.Records.{code_of, id_of}
 use Rattle.phone_meta.specs.Records.{has_code, has_id, last_place, places_where}
 use Rattle.phone_meta.proofs.Places.{last_place-take, one_if, places_where-take}

@@ -6,7 +6,7 @@ use Rattle.phone_pattern.specs.Rules.{first_group_pattern}
 use Rattle.phone_territory.specs.Refusals.{IsPatternRefusal, patterns_in}
 use Rattle.phone_meta.specs.Refusals.{IsRefusalOf, TellsMissing, patterns}
 use Rattle.phone_pattern.proofs.Refused.{ArePatterns, refused-left, refused-right}
-use Rattle.phone_texts.specs.declared.error.LoadMetadata.{LoadMetadata}
+use Rattle.phone_base.specs.declared.error.LoadMetadata.{LoadMetadata}
 use Rattle.phone_records.specs.declared.loader.Metadata.{Metadata}
 
 -- where nothing is missing and the records' own are patterns, records are refused for the pattern that stands beside theirs

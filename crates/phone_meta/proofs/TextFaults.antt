@@ -6,10 +6,10 @@ use Rattle.std.specs.Result.{result_map_both}
 use Rattle.serde_json.specs.Data.{Data}
 use Rattle.serde_json.specs.Find.{as_bool, as_str, as_object}
 use Rattle.serde_json.specs.Read.{read}
-use Rattle.phone_texts.specs.Errors.{told}
+use Rattle.phone_base.specs.Errors.{told}
 use Rattle.phone_records.specs.Missing.{first_given, first_missing}
-use Rattle.phone_texts.specs.declared.error.LoadMetadata.{LoadMetadata}
-use Rattle.phone_texts.specs.declared.error.LoadMetadata.TheVariants as error
+use Rattle.phone_base.specs.declared.error.LoadMetadata.{LoadMetadata}
+use Rattle.phone_base.specs.declared.error.LoadMetadata.TheVariants as error
 use Rattle.phone_records.specs.declared.loader.Metadata.{Metadata}
 use Rattle.phone_records.specs.declared.missing.Missing.{Missing}
 use Rattle.phone_json.specs.Fields.{field, as_small, as_list}

@@ -4,7 +4,7 @@ use Rattle.std.specs.Set.{distinct_count}
 use Rattle.std.specs.Str.{bytes_eq}
 use Rattle.phone_index.specs.ListedCodes.{is_in}
 use Rattle.phone_index.specs.Orders as placed
-use Rattle.phone_meta.specs.Codes.{is_listed}
+use Rattle.phone_meta.specs.CodeLookUps.{is_listed}
 use Rattle.phone_meta.specs.Lasts.{last_places}
 use Rattle.phone_meta.specs.Records.{has_code, has_id, last_place, places_where}
 use Rattle.phone_meta.specs.declared.index.Index.{Index}

@@ -1,4 +1,4 @@
-pub mod Codes
+pub mod CodeLookUps
 pub mod Index
 pub mod Lasts
 pub mod Records

@@ -1,14 +1,14 @@
 -- Why a list of records is no database.
 use Rattle.std.specs.Prelude.{◌≡◌, ◌⊎◌, ℕ, List, [], ◌∷◌, ◌++◌, MatchOption}
 use Rattle.std.specs.List.{flat_map}
-use Rattle.phone_texts.specs.Errors.{told}
+use Rattle.phone_base.specs.Errors.{told}
 use Rattle.phone_records.specs.Missing.{first_missing, phase_of, name_of}
 use Rattle.phone_records.specs.declared.loader.Metadata.{Metadata}
 use Rattle.phone_records.specs.declared.missing.Missing.{Missing}
 use Rattle.phone_pattern.specs.Rules.{first_group_pattern}
 use Rattle.phone_territory.specs.Refusals.{IsPatternRefusal, patterns_in}
-use Rattle.phone_texts.specs.declared.error.LoadMetadata.{LoadMetadata}
-use Rattle.phone_texts.specs.declared.error.LoadMetadata.TheVariants as error
+use Rattle.phone_base.specs.declared.error.LoadMetadata.{LoadMetadata}
+use Rattle.phone_base.specs.declared.error.LoadMetadata.TheVariants as error
 
 -- the patterns of a database: those of its territories, and that of the first group of a template
 abbrev pub patterns : List Metadata → List (List ℕ)

@@ -1,9 +1,9 @@
 -- Why a text, or the bytes that a source has, are no database.
 use Rattle.std.specs.Prelude.{◌≡◌, ◌⊎◌, ℕ, List, Result, Err, MatchResult, IsUtf8}
 use Rattle.phone_json.specs.Records.{records_of}
-use Rattle.phone_texts.specs.Errors.{told}
-use Rattle.phone_texts.specs.declared.error.LoadMetadata.{LoadMetadata}
-use Rattle.phone_texts.specs.declared.error.LoadMetadata.TheVariants as error
+use Rattle.phone_base.specs.Errors.{told}
+use Rattle.phone_base.specs.declared.error.LoadMetadata.{LoadMetadata}
+use Rattle.phone_base.specs.declared.error.LoadMetadata.TheVariants as error
 use Rattle.phone_records.specs.declared.loader.Metadata.{Metadata}
 use Rattle.phone_meta.specs.Refusals.{IsRefusalOf}
 

@@ -1,7 +1,7 @@
 //! What territories are looked up by: their places by id and by calling code, the place of the last
 //! one of each one's id, and their codes by digits.
 ghost use Rattle.std.specs.Prelude.{◌≡◌, ℕ, List, [], IfOk, filter, length, map, reverse};
-ghost use Rattle.phone_meta.specs.Codes.{is_listed};
+ghost use Rattle.phone_meta.specs.CodeLookUps.{is_listed};
 ghost use Rattle.phone_meta.specs.Index.{IsIndexOf, count_of_ids};
 ghost use Rattle.phone_meta.specs.Lasts.{last_places};
 ghost use Rattle.phone_territory.specs.Refusals.{AreRead};
@@ -83,11 +83,11 @@ fn by_id(alloc: Global, territories: &[Metadata]) -> Result<Sorted, AllocError>
         place_of id s ≡ last_place (has_id id) territories.now) }
     ensures once { IfOk result (λ s. length s ≡ count_of_ids territories.now) }
 {
-    Sorted::of(named(alloc, territories)?)
+    Sorted::of(id_places(alloc, territories)?)
 }
 
 /// The place of each territory, with its id.
-fn named(alloc: Global, territories: &[Metadata]) -> Result<Vec<Named>, AllocError>
+fn id_places(alloc: Global, territories: &[Metadata]) -> Result<Vec<Named>, AllocError>
     ensures ids { IfOk result (λ v. map text_of v.items ≡ map id_of territories.now) }
     ensures last { IfOk result (λ v. (id : List ℕ) →
         place_of id (reverse v.items) ≡ last_place (has_id id) territories.now) }
@@ -107,11 +107,11 @@ fn by_code(alloc: Global, territories: &[Metadata]) -> Result<Grouped, AllocErro
     ensures { IfOk result (λ g. (code : ℕ) → map (λ e. e.place) (filter (placed.has_code code) g) ≡
         places_where (has_code code) territories.now) }
 {
-    Grouped::of(coded(alloc, territories)?)
+    Grouped::of(code_places(alloc, territories)?)
 }
 
 /// The place of each territory, with its calling code.
-fn coded(alloc: Global, territories: &[Metadata]) -> Result<Vec<Coded>, AllocError>
+fn code_places(alloc: Global, territories: &[Metadata]) -> Result<Vec<Coded>, AllocError>
     ensures { IfOk result (λ v. (code : ℕ) →
         map (λ e. e.place) (filter (placed.has_code code) v.items) ≡
         places_where (has_code code) territories.now) }

@@ -32,7 +32,7 @@ pub fn extract(text: &str) -> Option<&str>
         ¬ (IsCore (chars text.now) core)) (λ core. IsCore (chars text.now) (chars core.now)) }
     ensures slice { IfSome result (λ core. IsSlice text.now core.now) }
 {
-    let core = first_number(trimmed(after_run(text, &BeforeStart)));
+    let core = first_number(trim_end(after_run(text, &BeforeStart)));
     if is_nothing(core) { None } else { Some(core) }
 }
 
@@ -44,7 +44,7 @@ fn is_last(c: char) -> bool
 }
 
 /// The text without its longest end of characters at which no number ends.
-fn trimmed(text: &str) -> &str
+fn trim_end(text: &str) -> &str
     ensures read { IsTrimmed (chars text.now) (chars result.now) }
     ensures front { (v : List ℕ) × (text.now ≡ result.now ++ v) }
 {

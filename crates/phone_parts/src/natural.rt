@@ -41,11 +41,11 @@ pub fn phone_number(text: &str) -> Result<Number<'_>, NoReading>
     let Some((national, extension)) = find_suffix(core) else {
         return Ok(Number::of(core));
     };
-    Ok(extended(national, extension))
+    Ok(with_extension(national, extension))
 }
 
 /// A number of these two parts.
-fn extended<'a>(national: &'a str, extension: &'a str) -> Number<'a>
+fn with_extension<'a>(national: &'a str, extension: &'a str) -> Number<'a>
     ensures parts { parts_of result ≡ record {
       national = chars national.entry.now;
       prefix = None;

@@ -77,8 +77,8 @@ pub fn phone_number(text: &str) -> Option<Number<'_>>
     Some(Number {
         country: Source::Default,
         national: CowStr::Borrowed(national),
-        prefix: lent(prefix(run, parameters.context)),
-        extension: lent(parameters.extension),
+        prefix: lend(prefix(run, parameters.context)),
+        extension: lend(parameters.extension),
         carrier: None,
     })
 }
@@ -151,7 +151,7 @@ fn prefix<'a>(run: Option<&'a str>, context: Option<&'a str>) -> Option<&'a str>
 }
 
 /// The part, lent.
-fn lent(part: Option<&str>) -> Option<CowStr<'_>>
+fn lend(part: Option<&str>) -> Option<CowStr<'_>>
     ensures read { option_map (λ p. chars (cow_str_bytes p)) result ≡
         option_map chars (option_copied part.entry) }
     ensures lent { (text : List ℕ) → IfSome part.entry (λ p. IsSlice text p.now) →

@@ -151,7 +151,7 @@ fn indicated_unless(text: &str, limit: usize, no_indicator: bool) -> Option<&str
     if no_indicator {
         None
     } else {
-        indicated(text, limit)
+        indicated_digits(text, limit)
     }
 }
 
@@ -217,7 +217,7 @@ fn number_signed(text: &str, limit: usize) -> Option<&str>
 }
 
 /// The digits of an extension with an indicator.
-fn indicated(text: &str, limit: usize) -> Option<&str>
+fn indicated_digits(text: &str, limit: usize) -> Option<&str>
     requires { AreEndsUpTo IsSomeEnding limit text.now }
     ensures read { MatchOption result ((d : List ℕ) →
         ¬ (IsIndicated (chars text.now) d)) (λ d. IsIndicated (chars text.now) (chars d.now)) }
@@ -225,7 +225,7 @@ fn indicated(text: &str, limit: usize) -> Option<&str>
 {
     let mut rest = text;
     while let Some((c, after)) = split_first(rest) {
-        if let Some(digits) = announced(rest, limit) {
+        if let Some(digits) = announced_digits(rest, limit) {
             return Some(digits);
         }
         if !is_lead(c) {
@@ -238,7 +238,7 @@ fn indicated(text: &str, limit: usize) -> Option<&str>
 
 /// The digits of an indicator at the front of the text, and what may follow one. Only the
 /// indicators are tried that begin with the text's first character.
-fn announced(text: &str, limit: usize) -> Option<&str>
+fn announced_digits(text: &str, limit: usize) -> Option<&str>
     requires { AreEndsUpTo IsSomeEnding limit text.now }
     ensures read { MatchOption result
         ((d : List ℕ) → ¬ (IsAnnounced indicators (chars text.now) d))

@@ -3,8 +3,8 @@ use Rattle.std.proofs.Common.{◌≡◌, ℕ, List, [], ◌∷◌, ◌++◌, app
 use Rattle.std.specs.List.{AllByRecursion, flat_map}
 use Rattle.phone_pattern.specs.First.{IsPattern}
 use Rattle.phone_pattern.specs.Refusals.{IsPatternRefusal, IsRefusedIn}
-use Rattle.phone_texts.specs.declared.error.LoadMetadata.{LoadMetadata}
-use Rattle.phone_texts.specs.declared.error.LoadMetadata.TheVariants as error
+use Rattle.phone_base.specs.declared.error.LoadMetadata.{LoadMetadata}
+use Rattle.phone_base.specs.declared.error.LoadMetadata.TheVariants as error
 
 abbrev pub Texts : Type 0
 Texts = List (List ℕ)

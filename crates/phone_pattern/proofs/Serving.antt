@@ -4,11 +4,11 @@ use Rattle.std.specs.declared.alloc.AllocError.{AllocError}
 use Rattle.std.specs.Option.{option_map_or}
 use Rattle.std.specs.Str.{chars}
 use Rattle.phone_pattern.specs.First.{at_start, captured, captured_by, first_match, first_span, names_in, replaced, verbose, with_first_replaced, IsCut, Seen, seen_of}
-use Rattle.phone_pattern.specs.Kept.{as_captured, Serves}
+use Rattle.phone_pattern.specs.MachineCaches.{as_captured, Serves}
 use Rattle.phone_pattern.proofs.Matches.{found, named}
-use Rattle.phone_search.specs.Finds.{at_front, finds, FindsInAscii, Searcher}
-use Rattle.phone_search.specs.Finds as searched
-use Rattle.phone_search.specs.Templates.{with_match_replaced}
+use Rattle.phone_automaton.specs.Finds.{at_front, finds, FindsInAscii, Searcher}
+use Rattle.phone_automaton.specs.Finds as searched
+use Rattle.phone_automaton.specs.Templates.{with_match_replaced}
 use Rattle.regex.specs.Patterns.{Match, span}
 use Rattle.regex_hir.specs.Meaning.{meaning}
 use Rattle.regex_hir.specs.declared.hir.Hir.{Hir}

@@ -1,4 +1,4 @@
 pub mod First
-pub mod Kept
+pub mod MachineCaches
 pub mod Refusals
 pub mod Rules

@@ -2,8 +2,8 @@
 use Rattle.std.specs.Prelude.{◌≡◌, ℕ, List, ◌∷◌, ◌++◌, string_bytes}
 use Rattle.std.specs.List.{AllByRecursion}
 use Rattle.phone_pattern.specs.First.{IsPattern}
-use Rattle.phone_texts.specs.declared.error.LoadMetadata.{LoadMetadata}
-use Rattle.phone_texts.specs.declared.error.LoadMetadata.TheVariants as error
+use Rattle.phone_base.specs.declared.error.LoadMetadata.{LoadMetadata}
+use Rattle.phone_base.specs.declared.error.LoadMetadata.TheVariants as error
 
 -- one of these texts is refused, and all before it are patterns
 abbrev pub IsRefusedIn : List (List ℕ) → List ℕ → Type 0

@@ -6,9 +6,9 @@ ghost use Rattle.regex.specs.Strings.{regex_source};
 ghost use Rattle.phone_pattern.specs.First.{led_by, ArePatternsOf, IsPattern};
 ghost use Rattle.phone_pattern.specs.Refusals.{IsPatternRefusal};
 
-use crate::kept::Kept;
+use crate::machine_cache::MachineCache;
 use crate::pattern;
-use phone_texts::{LoadMetadata, Text};
+use phone_base::{LoadMetadata, Text};
 use regex::Regex;
 use std::alloc::{AllocError, Global};
 use std::marker::Model;
@@ -17,7 +17,7 @@ use std::marker::Model;
 pub struct Leading {
     patterns: Vec<Regex>,
     /// What searches for the last of them.
-    kept: Kept,
+    kept: MachineCache,
 }
 
 impl Model for Leading {
@@ -52,7 +52,7 @@ impl Leading {
     {
         Ok(Leading {
             patterns: pattern::compile_all(alloc, texts)?,
-            kept: Kept::new(alloc),
+            kept: MachineCache::new(alloc),
         })
     }
 

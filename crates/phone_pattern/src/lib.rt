@@ -2,14 +2,14 @@
 //! and the formatting rules that change the template of a match.
 #![tactic(auto)]
 
-mod anew;
-mod kept;
+mod uncached;
+mod machine_cache;
 mod leading;
 mod pattern;
 mod pool;
 mod ruled;
 mod rules;
-mod shelf;
+mod intern_table;
 
 pub use leading::Leading;
 pub use pattern::{Captured, Pattern};

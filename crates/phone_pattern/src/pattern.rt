@@ -6,8 +6,8 @@ ghost use Rattle.phone_pattern.specs.First.{replaced, AreCuts, ArePatternsOf, Is
 ghost use Rattle.phone_pattern.specs.First.{IsPattern, IsPatternOf};
 ghost use Rattle.phone_pattern.specs.Refusals.{IsPatternRefusal};
 
-use crate::kept::Kept;
-use phone_texts::{LoadMetadata, Text};
+use crate::machine_cache::MachineCache;
+use phone_base::{LoadMetadata, Text};
 use regex::{Error, Regex, RegexBuilder};
 use std::alloc::{AllocError, Global};
 use std::marker::Model;
@@ -17,7 +17,7 @@ use std::marker::Model;
 pub struct Pattern {
     re: Regex,
     /// What searches for it.
-    kept: Kept,
+    kept: MachineCache,
 }
 
 impl Model for Pattern {
@@ -69,7 +69,7 @@ impl Pattern {
         let re = compile(alloc, text)?;
         Ok(Pattern {
             re,
-            kept: Kept::new(alloc),
+            kept: MachineCache::new(alloc),
         })
     }
 
@@ -133,20 +133,20 @@ impl Pattern {
     /// What the first match spans, and its first and its last group; none where the text has no
     /// match. Refused only for memory.
     #[inline]
-    pub fn captured(&self, text: &str) -> Result<Option<Captured>, AllocError>
+    pub fn captures(&self, text: &str) -> Result<Option<Captured>, AllocError>
         ensures found { IfOk result (λ found. found ≡ captured self.now text.now) }
         ensures borders { IfOk result (λ found. IfSome found (AreCuts text.now)) }
     {
-        self.kept.captured(&self.re, text)
+        self.kept.captures(&self.re, text)
     }
 
     /// The text with its first match replaced by a template, in which `$1` stands for the first
     /// group; a text without a match stays as it is. Refused only for memory.
     #[inline]
-    pub fn replaced(&self, template: &str, text: &str) -> Result<String, AllocError>
+    pub fn replace(&self, template: &str, text: &str) -> Result<String, AllocError>
         ensures { IfOk result (λ out. string_bytes out ≡ replaced self.now template.now text.now) }
     {
-        self.kept.replaced(&self.re, template, text)
+        self.kept.replace(&self.re, template, text)
     }
 }
 

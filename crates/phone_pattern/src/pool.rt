@@ -6,8 +6,8 @@ ghost use Rattle.phone_pattern.specs.Refusals.{IsPatternRefusal};
 
 use crate::leading::Leading;
 use crate::pattern::Pattern;
-use crate::shelf::Shelf;
-use phone_texts::{LoadMetadata, Text};
+use crate::intern_table::InternTable;
+use phone_base::{LoadMetadata, Text};
 use std::alloc::{AllocError, Global};
 use std::rc::Rc;
 
@@ -15,8 +15,8 @@ use std::rc::Rc;
 /// The texts of what is found are compared.
 pub struct Pool {
     alloc: Global,
-    patterns: Shelf<Pattern>,
-    lists: Shelf<Leading>,
+    patterns: InternTable<Pattern>,
+    lists: InternTable<Leading>,
 }
 
 /// Drops what is kept: as a function it is proved once.
@@ -37,8 +37,8 @@ impl Pool {
     pub fn new(alloc: Global) -> Pool {
         Pool {
             alloc,
-            patterns: Shelf::new(alloc),
-            lists: Shelf::new(alloc),
+            patterns: InternTable::new(alloc),
+            lists: InternTable::new(alloc),
         }
     }
 
@@ -82,7 +82,7 @@ impl Pool {
         ensures read { IfOk result (λ l. AllByRecursion IsPattern texts.items) }
         ensures refused { IfErr result (IsPatternRefusal texts.items) }
     {
-        let name = joined(self.alloc, texts.as_slice())?;
+        let name = join(self.alloc, texts.as_slice())?;
         if let Some(found) = self.lists.find(name.as_str())? {
             if found.is_of(texts.as_slice()) {
                 return Ok(found);
@@ -104,7 +104,7 @@ impl Pool {
 }
 
 /// The name of a list in a pool: its texts, each with a line's end after it.
-fn joined(alloc: Global, texts: &[Text]) -> Result<String, AllocError> {
+fn join(alloc: Global, texts: &[Text]) -> Result<String, AllocError> {
     let mut name = String::new(alloc);
     for text in texts {
         push_line(&mut name, text.as_str())?;

@@ -4,7 +4,7 @@ ghost use Rattle.phone_pattern.specs.First.{replaced};
 ghost use Rattle.phone_pattern.specs.Rules.{ruled_template};
 
 use crate::pattern::Pattern;
-use phone_texts::together::both;
+use phone_base::together::both;
 use std::alloc::{AllocError, Global};
 use std::cell::RefCell;
 use std::marker::Model;
@@ -121,7 +121,7 @@ impl KeptRuled {
 
     /// Digits with the first match of a pattern replaced by the template that is made of these
     /// texts. None where another template is kept, or none. Refused only for memory.
-    pub fn laid(
+    pub fn lay_out(
         &self,
         pattern: &Pattern,
         text: &str,
@@ -140,7 +140,7 @@ impl KeptRuled {
             return Ok(None);
         };
         match ruled.made_of(text, rule, prefix, carrier) {
-            Some(template) => Ok(Some(pattern.replaced(template, digits)?)),
+            Some(template) => Ok(Some(pattern.replace(template, digits)?)),
             None => Ok(None),
         }
     }

@@ -7,7 +7,7 @@ ghost use Rattle.phone_pattern.specs.Rules.{first_group_pattern};
 ghost use Rattle.phone_pattern.specs.Refusals.{IsPatternRefusal};
 
 use crate::pattern::Pattern;
-use phone_texts::{LoadMetadata, Text};
+use phone_base::{LoadMetadata, Text};
 use regex::Regex;
 use std::alloc::{AllocError, Global};
 use std::marker::Model;
@@ -64,7 +64,7 @@ impl FirstGroup {
     /// A template with its first group written by a rule, in which `$NP` stands for the national
     /// prefix, `$FG` for the group as it is named, and `$CC` for the carrier; a template that names
     /// no group as it is. Refused only for memory.
-    pub fn ruled(
+    pub fn apply_rule(
         &self,
         template: &str,
         rule: &str,
@@ -78,14 +78,14 @@ impl FirstGroup {
         let Some((start, end)) = self.pattern.first_span(template)? else {
             return String::from_str(alloc, template);
         };
-        let rule = filled(alloc, rule, prefix, &template[start..end], carrier)?;
-        self.pattern.replaced(rule.as_str(), template)
+        let rule = fill(alloc, rule, prefix, &template[start..end], carrier)?;
+        self.pattern.replace(rule.as_str(), template)
     }
 }
 
 /// A rule with its marks filled: each `$NP` by the national prefix, then each `$FG` by the group
 /// with one more `$` before it, then each `$CC` by the carrier.
-fn filled(
+fn fill(
     alloc: Global,
     rule: &str,
     prefix: &str,

@@ -18,11 +18,11 @@ use crate::Printable;
 use crate::appending::{
     push_e164, push_extension, push_international, push_national, push_rfc3966,
 };
-use crate::written::{ROOM, written};
+use crate::written::{ROOM, text_of_value};
 use itoa::Buffer;
 use phone_core::Mode;
 use phone_territory::{FirstGroup, Format, Metadata};
-use phone_texts::together::both;
+use phone_base::together::both;
 use std::alloc::{AllocError, Global};
 
 /// The text in a mode, by a territory.
@@ -38,7 +38,7 @@ pub fn text_by(
         text_by m.now mode (option_copied own.entry) number.now) }
 {
     if let Mode::E164 = mode {
-        return written(alloc, format_args!("{number}"));
+        return text_of_value(alloc, format_args!("{number}"));
     }
     let laid = laid_out(alloc, finder, m, mode, own, number)?;
     match mode {
@@ -81,7 +81,7 @@ pub fn texts_by(
         text_by m.now mode.Rfc3966 (option_copied own.entry) number.now) }
 {
     let national = number.national();
-    let digits = written(alloc, format_args!("{national}"))?;
+    let digits = text_of_value(alloc, format_args!("{national}"))?;
     texts_of(alloc, finder, m, own, number, digits.as_str())
 }
 
@@ -142,7 +142,7 @@ fn texts_laid(
 {
     let ((e164, international), (national, rfc3966)) = both(
         both(
-            written(alloc, format_args!("{number}")),
+            text_of_value(alloc, format_args!("{number}")),
             international(alloc, abroad, m, number),
         ),
         both(
@@ -201,7 +201,7 @@ fn push_some(
         let digits = buffer.format(national.value());
         return push_texts_of(line, alloc, finder, m, own, number, digits);
     }
-    let digits = written(alloc, format_args!("{national}"))?;
+    let digits = text_of_value(alloc, format_args!("{national}"))?;
     push_texts_of(line, alloc, finder, m, own, number, digits.as_str())
 }
 
@@ -351,7 +351,7 @@ fn laid_out(
         laid_out m.now mode (option_copied own.entry) number.now) }
 {
     let national = number.national();
-    let digits = written(alloc, format_args!("{national}"))?;
+    let digits = text_of_value(alloc, format_args!("{national}"))?;
     laid_in_mode(alloc, finder, m, mode, own, number, digits.as_str())
 }
 

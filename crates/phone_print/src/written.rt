@@ -8,7 +8,7 @@ use std::fmt::Display;
 pub const ROOM: usize = 48;
 
 /// The text that a value writes. Refused only for memory.
-pub fn written<D: Display + Drop>(alloc: Global, value: D) -> Result<String, AllocError>
+pub fn text_of_value<D: Display + Drop>(alloc: Global, value: D) -> Result<String, AllocError>
     ensures { IfOk result (λ text. IfSome (D.output value) (λ bytes. string_bytes text ≡ bytes)) }
 {
     let mut text = String::with_capacity(alloc, ROOM)?;

@@ -6,8 +6,8 @@ use Rattle.phone_core.specs.declared.error.ParseError.{ParseError}
 use Rattle.phone_records.specs.declared.loader.Metadata.{Metadata}
 use Rattle.phone_parts.specs.Parts.{parts_of}
 use Rattle.phone_parts.specs.declared.number.Number.{Number as Parts}
-use Rattle.phone_prefix.proofs.Results.{err_again}
-use Rattle.phone_read.specs.Codes.{KeepsLentCode, code_of}
+use Rattle.phone_rules.proofs.Results.{err_again}
+use Rattle.phone_read.specs.CallingCodes.{KeepsLentCode, code_of}
 use Rattle.phone_read.specs.WithoutMemory.{AnswersWithoutMemory}
 
 pub keeps_again : (n m r : Parts) → (m.prefix ≡ None → n.prefix ≡ None) → n.carrier ≡ m.carrier → KeepsLentCode n r → KeepsLentCode m r

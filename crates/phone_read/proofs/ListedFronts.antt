@@ -14,10 +14,10 @@ use Rattle.phone_core.specs.Numbers.{number_in}
 use Rattle.phone_core.specs.declared.country.Source.TheVariants.{Plus}
 use Rattle.phone_core.specs.declared.error.ParseError.{ParseError}
 use Rattle.phone_core.specs.declared.error.ParseError.TheVariants.{InvalidCountryCode, MalformedInteger}
-use Rattle.phone_meta.specs.Codes.{first_of, front_number, is_listed, is_main_of, is_other_of, listed_front, listed_if_some, shortest, territories}
+use Rattle.phone_meta.specs.CodeLookUps.{first_of, front_number, is_listed, is_main_of, is_other_of, listed_front, listed_if_some, shortest, territories}
 use Rattle.phone_meta.specs.Records.{has_code}
 use Rattle.phone_records.specs.declared.loader.Metadata.{Metadata}
-use Rattle.phone_read.specs.Codes.{code_by_prefix, with_three}
+use Rattle.phone_read.specs.CallingCodes.{code_by_prefix, with_three}
 use Rattle.phone_read.specs.Hints.{Coded}
 
 own : IsNumeralModel (λ ds. all_ascii_digits ds ≡ true) (digits_value 10)

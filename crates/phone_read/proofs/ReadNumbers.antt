@@ -30,23 +30,23 @@ use Rattle.phone_core.specs.declared.error.ParseError.TheVariants.{InvalidCountr
 use Rattle.phone_core.proofs.Finds.{IfSome-option_or}
 use Rattle.phone_chars.proofs.Norms.{list_all-norm}
 use Rattle.phone_core.proofs.ReadBack.{after_zeros_of}
-use Rattle.phone_meta.specs.Codes.{first_of, is_listed, is_main_of, is_other_of, shortest, territories}
+use Rattle.phone_meta.specs.CodeLookUps.{first_of, is_listed, is_main_of, is_other_of, shortest, territories}
 use Rattle.phone_territory.specs.First.{Captured, Seen, captured, first_match, group_in, names_in, replaced, with_first_replaced}
 use Rattle.phone_territory.specs.Records.{code_of as code_of_territory}
 use Rattle.phone_meta.specs.Records.{has_id, last_where, last_with}
 use Rattle.phone_records.specs.declared.loader.Metadata.{Metadata}
 use Rattle.phone_parts.specs.Parts.{Parts}
 use Rattle.phone_parts.specs.Texts.{is_front, without_front}
-use Rattle.phone_prefix.specs.Dialling.{after_match, dialled, found_in, unsigned}
-use Rattle.phone_read.specs.Codes.{code_by, code_by_front, code_by_prefix, code_of, dialled_under, international_prefix_of, with_three}
+use Rattle.phone_rules.specs.Dialling.{after_match, dialled, found_in, unsigned}
+use Rattle.phone_read.specs.CallingCodes.{code_by, code_by_front, code_by_prefix, code_of, dialled_under, international_prefix_of, with_three}
 use Rattle.phone_read.specs.Hints.{Coded, code_by_hint, hinted, looks_national}
-use Rattle.phone_kinds.specs.Kinds.{is_of}
+use Rattle.phone_rules.specs.Kinds.{is_of}
 use Rattle.phone_read.specs.Readings
 use Rattle.phone_read.specs.Readings.{Reads, stripping_territory, without_zeros}
 use Rattle.phone_read.specs.Regions.{home, region_of, territory_of}
-use Rattle.phone_prefix.specs.Strips.{Cut, Stripped, anew, by_match, held, left_by, off_prefix, stay, step, strip, stripped}
+use Rattle.phone_rules.specs.Strips.{Cut, Stripped, anew, by_match, held, left_by, off_prefix, stay, step, strip, stripped}
 use Rattle.phone_read.specs.TransformRules.{rules_have_no_plus}
-use Rattle.phone_kinds.specs.Verdicts.{is_too_short, verdict}
+use Rattle.phone_rules.specs.Verdicts.{is_too_short, verdict}
 use Rattle.phone_core.specs.declared.reading.Reading.{Reading}
 use Rattle.phone_read.proofs.ListedCodes.{code_of-listed}
 use Rattle.phone_read.proofs.ListedFronts.{listed_none}

@@ -10,7 +10,7 @@ use Rattle.phone_core.specs.declared.country.Id.TheVariants.{NZ}
 use Rattle.phone_core.specs.declared.country.Source.{Source}
 use Rattle.phone_core.specs.declared.country.Source.TheVariants.{Plus, Default}
 use Rattle.phone_chars.proofs.Signed.{signed_of_walk}
-use Rattle.phone_read.specs.Codes.{code_of}
+use Rattle.phone_read.specs.CallingCodes.{code_of}
 use Rattle.phone_read.specs.Hints.{Coded}
 use Rattle.phone_parts.specs.Naturals.{IsNatural}
 use Rattle.phone_parts.specs.Readers

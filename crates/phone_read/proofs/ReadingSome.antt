@@ -6,13 +6,13 @@ use Rattle.phone_core.specs.declared.country.Id.{Id}
 use Rattle.phone_core.specs.declared.error.ParseError.{ParseError}
 use Rattle.phone_core.specs.declared.error.ParseError.TheVariants.{NoNumber}
 use Rattle.phone_records.specs.declared.loader.Metadata.{Metadata}
-use Rattle.phone_read.specs.Codes.{code_of}
+use Rattle.phone_read.specs.CallingCodes.{code_of}
 use Rattle.phone_read.specs.Hints.{Coded}
 use Rattle.phone_read.specs.Numbering.{reading_of}
 use Rattle.phone_parts.specs.Readers.{HasParts}
 use Rattle.phone_read.specs.Readings
 use Rattle.phone_read.specs.Readings.{Reads, stripping_territory}
-use Rattle.phone_prefix.specs.Strips.{stripped}
+use Rattle.phone_rules.specs.Strips.{stripped}
 use Rattle.phone_parts.specs.Parts.{Parts}
 use Rattle.phone_core.specs.declared.reading.Reading.{Reading}
 

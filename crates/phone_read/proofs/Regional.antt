@@ -12,11 +12,11 @@ use Rattle.phone_core.specs.Ids as ids
 use Rattle.phone_core.specs.declared.country.Id.{Id}
 use Rattle.phone_core.proofs.Texts.{name-id_of}
 use Rattle.phone_meta.proofs.CodeLemmas.{filter-filter, map-reverse}
-use Rattle.phone_meta.specs.Codes.{first_of, is_main_of, is_other_of, regions, territories}
+use Rattle.phone_meta.specs.CodeLookUps.{first_of, is_main_of, is_other_of, regions, territories}
 use Rattle.phone_meta.specs.Lasts.{with_last}
 use Rattle.phone_territory.specs.Records.{id_of}
 use Rattle.phone_meta.specs.Records.{has_code, last_with}
-use Rattle.phone_kinds.proofs.TriedKinds.{find-map}
+use Rattle.phone_rules.proofs.TriedKinds.{find-map}
 use Rattle.phone_read.specs.Origins.{told}
 use Rattle.phone_read.specs.declared.validator.Origin.{Origin}
 use Rattle.phone_read.specs.Regions.{is_of_last, is_of_region, region_among, region_named, region_of, territory_of, with_territory}

@@ -1,4 +1,4 @@
-pub mod Codes
+pub mod CallingCodes
 pub mod Hints
 pub mod Numbering
 pub mod Origins

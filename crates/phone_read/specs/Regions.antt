@@ -8,8 +8,8 @@ use Rattle.either.specs.declared.Either.{Either}
 use Rattle.either.specs.declared.Either.TheVariants.{Left, Right}
 use Rattle.phone_core.specs.Ids.{name, id_of}
 use Rattle.phone_core.specs.declared.country.Id.{Id}
-use Rattle.phone_kinds.specs.Kinds.{belongs_to}
-use Rattle.phone_meta.specs.Codes.{first_of, regions, territories}
+use Rattle.phone_rules.specs.Kinds.{belongs_to}
+use Rattle.phone_meta.specs.CodeLookUps.{first_of, regions, territories}
 use Rattle.phone_meta.specs.Records.{last_with}
 use Rattle.phone_records.specs.declared.loader.Metadata.{Metadata}
 

@@ -11,29 +11,30 @@ ghost use Rattle.phone_core.specs.declared.country.Source.{Source};
 ghost use Rattle.phone_core.specs.declared.country.Source.TheVariants.{Plus};
 ghost use Rattle.phone_parts.specs.Parts.{parts_of};
 ghost use Rattle.phone_parts.specs.Texts.{is_front};
-ghost use Rattle.phone_prefix.specs.Lent.{IsLentDigits, KeepsLent};
-ghost use Rattle.phone_read.specs.Codes.{HasCode, IsCoded, KeepsLentCode, code_by, code_by_front};
-ghost use Rattle.phone_read.specs.Codes.{code_by_prefix, code_of, international_prefix_of};
-ghost use Rattle.phone_read.specs.Codes.{prefix_of, with_three};
+ghost use Rattle.phone_rules.specs.Lent.{IsLentDigits, KeepsLent};
+ghost use Rattle.phone_read.specs.CallingCodes.{HasCode, IsCoded, KeepsLentCode, code_by};
+ghost use Rattle.phone_read.specs.CallingCodes.{code_by_front};
+ghost use Rattle.phone_read.specs.CallingCodes.{code_by_prefix, code_of, international_prefix_of};
+ghost use Rattle.phone_read.specs.CallingCodes.{prefix_of, with_three};
 ghost use Rattle.phone_read.specs.Hints.{Coded, code_by_hint, hinted, looks_national};
 ghost use Rattle.phone_read.specs.WithoutMemory.{AnswersAtOnce, AnswersWithoutMemory};
 
-use crate::hints::{hinted, looks_national};
+use crate::hints::{hint_territory, looks_national};
 use phone_core::ParseError;
 use phone_core::consts::MIN_LENGTH_FOR_NSN;
 use phone_core::country::{Id, Source};
 use phone_meta::{Database, Metadata, Pattern};
 use phone_parts::Number;
-use phone_prefix::dialled::{OfTerritory, dialled};
-use phone_prefix::trims::{begins_with_number, behind_number, lent_front, trim};
-use phone_texts::together::{beside, instead};
+use phone_rules::dialled::{OfTerritory, read_dialling};
+use phone_rules::trims::{begins_with_number, behind_number, lent_front, trim};
+use phone_base::together::{beside, instead};
 use std::alloc::{AllocError, Global};
 use std::borrow::CowStr;
 
 /// What reading knows of a number once its calling code is found: how it was dialled, and by whose
 /// rules.
 #[derive(Drop)]
-pub(crate) struct DialledNumber<'a, 'd> {
+pub(crate) struct CodedNumber<'a, 'd> {
     /// The calling code.
     pub(crate) code: u16,
 
@@ -80,12 +81,12 @@ pub fn country_code<'a>(
     ensures lent { IfOk result (λ n. IsLentDigits number.entry.national →
         KeepsLent number.entry false n) }
 {
-    let coded = coded(db, hint, number)?;
-    Ok(prefixed(db.allocator(), coded)?)
+    let coded = find_calling_code(db, hint, number)?;
+    Ok(with_code_as_prefix(db.allocator(), coded)?)
 }
 
 /// A number whose code was found; its prefix, where it has none, is the code in decimal.
-fn prefixed<'a>(alloc: Global, coded: DialledNumber<'a, '_>) -> Result<Number<'a>, AllocError>
+fn with_code_as_prefix<'a>(alloc: Global, coded: CodedNumber<'a, '_>) -> Result<Number<'a>, AllocError>
     ensures kept { IsSome coded.entry.number.prefix → result ≡ Ok coded.entry.number }
     ensures prefix { IfOk result (λ n. option_map cow_str_bytes n.prefix ≡
         Some (unwrap_or (option_map cow_str_bytes coded.entry.number.prefix)
@@ -95,7 +96,7 @@ fn prefixed<'a>(alloc: Global, coded: DialledNumber<'a, '_>) -> Result<Number<'a
     ensures extension { IfOk result (λ n. n.extension ≡ coded.entry.number.extension) }
     ensures carrier { IfOk result (λ n. n.carrier ≡ coded.entry.number.carrier) }
 {
-    let DialledNumber { code, number, .. } = coded;
+    let CodedNumber { code, number, .. } = coded;
     if number.prefix.is_some() {
         return Ok(number);
     }
@@ -115,11 +116,11 @@ fn in_decimal(alloc: Global, code: u16) -> Result<String, AllocError>
 
 /// A number with its calling code, as [`country_code`] has it but for a prefix that would be a
 /// copy, the code itself, and the territory of the hint, which is looked up once.
-pub(crate) fn coded<'a, 'd>(
+pub(crate) fn find_calling_code<'a, 'd>(
     db: &'d Database,
     hint: Option<Id>,
     number: Number<'a>,
-) -> Result<DialledNumber<'a, 'd>, ParseError>
+) -> Result<CodedNumber<'a, 'd>, ParseError>
     ensures coded { IfOk result (λ r. (c : Coded) ×
         (code_of db.entry.now hint (parts_of number.entry).national (parts_of number.entry).prefix ≡
         Ok c) × (r.code ≡ c.value) × IsCoded c (prefix_of (parts_of number.entry).prefix c.value)
@@ -132,11 +133,11 @@ pub(crate) fn coded<'a, 'd>(
     ensures lent { IfOk result (λ r. IsLentDigits number.entry.national →
         KeepsLentCode number.entry r.number) }
 {
-    let territory = hinted(db, hint);
+    let territory = hint_territory(db, hint);
     let finder = OfTerritory {
         pattern: prefix_pattern(territory),
     };
-    let number = dialled(db.allocator(), &finder, number)?;
+    let number = read_dialling(db.allocator(), &finder, number)?;
     with_code(db, territory, number)
 }
 
@@ -146,7 +147,7 @@ fn with_code<'a, 'd>(
     db: &Database,
     territory: Option<&'d Metadata>,
     number: Number<'a>,
-) -> Result<DialledNumber<'a, 'd>, ParseError>
+) -> Result<CodedNumber<'a, 'd>, ParseError>
     requires { IsSome number.prefix → number.country ≡ Plus }
     ensures coded { IfOk result (λ r. (c : Coded) ×
         (code_by db.now (option_copied territory.entry)
@@ -181,7 +182,7 @@ fn by_prefix<'a, 'd>(
     code: Result<u16, ParseError>,
     territory: Option<&'d Metadata>,
     number: Number<'a>,
-) -> Result<DialledNumber<'a, 'd>, ParseError>
+) -> Result<CodedNumber<'a, 'd>, ParseError>
     ensures { result ≡ result_map_both (λ code. record {
       code = code;
       number = number.entry;
@@ -189,7 +190,7 @@ fn by_prefix<'a, 'd>(
     }) (λ e. e) code }
 {
     let (code, number) = beside(code, number)?;
-    Ok(DialledNumber {
+    Ok(CodedNumber {
         code,
         number,
         territory,
@@ -213,7 +214,7 @@ fn code_by_prefix(db: &Database, prefix: &str, digits: &str) -> Result<u16, Pars
         result_map_both (λ code. record { source = Plus; value = code; rest = digits.now })
         (λ e. e) result }
 {
-    counted(digits, listed_number(db, prefix))
+    unless_too_short(digits, listed_number(db, prefix))
 }
 
 /// The number of a reader's prefix, which is to be listed.
@@ -243,7 +244,7 @@ fn code_by_front(db: &Database, digits: &str) -> Result<u16, ParseError>
         }) (λ e. e) result }
     ensures front { IfOk result (λ code. is_front (decimal code) digits.now ≡ true) }
 {
-    counted(digits, shortest_code(db, digits))
+    unless_too_short(digits, shortest_code(db, digits))
 }
 
 /// The shortest listed code at the front of digits.
@@ -264,7 +265,7 @@ fn shortest_code(db: &Database, digits: &str) -> Result<u16, ParseError>
 }
 
 /// What was found for digits, where they are more than two.
-fn counted(digits: &str, found: Result<u16, ParseError>) -> Result<u16, ParseError>
+fn unless_too_short(digits: &str, found: Result<u16, ParseError>) -> Result<u16, ParseError>
     ensures found { (f : ℕ → Coded) → with_three digits.now (result_map_both f (λ e. e) found) ≡
         result_map_both f (λ e. e) result }
     ensures kept { (p : ℕ → Bool) → IfOk found (λ code. p code ≡ true) →
@@ -282,7 +283,7 @@ fn by_front<'a, 'd>(
     db: &Database,
     territory: Option<&'d Metadata>,
     number: Number<'a>,
-) -> Result<DialledNumber<'a, 'd>, ParseError>
+) -> Result<CodedNumber<'a, 'd>, ParseError>
     ensures coded { IfOk result (λ r. (c : Coded) ×
         (with_three (cow_str_bytes number.entry.national)
         (code_by_front db.now number.entry.country (cow_str_bytes number.entry.national)) ≡ Ok c) ×
@@ -310,7 +311,7 @@ fn cut_off<'a, 'd>(
     country: Source,
     territory: Option<&'d Metadata>,
     number: Number<'a>,
-) -> DialledNumber<'a, 'd>
+) -> CodedNumber<'a, 'd>
     requires { is_front (decimal code) (cow_str_bytes number.national) ≡ true }
     ensures code { result.code ≡ code }
     ensures territory { result.territory ≡ territory.entry }
@@ -326,7 +327,7 @@ fn cut_off<'a, 'd>(
     let at = behind_number(number.national.as_str(), code);
     let prefix = lent_front(&number.national, at);
     let national = trim(number.national, at);
-    DialledNumber {
+    CodedNumber {
         code,
         number: Number {
             country,
@@ -342,7 +343,7 @@ fn cut_off<'a, 'd>(
 fn by_hint<'a, 'd>(
     territory: Option<&'d Metadata>,
     number: Number<'a>,
-) -> Result<DialledNumber<'a, 'd>, ParseError>
+) -> Result<CodedNumber<'a, 'd>, ParseError>
     ensures coded { IfOk result (λ r. (c : Coded) ×
         (option_map_or (λ m. Ok (code_by_hint m (cow_str_bytes number.entry.national)))
         (option_copied territory.entry) (Err ParseError.InvalidCountryCode) ≡ Ok c) ×
@@ -367,7 +368,7 @@ fn by_hint<'a, 'd>(
     if is_apart {
         return Ok(cut_off(code, Source::Number, Some(territory), number));
     }
-    Ok(DialledNumber {
+    Ok(CodedNumber {
         code,
         number: Number {
             country: Source::Default,

@@ -5,12 +5,12 @@ ghost use Rattle.phone_read.specs.Hints.{hinted, looks_national};
 
 use phone_core::Type;
 use phone_core::country::Id;
-use phone_kinds::kinds::{is_general, length_of};
+use phone_rules::kinds::{is_general, length_of};
 use phone_meta::{Database, Metadata};
 use std::alloc::AllocError;
 
 /// The territory of the hint: the last record with its id.
-pub(crate) fn hinted(db: &Database, hint: Option<Id>) -> Option<&Metadata>
+pub(crate) fn hint_territory(db: &Database, hint: Option<Id>) -> Option<&Metadata>
     ensures { option_copied result ≡ hinted db.now hint }
 {
     match hint {

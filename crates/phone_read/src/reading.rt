@@ -8,20 +8,20 @@ ghost use Rattle.phone_core.specs.declared.country.Source.{Source};
 ghost use Rattle.phone_read.specs.Hints.{Coded, hinted};
 ghost use Rattle.phone_read.specs.Numbering.{reading_of};
 ghost use Rattle.phone_read.specs.Readings.{Reads, stripping_territory, without_zeros};
-ghost use Rattle.phone_prefix.specs.Strips.{stripped};
+ghost use Rattle.phone_rules.specs.Strips.{stripped};
 ghost use Rattle.phone_read.specs.Regions.{home};
 
-use crate::calling_code::{DialledNumber, coded};
-use crate::validator::home;
+use crate::calling_code::{CodedNumber, find_calling_code};
+use crate::validator::territory_of;
 use phone_chars::is_viable;
 use phone_core::consts::{MAX_LENGTH_FOR_NSN, MIN_LENGTH_FOR_NSN};
 use phone_core::country::{Code, Id};
 use phone_core::{Carrier, Extension, NationalNumber, ParseError, Reading};
 use phone_meta::{Database, Metadata};
 use phone_parts::{Number, parts};
-use phone_prefix::stripping::stripped;
-use phone_prefix::trims::without_zeros;
-use phone_texts::together::{both, instead};
+use phone_rules::stripping::strip_national_prefix;
+use phone_rules::trims::without_zeros;
+use phone_base::together::{both, instead};
 use std::alloc::{AllocError, Global};
 use std::borrow::CowStr;
 
@@ -44,9 +44,9 @@ pub fn read(db: &Database, hint: Option<Id>, text: &str) -> Result<Reading, Pars
     if !is_viable(parts.national.as_str()) {
         return Err(ParseError::NoNumber);
     }
-    let coded = coded(db, hint, parts)?;
+    let coded = find_calling_code(db, hint, parts)?;
     let territory = stripping_territory(db, hint, &coded)?;
-    numbered(db.allocator(), territory, coded)
+    reading_of(db.allocator(), territory, coded)
 }
 
 /// The territory whose rules strip the digits: the hint's, or without a hint the one that the
@@ -54,7 +54,7 @@ pub fn read(db: &Database, hint: Option<Id>, text: &str) -> Result<Reading, Pars
 fn stripping_territory<'d>(
     db: &'d Database,
     hint: Option<Id>,
-    coded: &DialledNumber<'_, 'd>,
+    coded: &CodedNumber<'_, 'd>,
 ) -> Result<Option<&'d Metadata>, AllocError>
     ensures { (source : Source) →
         option_copied coded.now.territory ≡ hinted db.entry.now hint → IfOk result
@@ -68,7 +68,7 @@ fn stripping_territory<'d>(
     if hint.is_some() {
         return Ok(coded.territory);
     }
-    home(
+    territory_of(
         db,
         coded.code,
         without_zeros(coded.number.national.as_str()),
@@ -76,10 +76,10 @@ fn stripping_territory<'d>(
 }
 
 /// The number of a code and the digits that stripping by a territory leaves.
-fn numbered(
+fn reading_of(
     alloc: Global,
     territory: Option<&Metadata>,
-    coded: DialledNumber<'_, '_>,
+    coded: CodedNumber<'_, '_>,
 ) -> Result<Reading, ParseError>
     ensures { (result ≡ Err ParseError.Memory) ⊎
         (result ≡ reading_of (record {
@@ -90,7 +90,7 @@ fn numbered(
         (option_map cow_str_bytes coded.entry.number.extension)
         (stripped (option_copied territory.entry) (cow_str_bytes coded.entry.number.national))) }
 {
-    let DialledNumber { code, number, .. } = coded;
+    let CodedNumber { code, number, .. } = coded;
     let Number {
         country,
         national,
@@ -127,7 +127,7 @@ fn left_of(
         prefix,
         extension,
         carrier,
-    } = stripped(territory, digits)?;
+    } = strip_national_prefix(territory, digits)?;
     let number = instead((prefix, extension), nsn(national.as_str()));
     both(instead(national, number), carrier_of(alloc, carrier))
 }

@@ -5,8 +5,8 @@ ghost use Rattle.std.specs.List.{find};
 ghost use Rattle.std.specs.Option.{option_and_then, option_copied, option_map_or};
 ghost use Rattle.std.specs.Str.{bytes_eq};
 ghost use Rattle.either.specs.declared.Either.TheVariants as either;
-ghost use Rattle.phone_kinds.specs.Kinds.{belongs_to};
-ghost use Rattle.phone_meta.specs.Codes.{is_main_of, is_other_of, regions, territories};
+ghost use Rattle.phone_rules.specs.Kinds.{belongs_to};
+ghost use Rattle.phone_meta.specs.CodeLookUps.{is_main_of, is_other_of, regions, territories};
 ghost use Rattle.phone_meta.specs.Lasts.{seen, with_last};
 ghost use Rattle.phone_territory.specs.Records.{id_of};
 ghost use Rattle.phone_read.specs.Origins.{told};
@@ -16,8 +16,8 @@ ghost use Rattle.phone_read.specs.Regions.{region_of, with_territory};
 use either::{Either, Left, Right};
 use phone_core::consts::REGION_CODE_FOR_NON_GEO_ENTITY;
 use phone_core::country::Id;
-use phone_kinds::kinds::belongs_to;
-pub use phone_kinds::kinds::{is_general, length, length_of, number_type};
+use phone_rules::kinds::belongs_to;
+pub use phone_rules::kinds::{is_general, length, length_of, number_type};
 use phone_meta::{Database, Metadata, WithLast};
 use std::alloc::AllocError;
 
@@ -48,7 +48,7 @@ struct Origin<'a> {
 }
 
 /// The region of a number with this calling code and these digits, as [`source_for`] tells it, and
-/// its territory, as [`home`] does.
+/// its territory, as [`territory_of`] does.
 fn origin_of<'a>(db: &'a Database, code: u16, text: &str) -> Result<Option<Origin<'a>>, AllocError>
     ensures { IfOk result (λ r. option_map told r ≡
         option_map (with_territory db.entry.now) (region_of db.entry.now code text.now)) }
@@ -74,7 +74,7 @@ fn origin_of_several<'a>(
         (find (is_of_region db.entry.now text.now) (regions code db.entry.now)))) }
 {
     match first_region(db, code, text)? {
-        Some(found) => Ok(named(found.territory, found.last)),
+        Some(found) => Ok(origin_named(found.territory, found.last)),
         None => Ok(None),
     }
 }
@@ -93,12 +93,12 @@ fn sole<'a>(code: u16, territory: &'a Metadata, last: Option<&'a Metadata>) -> O
             territory: Some(territory),
         })
     } else {
-        named(territory, last)
+        origin_named(territory, last)
     }
 }
 
 /// The region of a territory's id, with the last territory of the id; none where it is no region's.
-fn named<'a>(territory: &Metadata, last: Option<&'a Metadata>) -> Option<Origin<'a>>
+fn origin_named<'a>(territory: &Metadata, last: Option<&'a Metadata>) -> Option<Origin<'a>>
     ensures { option_map told result ≡
         option_map (λ r. (r, option_copied last.entry)) (region_named (id_of territory.now)) }
 {
@@ -210,7 +210,7 @@ fn is_of_last(text: &str, last: Option<&Metadata>) -> Result<bool, AllocError>
 /// The territory that a number of a calling code belongs to: the last record of its region, or the
 /// first territory of the code where `001` is its sole id; none where it belongs to none. Refused
 /// only for memory.
-pub fn home<'a>(db: &'a Database, code: u16, text: &str) -> Result<Option<&'a Metadata>, AllocError>
+pub fn territory_of<'a>(db: &'a Database, code: u16, text: &str) -> Result<Option<&'a Metadata>, AllocError>
     ensures { IfOk result (λ m. option_copied m ≡ home db.entry.now code text.now) }
 {
     match origin_of(db, code, text)? {

@@ -4,4 +4,4 @@
 pub mod loader;
 pub mod missing;
 
-pub use phone_texts::{LoadMetadata, error};
+pub use phone_base::{LoadMetadata, error};

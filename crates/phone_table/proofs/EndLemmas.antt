@@ -6,8 +6,8 @@ use Rattle.phone_device.specs.Passing.{IsAtEnd, Takes, TakesFront}
 use Rattle.phone_device.proofs.PassingLemmas.{Passes-then}
 use Rattle.phone_csv.specs.Faults.{sink_faults_of}
 use Rattle.phone_csv.specs.Formats.{Record, record_text, state_of}
-use Rattle.phone_csv.specs.Reports.{Gives, IsReport, IsReportBefore, IsReportOnEnded, IsReportOnFirst}
-use Rattle.phone_csv.specs.Reports as csv
+use Rattle.phone_csv.specs.RecordReports.{Gives, IsReport, IsReportBefore, IsReportOnEnded, IsReportOnFirst}
+use Rattle.phone_csv.specs.RecordReports as csv
 use Rattle.phone_csv.specs.Runs.{OfRead, TakesA, most_bytes}
 use Rattle.phone_csv.specs.declared.blocks.RunError.{RunError}
 use Rattle.phone_csv.specs.declared.blocks.RunError.TheVariants as error

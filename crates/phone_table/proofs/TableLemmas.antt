@@ -10,9 +10,9 @@ use Rattle.phone_csv.specs.Firsts.{IsFirst, first_in}
 use Rattle.phone_csv.specs.Feeds.{line_feeds}
 use Rattle.phone_csv.specs.Formats.{Record, record_text, state_of}
 use Rattle.phone_csv.specs.Records.AreCut.{none as uncut}
-use Rattle.phone_csv.specs.Reports.{Gives, IsReport, IsReportBefore, IsReportOnFirst}
-use Rattle.phone_csv.specs.Reports as csv
-use Rattle.phone_csv.specs.Reports.AreAnswers.{none as unanswered}
+use Rattle.phone_csv.specs.RecordReports.{Gives, IsReport, IsReportBefore, IsReportOnFirst}
+use Rattle.phone_csv.specs.RecordReports as csv
+use Rattle.phone_csv.specs.RecordReports.AreAnswers.{none as unanswered}
 use Rattle.phone_csv.specs.Runs.{OfRead, TakesA}
 use Rattle.phone_csv.specs.declared.cutter.Start.{Start}
 use Rattle.phone_csv.proofs.FeedLemmas.{line_feeds-append}

@@ -8,7 +8,7 @@ use Rattle.phone_core.specs.declared.country.Id.{Id}
 use Rattle.phone_core.specs.declared.error.ParseError.{ParseError}
 use Rattle.phone_core.specs.declared.mode.Mode.TheVariants.{E164, International, National}
 use Rattle.phone_csv.specs.Formats.{Record}
-use Rattle.phone_meta.specs.Codes.{first_of, territories}
+use Rattle.phone_meta.specs.CodeLookUps.{first_of, territories}
 use Rattle.phone_records.specs.declared.loader.Metadata.{Metadata}
 use Rattle.phone_core.specs.declared.reading.Reading.{Reading}
 use Rattle.phonenumber.specs.Reports.{kind_word, region_word, validity_word}

@@ -4,8 +4,8 @@ use Rattle.csv.specs.declared.parser.State.{State}
 use Rattle.phone_device.specs.Passing.{IsAtEnd}
 use Rattle.phone_csv.specs.Feeds.{line_feeds}
 use Rattle.phone_csv.specs.Formats.{Record}
-use Rattle.phone_csv.specs.Reports.{IsReport, IsReportBefore, IsReportOnEnded}
-use Rattle.phone_csv.specs.Reports.{IsReportOnFirst}
+use Rattle.phone_csv.specs.RecordReports.{IsReport, IsReportBefore, IsReportOnEnded}
+use Rattle.phone_csv.specs.RecordReports.{IsReportOnFirst}
 use Rattle.phone_csv.specs.Runs.{OfRead, TakesA, most_bytes}
 use Rattle.phone_csv.specs.declared.blocks.RunError.{RunError}
 use Rattle.phone_csv.specs.declared.blocks.RunError.TheVariants as error

@@ -6,7 +6,7 @@ use Rattle.phone_device.specs.Passing.{IsAtEnd}
 use Rattle.phone_csv.specs.Feeds.{counted, line_feeds}
 use Rattle.phone_csv.specs.Firsts.{IsFirst, first_in}
 use Rattle.phone_csv.specs.Formats.{Record, record_text, state_of}
-use Rattle.phone_csv.specs.Reports.{Gives, IsReport, IsReportOnFirst}
+use Rattle.phone_csv.specs.RecordReports.{Gives, IsReport, IsReportOnFirst}
 use Rattle.phone_csv.specs.declared.cutter.Start.{Start}
 use Rattle.phone_table.specs.Headers.{names}
 

@@ -1,7 +1,7 @@
 //! What the field of a number is answered.
 ghost use Rattle.std.specs.Prelude.{◌≡◌, ◌++◌, ◌∷◌, [], Err, Some, None, IfOk, OnOk, string_bytes};
 ghost use Rattle.csv.specs.Records.{fields_of, partial_of};
-ghost use Rattle.phone_meta.specs.Codes.{first_of, territories};
+ghost use Rattle.phone_meta.specs.CodeLookUps.{first_of, territories};
 ghost use Rattle.phonenumber.specs.Reports.{kind_word, region_word, validity_word};
 ghost use Rattle.phone_records.specs.declared.loader.Metadata as loader;
 ghost use Rattle.phone_table.specs.Answers.{IsFieldAnswer, is_blank, number_answer};
@@ -14,14 +14,14 @@ use phone_choice::{Rules, facts_by, parse_by, texts_by};
 use phonenumber::country::Id;
 use phonenumber::metadata::Database;
 use phonenumber::report::{kind_word, region_word, validity_word};
-use phonenumber::{FormatError, ParseError, PhoneNumber, Queried, Texts};
+use phonenumber::{FormatError, ParseError, PhoneNumber, Facts, Texts};
 use std::alloc::{AllocError, Global};
 
 /// What the field of a number is answered.
 #[derive(Drop)]
 pub enum Answer {
     /// The texts of the number that was read, and what is known of it.
-    Number(Texts, Queried),
+    Number(Texts, Facts),
     /// The words of a refusal.
     Refused(&'static str),
 }
@@ -77,7 +77,7 @@ pub(crate) fn number_answer(
 {
     let texts = texts_by(alloc, rules, database, number)?;
     match facts_by(rules, database, number) {
-        Ok(queried) => Ok(Answer::Number(texts, queried)),
+        Ok(facts) => Ok(Answer::Number(texts, facts)),
         Err(_) => Err(FormatError::Memory),
     }
 }
@@ -88,9 +88,9 @@ pub(crate) fn push_answer(fields: &mut ByteRecord, answer: &Answer) -> Result<()
     ensures { OnOk result (fields_of fields.new ≡ fields_of fields.old ++ spelled answer.now) }
 {
     match answer {
-        Answer::Number(texts, queried) => {
+        Answer::Number(texts, facts) => {
             push_texts(fields, texts)?;
-            push_known(fields, *queried)
+            push_known(fields, *facts)
         }
         Answer::Refused(words) => {
             push_three(fields, "", "", "")?;
@@ -114,14 +114,14 @@ fn push_texts(fields: &mut ByteRecord, texts: &Texts) -> Result<(), AllocError>
 }
 
 /// Puts what is known of a number behind the fields of a record, and an empty field.
-fn push_known(fields: &mut ByteRecord, queried: Queried) -> Result<(), AllocError>
+fn push_known(fields: &mut ByteRecord, facts: Facts) -> Result<(), AllocError>
     requires { partial_of fields.old ≡ [] }
     ensures { OnOk result (fields_of fields.new ≡ fields_of fields.old ++
-        kind_word queried.kind ∷ region_word queried.region ∷ validity_word queried.is_valid ∷
+        kind_word facts.kind ∷ region_word facts.region ∷ validity_word facts.is_valid ∷
         [] ∷ []) }
 {
-    let kind = kind_word(queried.kind);
-    let region = region_word(queried.region);
-    push_three(fields, kind, region, validity_word(queried.is_valid))?;
+    let kind = kind_word(facts.kind);
+    let region = region_word(facts.region);
+    push_three(fields, kind, region, validity_word(facts.is_valid))?;
     fields.push_field("".as_bytes())
 }

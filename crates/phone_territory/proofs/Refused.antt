@@ -9,7 +9,7 @@ use Rattle.phone_records.specs.Missing.{descriptors_of}
 use Rattle.phone_territory.specs.First.{IsPattern}
 use Rattle.phone_territory.specs.Refusals.{AreRead, IsPatternRefusal, patterns_in, patterns_besides, patterns_in_descriptor}
 use Rattle.phone_pattern.proofs.Refused.{ArePatterns, HavePatterns, Texts, both-patterns, refused-left, refused-right}
-use Rattle.phone_texts.specs.declared.error.LoadMetadata.{LoadMetadata}
+use Rattle.phone_base.specs.declared.error.LoadMetadata.{LoadMetadata}
 use Rattle.phone_records.specs.declared.loader.Format.{Format}
 use Rattle.phone_records.specs.declared.loader.Metadata.{Metadata}
 

@@ -10,7 +10,7 @@ use Rattle.phone_records.specs.Missing.{descriptors_of}
 use Rattle.phone_records.specs.declared.loader.Descriptor.{Descriptor}
 use Rattle.phone_records.specs.declared.loader.Format.{Format}
 use Rattle.phone_records.specs.declared.loader.Metadata.{Metadata}
-use Rattle.phone_texts.specs.declared.error.LoadMetadata.{LoadMetadata}
+use Rattle.phone_base.specs.declared.error.LoadMetadata.{LoadMetadata}
 
 -- the pattern of a descriptor
 abbrev pub patterns_in_descriptor : Option Descriptor → List (List ℕ)

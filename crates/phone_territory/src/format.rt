@@ -149,7 +149,7 @@ impl Format {
         ensures { IfOk result (λ t. string_bytes t ≡
             laid_by self.now (layout_template self.now) digits.now) }
     {
-        self.pattern.replaced(self.text.as_str(), digits)
+        self.pattern.replace(self.text.as_str(), digits)
     }
 
     /// The digits laid out for callers inside the country, by the template with its first group
@@ -175,7 +175,7 @@ impl Format {
         let prefix = prefix.unwrap_or("");
         if let Some(laid) = self
             .ruled
-            .laid(pattern, text, rule, prefix, carrier, digits)?
+            .lay_out(pattern, text, rule, prefix, carrier, digits)?
         {
             return Ok(laid);
         }
@@ -199,8 +199,8 @@ impl Format {
             digits.now) }
     {
         let text = self.text.as_str();
-        let template = first_group.ruled(text, rule, prefix, carrier)?;
-        let laid = self.pattern.replaced(template.as_str(), digits);
+        let template = first_group.apply_rule(text, rule, prefix, carrier)?;
+        let laid = self.pattern.replace(template.as_str(), digits);
         self.ruled.keep(template, text, rule, prefix, carrier);
         laid
     }

@@ -31,12 +31,12 @@ pub struct Metadata {
     alloc: Global,
     descriptors: Descriptors,
     patterns: Patterns,
-    kept: Kept,
+    kept: CompiledParts,
 }
 
 /// What is kept of a record as it is.
 #[derive(Drop)]
-struct Kept {
+struct CompiledParts {
     id: TerritoryId,
     country_code: u16,
     preferred_international_prefix: Option<Text>,
@@ -103,7 +103,7 @@ impl Compile for Metadata {
 
     /// Compiles a record that lacks nothing.
     fn compile(pool: &Pool, given: loader::Metadata) -> Result<Metadata, LoadMetadata> {
-        let kept = Kept {
+        let kept = CompiledParts {
             id: TerritoryId::of(given.id.unwrap()),
             country_code: given.country_code.unwrap(),
             preferred_international_prefix: given.preferred_international_prefix,

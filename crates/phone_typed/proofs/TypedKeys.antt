@@ -11,10 +11,10 @@ use Rattle.std.specs.Option.{option_map_or, option_or}
 use Rattle.phone_core.specs.declared.country.Id.{Id}
 use Rattle.phone_core.specs.declared.mode.Mode.{Mode}
 use Rattle.phone_core.specs.declared.mode.Mode.TheVariants.{International, National}
-use Rattle.phone_meta.specs.Codes.{first_of, shortest, territories}
+use Rattle.phone_meta.specs.CodeLookUps.{first_of, shortest, territories}
 use Rattle.phone_print.specs.Layouts.{layouts_for, template_for}
 use Rattle.phone_territory.specs.Layouts.{laid_by}
-use Rattle.phone_prefix.specs.Strips.{step}
+use Rattle.phone_rules.specs.Strips.{step}
 use Rattle.phone_records.specs.Missing.{first_given}
 use Rattle.phone_records.specs.declared.loader.Format.{Format}
 use Rattle.phone_records.specs.declared.loader.Metadata.{Metadata}

@@ -8,8 +8,8 @@ use Rattle.std.specs.Option.{option_and_then, option_map_or, option_or}
 use Rattle.phone_core.specs.declared.country.Id.{Id}
 use Rattle.phone_core.specs.declared.mode.Mode.{Mode}
 use Rattle.phone_core.specs.declared.mode.Mode.TheVariants.{International, National}
-use Rattle.phone_meta.specs.Codes.{first_of, shortest, territories}
-use Rattle.phone_prefix.specs.Strips.{step}
+use Rattle.phone_meta.specs.CodeLookUps.{first_of, shortest, territories}
+use Rattle.phone_rules.specs.Strips.{step}
 use Rattle.phone_print.specs.Layouts.{layouts_for, template_for}
 use Rattle.phone_read.specs.Hints.{hinted}
 use Rattle.phone_records.specs.Missing.{first_given}

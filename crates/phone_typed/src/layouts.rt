@@ -12,7 +12,7 @@ ghost use Rattle.std.specs.Option.{option_or};
 use crate::keys::{end_of_key, shows};
 use phone_core::Mode;
 use phone_territory::{FirstGroup, Format, Metadata};
-use phone_texts::together::instead;
+use phone_base::together::instead;
 use std::alloc::{AllocError, Global};
 
 /// Fewer digits are shown as they are.

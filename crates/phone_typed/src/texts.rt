@@ -16,10 +16,10 @@ use phone_core::Mode;
 use phone_core::country::Id;
 use phone_meta::{Database, Metadata};
 use phone_parts::Number;
-use phone_prefix::stripping::national_number;
-use phone_prefix::trims::behind_number;
+use phone_rules::stripping::national_number;
+use phone_rules::trims::behind_number;
 use phone_print::written::ROOM;
-use phone_texts::together::instead;
+use phone_base::together::instead;
 use std::alloc::AllocError;
 
 /// What is shown of a number while it is typed, once these keys are: the digits of a text by their
@@ -56,12 +56,12 @@ pub(crate) fn text_of(db: &Database, hint: Option<Id>, keys: &str) -> Result<Str
 fn layout_territory(db: &Database, hint: Option<Id>) -> Option<&Metadata>
     ensures { option_copied result ≡ layout_territory db.now hint }
 {
-    let m = hinted(db, hint)?;
+    let m = hint_territory(db, hint)?;
     db.first_by_code(&m.country_code())
 }
 
 /// The territory of the hint: the last record with its id.
-fn hinted(db: &Database, hint: Option<Id>) -> Option<&Metadata>
+fn hint_territory(db: &Database, hint: Option<Id>) -> Option<&Metadata>
     ensures { option_copied result ≡ hinted db.now hint }
 {
     match hint {

@@ -13,7 +13,7 @@ use Rattle.std.specs.Str.{all_ascii_digits, bytes_eq}
 use Rattle.std.specs.Str.Parse.{digits_value, without_leading_plus}
 use Rattle.phone_core.proofs.Digits.{number_some}
 use Rattle.phone_core.specs.Numbers.{number_in}
-use Rattle.phone_meta.specs.Codes.{begins, front_number, is_listed, is_prefix_free, listed_front, listed_if_some, shortest}
+use Rattle.phone_meta.specs.CodeLookUps.{begins, front_number, is_listed, is_prefix_free, listed_front, listed_if_some, shortest}
 use Rattle.phone_territory.specs.Records.{code_of}
 use Rattle.phone_meta.specs.Records.{has_code}
 use Rattle.phone_records.specs.declared.loader.Metadata.{Metadata}

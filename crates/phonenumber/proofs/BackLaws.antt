@@ -19,7 +19,7 @@ use Rattle.phone_core.specs.Numbers.{IsHeld, text_of}
 use Rattle.phone_core.specs.declared.country.Source.TheVariants.{Plus}
 use Rattle.phone_core.specs.declared.mode.Mode.{Mode}
 use Rattle.phone_core.specs.declared.mode.Mode.TheVariants.{E164, International, Rfc3966}
-use Rattle.phone_meta.specs.Codes.{first_of, is_listed, is_prefix_free, territories}
+use Rattle.phone_meta.specs.CodeLookUps.{first_of, is_listed, is_prefix_free, territories}
 use Rattle.phone_records.specs.declared.loader.Metadata.{Metadata}
 use Rattle.phone_parts.proofs.Ends.{all_wider}
 use Rattle.phone_parts.specs.Announcements.{IsAnnouncement}
@@ -28,7 +28,7 @@ use Rattle.phone_parts.specs.Texts.{ends}
 use Rattle.phone_read.proofs.ListedFronts.{listed_some}
 use Rattle.phone_read.specs.TransformRules.{rules_have_no_plus}
 use Rattle.phone_core.specs.declared.reading.Reading.{Reading}
-use Rattle.phonenumber.specs.Again.{IsReadAs}
+use Rattle.phonenumber.specs.RoundTrips.{IsReadAs}
 use Rattle.phonenumber.specs.Bounds.{IsBounded}
 use Rattle.phonenumber.specs.Plain.{IsAnnouncedByWord, IsIdle, IsPlain, IsPlainE164, IsPlainInternational, IsPlainRfc3966, has_digits}
 use Rattle.phone_print.specs.Texts.{e164_text, extension_part, hyphenated, laid_out, text_by}

@@ -14,23 +14,23 @@ use Rattle.phone_chars.specs.Viable.{IsViable}
 use Rattle.phone_core.specs.declared.country.Source.{Source}
 use Rattle.phone_core.specs.declared.country.Source.TheVariants.{Plus}
 use Rattle.phone_core.specs.declared.error.ParseError.{ParseError}
-use Rattle.phone_meta.specs.Codes.{is_listed, is_prefix_free, shortest}
+use Rattle.phone_meta.specs.CodeLookUps.{is_listed, is_prefix_free, shortest}
 use Rattle.phone_records.specs.declared.loader.Metadata.{Metadata}
 use Rattle.phone_parts.specs.Parts.{Parts}
 use Rattle.phone_parts.specs.Readers.{HasParts}
 use Rattle.phone_read.proofs.ListedFronts.{more_than_two, prefix_listed}
 use Rattle.phone_read.proofs.ReadingOnes.{reading_same}
 use Rattle.phone_read.proofs.ReadNumbers.{nsn-left}
-use Rattle.phone_read.specs.Codes.{code_by_front, code_by_prefix, code_of, with_three}
+use Rattle.phone_read.specs.CallingCodes.{code_by_front, code_by_prefix, code_of, with_three}
 use Rattle.phone_read.specs.Hints.{Coded}
 use Rattle.phone_read.specs.Numbering.{reading_of}
 use Rattle.phone_read.specs.Readings
 use Rattle.phone_read.specs.Readings.{Reads, without_zeros}
 use Rattle.phone_read.specs.Regions.{home}
-use Rattle.phone_prefix.specs.Strips.{Stripped, stripped}
+use Rattle.phone_rules.specs.Strips.{Stripped, stripped}
 use Rattle.phone_read.specs.TransformRules.{rules_have_no_plus}
 use Rattle.phone_core.specs.declared.reading.Reading.{Reading}
-use Rattle.phonenumber.specs.Again.{IsReadAs}
+use Rattle.phonenumber.specs.RoundTrips.{IsReadAs}
 use Rattle.phonenumber.specs.Plain.{IsIdle}
 use Rattle.phonenumber.proofs.BackCodes.{number_in-decimal, shortest-decimal}
 use Rattle.phonenumber.proofs.BackNumbers.{list_all-decimal}

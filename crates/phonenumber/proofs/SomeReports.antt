@@ -7,7 +7,7 @@ use Rattle.std.proofs.lemmas.Slice.{between_to_end}
 use Rattle.phone_core.specs.declared.country.Id.{Id}
 use Rattle.phone_records.specs.declared.loader.Metadata.{Metadata}
 use Rattle.phone_lines.specs.Lines.{last_line, without_return}
-use Rattle.phone_lines.specs.Reports.AreAnswers.{none}
+use Rattle.phone_lines.specs.LineReports.AreAnswers.{none}
 use Rattle.phone_lines.specs.Runs.{IsSoFar}
 use Rattle.phone_lines.proofs.AnswerLemmas.{AreAnswers-then}
 use Rattle.phone_lines.proofs.CutLemmas.{AreCut-nothing}

@@ -1,4 +1,4 @@
-pub mod Again
+pub mod RoundTrips
 pub mod Bounds
 pub mod Lines
 pub mod Plain

@@ -9,8 +9,8 @@ use Rattle.phone_lines.specs.declared.blocks.RunError.{RunError}
 use Rattle.phone_lines.specs.declared.blocks.RunError.TheVariants.{Input, Memory, Output}
 use Rattle.phone_meta.specs.Texts.{IsRefusalOfSome}
 use Rattle.phone_records.specs.declared.loader.Metadata.{Metadata}
-use Rattle.phone_texts.specs.Errors.{told}
-use Rattle.phone_texts.specs.declared.error.LoadMetadata.{LoadMetadata}
+use Rattle.phone_base.specs.Errors.{told}
+use Rattle.phone_base.specs.declared.error.LoadMetadata.{LoadMetadata}
 
 -- a line was written whole to a sink, or the sink failed once and took a beginning of it
 abbrev pub IsTold : Option (List ℕ) → ℕ → List ℕ → Option (List ℕ) → ℕ → Type 0

@@ -18,7 +18,7 @@ use Rattle.phone_core.specs.declared.kind.«Type».TheVariants.{Emergency, Voice
 use Rattle.phone_core.specs.declared.kind.«Type».TheVariants.{StandardRate, Carrier}
 use Rattle.phone_core.specs.declared.kind.«Type».TheVariants.{NoInternational, Unknown}
 use Rattle.phone_core.specs.declared.mode.Mode.TheVariants.{E164, International, National, Rfc3966}
-use Rattle.phone_meta.specs.Codes.{first_of, territories}
+use Rattle.phone_meta.specs.CodeLookUps.{first_of, territories}
 use Rattle.phone_records.specs.declared.loader.Metadata.{Metadata}
 use Rattle.phone_read.specs.Readings.{Reads}
 use Rattle.phone_core.specs.declared.reading.Reading.{Reading}

@@ -9,12 +9,12 @@ ghost use Rattle.phone_core.specs.Numbers.{IsHeld, text_of};
 ghost use Rattle.phone_core.specs.declared.country.Id.{Id};
 ghost use Rattle.phone_core.specs.declared.error.ParseError.{ParseError};
 ghost use Rattle.phone_core.specs.declared.mode.Mode.TheVariants as mode;
-ghost use Rattle.phone_meta.specs.Codes.{is_listed, is_prefix_free};
+ghost use Rattle.phone_meta.specs.CodeLookUps.{is_listed, is_prefix_free};
 ghost use Rattle.phone_records.specs.declared.loader.Metadata as loader;
 ghost use Rattle.phone_read.specs.Readings.{Reads};
 ghost use Rattle.phone_read.specs.TransformRules.{rules_have_no_plus};
 ghost use Rattle.phone_core.specs.declared.reading.Reading.{Reading};
-ghost use Rattle.phonenumber.specs.Again.{IsReadAs};
+ghost use Rattle.phonenumber.specs.RoundTrips.{IsReadAs};
 ghost use Rattle.phone_print.specs.Layouts.{layout_for};
 ghost use Rattle.phonenumber.specs.Bounds.{IsBounded};
 ghost use Rattle.phonenumber.specs.Plain.{IsAnnouncedByWord, IsBenign, IsIdle};
@@ -51,7 +51,7 @@ pub fn key()
 /// listed code's text begins another's: the code is found in the text.
 ///
 /// Here and below: the bounds, and that a text is UTF-8, every `PhoneNumber` and every `String`
-/// keeps; [`again`](crate::again) asks for neither.
+/// keeps; [`again`](crate::round_trip) asks for neither.
 pub fn e164_back()
     ensures { (db : List loader.Metadata) (n : Reading) (text : List ℕ) → IsBounded n →
         IsPlainE164 db n → IsIdle db n.code.value (text_of n.national) → 1 ≤ n.code.value →

@@ -2,7 +2,7 @@
 //! them all.
 #![tactic(auto)]
 
-pub mod again;
+pub mod round_trip;
 mod formatter;
 pub mod laws;
 pub mod metadata;
@@ -23,6 +23,6 @@ pub use phone_core::{
 pub use phone_number::PhoneNumber;
 pub use phone_print::Texts;
 pub use phone_read::validator;
-pub use phone_texts::MetadataError;
-pub use queries::{Country, Queried, is_valid_with};
+pub use phone_base::MetadataError;
+pub use queries::{Country, Facts, is_valid_with};
 pub use text_sink::TextSink;

@@ -4,7 +4,7 @@ ghost use Rattle.std.specs.Option.{option_and_then, option_copied, option_map_or
 ghost use Rattle.phone_core.specs.Ids.{id_of};
 ghost use Rattle.phone_core.specs.declared.kind.«Type».TheVariants.{Unknown};
 ghost use Rattle.phone_read.specs.Regions.{home};
-ghost use Rattle.phone_kinds.specs.Kinds.{is_known, type_of};
+ghost use Rattle.phone_rules.specs.Kinds.{is_known, type_of};
 ghost use Rattle.phone_records.specs.declared.loader.Metadata as loader;
 ghost use Rattle.phonenumber.specs.Queries.{is_valid, kind_of_number, region_of_number};
 ghost use Rattle.phonenumber.specs.Queries.{territory_of_number};
@@ -14,14 +14,14 @@ use itoa::Buffer;
 use phone_core::Type;
 use phone_core::country::{Code, Id};
 use phone_meta::{Database, Metadata};
-use phone_print::written::written;
+use phone_print::written::text_of_value;
 use phone_read::validator;
 use std::alloc::AllocError;
 use std::marker::Model;
 
 /// What a database tells of a number.
 #[derive(Clone, Copy, PartialEq, Eq, Debug)]
-pub struct Queried {
+pub struct Facts {
     /// The kind of number.
     pub kind: Type,
     /// The region's id, where it has one.
@@ -86,7 +86,7 @@ impl PhoneNumber {
     {
         let mut buffer = Buffer::new();
         let value = buffer.format(self.national().value());
-        validator::home(database, self.code().value(), value)
+        validator::territory_of(database, self.code().value(), value)
     }
 
     /// The kind of number that the value is, without leading zeros, in its territory; `Unknown`
@@ -111,7 +111,7 @@ impl PhoneNumber {
     /// The number's kind, region and validity at once, as `number_type`, `country` and
     /// `is_valid_with` tell them: its territory and its kind are looked for once where the number
     /// has no leading zeros. Refused only for memory.
-    pub fn queried(&self, database: &Database) -> Result<Queried, AllocError>
+    pub fn facts(&self, database: &Database) -> Result<Facts, AllocError>
         ensures kind { IfOk result (λ q. q.kind ≡ kind_of_number database.now self.now) }
         ensures region { IfOk result (λ q. q.region ≡ region_of_number database.now self.now) }
         ensures is_valid { IfOk result (λ q. q.is_valid ≡ is_valid database.now self.now) }
@@ -121,7 +121,7 @@ impl PhoneNumber {
             0 => kind != Type::Unknown,
             _ => self.is_valid_with(database)?,
         };
-        Ok(Queried {
+        Ok(Facts {
             kind,
             region,
             is_valid,
@@ -134,7 +134,7 @@ impl PhoneNumber {
         ensures { IfOk result (λ valid. valid ≡ is_valid database.now self.now) }
     {
         let national = self.national();
-        let digits = written(database.allocator(), format_args!("{national}"))?;
+        let digits = text_of_value(database.allocator(), format_args!("{national}"))?;
         is_known_in(database, self.code().value(), digits.as_str())
     }
 }
@@ -152,7 +152,7 @@ fn region_and_kind_of(
         option_map_or (λ (m : loader.Metadata). type_of m digits.now)
         (home database.now code digits.now) Unknown) }
 {
-    match validator::home(database, code, digits)? {
+    match validator::territory_of(database, code, digits)? {
         Some(territory) => {
             let kind = validator::number_type(territory, digits)?;
             Ok((territory.region(), kind))
@@ -167,7 +167,7 @@ fn is_known_in(database: &Database, code: u16, digits: &str) -> Result<bool, All
         option_map_or (λ (m : loader.Metadata). is_known (type_of m digits.now))
         (home database.now code digits.now) false) }
 {
-    match validator::home(database, code, digits)? {
+    match validator::territory_of(database, code, digits)? {
         Some(territory) => Ok(validator::number_type(territory, digits)? != Type::Unknown),
         None => Ok(false),
     }

@@ -1,8 +1,8 @@
 //! One line, whose requests for memory may be refused.
 use crate::calls::answer;
 use anyhow::{Result, anyhow};
-use database_rows::named::Named;
-use rows::table::Row;
+use replay_database::named::Named;
+use replay_base::table::Row;
 use std::alloc::AllocGlobal;
 use std::fs::{self, Files};
 

@@ -1,32 +1,32 @@
 //! The answer to a line, by the library that knows its call.
 use anyhow::{Result, anyhow};
-use database_rows::look_ups;
-use database_rows::named::{Named, load, of_name};
-use number_rows::printing::layouts_of;
+use replay_database::look_ups;
+use replay_database::named::{Named, load, of_name};
+use replay_numbers::printing::layouts_of;
 use phone_meta::Database;
-use rows::table::Row;
+use replay_base::table::Row;
 use std::alloc::{AllocGlobal, Global};
 use std::fs::Files;
 
 /// The answer to a call on no database, or on one that the call takes for itself; none for any
 /// other call.
 fn without_database<R: Files + AllocGlobal>(rt: &R, row: &Row) -> Result<Option<String>> {
-    if let Some(found) = rows::answer(rt.alloc(), row)? {
+    if let Some(found) = replay_base::answer(rt.alloc(), row)? {
         return Ok(Some(found));
     }
-    if let Some(found) = database_rows::without_database(rt, row)? {
+    if let Some(found) = replay_database::without_database(rt, row)? {
         return Ok(Some(found));
     }
-    if let Some(found) = number_rows::without_database(rt.alloc(), row)? {
+    if let Some(found) = replay_numbers::without_database(rt.alloc(), row)? {
         return Ok(Some(found));
     }
-    if let Some(found) = value_rows::answer(rt.alloc(), row)? {
+    if let Some(found) = replay_numbers::of_value(rt.alloc(), row)? {
         return Ok(Some(found));
     }
-    if let Some(found) = prefix_rows::answer(rt, row)? {
+    if let Some(found) = replay_prefixes::answer(rt, row)? {
         return Ok(Some(found));
     }
-    more_rows::without_database(rt, row)
+    replay_util::without_database(rt, row)
 }
 
 /// The answer to a call on a database; none for any other call. `layouts` is the database whose
@@ -40,16 +40,16 @@ fn on_database(
     if let Some(found) = look_ups::answer(alloc, row, db)? {
         return Ok(Some(found));
     }
-    if let Some(found) = number_rows::of_text(alloc, row, db)? {
+    if let Some(found) = replay_numbers::of_text(alloc, row, db)? {
         return Ok(Some(found));
     }
-    if let Some(found) = number_rows::of_number(alloc, row, db, layouts)? {
+    if let Some(found) = replay_numbers::of_number(alloc, row, db, layouts)? {
         return Ok(Some(found));
     }
-    if let Some(found) = typed_rows::answer(alloc, row, db)? {
+    if let Some(found) = replay_typed::answer(alloc, row, db)? {
         return Ok(Some(found));
     }
-    more_rows::answer(alloc, row, db)
+    replay_util::answer(alloc, row, db)
 }
 
 /// The answer to a line. The database that it names is at hand for the next line.

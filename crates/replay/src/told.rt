@@ -1,8 +1,8 @@
 //! The answers to the lines of a file.
 use crate::calls::answer_or_error;
 use anyhow::Result;
-use database_rows::named::Named;
-use rows::table::{Row, escaped};
+use replay_database::named::Named;
+use replay_base::table::{Row, escape};
 use std::alloc::AllocGlobal;
 use std::fs::{self, Files};
 
@@ -26,7 +26,7 @@ fn tell<R: Files + AllocGlobal + Print>(
     let alloc = rt.alloc();
     let row = Row::read(alloc, line)?;
     let found = answer_or_error(rt, &row, at_hand)?;
-    let found = escaped(alloc, found.as_str())?;
+    let found = escape(alloc, found.as_str())?;
     println!(rt; "{found}")?;
     Ok(())
 }

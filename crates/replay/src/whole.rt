@@ -1,9 +1,9 @@
 //! All tables.
 use crate::calls::answer_or_error;
 use anyhow::Result;
-use database_rows::named::Named;
-use rows::table::Row;
-use rows::tally::Tally;
+use replay_database::named::Named;
+use replay_base::table::Row;
+use replay_base::tally::Tally;
 use std::alloc::AllocGlobal;
 use std::fs::{self, Files};
 

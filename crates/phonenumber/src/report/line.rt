@@ -1,7 +1,7 @@
 //! What the report says of one line.
 ghost use Rattle.std.specs.Prelude.{◌≡◌, [], ◌∷◌, ◌++◌, None, Some, Err};
 ghost use Rattle.std.specs.Prelude.{IfOk, OnOk, codes, string_bytes};
-ghost use Rattle.phone_meta.specs.Codes.{first_of, territories};
+ghost use Rattle.phone_meta.specs.CodeLookUps.{first_of, territories};
 ghost use Rattle.phone_records.specs.declared.loader.Metadata.{Metadata};
 ghost use Rattle.phonenumber.specs.Lines.{known_words};
 ghost use Rattle.phonenumber.specs.Reports.{number_line};
@@ -37,7 +37,7 @@ fn number_line(
     ensures unknown { result ≡ Err FormatError.UnknownCode →
         first_of (territories number.now.code.value database.now) ≡ None }
 {
-    let Ok(mut line) = begun(alloc) else {
+    let Ok(mut line) = first_field(alloc) else {
         return Err(FormatError::Memory);
     };
     push_number(&mut line, database, number)?;
@@ -48,7 +48,7 @@ fn number_line(
 const ROOM: usize = 160;
 
 /// The first field of a number's line, with room for what follows it. Refused only for memory.
-fn begun(alloc: Global) -> Result<String, AllocError>
+fn first_field(alloc: Global) -> Result<String, AllocError>
     ensures { IfOk result (λ line. string_bytes line ≡ codes "ok") }
 {
     let mut line = String::with_capacity(alloc, ROOM)?;
@@ -86,11 +86,11 @@ fn push_known(
     ensures { OnOk result (string_bytes line.new ≡ string_bytes line.old ++
         9 ∷ known_words database.now number.now) }
 {
-    let queried = number.queried(database)?;
+    let facts = number.facts(database)?;
     let source = source_word(number.code().source());
-    let kind = kind_word(queried.kind);
-    let region = region_word(queried.region);
-    let validity = validity_word(queried.is_valid);
+    let kind = kind_word(facts.kind);
+    let region = region_word(facts.region);
+    let validity = validity_word(facts.is_valid);
     push_words(line, source, kind, region, validity)
 }
 

@@ -2,7 +2,7 @@
 ghost use Rattle.std.specs.Prelude.{◌≡◌, ℕ, List, Option};
 ghost use Rattle.phone_core.specs.declared.country.Id.{Id};
 ghost use Rattle.phone_lines.specs.Ends.{Ends, seen};
-ghost use Rattle.phone_lines.specs.Reports.{TakesA};
+ghost use Rattle.phone_lines.specs.LineReports.{TakesA};
 ghost use Rattle.phone_records.specs.declared.loader.Metadata as loader;
 ghost use Rattle.phonenumber.specs.Reports.{IsReportLine};
 ghost use Rattle.phonenumber.specs.Report.{IsBeginning, IsReport, TakesBeginning};

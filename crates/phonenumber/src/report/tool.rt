@@ -46,20 +46,20 @@ pub fn program<R: Files + AllocGlobal, S: ByteSource, W: ByteSink, E: ByteSink>(
           (W.faults sink.new) (W.unflushed sink.new));
     } (map (λ (w : Bor (List ℕ)). w.now) words.now) result }
 {
-    let (path, hint) = match asked(words) {
+    let (path, hint) = match file_and_hint(words) {
         Ok(asked) => asked,
-        Err(line) => return told(errors, line, 2),
+        Err(line) => return status_after(errors, line, 2),
     };
     let database = match Database::load(rt, path) {
         Ok(database) => database,
-        Err(error) => return told(errors, database_refused(error.number()), 3),
+        Err(error) => return status_after(errors, database_refused(error.number()), 3),
     };
     let end = run(&database, hint, source, sink);
-    ended(errors, end)
+    status_of_run(errors, end)
 }
 
 /// The file and the hint that words give; the line that is told of wrong ones.
-fn asked<'w>(words: &[&'w str]) -> Result<(&'w str, Option<Id>), &'static str>
+fn file_and_hint<'w>(words: &[&'w str]) -> Result<(&'w str, Option<Id>), &'static str>
     ensures { result_map_both (λ a. a.1) (λ (line : Bor (List ℕ)). line.now) result ≡
         asked (map (λ (w : Bor (List ℕ)). w.now) words.now) }
 {
@@ -74,7 +74,7 @@ fn asked<'w>(words: &[&'w str]) -> Result<(&'w str, Option<Id>), &'static str>
 }
 
 /// Tells of a run that was refused, and gives the status of a run that ended so.
-fn ended<E: ByteSink>(errors: &mut E, end: Result<(), RunError>) -> u8
+fn status_of_run<E: ByteSink>(errors: &mut E, end: Result<(), RunError>) -> u8
     ensures status { result ≡ status_of end }
     ensures said { MatchResult end (λ _. errors.new ≡ errors.old) (λ e.
         IsTold (E.taken errors.old) (E.faults errors.old) (failed_line e)
@@ -82,15 +82,15 @@ fn ended<E: ByteSink>(errors: &mut E, end: Result<(), RunError>) -> u8
 {
     match end {
         Ok(()) => 0,
-        Err(RunError::Input) => told(errors, "input failed\n", 1),
-        Err(RunError::Output) => told(errors, "output failed\n", 1),
-        Err(RunError::Memory) => told(errors, "out of memory\n", 1),
+        Err(RunError::Input) => status_after(errors, "input failed\n", 1),
+        Err(RunError::Output) => status_after(errors, "output failed\n", 1),
+        Err(RunError::Memory) => status_after(errors, "out of memory\n", 1),
     }
 }
 
 /// Writes a line, given with its line feed, to the sink for errors, and gives the status. That the
 /// sink fails changes nothing.
-pub fn told<E: ByteSink>(errors: &mut E, line: &str, status: u8) -> u8
+pub fn status_after<E: ByteSink>(errors: &mut E, line: &str, status: u8) -> u8
     ensures status { result ≡ status }
     ensures told { IsTold (E.taken errors.old) (E.faults errors.old) line.now
         (E.taken errors.new) (E.faults errors.new) }

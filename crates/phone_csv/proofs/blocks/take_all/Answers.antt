@@ -27,7 +27,7 @@ returns-in-Err-Memory-clause-memory g c is start fresh =
       t.0,
       t.1,
       rw c.in-Err-Memory.ensures.kept
-          (rw (append-nil t.0, c.in-Ok-Whole.ensures.delimiter) at (Stands-first gives start t.0 [] c.take_blocks.new.desk.cutter c.take_blocks.new.desk.answers.items before after t.2)),
+          (rw (append-nil t.0, c.in-Ok-Whole.ensures.delimiter) at (Stands-first gives start t.0 [] c.take_blocks.new.pending.cutter c.take_blocks.new.pending.answers.items before after t.2)),
     )
 
 pub returns-in-Ok-clause-counted : goal.returns-in-Ok-clause-counted

@@ -7,12 +7,12 @@ use Rattle.phone_csv.proofs.blocks.take_blocks.Goals as goal
 pub returns-then-read-clause-input : goal.returns-then-read-clause-input
 returns-then-read-clause-input g c is start fresh =
     let was = c.blocks-2.invariant.read_bytes in
-    (was.0, was.1, rw c.blocks-2.invariant.same_delimiter at (Stands-ended (g.A.Answers.gives c.args.answers.now) start was.0 c.blocks-2.desk.cutter c.blocks-2.desk.answers.items (g.W.ByteSink.taken c.args.sink.now) (g.W.ByteSink.taken c.blocks-2.sink) (was.2.1 start fresh)))
+    (was.0, was.1, rw c.blocks-2.invariant.same_delimiter at (Stands-ended (g.A.Answers.gives c.args.answers.now) start was.0 c.blocks-2.pending.cutter c.blocks-2.pending.answers.items (g.W.ByteSink.taken c.args.sink.now) (g.W.ByteSink.taken c.blocks-2.sink) (was.2.1 start fresh)))
 
 pub returns-in_default-clause-input : goal.returns-in_default-clause-input
 returns-in_default-clause-input g c is start fresh =
     let was = c.blocks-2.invariant.read_bytes in
-    (was.0, rw c.in_default.ensures.kept was.1, rw c.blocks-2.invariant.same_delimiter at (Stands-ended (g.A.Answers.gives c.args.answers.now) start was.0 c.blocks-2.desk.cutter c.blocks-2.desk.answers.items (g.W.ByteSink.taken c.args.sink.now) (g.W.ByteSink.taken c.blocks-2.sink) (was.2.1 start fresh)))
+    (was.0, rw c.in_default.ensures.kept was.1, rw c.blocks-2.invariant.same_delimiter at (Stands-ended (g.A.Answers.gives c.args.answers.now) start was.0 c.blocks-2.pending.cutter c.blocks-2.pending.answers.items (g.W.ByteSink.taken c.args.sink.now) (g.W.ByteSink.taken c.blocks-2.sink) (was.2.1 start fresh)))
 
 pub returns-then-is_empty-clause-taken : goal.returns-then-is_empty-clause-taken
 returns-then-is_empty-clause-taken g c is start fresh =

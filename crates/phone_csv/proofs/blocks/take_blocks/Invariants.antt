@@ -7,16 +7,16 @@ use Rattle.phone_csv.proofs.blocks.take_blocks.Given as goal
 abbrev pub invariant-blocks-2 : goal.invariant-blocks-2
 invariant-blocks-2 g l = record {
   read_bytes : OfRead (g.S.ByteSource.to_come l.initial.source) (g.S.ByteSource.to_come l.source) (λ bytes. (length bytes ≡ l.read) ×
-      ((start : State) → IsFresh (g.A.Answers.gives l.answers) start l.initial.desk.cutter l.initial.desk.answers.items (g.W.ByteSink.taken l.initial.sink) →
-      Stands (g.A.Answers.gives l.answers) start bytes l.desk.cutter l.desk.answers.items (g.W.ByteSink.taken l.initial.sink) (g.W.ByteSink.taken l.sink)));
+      ((start : State) → IsFresh (g.A.Answers.gives l.answers) start l.initial.pending.cutter l.initial.pending.answers.items (g.W.ByteSink.taken l.initial.sink) →
+      Stands (g.A.Answers.gives l.answers) start bytes l.pending.cutter l.pending.answers.items (g.W.ByteSink.taken l.initial.sink) (g.W.ByteSink.taken l.sink)));
   counted : (first : g.row.C.Denot) →
-      HoldsCounted g.C.Counter.after l.initial.desk.cutter.delimiter first l.initial.counter l.initial.desk.answers.items (g.W.ByteSink.taken l.initial.sink) (g.W.ByteSink.taken l.initial.sink) →
-      HoldsCounted g.C.Counter.after l.initial.desk.cutter.delimiter first l.counter l.desk.answers.items (g.W.ByteSink.taken l.initial.sink) (g.W.ByteSink.taken l.sink);
-  partial : partial_of l.desk.cutter.fields ≡ [];
-  same_delimiter : l.desk.cutter.delimiter ≡ l.initial.desk.cutter.delimiter;
+      HoldsCounted g.C.Counter.after l.initial.pending.cutter.delimiter first l.initial.counter l.initial.pending.answers.items (g.W.ByteSink.taken l.initial.sink) (g.W.ByteSink.taken l.initial.sink) →
+      HoldsCounted g.C.Counter.after l.initial.pending.cutter.delimiter first l.counter l.pending.answers.items (g.W.ByteSink.taken l.initial.sink) (g.W.ByteSink.taken l.sink);
+  partial : partial_of l.pending.cutter.fields ≡ [];
+  same_delimiter : l.pending.cutter.delimiter ≡ l.initial.pending.cutter.delimiter;
   source_faults : g.S.ByteSource.faults l.source ≡ g.S.ByteSource.faults l.initial.source;
   sink_faults : g.W.ByteSink.faults l.sink ≡ g.W.ByteSink.faults l.initial.sink;
-  short : vec_len l.desk.answers < 8192;
+  short : vec_len l.pending.answers < 8192;
 }
 
 abbrev pub decreases-blocks-2 : goal.decreases-blocks-2

@@ -1,7 +1,7 @@
 use Rattle.std.proofs.Common.{◌≡◌, inl, inr, ⊎_elim, Ok, ap, ◌∙◌}
 use Rattle.std.specs.Option.{option_copied}
 use Rattle.std.specs.Result.{result_map_both}
-use Rattle.phone_library.specs.Codes.{code_in}
+use Rattle.phone_library.specs.LibraryCodes.{code_in}
 use Rattle.phone_library.specs.Lent.{read_as, told}
 use Rattle.phone_library.specs.Readings.{after_code_if_any}
 use Rattle.phone_library.proofs.reading.main_number.Goals as goal

@@ -13,4 +13,4 @@ returns-in_default c = sym (ap (λ t. follows_some pauses (chars t)) c.in_defaul
 pub returns-then-not-starts_pause : goal.returns-then-not-starts_pause
 returns-then-not-starts_pause c =
     sym (ap (follows_some pauses) c.in-Some.ensures.read
-    ∙ no_pause c.in-Some.c _ (ap (is_one_of pause_starts) (sym c.folded.ensures) ∙ sym c.starts_pause.ensures ∙ c.if-not-starts_pause.true))
+    ∙ no_pause c.in-Some.c _ (ap (is_one_of pause_starts) (sym c.fold.ensures) ∙ sym c.starts_pause.ensures ∙ c.if-not-starts_pause.true))

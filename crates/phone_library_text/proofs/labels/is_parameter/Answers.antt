@@ -12,4 +12,4 @@ returns-in_default c =
 pub returns-then-not-starts_parameter : goal.returns-then-not-starts_parameter
 returns-then-not-starts_parameter c =
     sym (ap (λ t. is_alike t (codes ";ext=")) c.in-Some.ensures.read
-    ∙ not_parameter c.in-Some.c _ (ap (λ f. f == 59) (sym c.folded.ensures) ∙ sym c.starts_parameter.ensures ∙ c.if-not-starts_parameter.true))
+    ∙ not_parameter c.in-Some.c _ (ap (λ f. f == 59) (sym c.fold.ensures) ∙ sym c.starts_parameter.ensures ∙ c.if-not-starts_parameter.true))

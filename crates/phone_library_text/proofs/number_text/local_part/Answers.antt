@@ -14,6 +14,6 @@ pub returns-in-None : goal.returns-in-None
 returns-in-None c =
     let text = chars c.args.text.now in
     let front = chars c.args.front.now in
-    let told = subst (λ w. MatchOption c.parted-in-None.result (parted w text ≡ None) (λ p. parted w text ≡ Some (chars p.0.now, chars p.1.now))) chars-scheme c.parted-in-None.ensures.parted in
+    let told = subst (λ w. MatchOption c.split_at_word-in-None.result (parted w text ≡ None) (λ p. parted w text ≡ Some (chars p.0.now, chars p.1.now))) chars-scheme c.split_at_word-in-None.ensures.parted in
     c.unless_told.ensures ∙ ap (λ b. cond b [] front) c.is_some.ensures
-    ∙ sym (local_untold text front c.parted-in-None.result (ap (λ w. parted w front) (sym chars-scheme) ∙ c.in-None.ensures.parted) told)
+    ∙ sym (local_untold text front c.split_at_word-in-None.result (ap (λ w. parted w front) (sym chars-scheme) ∙ c.in-None.ensures.parted) told)

@@ -13,7 +13,7 @@ weaker P Q (Err e) f h = h
 pub returns-then-not-contains : goal.returns-then-not-contains
 returns-then-not-contains c =
     let text = c.args.text.now in
-    subst (HasNumberText (chars text)) (sym c.lent.ensures)
+    subst (HasNumberText (chars text)) (sym c.lend.ensures)
     (c.plain_text.ensures (sym (contains-list_any 59 text c.contains.result (omega arith) c.utf8.text c.contains.ensures.cases) ∙ c.if-not-contains.true))
 
 pub returns-in-Some : goal.returns-in-Some
@@ -27,4 +27,4 @@ returns-in-Some c =
 pub returns-in-None : goal.returns-in-None
 returns-in-None c =
     let text = chars c.args.text.now in
-    subst (HasNumberText text) (sym c.lent-in-None.ensures) (c.free_text.ensures (ap (λ w. parted w text) (sym chars-context) ∙ c.in-None.ensures.parted))
+    subst (HasNumberText text) (sym c.lend-in-None.ensures) (c.free_text.ensures (ap (λ w. parted w text) (sym chars-context) ∙ c.in-None.ensures.parted))

@@ -1,5 +1,5 @@
 use Rattle.std.proofs.Common.{◌≡◌, ℕ, take}
-use Rattle.phone_meta.specs.Codes.{is_listed}
+use Rattle.phone_meta.specs.CodeLookUps.{is_listed}
 use Rattle.phone_index.specs.ListedCodes.{is_in}
 use Rattle.phone_meta.proofs.index.codes.Given as goal
 

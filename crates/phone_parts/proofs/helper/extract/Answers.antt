@@ -8,16 +8,16 @@ use Rattle.phone_parts.proofs.helper.extract.Goals as goal
 pub returns-then-is_nothing-clause-core : goal.returns-then-is_nothing-clause-core
 returns-then-is_nothing-clause-core c = λ core h.
     let text = chars c.args.text.now in
-    let kept = chars c.trimmed.result.now in
-    let trimmed = subst (λ t. IsTrimmed t kept) c.after_run.ensures.rest c.trimmed.ensures.read in
+    let kept = chars c.trim_end.result.now in
+    let trimmed = subst (λ t. IsTrimmed t kept) c.after_run.ensures.rest c.trim_end.ensures.read in
     h.not_empty (core_same text core kept (chars c.first_number-core.result.now) h trimmed c.first_number-core.ensures.read ∙ c.is_nothing.ensures.nothing c.if-is_nothing.true)
 
 pub returns-else-is_nothing-clause-core : goal.returns-else-is_nothing-clause-core
 returns-else-is_nothing-clause-core c =
     let text = chars c.args.text.now in
-    let kept = chars c.trimmed.result.now in
+    let kept = chars c.trim_end.result.now in
     let core = chars c.first_number-core.result.now in
-    let trimmed = subst (λ t. IsTrimmed t kept) c.after_run.ensures.rest c.trimmed.ensures.read in
+    let trimmed = subst (λ t. IsTrimmed t kept) c.after_run.ensures.rest c.trim_end.ensures.read in
     let f = from_first is_start text in
     let some : ¬ (core ≡ []) = c.is_nothing.ensures.something c.if-is_nothing.false in
     record {

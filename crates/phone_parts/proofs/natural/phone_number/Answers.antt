@@ -27,13 +27,13 @@ returns-clause-read c =
     let core = chars c.in-Some.core.now in
     let national = chars c.in-Some-find_suffix.national.now in
     let extension = chars c.in-Some-find_suffix.extension.now in
-    subst (λ p. IsNatural text (Ok p)) (sym c.extended.ensures.parts)
+    subst (λ p. IsNatural text (Ok p)) (sym c.with_extension.ensures.parts)
     (Naturals.extended core national extension c.in-Some.ensures.core c.in-Some-find_suffix.ensures.read)
 
 pub returns-clause-lent : goal.returns-clause-lent
 returns-clause-lent c =
     let v = c.in-Some-find_suffix.ensures.front in
     let core = c.in-Some.ensures.slice in
-    c.extended.ensures.lent c.args.text.now
+    c.with_extension.ensures.lent c.args.text.now
     (slice_of_slice _ _ _ core (slice_from_front _ c.in-Some-find_suffix.national.now v.0 v.1))
     (slice_of_slice _ _ _ core c.in-Some-find_suffix.ensures.slice)

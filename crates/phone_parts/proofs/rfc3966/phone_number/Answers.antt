@@ -54,8 +54,8 @@ returns-clause-read c =
       longest = rw r.rest (none_after_front is_phonedigit rest);
       is_tail = c.is_tail.ensures.0 c.if-not-is_tail.false;
       has_parameters = ps.1;
-      prefix = c.lent.ensures.read ∙ c.prefix.ensures.read ∙ ap (λ o. option_or run (option_map without_plus o)) ps.2;
-      extension = c.lent-2.ensures.read ∙ ps.3;
+      prefix = c.lend.ensures.read ∙ c.prefix.ensures.read ∙ ap (λ o. option_or run (option_map without_plus o)) ps.2;
+      extension = c.lend-2.ensures.read ∙ ps.3;
     }
 
 pub returns-clause-lent : goal.returns-clause-lent
@@ -69,6 +69,6 @@ returns-clause-lent c =
     let extension = within c.args.text.now tail.0 c.split_run.result.1.now tail.1 ps.result.extension ps.ensures.extension in
     record {
       national = record { borrowed = tt; slice = slice_of_end c.args.text.now rest.0 c.in_ok-run.rest.now c.split_run.result.0.now rest.1 (slice_from_front _ _ c.split_run.result.1.now c.split_run.ensures.whole) };
-      prefix = c.lent.ensures.lent c.args.text.now (c.prefix.ensures.slice c.args.text.now run context);
-      extension = c.lent-2.ensures.lent c.args.text.now extension;
+      prefix = c.lend.ensures.lent c.args.text.now (c.prefix.ensures.slice c.args.text.now run context);
+      extension = c.lend-2.ensures.lent c.args.text.now extension;
     }

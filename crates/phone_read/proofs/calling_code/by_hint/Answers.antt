@@ -9,7 +9,7 @@ use Rattle.phone_core.specs.declared.error.ParseError.TheVariants.{InvalidCountr
 use Rattle.phone_records.specs.declared.loader.Metadata.{Metadata}
 use Rattle.phone_parts.specs.Texts.{is_front}
 use Rattle.phone_parts.specs.declared.number.Number.{Number as Parts}
-use Rattle.phone_read.specs.Codes.{IsCoded}
+use Rattle.phone_read.specs.CallingCodes.{IsCoded}
 use Rattle.phone_read.specs.Hints.{Coded, code_by_hint, looks_national}
 use Rattle.phone_read.proofs.HintCodes.{code_by_hint-apart, code_by_hint-kept}
 use Rattle.phone_read.proofs.calling_code.by_hint.Goals as goal

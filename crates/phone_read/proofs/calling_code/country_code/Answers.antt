@@ -3,7 +3,7 @@ use Rattle.std.specs.Cow.{cow_str_bytes, IsBorrowedStr}
 use Rattle.std.specs.Fmt.{decimal}
 use Rattle.std.specs.Str.{chars}
 use Rattle.phone_core.specs.declared.country.Source.TheVariants.{Default}
-use Rattle.phone_prefix.proofs.BareParts.{plain_national}
+use Rattle.phone_rules.proofs.BareParts.{plain_national}
 use Rattle.phone_read.specs.WithoutMemory.{AnswersWithoutMemory}
 use Rattle.phone_read.proofs.FoundCodes.{IsTold, code_of-told}
 use Rattle.phone_read.proofs.LentCodes.{refused_again}
@@ -17,7 +17,7 @@ returns-in_err-coded-clause-no_memory c =
 
 pub returns-in_err-prefixed-clause-no_memory : goal.returns-in_err-prefixed-clause-no_memory
 returns-in_err-prefixed-clause-no_memory c = record {
-  refusals = λ none bare. subst (λ r. IfErr r (λ e. c.from_residual-in_err-prefixed.result ≡ Err e)) (sym c.in_ok-coded.ensures.coded.1) tt;
+  refusals = λ none bare. subst (λ r. IfErr r (λ e. c.from_residual-in_err-with_code_as_prefix.result ≡ Err e)) (sym c.in_ok-coded.ensures.coded.1) tt;
   answers = λ none lent plain memory.
       let n = chars (cow_str_bytes c.args.number.national) in
       let p = option_map (λ p. chars (cow_str_bytes p)) c.args.number.prefix in
@@ -25,14 +25,14 @@ returns-in_err-prefixed-clause-no_memory c = record {
       let found = c.in_ok-coded.ensures.coded in
       let other : ¬ (c.in_ok-coded.coded.number.country ≡ Default) =
       λ d. subst IsTold found.1 (code_of-told c.args.db.now c.args.hint n p none) (sym found.3.country ∙ d) in
-      let kept = c.in_err-prefixed.ensures.kept ((c.in_ok-coded.ensures.lent (record { borrowed = lent; digits = plain_national n p e plain })).has_prefix other) in
+      let kept = c.in_err-with_code_as_prefix.ensures.kept ((c.in_ok-coded.ensures.lent (record { borrowed = lent; digits = plain_national n p e plain })).has_prefix other) in
       cc;
 }
 
 pub returns-clause-coded : goal.returns-clause-coded
 returns-clause-coded c =
     let found = c.in_ok-coded.ensures.coded in
-    let made = c.in_ok-prefixed.ensures in (
+    let made = c.in_ok-with_code_as_prefix.ensures in (
       found.0,
       found.1,
       record {
@@ -46,14 +46,14 @@ returns-clause-coded c =
 
 pub returns-clause-no_memory : goal.returns-clause-no_memory
 returns-clause-no_memory c = record {
-  refusals = λ none bare. subst (λ r. IfErr r (λ e. Ok c.in_ok-prefixed.field-0 ≡ Err e)) (sym c.in_ok-coded.ensures.coded.1) tt;
+  refusals = λ none bare. subst (λ r. IfErr r (λ e. Ok c.in_ok-with_code_as_prefix.field-0 ≡ Err e)) (sym c.in_ok-coded.ensures.coded.1) tt;
   answers = λ none lent plain memory. cc;
 }
 
 pub returns-clause-lent : goal.returns-clause-lent
 returns-clause-lent c lent =
     let found = c.in_ok-coded.ensures.lent lent in
-    let made = c.in_ok-prefixed.ensures in
+    let made = c.in_ok-with_code_as_prefix.ensures in
     record {
       national = λ same. subst IsBorrowedStr (sym made.national) (found.kept.national same);
       prefix = λ none other.

@@ -12,7 +12,7 @@ use Rattle.phone_read.specs.Hints.{Coded}
 use Rattle.phone_read.specs.Numbering.{reading_of}
 use Rattle.phone_read.specs.Readings
 use Rattle.phone_read.specs.Readings.{Reads, stripping_territory}
-use Rattle.phone_prefix.specs.Strips.{stripped}
+use Rattle.phone_rules.specs.Strips.{stripped}
 use Rattle.phone_read.proofs.reading.read.Goals as goal
 
 pub returns-in_default : goal.returns-in_default
@@ -54,4 +54,4 @@ returns c =
     found.3.country found.2 found.3.national found.3.extension (c.in_ok-territory.ensures number.country c.in_ok-coded.ensures.territory) in
     ⊎_elim (λ f. inl f)
     (λ f. inr (subst (Reads c.args.db.now c.args.hint (chars c.args.text.now)) (sym (f ∙ same)) (Readings.coded parts found.0 c.in-Some.ensures.read viable found.1)))
-    c.numbered.ensures
+    c.reading_of.ensures

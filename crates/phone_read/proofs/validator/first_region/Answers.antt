@@ -1,7 +1,7 @@
 use Rattle.std.proofs.Common.{ap, sym, map, filter, option_map, IfOk, subst, ◌≡◌, ◌∙◌}
 use Rattle.std.specs.List.{find}
 use Rattle.std.specs.Option.{option_or}
-use Rattle.phone_meta.specs.Codes.{is_other_of}
+use Rattle.phone_meta.specs.CodeLookUps.{is_other_of}
 use Rattle.phone_meta.specs.Lasts.{seen, with_last}
 use Rattle.phone_read.specs.Regions.{is_of_last}
 use Rattle.phone_read.proofs.Regional.{find-territories}

@@ -1,6 +1,6 @@
 use Rattle.std.proofs.Common.{◌≡◌, false, IfOk, ap, sym, subst}
 use Rattle.std.specs.Option.{option_copied, option_map_or}
-use Rattle.phone_kinds.specs.Kinds.{belongs_to}
+use Rattle.phone_rules.specs.Kinds.{belongs_to}
 use Rattle.phone_read.proofs.validator.is_of_last.Goals as goal
 
 pub returns-in-Some : goal.returns-in-Some

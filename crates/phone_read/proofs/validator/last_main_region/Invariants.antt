@@ -1,6 +1,6 @@
 use Rattle.std.proofs.Common.{◌≡◌, filter, map, option_map, reverse}
 use Rattle.std.specs.List.{find}
-use Rattle.phone_meta.specs.Codes.{is_main_of}
+use Rattle.phone_meta.specs.CodeLookUps.{is_main_of}
 use Rattle.phone_meta.specs.Lasts.{seen, with_last}
 use Rattle.phone_read.specs.Regions.{is_of_last}
 use Rattle.phone_read.proofs.Regional.{last_main}

@@ -6,7 +6,7 @@ use Rattle.phone_read.proofs.validator.origin_of_several.Goals as goal
 
 pub returns-in-Some : goal.returns-in-Some
 returns-in-Some c =
-    c.named.ensures
+    c.origin_named.ensures
     ∙ ap (λ o. option_and_then by_name (option_map seen o)) (sym c.in-Some.is)
     ∙ found_origin c.args.db.now c.args.code c.args.text.now _ c.in_ok-found.ensures
 

@@ -1,5 +1,5 @@
 use Rattle.std.proofs.Common.{◌≡◌, ◌++◌, ◌∙◌, Bor, List, [], ◌∷◌, Option, None, Some, Result, Ok, Err, IfOk, ap, filter, map, option_map, refl, reverse, subst}
-use Rattle.phone_meta.specs.Codes.{if_any, is_main_of, is_other_of}
+use Rattle.phone_meta.specs.CodeLookUps.{if_any, is_main_of, is_other_of}
 use Rattle.phone_records.specs.declared.loader.Metadata.{Metadata}
 use Rattle.phone_meta.proofs.CodeLemmas.{territories-parts}
 use Rattle.phone_meta.proofs.database.Database.by_code.Goals as goal

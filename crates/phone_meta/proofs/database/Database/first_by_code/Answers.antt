@@ -1,7 +1,7 @@
 use Rattle.std.proofs.Common.{ap, ◌∙◌}
 use Rattle.std.specs.List.{find}
 use Rattle.std.specs.Option.{option_or}
-use Rattle.phone_meta.specs.Codes.{is_other_of}
+use Rattle.phone_meta.specs.CodeLookUps.{is_other_of}
 use Rattle.phone_meta.proofs.CodeLemmas.{first_of-territories}
 use Rattle.phone_meta.proofs.database.Database.first_by_code.Goals as goal
 

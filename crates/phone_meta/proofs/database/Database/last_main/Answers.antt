@@ -1,6 +1,6 @@
 use Rattle.std.proofs.Common.{◌∙◌, ap, option_map, rules, tests}
 use Rattle.std.proofs.lemmas.Iterator.{items_from_drains}
-use Rattle.phone_meta.specs.Codes.{is_main_of}
+use Rattle.phone_meta.specs.CodeLookUps.{is_main_of}
 use Rattle.phone_records.specs.declared.loader.Metadata.{Metadata}
 use Rattle.phone_meta.proofs.Chains.{YieldsList-of_code, shown}
 use Rattle.phone_meta.proofs.CodeLemmas.{last-find}

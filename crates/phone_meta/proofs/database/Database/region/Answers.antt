@@ -1,5 +1,5 @@
 use Rattle.std.proofs.Common.{◌∙◌, ◌≡◌, Some, Bor, ap, map}
-use Rattle.phone_meta.specs.Codes.{if_any, territories}
+use Rattle.phone_meta.specs.CodeLookUps.{if_any, territories}
 use Rattle.phone_territory.specs.Records.{id_of}
 use Rattle.phone_records.specs.declared.loader.Metadata.{Metadata}
 use Rattle.phone_meta.proofs.CodeLemmas.{if_any-map, map-map}

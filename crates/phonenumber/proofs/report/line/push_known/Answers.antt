@@ -9,7 +9,7 @@ pub returns : goal.returns
 returns c =
     let db = c.args.database.now in
     let n = c.args.number.now in
-    let queried = c.in_ok-queried.ensures in
+    let facts = c.in_ok-facts.ensures in
     subst (λ t. OnOk c.push_words.result (string_bytes c.push_words.new.line ≡ string_bytes c.args.line.now ++ 9 ∷ t))
     (words_by c.source_word-source.result.now c.kind_word-kind.result.now
     c.region_word-region.result.now c.validity_word-validity.result.now
@@ -17,7 +17,7 @@ returns c =
     (region_word (region_of_number db n)) (validity_word (is_valid db n))
     (c.source_word-source.ensures
     ∙ ap source_word (c.source.ensures ∙ ap (λ (x : Code). x.source) c.code.ensures))
-    (c.kind_word-kind.ensures ∙ ap kind_word queried.kind)
-    (c.region_word-region.ensures ∙ ap region_word queried.region)
-    (c.validity_word-validity.ensures ∙ ap validity_word queried.is_valid))
+    (c.kind_word-kind.ensures ∙ ap kind_word facts.kind)
+    (c.region_word-region.ensures ∙ ap region_word facts.region)
+    (c.validity_word-validity.ensures ∙ ap validity_word facts.is_valid))
     c.push_words.ensures

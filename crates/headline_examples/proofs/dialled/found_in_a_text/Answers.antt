@@ -1,0 +1,26 @@
+use Rattle.std.proofs.Common.{None, refl, arith, inl, inr}
+use Rattle.std.specs.Fmt.{digits}
+use Rattle.std.specs.Str.{chars}
+use Rattle.phone_core.specs.Ids.{id_of, name}
+use Rattle.phone_meta.specs.CodeLookUps.{begins}
+use Rattle.headline_examples.proofs.ByText.{international, is_plain}
+use Rattle.headline_examples.proofs.Laid.{nz_laid}
+use Rattle.headline_examples.proofs.ByText.{ends_in_digit}
+use Rattle.std.proofs.Common.{ap, ◌∙◌}
+use Rattle.headline_examples.specs.Samples.{nz}
+use Rattle.headline_examples.proofs.dialled.found_in_a_text.Goals as goal
+
+pub returns : goal.returns
+unfolding digits chars id_of name begins
+returns c = record {
+  enough = record {
+    plain = international nz (nz_laid None) (is_plain refl refl) refl (omega arith) refl refl;
+    idle = inr (nz, refl, refl);
+    announced = inl refl;
+    some_code = omega arith;
+    few_digits = omega arith;
+    prefix_free = refl;
+    enough = refl;
+  };
+  ends = record { laid = ap ends_in_digit (nz_laid None) ∙ refl; extension = inl refl };
+}

@@ -1,0 +1,20 @@
+use Rattle.std.proofs.Common.{[], codes, Some, refl, arith, inr}
+use Rattle.std.specs.Fmt.{digits}
+use Rattle.std.specs.Str.{chars}
+use Rattle.phone_core.specs.Ids.{id_of, name}
+use Rattle.headline_examples.proofs.ByText.{benign, international, is_plain}
+use Rattle.headline_examples.proofs.Laid.{spaced_laid}
+use Rattle.headline_examples.specs.Samples.{am_by_anexo, number}
+use Rattle.headline_examples.proofs.plain.announced_by_anexo.Goals as goal
+
+pub returns : goal.returns
+unfolding digits chars id_of name
+returns c =
+    let laid = spaced_laid (codes "AM") 374 (codes " anexo ") in
+    record {
+      international = international am_by_anexo (laid (Some (codes "12"))) (is_plain refl refl) refl (omega arith) refl refl;
+      benign = benign am_by_anexo (number 374 0 123456 (Some (codes "12"))) (laid (Some (codes "12"))) refl refl;
+      empty = international am_by_anexo (laid (Some [])) (is_plain refl refl) refl (omega arith) refl refl;
+      empty_benign = benign am_by_anexo (number 374 0 123456 (Some [])) (laid (Some [])) refl refl;
+      idle = inr (am_by_anexo, refl, refl);
+    }

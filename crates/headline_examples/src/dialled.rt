@@ -1,0 +1,26 @@
+//! Numbers that the premises of dialling and of finding take, a real one each.
+ghost use Rattle.std.specs.Prelude.{None};
+ghost use Rattle.phone_core.specs.declared.country.Id.TheVariants as id;
+ghost use Rattle.phone_find.specs.Alone.{EndsInDigits, IsPlainEnough};
+ghost use Rattle.phone_find.specs.declared.leniency.Leniency.TheVariants as leniency;
+ghost use Rattle.phone_util.specs.Back.{IsAfterPlus, IsAfterPrefix, IsPlainDialled};
+ghost use Rattle.headline_examples.specs.Samples.{db_b, db_kp, number, nz};
+
+/// A number of New Zealand that is dialled from the United States, behind `011`.
+pub fn dialled_behind_a_prefix()
+    ensures { (plain : IsPlainDialled db_b id.US (number 64 0 33316005 None)) ×
+        IsAfterPrefix plain.from (number 64 0 33316005 None) }
+{}
+
+/// The same number dialled from North Korea, behind a plus sign: of two international prefixes none
+/// is preferred.
+pub fn dialled_behind_a_plus()
+    ensures { (plain : IsPlainDialled db_kp id.KP (number 64 0 33316005 None)) ×
+        IsAfterPlus plain.from (number 64 0 33316005 None) }
+{}
+
+/// The same number is plain enough to be found in a text, and its text ends in digits.
+pub fn found_in_a_text()
+    ensures enough { IsPlainEnough db_b leniency.Possible (number 64 0 33316005 None) }
+    ensures ends { EndsInDigits nz (number 64 0 33316005 None) }
+{}

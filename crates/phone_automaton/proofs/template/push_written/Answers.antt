@@ -1,0 +1,48 @@
+use Rattle.std.proofs.Common.{◌≡◌, ◌<◌, ◌+◌, ◌*◌, ◌≤◌, ◌++◌, ℕ, List, [], ap, arith, length, refl, sym, ◌∙◌}
+use Rattle.std.proofs.lemmas.List.{append_cancel_left, length-drop}
+use Rattle.regex.specs.Replace.{bytes_of}
+use Rattle.regex.specs.Templates.{written_after}
+use Rattle.regex_syntax.specs.Grammar.{Names}
+use Rattle.phone_automaton.specs.Finds.{group_at}
+use Rattle.phone_automaton.specs.Templates.{AreTexts}
+use Rattle.phone_automaton.proofs.Writing.{all_on, byte_on, dollar_on, group_on}
+use Rattle.phone_automaton.proofs.template.push_written.Goals as goal
+
+pub loop-at-preserved-then-template-at-ne36 : goal.loop-at-preserved-then-template-at-ne36
+loop-at-preserved-then-template-at-ne36 c =
+    let inside : c.loop-at.at < length c.args.template.now = c.loop-at-test.true in
+    (omega arith, λ names text_of texts. rw c.in_ok-push.ensures.items (byte_on names text_of c.args.template.now c.loop-at.at c.loop-at.out.items _ inside c.if-template-at-ne36.true (c.loop-at.invariant.1 names text_of texts)))
+
+pub loop-at-preserved-then-is_doubled : goal.loop-at-preserved-then-is_doubled
+loop-at-preserved-then-is_doubled c =
+    let t = c.args.template.now in
+    let (more, again) = rw c.after-rest.ensures at c.is_doubled.ensures c.if-is_doubled.true in
+    let here : c.loop-at.at < length t = c.loop-at-test.true in
+    let inside : c.loop-at.at + 1 < length t = (let left = rw length-drop at more in omega arith) in
+    (omega arith, λ names text_of texts. rw c.in_ok-push-2.ensures.items (dollar_on names text_of t c.loop-at.at c.loop-at.out.items _ inside c.if-template-at-ne36.false again (c.loop-at.invariant.1 names text_of texts)))
+
+pub loop-at-preserved : goal.loop-at-preserved
+loop-at-preserved c =
+    let t = c.args.template.now in
+    let (small, more, digit) = rw c.after-rest.ensures at c.in-Some.ensures.digit in
+    let alone = rw c.after-rest.ensures at c.in-Some.ensures.alone in
+    let room : 2 * c.in-Some.n ≤ length c.args.cells.now = c.if-n-cells.false in
+    let here : c.loop-at.at < length t = c.loop-at-test.true in
+    let inside : c.loop-at.at + 1 < length t = (let left = rw length-drop at more in omega arith) in (
+      omega arith,
+      λ names text_of texts.
+          rw (c.in_ok-push_group.ensures c.if-not-branch.false)
+          (group_on names text_of t c.loop-at.at c.in-Some.n c.loop-at.out.items _ _ inside c.if-template-at-ne36.false small digit alone
+          (ap (bytes_of c.args.hay.now) c.group_of_cells.ensures ∙ sym (texts c.in-Some.n room))
+          (c.loop-at.invariant.1 names text_of texts)),
+    )
+
+pub returns : goal.returns
+returns c = λ yes.
+    let t = c.args.template.now in
+    let own : ℕ → List ℕ = λ n. bytes_of c.args.hay.now (group_at c.args.span c.args.cells.now n) in
+    let told : (names : Names) (text_of : ℕ → List ℕ) → AreTexts c.args.hay.now c.args.span c.args.cells.now text_of →
+    c.loop-at.out.items ≡ c.args.out.now.items ++ written_after names text_of t 0 =
+    λ names text_of texts. all_on names text_of t c.loop-at.at c.loop-at.out.items _ c.loop-at-test.false (c.loop-at.invariant.1 names text_of texts) in
+    let whole = told [] own (λ n room. refl) in
+    (written_after [] own t 0, whole, λ names text_of texts. append_cancel_left _ _ _ (sym whole ∙ told names text_of texts))

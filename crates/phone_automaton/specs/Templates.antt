@@ -1,0 +1,27 @@
+-- What a template writes in the place of a match, by the cells that a search has filled.
+use Rattle.std.specs.Prelude.{◌≡◌, ◌≤◌, ◌*◌, ◌++◌, ℕ, List, Option, None, Some, drop, length, take}
+use Rattle.regex.specs.Replace.{bytes_of}
+use Rattle.regex.specs.Templates.{written_after}
+use Rattle.regex_hir.specs.Find.{Match}
+use Rattle.regex_syntax.specs.Grammar.{Names}
+use Rattle.phone_automaton.specs.Finds.{group, group_at}
+
+-- the text with a match replaced by what the template writes there, its `$1` by group 1; as it is
+-- where there is no match
+abbrev pub with_match_replaced : Names → List ℕ → List ℕ → Option Match → List ℕ
+with_match_replaced names template hay None = hay
+with_match_replaced names template hay (Some m) =
+    (take m.start hay ++ written_after names (λ n. bytes_of hay (group m n)) template 0) ++ drop
+    m.trace.end hay
+
+-- the text of each group that the cells have room for
+abbrev pub AreTexts : List ℕ → ℕ × ℕ → List ℕ → (ℕ → List ℕ) → Type 0
+AreTexts hay span cells text_of = (n : ℕ) → 2 * n ≤ length cells →
+    text_of n ≡ bytes_of hay (group_at span cells n)
+
+-- whatever names the groups have, the template writes these bytes where a match with these cells
+-- stands
+abbrev pub IsWritten : List ℕ → List ℕ → ℕ × ℕ → List ℕ → List ℕ → Type 0
+IsWritten template hay span cells bytes =
+    (names : Names) (text_of : ℕ → List ℕ) → AreTexts hay span cells text_of →
+    bytes ≡ written_after names text_of template 0

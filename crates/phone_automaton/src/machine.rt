@@ -1,0 +1,319 @@
+//! A machine: a pattern's automaton for ASCII texts, and the steps that its searches have worked
+//! out.
+ghost use Rattle.std.specs.Prelude.{◌≡◌, ◌-◌, ◌+◌, ◌*◌, ◌≤◌, ℕ, length, vec_len, string_bytes};
+ghost use Rattle.std.specs.Prelude.{IfOk, IfSome, option_map};
+ghost use Rattle.phone_automaton.specs.Ascii.{AsciiSame};
+ghost use Rattle.phone_automaton.specs.Finds.{at_front, captured, finds, group_at, FindsInAscii};
+ghost use Rattle.phone_automaton.specs.Templates.{with_match_replaced};
+ghost use Rattle.regex_compile.specs.Implements.{Implements};
+ghost use Rattle.regex_dfa.specs.Search.{IsForwardFor};
+ghost use Rattle.regex_hir.specs.Meaning.{meaning};
+ghost use Rattle.regex_hir.specs.Re.{Re};
+ghost use Rattle.regex_syntax.specs.Grammar.{Names};
+ghost use Rattle.regex_tagged.specs.Valid.{IsFor};
+ghost use Rattle.regex_vm.specs.Found.{span};
+
+use crate::narrow::narrow_classes;
+use crate::template;
+use regex_dfa::{Dfa, End, Forward};
+use regex_hir::Hir;
+use regex_nfa::Nfa;
+use regex_syntax::Parsed;
+use regex_tagged::{Near, Tagged};
+use std::alloc::{AllocError, Global};
+use std::marker::Model;
+
+/// What the first match of a pattern spans, and its group 1 and its last group, each part by the
+/// bytes at which it begins and ends. Without a group, or where one took no part in the match, the
+/// first is none; a pattern without groups has the match as its last one.
+#[derive(Clone, Copy, Debug, PartialEq, Eq)]
+pub struct Captured {
+    /// The match.
+    pub span: (usize, usize),
+    /// The first group.
+    pub first: Option<(usize, usize)>,
+    /// The last group.
+    pub last: Option<(usize, usize)>,
+}
+
+/// How many bytes of states without groups a machine keeps.
+const KEPT: usize = 0x1_0000;
+
+/// How many bytes are searched with the kept states: this many, and `WIDE_PER_STATE` more for each
+/// state of the pattern. After more bytes the kit would give each state columns for pairs of bytes,
+/// whose memory searches of short texts never win back. So the states are forgotten before that.
+const WIDE: usize = 0x1000;
+
+const WIDE_PER_STATE: usize = 0x80;
+
+/// The greatest size of an automaton in bytes, as that of the patterns themselves.
+const LARGEST: usize = 10 << 20;
+
+/// A pattern's automaton for texts of ASCII, and the steps that its searches have worked out, with
+/// groups and without. Contracts see what it finds in each text, `finds`, and the number of the
+/// last group.
+pub struct Machine {
+    alloc: Global,
+    dfa: Dfa,
+    forward: Forward,
+    /// How many bytes `forward` was asked to search, and with how many it is made anew.
+    read: usize,
+    most: usize,
+    tagged: Tagged,
+    /// The number of the last group.
+    last: usize,
+    /// From group 1 on, a start and an end for each group: a position plus one, or 0 for none.
+    cells: Vec<usize>,
+    ghost forth: { IsForwardFor forward dfa },
+    ghost own: { IsFor tagged dfa },
+    ghost room: { vec_len cells ≡ 2 * last + 2 },
+}
+
+impl Model for Machine {
+    ghost use Rattle.phone_automaton.specs.Finds.{Searcher};
+
+    ghost Value = { Searcher };
+
+    ghost view = { λ m. record { nfa = m.dfa.nfa; last = m.last } };
+}
+
+/// Drops the automaton and the steps. As a function it is proved here alone, and not in each crate
+/// that drops a machine.
+impl Drop for Machine {
+    fn drop(self) {
+        let Machine {
+            alloc: _,
+            dfa,
+            forward,
+            read: _,
+            most: _,
+            tagged,
+            last: _,
+            cells,
+        } = self;
+        drop(dfa);
+        drop(forward);
+        drop(tagged);
+        drop(cells);
+    }
+}
+
+/// The automaton of a tree with this many groups, group 0 included.
+fn compile(alloc: Global, hir: &Hir, groups: u32) -> Option<Nfa>
+    ensures { IfSome result (λ nfa. Implements nfa (meaning hir.now)) }
+{
+    match regex_compile::compile(alloc, hir, groups, LARGEST) {
+        Ok(nfa) => Some(nfa),
+        Err(_) => None,
+    }
+}
+
+/// The automaton of a pattern for ASCII texts, and the number of its last group; none where it is
+/// refused.
+fn narrow_compiled(alloc: Global, parsed: &Parsed) -> Option<(Nfa, usize)>
+    ensures nfa { IfSome result (λ p. (re : Re) × AsciiSame re (meaning parsed.now.hir) ×
+        Implements p.0 re) }
+    ensures last { IfSome result (λ p. p.1 ≡ length parsed.now.names.items - 1) }
+{
+    let Ok(groups) = u32::try_from(parsed.names.len()) else {
+        return None;
+    };
+    let Ok(hir) = narrow_classes(alloc, &parsed.hir) else {
+        return None;
+    };
+    let nfa = compile(alloc, &hir, groups)?;
+    Some((nfa, parsed.names.len().saturating_sub(1)))
+}
+
+/// What a group spans, by the cells from group 1 on.
+pub(crate) fn group_of_cells(
+    whole: (usize, usize),
+    cells: &[usize],
+    n: usize,
+) -> Option<(usize, usize)>
+    requires { 2 * n ≤ length cells.now }
+    ensures { result ≡ group_at whole cells.now n }
+{
+    if n == 0 {
+        return Some(whole);
+    }
+    let first = cells[2 * n - 2];
+    let last = cells[2 * n - 1];
+    if first == 0 || last == 0 {
+        return None;
+    }
+    Some((first - 1, last - 1))
+}
+
+impl Machine {
+    /// The machine of a pattern that was read. None where memory is refused or its automaton grows
+    /// too large.
+    #[cold]
+    #[inline(never)]
+    pub fn new(alloc: Global, parsed: &Parsed) -> Option<Machine>
+        ensures finds { IfSome result (λ m. FindsInAscii (meaning parsed.now.hir) (finds m)) }
+        ensures last { IfSome result (λ m. m.last ≡ length parsed.now.names.items - 1) }
+    {
+        let (nfa, last) = narrow_compiled(alloc, parsed)?;
+        let most = WIDE.saturating_add(nfa.states.len().saturating_mul(WIDE_PER_STATE));
+        let Ok(dfa) = Dfa::new(alloc, nfa) else {
+            return None;
+        };
+        let Ok(forward) = Forward::with_budget(alloc, &dfa, false, KEPT) else {
+            return None;
+        };
+        let Ok(tagged) = Tagged::new(alloc, &dfa) else {
+            return None;
+        };
+        let Ok(cells) = vec![in alloc; 0usize; 2 * last + 2] else {
+            return None;
+        };
+        Some(Machine {
+            alloc,
+            dfa,
+            forward,
+            read: 0,
+            most,
+            tagged,
+            last,
+            cells,
+        })
+    }
+
+    /// Counts the bytes of a search without groups, which is next.
+    #[inline]
+    fn attend(&mut self, bytes: usize)
+        ensures { self.new ≡ self.old }
+    {
+        self.read = self.read.saturating_add(bytes);
+        if self.read >= self.most {
+            self.renew(bytes);
+        }
+    }
+
+    /// Forgets the states without groups; where memory is refused, they are kept.
+    #[cold]
+    #[inline(never)]
+    fn renew(&mut self, bytes: usize)
+        ensures { self.new ≡ self.old }
+    {
+        if let Ok(forward) = Forward::with_budget(self.alloc, &self.dfa, false, KEPT) {
+            self.forward = forward;
+            self.read = bytes;
+        }
+    }
+
+    /// The number of the last group; 0 where the pattern has none.
+    pub fn last_group(&self) -> usize
+        ensures { result ≡ self.now.last }
+    {
+        self.last
+    }
+
+    /// Whether the first match begins at the first byte. None where the automaton gives up.
+    pub fn is_at_front(&mut self, hay: &[u8]) -> Option<bool>
+        ensures found { IfSome result (λ b. b ≡ at_front (finds self.old hay.now)) }
+        ensures same { self.new ≡ self.old }
+    {
+        self.attend(hay.len());
+        self.begins(hay)
+    }
+
+    /// Whether the first match begins at the first byte, by the states that are kept.
+    fn begins(&mut self, hay: &[u8]) -> Option<bool>
+        ensures found { IfSome result (λ b. b ≡ at_front (finds self.old hay.now)) }
+        ensures same { self.new ≡ self.old }
+    {
+        match self
+            .forward
+            .find_end(&self.dfa, hay, 0, hay.len(), true, true)
+        {
+            End::At(_) => Some(true),
+            End::NoMatch => Some(false),
+            _ => None,
+        }
+    }
+
+    /// Where the first match begins and ends. None where the automata give up.
+    pub fn span(&mut self, hay: &[u8]) -> Option<Option<(usize, usize)>>
+        ensures found { IfSome result (λ found. found ≡ option_map span (finds self.old hay.now)) }
+        ensures same { self.new ≡ self.old }
+    {
+        self.attend(hay.len());
+        self.span_of_first(hay)
+    }
+
+    /// Where the first match begins and ends, by the states that are kept. A match at the front is
+    /// the first one, and needs no groups to be found.
+    fn span_of_first(&mut self, hay: &[u8]) -> Option<Option<(usize, usize)>>
+        ensures found { IfSome result (λ found. found ≡ option_map span (finds self.old hay.now)) }
+        ensures same { self.new ≡ self.old }
+    {
+        let front = self
+            .forward
+            .find_end(&self.dfa, hay, 0, hay.len(), true, false);
+        if let End::At(end) = front {
+            return Some(Some((0, end)));
+        }
+        self.span_anywhere(hay)
+    }
+
+    /// Where the first match begins and ends, wherever it begins. None where the automaton gives
+    /// up.
+    fn span_anywhere(&mut self, hay: &[u8]) -> Option<Option<(usize, usize)>>
+        ensures found { IfSome result (λ found. found ≡ option_map span (finds self.old hay.now)) }
+        ensures same { self.new ≡ self.old }
+    {
+        match self.tagged.find_near(&self.dfa, hay, 0, hay.len(), &mut []) {
+            Ok(Near::Done(found)) => Some(found),
+            _ => None,
+        }
+    }
+
+    /// The first match with its groups. None where the automaton gives up.
+    pub fn captures(&mut self, hay: &[u8]) -> Option<Option<Captured>>
+        ensures found { IfSome result (λ found. found ≡
+            option_map (captured self.old.last) (finds self.old hay.now)) }
+        ensures same { self.new ≡ self.old }
+    {
+        let cells = self.cells.as_mut_slice();
+        match self.tagged.find_near(&self.dfa, hay, 0, hay.len(), cells) {
+            Ok(Near::Done(Some(span))) => Some(Some(Captured {
+                span,
+                first: group_of_cells(span, &self.cells, 1),
+                last: group_of_cells(span, &self.cells, self.last),
+            })),
+            Ok(Near::Done(None)) => Some(None),
+            _ => None,
+        }
+    }
+
+    /// The text with its first match replaced by a template, in which `$1` stands for the first
+    /// group; a text without a match as it is. None where the automaton gives up, or the template
+    /// names a group in another way than by one digit, or a group that the pattern doesn't have.
+    /// Refused only for memory.
+    pub fn replace(
+        &mut self,
+        alloc: Global,
+        template: &str,
+        hay: &str,
+    ) -> Result<Option<String>, AllocError>
+        ensures replaced { IfOk result (λ found. IfSome found (λ out. (names : Names) →
+            string_bytes out ≡ with_match_replaced names template.now hay.now
+            (finds self.old hay.now))) }
+        ensures same { self.new ≡ self.old }
+    {
+        let bytes = hay.as_bytes();
+        let cells = self.cells.as_mut_slice();
+        match self
+            .tagged
+            .find_near(&self.dfa, bytes, 0, bytes.len(), cells)
+        {
+            Ok(Near::Done(Some(span))) => {
+                template::replace(alloc, template, hay, span, &self.cells)
+            }
+            Ok(Near::Done(None)) => Ok(Some(String::from_str(alloc, hay)?)),
+            _ => Ok(None),
+        }
+    }
+}

@@ -1,0 +1,145 @@
+//! Writing a template in the place of a match. Served are the templates in which each `$` is
+//! followed by a `$`, which then stands for itself, or by the one digit that names a group; any
+//! other is left to a library.
+ghost use Rattle.std.specs.Prelude.{◌≡◌, ◌+◌, ◌*◌, ◌≤◌, ◌<◌, ◌++◌, length, drop, take, slice_index};
+ghost use Rattle.std.specs.Prelude.{string_bytes, IfOk, IfSome, IsTrue, OnOk};
+ghost use Rattle.std.specs.List.{prefix_len};
+ghost use Rattle.phone_automaton.specs.Finds.{group_at};
+ghost use Rattle.phone_automaton.specs.Templates.{IsWritten};
+ghost use Rattle.regex.specs.Replace.{bytes_of};
+ghost use Rattle.regex.specs.Templates.{is_name_byte};
+
+use crate::machine::group_of_cells;
+use std::alloc::{AllocError, Global};
+
+/// What follows so many bytes.
+fn after(bytes: &[u8], count: usize) -> &[u8]
+    requires { count ≤ length bytes.now }
+    ensures { result.now ≡ drop count bytes.now }
+{
+    &bytes[count..]
+}
+
+/// Appends bytes, where there are any: mostly nothing stands before and behind a match.
+fn push_all(out: &mut Vec<u8>, bytes: &[u8]) -> Result<(), AllocError>
+    ensures { IfOk result (λ done. out.new.items ≡ out.old.items ++ bytes.now) }
+{
+    if bytes.is_empty() {
+        return Ok(());
+    }
+    out.extend_from_slice(bytes)
+}
+
+/// Whether a `$` stands before these bytes twice.
+fn is_doubled(rest: &[u8]) -> bool
+    ensures { IsTrue result → (0 < length rest.now) × (slice_index rest.now 0 ≡ 36) }
+{
+    !rest.is_empty() && rest[0] == b'$'
+}
+
+/// The group that a `$` names before these bytes, where one digit names it that neither a letter, a
+/// digit nor `_` follows.
+fn group_named(rest: &[u8]) -> Option<usize>
+    ensures digit { IfSome result (λ n. (n < 10) × (0 < length rest.now) ×
+        (slice_index rest.now 0 ≡ 48 + n)) }
+    ensures alone { IfSome result (λ n. prefix_len is_name_byte rest.now ≡ 1) }
+{
+    if rest.is_empty() || !rest[0].is_ascii_digit() {
+        return None;
+    }
+    if rest.len() > 1 && (rest[1].is_ascii_alphanumeric() || rest[1] == b'_') {
+        return None;
+    }
+    Some((rest[0] - b'0') as usize)
+}
+
+/// Appends what a group spans, or nothing where it took no part in the match. False where the span
+/// is none of the text.
+fn push_group(
+    out: &mut Vec<u8>,
+    hay: &[u8],
+    group: Option<(usize, usize)>,
+) -> Result<bool, AllocError>
+    ensures { IfOk result (λ done. IsTrue done →
+        out.new.items ≡ out.old.items ++ bytes_of hay.now group) }
+{
+    let Some((start, end)) = group else {
+        return Ok(true);
+    };
+    if start > end || end > hay.len() {
+        return Ok(false);
+    }
+    out.extend_from_slice(&hay[start..end])?;
+    Ok(true)
+}
+
+/// Appends what a template writes where a match stands. False where the template names a group in
+/// another way than by one digit, or one that the cells have no room for.
+fn push_written(
+    out: &mut Vec<u8>,
+    template: &[u8],
+    hay: &[u8],
+    span: (usize, usize),
+    cells: &[usize],
+) -> Result<bool, AllocError>
+    ensures { IfOk result (λ done. IsTrue done → (bytes : _) ×
+        (out.new.items ≡ out.old.items ++ bytes) ×
+        IsWritten template.now hay.now span cells.now bytes) }
+{
+    let mut at = 0;
+    while at < template.len() {
+        if template[at] != b'$' {
+            out.push(template[at])?;
+            at += 1;
+            continue;
+        }
+        let rest = after(template, at + 1);
+        if is_doubled(rest) {
+            out.push(b'$')?;
+            at += 2;
+            continue;
+        }
+        let Some(n) = group_named(rest) else {
+            return Ok(false);
+        };
+        if 2 * n > cells.len() {
+            return Ok(false);
+        }
+        if !push_group(out, hay, group_of_cells(span, cells, n))? {
+            return Ok(false);
+        }
+        at += 2;
+    }
+    Ok(true)
+}
+
+/// The text with a match replaced by a template, by the match's span and its cells. None where
+/// `push_written` doesn't serve the template.
+pub(crate) fn replace(
+    alloc: Global,
+    template: &str,
+    hay: &str,
+    span: (usize, usize),
+    cells: &[usize],
+) -> Result<Option<String>, AllocError>
+    ensures { IfOk result (λ found. IfSome found (λ out. (bytes : _) ×
+        (string_bytes out ≡ (take span.0 hay.now ++ bytes) ++ drop span.1 hay.now) ×
+        IsWritten template.now hay.now span cells.now bytes)) }
+{
+    let bytes = hay.as_bytes();
+    let (start, end) = span;
+    if start > end || end > bytes.len() {
+        return Ok(None);
+    }
+    let room = bytes.len().saturating_add(template.len());
+    let mut out = Vec::with_capacity(alloc, room)?;
+    push_all(&mut out, &bytes[..start])?;
+    if !push_written(&mut out, template.as_bytes(), bytes, span, cells)? {
+        return Ok(None);
+    }
+    push_all(&mut out, after(bytes, end))?;
+    match String::from_utf8(out) {
+        Ok(text) => Ok(Some(text)),
+        Err(_) => Ok(None),
+    }
+}

@@ -1,9 +1,0 @@
-use Rattle.std.proofs.Common.{rules, ◌≡◌, []}
-use Rattle.csv.specs.Records.{fields_of}
-use Rattle.phone_csv.proofs.SpelledLemmas.{record_whole}
-use Rattle.phone_csv.proofs.spelled.spelled.Goals as goal
-
-pub returns : goal.returns
-returns c =
-    let e : c.in_ok-text.text.items ≡ [] = search rules in
-    record_whole c.args.delimiter _ _ (fields_of c.args.fields.now) (rw e at c.in_ok-push_fields.ensures) c.in_ok-push_end.ensures

@@ -1,0 +1,259 @@
+//! What a run holds: the record that isn't ended yet, and answers that aren't written yet.
+ghost use Rattle.std.specs.Prelude.{◌≡◌, ◌+◌, ◌<◌, ◌++◌, ◌∷◌, [], ℕ, List, Option, Err, OnOk};
+ghost use Rattle.std.specs.Prelude.{OnErr, vec_len};
+ghost use Rattle.csv.specs.Records.{fields_of, partial_of};
+ghost use Rattle.csv.specs.declared.parser.State.{State};
+ghost use Rattle.phone_device.specs.Passing.{IsAtEnd, Takes, TakesFront};
+ghost use Rattle.phone_csv.specs.Formats.{Record, record_text};
+ghost use Rattle.phone_csv.specs.Faults.{faults_of};
+ghost use Rattle.phone_csv.specs.RecordReports.{IsReport, IsReportBefore, IsReportOnFirst};
+ghost use Rattle.phone_csv.specs.Runs.{BreaksOff, Holds, HoldsCounted, IsSoFar, Stands};
+ghost use Rattle.phone_csv.specs.declared.pending_output.Stop.TheVariants as stop;
+ghost use Rattle.phone_csv.specs.declared.answers.Refusal.TheVariants as refusal;
+
+use crate::answers::{Answers, Counter, Refusal, add_record};
+use crate::cutter::Cutter;
+use crate::machine::{Place, is_open};
+use phone_device::{BLOCK_LENGTH, ByteSink, Fault, write_all};
+use std::alloc::Global;
+
+/// Why a block was not taken whole.
+#[derive(Clone, Copy, PartialEq, Eq, Debug)]
+pub(crate) enum Stop {
+    /// The sink failed.
+    Fault,
+    /// A record is not answered.
+    Record,
+    /// There was no memory for a record or its answer.
+    Memory,
+}
+
+/// What a run holds.
+#[derive(Drop)]
+pub(crate) struct PendingOutput {
+    /// The record that isn't ended yet.
+    pub cutter: Cutter,
+    /// Answers that aren't written yet, each whole.
+    pub answers: Vec<u8>,
+}
+
+impl PendingOutput {
+    /// Holds nothing yet, at this place.
+    pub fn new(alloc: Global, delimiter: u8, place: Place) -> PendingOutput
+        ensures delimiter { result.cutter.delimiter ≡ delimiter }
+        ensures place { result.cutter.place ≡ place }
+        ensures fields { fields_of result.cutter.fields ≡ [] }
+        ensures partial { partial_of result.cutter.fields ≡ [] }
+        ensures field { result.cutter.field.items ≡ [] }
+        ensures feeds { result.cutter.feeds ≡ 0 }
+        ensures feeds_before { result.cutter.feeds_before ≡ 0 }
+        ensures answers { result.answers.items ≡ [] }
+    {
+        PendingOutput {
+            cutter: Cutter::new(alloc, delimiter, place),
+            answers: Vec::new(alloc),
+        }
+    }
+
+    /// Answers the last record, where one stands behind the last line end, and counts it.
+    pub fn take_last<A: Answers, C: Counter>(
+        &mut self,
+        alloc: Global,
+        answers: &A,
+        counter: &mut C,
+    ) -> Result<(), Refusal>
+        requires { partial_of self.old.cutter.fields ≡ [] }
+        ensures counted { OnOk result ((first : C) (before taken : Option (List ℕ)) →
+            HoldsCounted C.after self.old.cutter.delimiter first counter.old
+            self.old.answers.items before taken →
+            HoldsCounted C.after self.old.cutter.delimiter first counter.new
+            self.new.answers.items before taken) }
+        ensures taken { OnOk result ((start : State) (bytes : List ℕ)
+            (before after : Option (List ℕ)) → Stands (A.gives answers.now) start bytes
+            self.old.cutter self.old.answers.items before after →
+            Holds (IsReport (A.gives answers.now) self.old.cutter.delimiter start bytes)
+            self.new.answers.items before after) }
+        ensures refused { result ≡ Err refusal.Record → (start : State) (bytes : List ℕ)
+            (before after to_come : Option (List ℕ)) → IsAtEnd to_come →
+            Stands (A.gives answers.now) start bytes
+            self.old.cutter self.old.answers.items before after →
+            Holds (IsReportBefore (A.gives answers.now) (A.refuses answers.now)
+            self.old.cutter.delimiter start 0 self.new.cutter.feeds_before to_come bytes)
+            self.new.answers.items before after }
+        ensures kept { OnErr result (self.new.answers.items ≡ self.old.answers.items) }
+    {
+        if !is_open(self.cutter.place) {
+            return Ok(());
+        }
+        let Ok(()) = self.cutter.end_field() else {
+            return Err(Refusal::Memory);
+        };
+        self.answer_record(alloc, answers, counter)
+    }
+
+    /// Answers the record that is ended, counts it, and begins the next one.
+    fn answer_record<A: Answers, C: Counter>(
+        &mut self,
+        alloc: Global,
+        answers: &A,
+        counter: &mut C,
+    ) -> Result<(), Refusal>
+        requires { partial_of self.old.cutter.fields ≡ [] }
+        ensures counted { OnOk result ((row : Record) × (self.new.answers.items ≡
+            self.old.answers.items ++ record_text self.old.cutter.delimiter row) ×
+            (counter.new ≡ C.after counter.old row)) }
+        ensures partial { OnOk result (partial_of self.new.cutter.fields ≡ []) }
+        ensures delimiter { self.new.cutter.delimiter ≡ self.old.cutter.delimiter }
+        ensures place { self.new.cutter.place ≡ self.old.cutter.place }
+        ensures field { self.new.cutter.field.items ≡ self.old.cutter.field.items }
+        ensures feeds { self.new.cutter.feeds ≡ self.old.cutter.feeds }
+        ensures feeds_before { self.new.cutter.feeds_before ≡ self.old.cutter.feeds_before }
+        ensures fields { OnOk result (fields_of self.new.cutter.fields ≡ []) }
+        ensures added { OnOk result ((answer : Record) ×
+            A.gives answers.now (fields_of self.old.cutter.fields) answer ×
+            (self.new.answers.items ≡ self.old.answers.items ++ record_text
+            self.old.cutter.delimiter (fields_of self.old.cutter.fields ++ answer))) }
+        ensures refused { result ≡ Err refusal.Record →
+            A.refuses answers.now (fields_of self.old.cutter.fields) }
+        ensures answers_kept { OnErr result (self.new.answers.items ≡ self.old.answers.items) }
+    {
+        answers.answer(alloc, &mut self.cutter.fields)?;
+        let delimiter = self.cutter.delimiter;
+        let Ok(()) = add_record(alloc, delimiter, &self.cutter.fields, &mut self.answers) else {
+            return Err(Refusal::Memory);
+        };
+        counter.count(&self.cutter.fields);
+        self.cutter.fields.clear();
+        Ok(())
+    }
+
+    /// Takes one more byte. The record that it ends is answered and counted.
+    fn take_byte<A: Answers, C: Counter>(
+        &mut self,
+        alloc: Global,
+        answers: &A,
+        counter: &mut C,
+        byte: u8,
+    ) -> Result<(), Refusal>
+        requires { partial_of self.old.cutter.fields ≡ [] }
+        ensures counted { OnOk result ((first : C) (before taken : Option (List ℕ)) →
+            HoldsCounted C.after self.old.cutter.delimiter first counter.old
+            self.old.answers.items before taken →
+            HoldsCounted C.after self.old.cutter.delimiter first counter.new
+            self.new.answers.items before taken) }
+        ensures partial { OnOk result (partial_of self.new.cutter.fields ≡ []) }
+        ensures delimiter { self.new.cutter.delimiter ≡ self.old.cutter.delimiter }
+        ensures taken { OnOk result ((start : State) (bytes : List ℕ) (written : List ℕ) →
+            IsSoFar (A.gives answers.now) start bytes self.old.cutter
+            (written ++ self.old.answers.items) →
+            IsSoFar (A.gives answers.now) start (bytes ++ byte ∷ []) self.new.cutter
+            (written ++ self.new.answers.items)) }
+        ensures refused { result ≡ Err refusal.Record → (start : State) (bytes : List ℕ)
+            (written : List ℕ) → IsSoFar (A.gives answers.now) start bytes self.old.cutter
+            (written ++ self.old.answers.items) → (to_come : Option (List ℕ)) (more : List ℕ) →
+            IsReportBefore (A.gives answers.now) (A.refuses answers.now) self.old.cutter.delimiter
+            start 0 self.new.cutter.feeds_before to_come (bytes ++ byte ∷ more)
+            (written ++ self.old.answers.items) }
+        ensures answers_kept { OnErr result (self.new.answers.items ≡ self.old.answers.items) }
+    {
+        let Ok(is_ended) = self.cutter.take(byte) else {
+            return Err(Refusal::Memory);
+        };
+        if !is_ended {
+            return Ok(());
+        }
+        self.answer_record(alloc, answers, counter)
+    }
+
+    /// Writes the answers that are held, once they fill a block.
+    fn hand_on<W: ByteSink>(&mut self, sink: &mut W) -> Result<(), Fault>
+        ensures cutter { self.new.cutter ≡ self.old.cutter }
+        ensures short { OnOk result (vec_len self.new.answers < BLOCK_LENGTH) }
+        ensures handed { OnOk result ((written : List ℕ) ×
+            (self.old.answers.items ≡ written ++ self.new.answers.items) ×
+            Takes (W.taken sink.old) written (W.taken sink.new)) }
+        ensures no_fault { OnOk result (W.faults sink.new ≡ W.faults sink.old) }
+        ensures front { OnErr result (TakesFront (W.taken sink.old) self.old.answers.items
+            (W.taken sink.new)) }
+        ensures fault { OnErr result (W.faults sink.new ≡ W.faults sink.old + 1) }
+    {
+        if self.answers.len() < BLOCK_LENGTH {
+            return Ok(());
+        }
+        write_all(sink, self.answers.as_slice())?;
+        self.answers.clear();
+        Ok(())
+    }
+
+    /// Writes all answers that are held, and has the sink hand on what it holds back.
+    pub fn write_out<W: ByteSink>(&self, sink: &mut W) -> Result<(), Fault>
+        ensures all { OnOk result (Takes (W.taken sink.old) self.now.answers.items
+            (W.taken sink.new)) }
+        ensures handed_on { OnOk result (W.unflushed sink.new ≡ 0) }
+        ensures no_fault { OnOk result (W.faults sink.new ≡ W.faults sink.old) }
+        ensures front { OnErr result (TakesFront (W.taken sink.old) self.now.answers.items
+            (W.taken sink.new)) }
+        ensures fault { OnErr result (W.faults sink.new ≡ W.faults sink.old + 1) }
+    {
+        write_all(sink, self.answers.as_slice())?;
+        sink.flush()
+    }
+
+    /// Takes the bytes of a block, one after the other. Refused by `Fault` where the sink fails,
+    /// by `Record` at a record that is not answered, and by `Memory`.
+    pub fn take_block<A: Answers, C: Counter, W: ByteSink>(
+        &mut self,
+        alloc: Global,
+        answers: &A,
+        counter: &mut C,
+        sink: &mut W,
+        block: &[u8],
+    ) -> Result<(), Stop>
+        requires partial { partial_of self.old.cutter.fields ≡ [] }
+        requires short { vec_len self.old.answers < BLOCK_LENGTH }
+        ensures partial { OnOk result (partial_of self.new.cutter.fields ≡ []) }
+        ensures delimiter { self.new.cutter.delimiter ≡ self.old.cutter.delimiter }
+        ensures taken { OnOk result ((start : State) (bytes : List ℕ) (before : Option (List ℕ)) →
+            Stands (A.gives answers.now) start bytes self.old.cutter self.old.answers.items before
+            (W.taken sink.old) → Stands (A.gives answers.now) start
+            (bytes ++ block.now) self.new.cutter self.new.answers.items before
+            (W.taken sink.new)) }
+        ensures refused { result ≡ Err stop.Record → (start : State) (bytes : List ℕ)
+            (before to_come : Option (List ℕ)) →
+            Stands (A.gives answers.now) start bytes self.old.cutter self.old.answers.items before
+            (W.taken sink.old) →
+            Holds (IsReportBefore (A.gives answers.now) (A.refuses answers.now)
+            self.old.cutter.delimiter start 0 self.new.cutter.feeds_before to_come
+            (bytes ++ block.now)) self.new.answers.items before (W.taken sink.new) }
+        ensures memory { result ≡ Err stop.Memory → (start : State) (bytes : List ℕ)
+            (before : Option (List ℕ)) →
+            Stands (A.gives answers.now) start bytes self.old.cutter self.old.answers.items before
+            (W.taken sink.old) → Holds (IsReportOnFirst (A.gives answers.now)
+            self.old.cutter.delimiter start (bytes ++ block.now))
+            self.new.answers.items before (W.taken sink.new) }
+        ensures broken { result ≡ Err stop.Fault → (start : State) (bytes : List ℕ)
+            (before : Option (List ℕ)) →
+            Stands (A.gives answers.now) start bytes self.old.cutter self.old.answers.items before
+            (W.taken sink.old) → BreaksOff (A.gives answers.now) self.old.cutter.delimiter start
+            (bytes ++ block.now) before (W.taken sink.new) }
+        ensures counted { OnOk result ((first : C) (before : Option (List ℕ)) →
+            HoldsCounted C.after self.old.cutter.delimiter first counter.old
+            self.old.answers.items before (W.taken sink.old) →
+            HoldsCounted C.after self.old.cutter.delimiter first counter.new
+            self.new.answers.items before (W.taken sink.new)) }
+        ensures faults { W.faults sink.new ≡ W.faults sink.old + faults_of result }
+        ensures short { OnOk result (vec_len self.new.answers < BLOCK_LENGTH) }
+    {
+        for byte in block {
+            match self.take_byte(alloc, answers, counter, *byte) {
+                Ok(()) => {}
+                Err(Refusal::Record) => return Err(Stop::Record),
+                Err(Refusal::Memory) => return Err(Stop::Memory),
+            }
+            let Ok(()) = self.hand_on(sink) else {
+                return Err(Stop::Fault);
+            };
+        }
+        Ok(())
+    }
+}

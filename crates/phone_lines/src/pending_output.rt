@@ -1,0 +1,157 @@
+//! What a run holds: the line that isn't ended yet, and answers that aren't written yet.
+ghost use Rattle.std.specs.Prelude.{◌≡◌, ◌+◌, ◌<◌, ◌++◌, ◌∷◌, [], ℕ, List, Option, Err, OnOk};
+ghost use Rattle.std.specs.Prelude.{OnErr, vec_len};
+ghost use Rattle.phone_device.specs.Passing.{Takes, TakesFront};
+ghost use Rattle.phone_lines.specs.LineReports.{IsBeginning, IsReport, IsReportOnFirst, TakesA};
+ghost use Rattle.phone_lines.specs.Faults.{faults_of};
+ghost use Rattle.phone_lines.specs.Runs.{Holds, IsSoFar, Stands};
+ghost use Rattle.phone_lines.specs.declared.pending_output.Refusal.TheVariants as refusal;
+
+use crate::answers::{Answers, add_answer};
+use phone_device::{BLOCK_LENGTH, ByteSink, Fault, write_all};
+use std::alloc::{AllocError, Global};
+
+/// Why a block was not taken whole.
+#[derive(Clone, Copy, PartialEq, Eq, Debug)]
+pub(crate) enum Refusal {
+    /// The sink failed.
+    Fault,
+    /// There was no memory for a line or its answer.
+    Memory,
+}
+
+/// What a run holds.
+#[derive(Drop)]
+pub(crate) struct PendingOutput {
+    /// The bytes of the line that isn't ended yet.
+    pub line: Vec<u8>,
+    /// Answers that aren't written yet, each whole.
+    pub answers: Vec<u8>,
+}
+
+impl PendingOutput {
+    /// Holds nothing yet.
+    pub fn new(alloc: Global) -> PendingOutput
+        ensures line { result.line.items ≡ [] }
+        ensures answers { result.answers.items ≡ [] }
+    {
+        PendingOutput {
+            line: Vec::new(alloc),
+            answers: Vec::new(alloc),
+        }
+    }
+
+    /// Takes one more byte: a line feed ends the line, which is answered; another byte goes to the
+    /// line.
+    fn take_byte<A: Answers>(
+        &mut self,
+        alloc: Global,
+        answers: &A,
+        byte: u8,
+    ) -> Result<(), AllocError>
+        ensures taken { OnOk result ((bytes : List ℕ) (written : List ℕ) →
+            IsSoFar (A.gives answers.now) bytes self.old.line.items
+            (written ++ self.old.answers.items) →
+            IsSoFar (A.gives answers.now) (bytes ++ byte ∷ []) self.new.line.items
+            (written ++ self.new.answers.items)) }
+        ensures line_kept { OnErr result (self.new.line.items ≡ self.old.line.items) }
+        ensures answers_kept { OnErr result (self.new.answers.items ≡ self.old.answers.items) }
+    {
+        if byte != b'\n' {
+            self.line.push(byte)?;
+            return Ok(());
+        }
+        add_answer(alloc, answers, self.line.as_slice(), &mut self.answers)?;
+        self.line.clear();
+        Ok(())
+    }
+
+    /// Writes the answers that are held, once they fill a block.
+    fn hand_on<W: ByteSink>(&mut self, sink: &mut W) -> Result<(), Fault>
+        ensures line { self.new.line.items ≡ self.old.line.items }
+        ensures short { OnOk result (vec_len self.new.answers < BLOCK_LENGTH) }
+        ensures handed { OnOk result ((written : List ℕ) ×
+            (self.old.answers.items ≡ written ++ self.new.answers.items) ×
+            Takes (W.taken sink.old) written (W.taken sink.new)) }
+        ensures no_fault { OnOk result (W.faults sink.new ≡ W.faults sink.old) }
+        ensures front { OnErr result (TakesFront (W.taken sink.old) self.old.answers.items
+            (W.taken sink.new)) }
+        ensures fault { OnErr result (W.faults sink.new ≡ W.faults sink.old + 1) }
+    {
+        if self.answers.len() < BLOCK_LENGTH {
+            return Ok(());
+        }
+        write_all(sink, self.answers.as_slice())?;
+        self.answers.clear();
+        Ok(())
+    }
+
+    /// Takes the bytes of a block, one after the other. Refused by `Fault` where the sink fails,
+    /// and by `Memory` where there is no memory for a line or its answer.
+    pub fn take_block<A: Answers, W: ByteSink>(
+        &mut self,
+        alloc: Global,
+        answers: &A,
+        sink: &mut W,
+        block: &[u8],
+    ) -> Result<(), Refusal>
+        requires { vec_len self.old.answers < BLOCK_LENGTH }
+        ensures taken { OnOk result ((bytes : List ℕ) (before : Option (List ℕ)) →
+            Stands (A.gives answers.now) bytes self.old.line.items self.old.answers.items before
+            (W.taken sink.old) → Stands (A.gives answers.now)
+            (bytes ++ block.now) self.new.line.items self.new.answers.items before
+            (W.taken sink.new)) }
+        ensures memory { result ≡ Err refusal.Memory → (bytes : List ℕ) (before : Option (List ℕ)) →
+            Stands (A.gives answers.now) bytes self.old.line.items self.old.answers.items before
+            (W.taken sink.old) → Holds (IsReportOnFirst (A.gives answers.now) (bytes ++ block.now))
+            self.new.answers.items before (W.taken sink.new) }
+        ensures broken { result ≡ Err refusal.Fault → (bytes : List ℕ)
+            (before to_come : Option (List ℕ)) →
+            Stands (A.gives answers.now) bytes self.old.line.items self.old.answers.items before
+            (W.taken sink.old) → TakesA (IsBeginning (A.gives answers.now) to_come
+            (bytes ++ block.now)) before (W.taken sink.new) }
+        ensures faults { W.faults sink.new ≡ W.faults sink.old + faults_of result }
+        ensures short { OnOk result (vec_len self.new.answers < BLOCK_LENGTH) }
+    {
+        for byte in block {
+            let Ok(()) = self.take_byte(alloc, answers, *byte) else {
+                return Err(Refusal::Memory);
+            };
+            let Ok(()) = self.hand_on(sink) else {
+                return Err(Refusal::Fault);
+            };
+        }
+        Ok(())
+    }
+
+    /// Writes all answers that are held, and has the sink hand on what it holds back.
+    pub fn write_out<W: ByteSink>(&self, sink: &mut W) -> Result<(), Fault>
+        ensures all { OnOk result (Takes (W.taken sink.old) self.now.answers.items
+            (W.taken sink.new)) }
+        ensures handed_on { OnOk result (W.unflushed sink.new ≡ 0) }
+        ensures no_fault { OnOk result (W.faults sink.new ≡ W.faults sink.old) }
+        ensures front { OnErr result (TakesFront (W.taken sink.old) self.now.answers.items
+            (W.taken sink.new)) }
+        ensures fault { OnErr result (W.faults sink.new ≡ W.faults sink.old + 1) }
+    {
+        write_all(sink, self.answers.as_slice())?;
+        sink.flush()
+    }
+
+    /// Answers what stands after the last line feed, where it has a byte. Refused only for memory.
+    pub fn take_last<A: Answers>(&mut self, alloc: Global, answers: &A) -> Result<(), AllocError>
+        ensures taken { OnOk result ((bytes : List ℕ) (before : Option (List ℕ))
+            (after : Option (List ℕ)) → Stands
+            (A.gives answers.now) bytes self.old.line.items self.old.answers.items before after →
+            Holds (IsReport (A.gives answers.now) bytes) self.new.answers.items before after) }
+        ensures kept { OnErr result (self.new.answers.items ≡ self.old.answers.items) }
+        ensures line_kept { OnErr result (self.new.line.items ≡ self.old.line.items) }
+    {
+        let line = self.line.as_slice();
+        if line.is_empty() {
+            return Ok(());
+        }
+        add_answer(alloc, answers, line, &mut self.answers)?;
+        Ok(())
+    }
+}

@@ -1,5 +1,0 @@
-pub mod BareParts
-pub mod DecimalFronts
-pub mod DigitTexts
-pub mod LentParts
-pub mod Results

@@ -1,4 +1,0 @@
-pub mod Dialling
-pub mod HeldCuts
-pub mod Lent
-pub mod Strips

@@ -1,0 +1,9 @@
+use Rattle.phone_read.specs.Regions.{region_of}
+use Rattle.phone_read.proofs.Regional.{territory_told}
+use Rattle.phone_read.proofs.validator.territory_of.Goals as goal
+
+pub returns-in-Some : goal.returns-in-Some
+returns-in-Some c = territory_told c.args.db.now (region_of c.args.db.now c.args.code c.args.text.now) _ _ c.in_ok-origin.ensures c.in-Some.is
+
+pub returns-in-None : goal.returns-in-None
+returns-in-None c = territory_told c.args.db.now (region_of c.args.db.now c.args.code c.args.text.now) _ _ c.in_ok-origin.ensures c.in-None.is

@@ -1,9 +1,0 @@
-use Rattle.std.proofs.Common.{map, take}
-use Rattle.regex_hir.specs.Meaning.{meaning, cat_all, alt_all}
-use Rattle.phone_search.specs.Ascii.{AsciiSame}
-use Rattle.phone_search.proofs.narrow.+narrow.Given as goal
-
-abbrev pub invariant-narrowed_all-loop-i : goal.invariant-narrowed_all-loop-i
-invariant-narrowed_all-loop-i l =
-    AsciiSame (cat_all (map meaning l.all.items)) (cat_all (map meaning (take l.i l.subs)))
-    × AsciiSame (alt_all (map meaning l.all.items)) (alt_all (map meaning (take l.i l.subs)))

@@ -1,0 +1,67 @@
+//! What a line names: a database, and in it a code and a territory.
+use anyhow::{Result, anyhow};
+use phone_meta::{Database, Metadata};
+use replay_base::table::Row;
+use std::alloc::AllocGlobal;
+use std::fs::Files;
+
+/// A database, and the name of its file.
+#[derive(Drop)]
+pub struct Named {
+    name: String,
+    pub database: Database,
+}
+
+/// The database of this name: the one that is at hand, or else the one in the file of this name.
+pub fn of_name<R: Files + AllocGlobal>(
+    rt: &R,
+    at_hand: Option<Named>,
+    name: &str,
+) -> Result<Named> {
+    match at_hand {
+        Some(named) => same_or_read(rt, named, name),
+        None => read(rt, name),
+    }
+}
+
+/// This database, if that is its name, or else the one in the file of this name.
+fn same_or_read<R: Files + AllocGlobal>(rt: &R, named: Named, name: &str) -> Result<Named> {
+    if named.name.as_str() == name {
+        return Ok(named);
+    }
+    read(rt, name)
+}
+
+/// The database in the file of this name, with its name.
+fn read<R: Files + AllocGlobal>(rt: &R, name: &str) -> Result<Named> {
+    let own = String::from_str(rt.alloc(), name)?;
+    let database = load(rt, name)?;
+    Ok(Named {
+        name: own,
+        database,
+    })
+}
+
+/// The database in the file of this name.
+pub fn load<R: Files + AllocGlobal>(rt: &R, name: &str) -> Result<Database> {
+    let path = format!(in rt.alloc(); "databases/{name}.json")?;
+    load_path(rt, path.as_str())
+}
+
+/// The database in the file at this path.
+fn load_path<R: Files + AllocGlobal>(rt: &R, path: &str) -> Result<Database> {
+    Ok(Database::load(rt, path)?)
+}
+
+/// The calling code that a line names behind its database.
+pub fn code_of(row: &Row) -> Result<u16> {
+    Ok(row.argument(1).parse::<u16>()?)
+}
+
+/// The territory whose id a line names behind its database.
+pub fn territory<'a>(database: &'a Database, row: &Row) -> Result<&'a Metadata> {
+    match database.by_id(row.argument(1)) {
+        Some(territory) => Ok(territory),
+        None => Err(anyhow!("the database has no territory of this id")),
+    }
+}

@@ -1,0 +1,56 @@
+//! Short numbers of a region: `short` tells the answers of the six calls on a text, `short-kind`
+//! what kind of short number it is.
+use anyhow::Result;
+use phone_core::country::Id;
+use phone_meta::Database;
+use phone_short::{ShortFacts, short_facts, short_kind};
+use replay_base::marks::{around, begin};
+use replay_base::table::Row;
+use std::alloc::{AllocError, Global};
+
+/// What is known of a line's text as a short number of the line's region; none for any other call.
+pub fn answer(alloc: Global, row: &Row, db: &Database) -> Result<Option<String>> {
+    match row.call() {
+        "short" => Ok(Some(facts(alloc, row, db)?)),
+        "short-kind" => Ok(Some(kind(alloc, row, db)?)),
+        _ => Ok(None),
+    }
+}
+
+/// The region that a line names.
+fn region(row: &Row) -> Result<Id> {
+    Ok(row.argument(1).parse::<Id>()?)
+}
+
+/// The answers of the six calls.
+fn facts(alloc: Global, row: &Row, db: &Database) -> Result<String> {
+    let region = region(row)?;
+    let found = around(
+        alloc,
+        begin(alloc),
+        short_facts(db, region, row.argument(2)),
+    )??;
+    Ok(told(alloc, found)?)
+}
+
+/// These answers, parted by tabs.
+fn told(alloc: Global, facts: ShortFacts) -> Result<String, AllocError> {
+    let (possible, valid) = (yes(facts.is_possible), yes(facts.is_valid));
+    let (cost, carrier) = (facts.cost.as_str(), yes(facts.is_carrier_specific));
+    let (emergency, reaches) = (yes(facts.is_emergency), yes(facts.reaches_emergency));
+    format!(in alloc; "{possible}\t{valid}\t{cost}\t{carrier}\t{emergency}\t{reaches}")
+}
+
+/// The kind of short number, or a hyphen.
+fn kind(alloc: Global, row: &Row, db: &Database) -> Result<String> {
+    let region = region(row)?;
+    match around(alloc, begin(alloc), short_kind(db, region, row.argument(2)))?? {
+        Some(kind) => Ok(format!(in alloc; "{kind:?}")?),
+        None => Ok(String::from_str(alloc, "-")?),
+    }
+}
+
+/// `yes` or `no`.
+fn yes(holds: bool) -> &'static str {
+    if holds { "yes" } else { "no" }
+}

@@ -1,0 +1,70 @@
+//! The calls that ask how a number which a line gives by its parts is dialled from a region, and
+//! whether it lies within the premises of being read back there.
+use crate::premises::{how_told, is_within};
+use anyhow::{Result, anyhow};
+use replay_numbers::given::with_extension;
+use phone_core::country::Id;
+use phone_meta::{Database, Metadata};
+use phone_util::dialled::{DialError, dialled_from};
+use phonenumber::PhoneNumber;
+use replay_base::marks::{around, begin};
+use replay_base::table::Row;
+use std::alloc::Global;
+
+/// The text that is dialled, `UnknownRegion` or `UnknownCode`; of `dial-premises` how the code is
+/// told in that text and whether the premises hold; none for any other call. An error where a line
+/// names a region that isn't there or gives a number that is none, and where memory is refused.
+pub fn answer(alloc: Global, row: &Row, db: &Database) -> Result<Option<String>> {
+    match row.call() {
+        "dialled-from" => Ok(Some(of_text(alloc, row, db)?)),
+        "dial-premises" => Ok(Some(of_premises(alloc, row, db)?)),
+        _ => Ok(None),
+    }
+}
+
+/// How a line's number is dialled.
+fn of_text(alloc: Global, row: &Row, db: &Database) -> Result<String> {
+    let number = with_extension(alloc, row)?;
+    dialling_words(alloc, row, db, &number)
+}
+
+/// How a number is dialled from a line's region.
+fn dialling_words(alloc: Global, row: &Row, db: &Database, number: &PhoneNumber) -> Result<String> {
+    let region = row.argument(5).parse::<Id>()?;
+    let dialled = around(alloc, begin(alloc), dialled_from(db, region, number))?;
+    text(alloc, &dialled)
+}
+
+/// The text that is dialled behind an equals sign, or why there is none. An error where memory was
+/// refused.
+fn text(alloc: Global, dialled: &Result<String, DialError>) -> Result<String> {
+    match dialled {
+        Ok(text) => Ok(format!(in alloc; "={text}")?),
+        Err(DialError::UnknownRegion) => Ok(String::from_str(alloc, "UnknownRegion")?),
+        Err(DialError::UnknownCode) => Ok(String::from_str(alloc, "UnknownCode")?),
+        Err(DialError::Memory) => Err(anyhow!("out of memory")),
+    }
+}
+
+/// How the code of a line's number is told, and whether the premises hold.
+fn of_premises(alloc: Global, row: &Row, db: &Database) -> Result<String> {
+    let number = with_extension(alloc, row)?;
+    premises(alloc, row, db, &number)
+}
+
+/// How the code of a number is told that is dialled from a line's region, and whether the premises
+/// hold.
+fn premises(alloc: Global, row: &Row, db: &Database, number: &PhoneNumber) -> Result<String> {
+    let from = territory(row, db)?;
+    let holds = is_within(db, from, number)?;
+    let told = how_told(from, number);
+    Ok(format!(in alloc; "{told}\t{holds}")?)
+}
+
+/// The territory of a line's region. An error where the database has none.
+fn territory<'a>(row: &Row, db: &'a Database) -> Result<&'a Metadata> {
+    match db.by_id(row.argument(5)) {
+        Some(territory) => Ok(territory),
+        None => Err(anyhow!("the database has no territory of the region")),
+    }
+}

@@ -1,0 +1,44 @@
+//! The calls that ask whether a number is possible: `possible` of one that a line gives by its
+//! parts, `possible-text` of a text under a hint.
+use crate::by_rules::by_rules;
+use anyhow::Result;
+use replay_numbers::given::number;
+use phone_choice::Rules;
+use phone_meta::Database;
+use phone_util::{possibility_of, possibility_of_text};
+use phonenumber::PhoneNumber;
+use replay_base::marks::{around, begin};
+use replay_base::table::Row;
+use replay_base::words::{hint, refusal};
+use std::alloc::Global;
+
+/// What its length says of a number, as the table writes it; none for any other call. An error
+/// where a line gives a number that is none, and where memory is refused.
+pub fn answer(alloc: Global, row: &Row, db: &Database) -> Result<Option<String>> {
+    match by_rules(row) {
+        (rules, "possible") => Ok(Some(of_number(alloc, rules, row, db)?)),
+        (rules, "possible-text") => Ok(Some(of_text(alloc, rules, row, db)?)),
+        _ => Ok(None),
+    }
+}
+
+/// What is said of a line's number.
+fn of_number(alloc: Global, rules: Rules, row: &Row, db: &Database) -> Result<String> {
+    let number = number(row, 1, None, None)?;
+    possibility_words(alloc, rules, db, &number)
+}
+
+/// What is said of a number.
+fn possibility_words(alloc: Global, rules: Rules, db: &Database, number: &PhoneNumber) -> Result<String> {
+    let found = around(alloc, begin(alloc), possibility_of(rules, db, number))??;
+    Ok(format!(in alloc; "{found:?}")?)
+}
+
+/// What is said of a line's text, or the refusal.
+fn of_text(alloc: Global, rules: Rules, row: &Row, db: &Database) -> Result<String> {
+    let (hint, text) = (hint(row.argument(1))?, row.argument(2));
+    match around(alloc, begin(alloc), possibility_of_text(rules, db, hint, text))? {
+        Ok(found) => Ok(format!(in alloc; "{found:?}")?),
+        Err(error) => refusal(alloc, &error),
+    }
+}

@@ -1,0 +1,150 @@
+//! The calls of `phonenumber::report` over devices in memory: what a run writes, and how it ends
+//! where a device fails.
+use anyhow::{Result, anyhow};
+use phone_device::{Limit, MemorySource, Script, Then};
+use phone_meta::Database;
+use phonenumber::report::{RunError, run};
+use replay_base::devices::{fault, then};
+use replay_base::marks::{around, begin};
+use replay_base::table::Row;
+use replay_base::words::hint;
+use std::alloc::{AllocError, Global};
+
+/// How many bytes the sink of a run takes that isn't to fail.
+const ROOM: usize = 4096;
+
+/// What a run writes, as the table writes it; none for any other call. An error where a line names
+/// no place or no end of a device, and where memory is refused.
+pub fn answer(alloc: Global, row: &Row, db: &Database) -> Result<Option<String>> {
+    let answer = match row.call() {
+        "run" => number_of_row(alloc, row, db)?,
+        "run-source" => from_source(alloc, row, db)?,
+        "run-sink" => to_sink(alloc, row, db)?,
+        "run-each-sink" => to_each_sink(alloc, row, db)?,
+        _ => return Ok(None),
+    };
+    Ok(Some(answer))
+}
+
+/// The report on a line's input. An error where memory is refused behind whole first lines of the
+/// report that is wanted.
+fn number_of_row(alloc: Global, row: &Row, db: &Database) -> Result<String> {
+    let mut sink = Limit::new(alloc, ROOM, Then::Fail)?;
+    let end = run_to(alloc, row, db, &mut sink)?;
+    if end == Err(RunError::Memory) && !are_first_lines(sink.bytes(), row.answer()) {
+        return Ok(String::from_str(alloc, "another end")?);
+    }
+    report(alloc, end, sink.bytes())
+}
+
+/// How a run over a line's input ends that writes to a sink.
+fn run_to(
+    alloc: Global,
+    row: &Row,
+    db: &Database,
+    sink: &mut Limit,
+) -> Result<Result<(), RunError>> {
+    let hint = hint(row.argument(1))?;
+    let mut source = MemorySource::new(row.argument_bytes(2));
+    Ok(around(alloc, begin(alloc), run(db, hint, &mut source, sink))?)
+}
+
+/// What a run wrote that came to its end. An error where memory was refused.
+fn report(alloc: Global, end: Result<(), RunError>, written: &[u8]) -> Result<String> {
+    match end {
+        Ok(()) => Ok(text(alloc, written)?),
+        Err(RunError::Memory) => Err(anyhow!("out of memory")),
+        Err(_) => Ok(String::from_str(alloc, "another end")?),
+    }
+}
+
+/// Whether these are whole first lines of a report, or nothing.
+fn are_first_lines(written: &[u8], report: &[u8]) -> bool {
+    report.starts_with(written) && (written.is_empty() || written.ends_with(b"\n"))
+}
+
+/// What was written. The texts of reports are UTF-8, and of a report that breaks off in a character
+/// nothing is told.
+fn text(alloc: Global, written: &[u8]) -> Result<String, AllocError> {
+    String::from_str(alloc, std::str::from_utf8(written).unwrap_or("no UTF-8"))
+}
+
+/// How a run ended, and what it wrote, parted by a tab. An error where memory was refused.
+fn status_after(alloc: Global, end: Result<(), RunError>, written: &[u8]) -> Result<String> {
+    let end = match end {
+        Ok(()) => "Ok",
+        Err(RunError::Input) => "Input",
+        Err(RunError::Output) => "Output",
+        Err(RunError::Memory) => return Err(anyhow!("out of memory")),
+    };
+    let written = text(alloc, written)?;
+    Ok(format!(in alloc; "{end}\t{written}")?)
+}
+
+/// A run over a line's input by a source that fails where the line says.
+fn from_source(alloc: Global, row: &Row, db: &Database) -> Result<String> {
+    let (hint, at) = (hint(row.argument(1))?, fault(row.argument(3))?);
+    let bytes = Vec::from_slice(alloc, row.argument_bytes(2))?;
+    let mut source = Script::new(bytes, at);
+    let mut sink = Limit::new(alloc, ROOM, Then::Fail)?;
+    let end = around(alloc, begin(alloc), run(db, hint, &mut source, &mut sink))?;
+    status_after(alloc, end, sink.bytes())
+}
+
+/// A run over a line's input to a sink that takes so many bytes, and then does what the line says.
+/// An error where memory is refused, also where the sink fails over what was written before.
+fn to_sink(alloc: Global, row: &Row, db: &Database) -> Result<String> {
+    let room = row.argument(3).parse::<usize>()?;
+    let mut sink = Limit::new(alloc, room, then(row.argument(4)))?;
+    let end = run_to(alloc, row, db, &mut sink)?;
+    if end == Err(RunError::Output) && is_cut_short(sink.bytes(), row.answer()) {
+        return Err(anyhow!("out of memory"));
+    }
+    status_after(alloc, end, sink.bytes())
+}
+
+/// Whether what was written is the report of an answer that ends by `Output`, but for its end.
+fn is_cut_short(written: &[u8], answer: &[u8]) -> bool {
+    match answer.strip_prefix(b"Output\t") {
+        Some(report) => report.starts_with(written) && written.len() < report.len(),
+        None => false,
+    }
+}
+
+/// Of the sinks that take less than the report on a line's input, how many end the run by `Output`
+/// and hold what they take.
+fn to_each_sink(alloc: Global, row: &Row, db: &Database) -> Result<String> {
+    let then = then(row.argument(3));
+    let mut sink = Limit::new(alloc, ROOM, Then::Fail)?;
+    let end = run_to(alloc, row, db, &mut sink)?;
+    let report = report(alloc, end, sink.bytes())?;
+    let all = report.len();
+    let mut held = 0u64;
+    for room in 0..all {
+        if is_held(alloc, row, db, report.as_str().as_bytes(), room, then)? {
+            held = held.saturating_add(1);
+        }
+    }
+    Ok(format!(in alloc; "{held} of {all}")?)
+}
+
+/// Whether a sink that takes so many bytes of a report ends the run by `Output` and holds these
+/// bytes. An error where memory is refused.
+fn is_held(
+    alloc: Global,
+    row: &Row,
+    db: &Database,
+    report: &[u8],
+    room: usize,
+    then: Then,
+) -> Result<bool> {
+    let hint = hint(row.argument(1))?;
+    let mut source = MemorySource::new(row.argument_bytes(2));
+    let mut sink = Limit::new(alloc, room, then)?;
+    let end = run(db, hint, &mut source, &mut sink);
+    if end == Err(RunError::Memory) {
+        return Err(anyhow!("out of memory"));
+    }
+    let is_front = report.starts_with(sink.bytes()) && sink.bytes().len() == room;
+    Ok(is_front && end == Err(RunError::Output))
+}

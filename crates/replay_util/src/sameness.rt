@@ -1,0 +1,22 @@
+//! The call that asks whether two texts are one number.
+use crate::by_rules::by_rules;
+use anyhow::Result;
+use phone_meta::Database;
+use phone_util::compare_texts;
+use replay_base::marks::{around, begin};
+use replay_base::table::Row;
+use replay_base::words::refusal;
+use std::alloc::Global;
+
+/// How like the numbers of a line's two texts are, or the refusal of one; none for any other call.
+/// An error where memory is refused.
+pub fn answer(alloc: Global, row: &Row, db: &Database) -> Result<Option<String>> {
+    let (rules, "same") = by_rules(row) else {
+        return Ok(None);
+    };
+    let (a, b) = (row.argument(1), row.argument(2));
+    match around(alloc, begin(alloc), compare_texts(rules, db, a, b))? {
+        Ok(found) => Ok(Some(format!(in alloc; "{found:?}")?)),
+        Err(error) => Ok(Some(refusal(alloc, &error)?)),
+    }
+}
