@@ -7,13 +7,13 @@ use Rattle.std.proofs.lemmas.Option.{same_Some}
 use Rattle.std.specs.List.{list_any}
 use Rattle.std.specs.Option.{option_map_or}
 use Rattle.phone_chars.specs.Characters.{is_digit, is_one_of, is_punctuation, is_separator}
-use Rattle.phone_core.specs.Numbers.{text_of}
-use Rattle.phone_core.specs.declared.mode.Mode.TheVariants.{International}
+use Rattle.phone_values.specs.Numbers.{text_of}
+use Rattle.phone_values.specs.declared.mode.Mode.TheVariants.{International}
 use Rattle.phone_meta.specs.CodeLookUps.{first_of, territories}
 use Rattle.phone_territory.specs.Prefixes.{is_benign_prefix}
 use Rattle.phone_parts.specs.Texts.{ends}
 use Rattle.phone_records.specs.declared.loader.Metadata.{Metadata}
-use Rattle.phone_core.specs.declared.reading.Reading.{Reading}
+use Rattle.phone_values.specs.declared.reading.Reading.{Reading}
 use Rattle.phonenumber.specs.Plain.{has_digits, IsBenign, IsPlain, IsPlainInternational, IsPlainRfc3966}
 use Rattle.phone_print.specs.Texts.{laid_out}
 

@@ -7,7 +7,7 @@ use Rattle.std.specs.List.{list_all}
 use Rattle.std.specs.Option.{option_map_or, option_or}
 use Rattle.regex.proofs.OnLiterals.{regex_on_literals, IsReadAs, ◌then◌, alone, alt-fail}
 use Rattle.regex.specs.Patterns.{Re, find_str}
-use Rattle.phone_core.specs.declared.mode.Mode.TheVariants.{International}
+use Rattle.phone_values.specs.declared.mode.Mode.TheVariants.{International}
 use Rattle.phone_territory.specs.First.{Seen, at_start, first_match, is_whole_match, names_in, replaced}
 use Rattle.phone_territory.specs.First.{seen_of, verbose, with_first_replaced}
 use Rattle.phone_print.specs.Layouts.{laid}

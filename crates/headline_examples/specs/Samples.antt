@@ -1,11 +1,11 @@
 -- The databases B, C, D and E of the replayed tables, territory by territory, and numbers.
 use Rattle.std.specs.Prelude.{ℕ, true, List, [], ◌∷◌, codes, Option, None, Some}
-use Rattle.phone_core.specs.declared.country.Source.TheVariants.{Default}
+use Rattle.phone_values.specs.declared.country.Source.TheVariants.{Default}
 use Rattle.phone_records.specs.Empty.{no_descriptor, no_format, no_metadata}
 use Rattle.phone_records.specs.declared.loader.Descriptor.{Descriptor}
 use Rattle.phone_records.specs.declared.loader.Format.{Format}
 use Rattle.phone_records.specs.declared.loader.Metadata.{Metadata}
-use Rattle.phone_core.specs.declared.reading.Reading.{Reading}
+use Rattle.phone_values.specs.declared.reading.Reading.{Reading}
 
 -- numbers of a pattern, and of so many digits
 abbrev pub numbers : List ℕ → ℕ → Descriptor

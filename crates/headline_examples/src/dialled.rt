@@ -1,6 +1,6 @@
 //! Numbers that the premises of dialling and of finding take, a real one each.
 ghost use Rattle.std.specs.Prelude.{None};
-ghost use Rattle.phone_core.specs.declared.country.Id.TheVariants as id;
+ghost use Rattle.phone_values.specs.declared.country.Id.TheVariants as id;
 ghost use Rattle.phone_find.specs.Alone.{EndsInDigits, IsPlainEnough};
 ghost use Rattle.phone_find.specs.declared.leniency.Leniency.TheVariants as leniency;
 ghost use Rattle.phone_util.specs.Back.{IsAfterPlus, IsAfterPrefix, IsPlainDialled};

@@ -2,7 +2,7 @@
 use Rattle.std.proofs.Common.{◌≡◌, true, false, List, [], ◌∷◌, ◌++◌, Ok, Err, refl, ap, sym, subst, ◌∙◌}
 use Rattle.std.proofs.lemmas.List.{append_assoc, append-nil}
 use Rattle.phone_records.specs.declared.loader.Metadata.{Metadata}
-use Rattle.phone_core.specs.declared.reading.Reading.{Reading}
+use Rattle.phone_values.specs.declared.reading.Reading.{Reading}
 use Rattle.phone_choice.specs.declared.rules.Rules.{Rules}
 use Rattle.phone_book.specs.Answers.{Answer, AreAnsweredBy, HasNumbersBy, HaveNumbersBy, IsAnsweredBy, Line}
 use Rattle.phone_book.specs.Firsts.{firsts, is_among}

@@ -6,8 +6,8 @@ use Rattle.std.proofs.lemmas.List.{append-nil}
 use Rattle.std.proofs.lemmas.List.Elements.{filter-append}
 use Rattle.std.proofs.lemmas.List.Folds.{list_any_at}
 use Rattle.std.proofs.lemmas.Option.{get_or_from_slice_get, slice_get_within}
-use Rattle.phone_core.specs.Numbers.{National}
-use Rattle.phone_core.specs.declared.reading.Reading.{Reading}
+use Rattle.phone_values.specs.Numbers.{National}
+use Rattle.phone_values.specs.declared.reading.Reading.{Reading}
 use Rattle.phone_book.specs.Firsts.{firsts, is_among, is_same_national, is_same_number}
 
 -- what counts of two numbers that are the same

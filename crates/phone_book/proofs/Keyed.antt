@@ -11,10 +11,10 @@ use Rattle.std.specs.List.{list_any}
 use Rattle.std.specs.Map.{keys_of, lookup, values_of}
 use Rattle.indexmap.proofs.CallerLemmas.{insert_entry-new}
 use Rattle.indexmap.specs.IndexMap.{IndexMap, insert_entry}
-use Rattle.phone_core.specs.Numbers.{IsHeld, text_of}
+use Rattle.phone_values.specs.Numbers.{IsHeld, text_of}
 use Rattle.phone_meta.specs.CodeLookUps.{is_listed, is_prefix_free}
 use Rattle.phone_records.specs.declared.loader.Metadata.{Metadata}
-use Rattle.phone_core.specs.declared.reading.Reading.{Reading}
+use Rattle.phone_values.specs.declared.reading.Reading.{Reading}
 use Rattle.phone_print.specs.Texts.{e164_text}
 use Rattle.phone_book.specs.Books.{AreKept, Entry, IsKept}
 use Rattle.phone_book.specs.Firsts.{firsts, is_among, is_same_number}

@@ -1,8 +1,8 @@
 -- Numbers without repetition.
 use Rattle.std.specs.Prelude.{◌==◌, ◌&&◌, not, Bool, List, [], ◌∷◌, filter}
 use Rattle.std.specs.List.{list_any}
-use Rattle.phone_core.specs.Numbers.{National}
-use Rattle.phone_core.specs.declared.reading.Reading.{Reading}
+use Rattle.phone_values.specs.Numbers.{National}
+use Rattle.phone_values.specs.declared.reading.Reading.{Reading}
 
 -- two national numbers are one: the zeros in front and the value
 abbrev pub is_same_national : National → National → Bool

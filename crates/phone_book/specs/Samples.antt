@@ -1,7 +1,7 @@
 -- Numbers for rows.
 use Rattle.std.specs.Prelude.{ℕ, List, Option, None}
-use Rattle.phone_core.specs.declared.country.Source.{Source}
-use Rattle.phone_core.specs.declared.reading.Reading.{Reading}
+use Rattle.phone_values.specs.declared.country.Source.{Source}
+use Rattle.phone_values.specs.declared.reading.Reading.{Reading}
 
 -- a number of a calling code, how it was found, zeros and a value, perhaps with an extension
 abbrev pub number : ℕ → Source → ℕ → ℕ → Option (List ℕ) → Reading

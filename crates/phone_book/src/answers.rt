@@ -1,5 +1,5 @@
 //! What a contact book answers.
-use phone_core::ParseError;
+use phone_values::ParseError;
 use thiserror::Error;
 
 /// Where the number of a line stands.

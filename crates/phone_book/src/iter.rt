@@ -13,7 +13,7 @@ pub struct Iter<'a> {
 
 impl<'a> Model for Iter<'a> {
     ghost use Rattle.std.specs.Prelude.{List};
-    ghost use Rattle.phone_core.specs.declared.reading.Reading.{Reading};
+    ghost use Rattle.phone_values.specs.declared.reading.Reading.{Reading};
 
     ghost Value = { List Reading };
 

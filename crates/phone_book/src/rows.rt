@@ -1,7 +1,7 @@
 //! Rows that are computed on the definitions of this crate. This function does nothing; its
 //! contracts are the rows.
 ghost use Rattle.std.specs.Prelude.{◌≡◌, [], ◌∷◌, codes, None, Some};
-ghost use Rattle.phone_core.specs.declared.country.Source.TheVariants.{Default, Plus};
+ghost use Rattle.phone_values.specs.declared.country.Source.TheVariants.{Default, Plus};
 ghost use Rattle.phone_book.specs.Firsts.{firsts};
 ghost use Rattle.phone_book.specs.Samples.{number};
 

@@ -2,18 +2,20 @@
 use Rattle.std.specs.Prelude.{◌≡◌, ℕ, if◌then◌else◌, List, [], Some}
 use Rattle.std.specs.Prelude.{None}
 use Rattle.std.specs.Option.{option_map_or}
-use Rattle.phone_core.specs.Ids.{name}
-use Rattle.phone_core.specs.declared.kind.«Type».{«Type»}
-use Rattle.phone_core.specs.declared.kind.«Type».TheVariants.{FixedLine, Mobile, FixedLineOrMobile}
-use Rattle.phone_core.specs.declared.kind.«Type».TheVariants.{TollFree, PremiumRate, SharedCost}
-use Rattle.phone_core.specs.declared.kind.«Type».TheVariants.{PersonalNumber, Voip, Pager, Uan}
-use Rattle.phone_core.specs.declared.kind.«Type».TheVariants.{Emergency, Voicemail, ShortCode}
-use Rattle.phone_core.specs.declared.kind.«Type».TheVariants.{StandardRate, Carrier}
-use Rattle.phone_core.specs.declared.kind.«Type».TheVariants.{NoInternational, Unknown}
-use Rattle.phone_core.specs.declared.mode.Mode.{Mode}
-use Rattle.phone_core.specs.declared.mode.Mode.TheVariants.{E164, International, National, Rfc3966}
+use Rattle.phone_values.specs.Ids.{name}
+use Rattle.phone_values.specs.declared.kind.«Type».{«Type»}
+use Rattle.phone_values.specs.declared.kind.«Type».TheVariants.{FixedLine, Mobile}
+use Rattle.phone_values.specs.declared.kind.«Type».TheVariants.{FixedLineOrMobile}
+use Rattle.phone_values.specs.declared.kind.«Type».TheVariants.{TollFree, PremiumRate, SharedCost}
+use Rattle.phone_values.specs.declared.kind.«Type».TheVariants.{PersonalNumber, Voip, Pager, Uan}
+use Rattle.phone_values.specs.declared.kind.«Type».TheVariants.{Emergency, Voicemail, ShortCode}
+use Rattle.phone_values.specs.declared.kind.«Type».TheVariants.{StandardRate, Carrier}
+use Rattle.phone_values.specs.declared.kind.«Type».TheVariants.{NoInternational, Unknown}
+use Rattle.phone_values.specs.declared.mode.Mode.{Mode}
+use Rattle.phone_values.specs.declared.mode.Mode.TheVariants.{E164, International, National}
+use Rattle.phone_values.specs.declared.mode.Mode.TheVariants.{Rfc3966}
 use Rattle.phone_records.specs.declared.loader.Metadata.{Metadata}
-use Rattle.phone_core.specs.declared.reading.Reading.{Reading}
+use Rattle.phone_values.specs.declared.reading.Reading.{Reading}
 use Rattle.phonenumber.specs.Queries.{is_valid, kind_of_number, region_of_number}
 use Rattle.phone_print.specs.Texts.{e164_text}
 use Rattle.phonenumber.specs.Printed.{printed}

@@ -1,9 +1,9 @@
 -- Which number plain numbers are, with bytes in which its texts stand.
 use Rattle.std.specs.Prelude.{◌≡◌, ℕ, ◌+◌, ◌^◌, ◌<◌, ◌≤◌, List, [], ◌++◌, length, slice_range}
 use Rattle.std.specs.Prelude.{Option, None, Some, unwrap_or, IsUtf8}
-use Rattle.phone_core.specs.declared.country.Source.{Source}
-use Rattle.phone_core.specs.declared.country.Source.TheVariants.{Plus, Idd, Number, Default}
-use Rattle.phone_core.specs.declared.reading.Reading.{Reading}
+use Rattle.phone_values.specs.declared.country.Source.{Source}
+use Rattle.phone_values.specs.declared.country.Source.TheVariants.{Plus, Idd, Number, Default}
+use Rattle.phone_values.specs.declared.reading.Reading.{Reading}
 use Rattle.phone_c.specs.declared.number.Number as plain
 use Rattle.phone_c.specs.declared.number.Part.{Part}
 

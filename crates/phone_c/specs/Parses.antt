@@ -1,10 +1,10 @@
 -- What a text is read as, told in plain numbers and a buffer.
 use Rattle.std.specs.Prelude.{◌≡◌, ℕ, List, Result, Ok, Err, IsSomeAnd, chars}
-use Rattle.phone_core.specs.Refusals.{refusal_number, refusal_words}
-use Rattle.phone_core.specs.declared.error.ParseError.{ParseError}
+use Rattle.phone_values.specs.Refusals.{refusal_number, refusal_words}
+use Rattle.phone_values.specs.declared.error.ParseError.{ParseError}
 use Rattle.phone_records.specs.declared.loader.Metadata.{Metadata}
 use Rattle.phone_read.specs.Readings.{Reads}
-use Rattle.phone_core.specs.declared.reading.Reading.{Reading}
+use Rattle.phone_values.specs.declared.reading.Reading.{Reading}
 use Rattle.phone_c.specs.Buffers.{IsTooLong, IsWritten}
 use Rattle.phone_c.specs.Hints.{hint_of}
 use Rattle.phone_c.specs.Numbers.{IsNumber, texts_of}

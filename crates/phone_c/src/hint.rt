@@ -2,10 +2,10 @@
 ghost use Rattle.std.specs.Prelude.{◌≡◌};
 ghost use Rattle.std.specs.List.{find};
 ghost use Rattle.std.specs.Str.{bytes_eq};
-ghost use Rattle.phone_core.specs.Ids.{id_of, name};
+ghost use Rattle.phone_values.specs.Ids.{id_of, name};
 ghost use Rattle.phone_c.specs.Hints.{hint_of};
 
-use phone_core::country::{ALL, Id};
+use phone_values::country::{ALL, Id};
 
 /// The hint that bytes are: none where there is no byte, else the region whose id they are.
 pub(crate) fn hint_of(bytes: &[u8]) -> Option<Option<Id>>

@@ -1,8 +1,8 @@
 //! What a call says is said of one answer alone. This function does nothing; its contracts are the
 //! statements.
 ghost use Rattle.std.specs.Prelude.{◌≡◌, ℕ, List, Result};
-ghost use Rattle.phone_core.specs.declared.error.ParseError.{ParseError};
-ghost use Rattle.phone_core.specs.declared.reading.Reading.{Reading};
+ghost use Rattle.phone_values.specs.declared.error.ParseError.{ParseError};
+ghost use Rattle.phone_values.specs.declared.reading.Reading.{Reading};
 ghost use Rattle.phone_records.specs.declared.loader.Metadata as loader;
 ghost use Rattle.phone_c.specs.Answers.{IsKey, IsKind, IsPrinted, IsRegion, IsValidity};
 ghost use Rattle.phone_c.specs.Answers.{IsUnprinted};

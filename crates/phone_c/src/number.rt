@@ -3,7 +3,7 @@ ghost use Rattle.std.specs.Prelude.{◌≡◌, ◌⊎◌, ℕ, ◌+◌, ◌<◌,
 ghost use Rattle.std.specs.Prelude.{◌↔◌, IfOk, IfErr};
 ghost use Rattle.std.specs.Prelude.{IfSome, IfNone};
 ghost use Rattle.std.specs.Option.{option_copied};
-ghost use Rattle.phone_core.specs.declared.country.Source as source;
+ghost use Rattle.phone_values.specs.declared.country.Source as source;
 ghost use Rattle.phone_c.specs.Numbers.{AreNoNumber, AreNone, HasNumbers, IsAt, IsNumber, IsPart};
 ghost use Rattle.phone_c.specs.Numbers.{source_number};
 

@@ -1,7 +1,7 @@
 //! The words of a refusal, into a buffer.
 ghost use Rattle.std.specs.Prelude.{◌≡◌, ◌⊎◌, ◌↔◌, Some};
-ghost use Rattle.phone_core.specs.Refusals.{refusal_number};
-ghost use Rattle.phone_core.specs.declared.error.ParseError.{ParseError};
+ghost use Rattle.phone_values.specs.Refusals.{refusal_number};
+ghost use Rattle.phone_values.specs.declared.error.ParseError.{ParseError};
 ghost use Rattle.phone_c.specs.Buffers.{IsTooLongA, IsWrittenA};
 ghost use Rattle.phone_c.specs.Parses.{IsNoRefusal, IsWordsOf};
 

@@ -7,8 +7,8 @@ use Rattle.std.specs.List.{list_all, find}
 use Rattle.std.specs.Str.{chars}
 use Rattle.phone_chars.specs.Characters.{is_digit, is_one_of, is_in_run, script_zeros, key_letters, as_dec_digit, keypad, digit_of}
 use Rattle.phone_chars.specs.Norm.{norm}
-use Rattle.phone_core.proofs.ReadBack.{all_digits}
-use Rattle.phone_core.proofs.Finds.{IfSome-find, IfSome-option_map, IfSome-option_or, list_all-filter_map}
+use Rattle.phone_values.proofs.ReadBack.{all_digits}
+use Rattle.phone_values.proofs.Finds.{IfSome-find, IfSome-option_map, IfSome-option_or, list_all-filter_map}
 
 pub norm_digits : (cs : List ℕ) → list_all is_digit cs ≡ true → norm cs ≡ cs
 norm_digits [] h = refl

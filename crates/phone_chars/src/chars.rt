@@ -8,7 +8,7 @@ ghost use Rattle.phone_chars.specs.Characters.{is_in_run};
 
 pub use crate::norm::normalize;
 pub use crate::viable::is_viable;
-use phone_core::consts::{PLUS_SIGN, STAR_SIGN};
+use phone_values::consts::{PLUS_SIGN, STAR_SIGN};
 use unicode::case::simple_fold;
 use unicode::properties::{GeneralCategory, GeneralCategoryGroup};
 

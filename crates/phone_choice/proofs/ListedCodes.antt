@@ -5,14 +5,14 @@ use Rattle.std.specs.Fmt.{decimal}
 use Rattle.std.specs.List.{list_any}
 use Rattle.std.specs.Option.{option_map_or, option_or}
 use Rattle.std.specs.Result.{result_map_both}
-use Rattle.phone_core.specs.Ids.{name}
-use Rattle.phone_core.specs.Numbers.{National}
-use Rattle.phone_core.specs.declared.country.Id.{Id}
-use Rattle.phone_core.specs.declared.country.Source.{Source}
-use Rattle.phone_core.specs.declared.country.Source.TheVariants.{Plus, Idd, Number, Default}
-use Rattle.phone_core.specs.declared.error.ParseError.{ParseError}
-use Rattle.phone_core.specs.declared.error.ParseError.TheVariants as refusal
-use Rattle.phone_core.specs.declared.reading.Reading.{Reading}
+use Rattle.phone_values.specs.Ids.{name}
+use Rattle.phone_values.specs.Numbers.{National}
+use Rattle.phone_values.specs.declared.country.Id.{Id}
+use Rattle.phone_values.specs.declared.country.Source.{Source}
+use Rattle.phone_values.specs.declared.country.Source.TheVariants.{Plus, Idd, Number, Default}
+use Rattle.phone_values.specs.declared.error.ParseError.{ParseError}
+use Rattle.phone_values.specs.declared.error.ParseError.TheVariants as refusal
+use Rattle.phone_values.specs.declared.reading.Reading.{Reading}
 use Rattle.phone_library.specs.LibraryCodes.{behind_code, code_after_sign, code_by_hint, code_by_territory, code_in, cut_off, has_code, or_by_hint}
 use Rattle.phone_library.specs.Readings
 use Rattle.phone_library.specs.Readings.{ReadsByLibrary, after_code, after_code_if_any, national_number, reading_of, reading_under, stripping_territory}

@@ -1,8 +1,8 @@
 -- By either rules a text has one reading, and of a number that is read the calling code is listed.
 use Rattle.std.proofs.Common.{◌≡◌, ◌⊎◌, inl, inr, ℕ, true, List, Option, None, Result, Ok, Err, chars, sym, subst, ◌∙◌, true≢false}
-use Rattle.phone_core.specs.declared.country.Id.{Id}
-use Rattle.phone_core.specs.declared.error.ParseError.{ParseError}
-use Rattle.phone_core.specs.declared.reading.Reading.{Reading}
+use Rattle.phone_values.specs.declared.country.Id.{Id}
+use Rattle.phone_values.specs.declared.error.ParseError.{ParseError}
+use Rattle.phone_values.specs.declared.reading.Reading.{Reading}
 use Rattle.phone_library_laws.proofs.ReadOnce as second
 use Rattle.phone_library_text.proofs.WrittenOnes.{written_same}
 use Rattle.phone_meta.specs.CodeLookUps.{first_of, is_listed, territories}

@@ -1,8 +1,8 @@
 -- What a database says of a number, by whose rules.
 use Rattle.std.specs.Prelude.{Bool, List, Option, None}
-use Rattle.phone_core.specs.declared.country.Id.{Id}
-use Rattle.phone_core.specs.declared.kind.«Type».{«Type»}
-use Rattle.phone_core.specs.declared.reading.Reading.{Reading}
+use Rattle.phone_values.specs.declared.country.Id.{Id}
+use Rattle.phone_values.specs.declared.kind.«Type».{«Type»}
+use Rattle.phone_values.specs.declared.reading.Reading.{Reading}
 use Rattle.phone_library.specs.Facts as library
 use Rattle.phone_records.specs.declared.loader.Metadata.{Metadata}
 use Rattle.phone_choice.specs.declared.rules.Rules.{Rules}

@@ -1,8 +1,8 @@
 -- What a text is read as, by whose rules.
 use Rattle.std.specs.Prelude.{ℕ, List, Option, Result}
-use Rattle.phone_core.specs.declared.country.Id.{Id}
-use Rattle.phone_core.specs.declared.error.ParseError.{ParseError}
-use Rattle.phone_core.specs.declared.reading.Reading.{Reading}
+use Rattle.phone_values.specs.declared.country.Id.{Id}
+use Rattle.phone_values.specs.declared.error.ParseError.{ParseError}
+use Rattle.phone_values.specs.declared.reading.Reading.{Reading}
 use Rattle.phone_library.specs.Readings.{ReadsByLibrary}
 use Rattle.phone_read.specs.Readings.{Reads}
 use Rattle.phone_records.specs.declared.loader.Metadata.{Metadata}

@@ -1,9 +1,9 @@
 //! What holds of reading by either rules. These functions do nothing, but for one that runs the
 //! readers to show that each text has a reading; their contracts are the statements.
 ghost use Rattle.std.specs.Prelude.{◌≡◌, ℕ, List, chars, Option, Result, Ok, true};
-ghost use Rattle.phone_core.specs.declared.country.Id.{Id};
-ghost use Rattle.phone_core.specs.declared.error.ParseError.{ParseError};
-ghost use Rattle.phone_core.specs.declared.reading.Reading.{Reading};
+ghost use Rattle.phone_values.specs.declared.country.Id.{Id};
+ghost use Rattle.phone_values.specs.declared.error.ParseError.{ParseError};
+ghost use Rattle.phone_values.specs.declared.reading.Reading.{Reading};
 ghost use Rattle.phone_meta.specs.CodeLookUps.{is_listed};
 ghost use Rattle.phone_records.specs.declared.loader.Metadata as loader;
 ghost use Rattle.phone_choice.specs.Readings.{ReadsBy};

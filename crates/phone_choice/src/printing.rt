@@ -1,6 +1,6 @@
 //! A number's printed texts, by the rules of one's choice.
 ghost use Rattle.std.specs.Prelude.{◌≡◌, ◌↔◌, IfOk, None, Some, Err, string_bytes};
-ghost use Rattle.phone_core.specs.declared.mode.Mode.TheVariants as mode;
+ghost use Rattle.phone_values.specs.declared.mode.Mode.TheVariants as mode;
 ghost use Rattle.phone_meta.specs.CodeLookUps.{first_of, territories};
 ghost use Rattle.phone_choice.specs.Facts.{printed_as};
 ghost use Rattle.phonenumber.specs.Printed.{printed};

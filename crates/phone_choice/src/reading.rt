@@ -3,8 +3,8 @@ ghost use Rattle.std.specs.Prelude.{◌≡◌, ◌⊎◌, Err, chars};
 ghost use Rattle.phone_choice.specs.Readings.{ReadsBy};
 
 use crate::rules::Rules;
-use phone_core::ParseError;
-use phone_core::country::Id;
+use phone_values::ParseError;
+use phone_values::country::Id;
 use phone_meta::Database;
 use phonenumber::{PhoneNumber, parse_with};
 

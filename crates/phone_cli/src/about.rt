@@ -1,6 +1,6 @@
 //! What the program says of itself, and of what words it knows.
 use crate::usage::{HELP, NAME};
-use phone_core::country::{ALL, Id};
+use phone_values::country::{ALL, Id};
 use phone_device::{ByteSink, Fault, write_all};
 use std::alloc::AllocGlobal;
 use std::fs::{self, Files};

@@ -1,27 +1,10 @@
-//! The values that all other crates speak of: national numbers, calling codes with their source,
-//! region ids, extensions and carriers, kinds, verdicts, errors, and the constants of reading and
-//! printing.
+//! The values of phone numbers, the characters of a text, and why a record is refused: what
+//! `phone_values`, `phone_chars` and `phone_base` have, under one name.
 #![tactic(auto)]
 
-mod carrier;
-pub mod consts;
-pub mod country;
-pub mod equality;
-mod error;
-mod extension;
-mod kind;
-pub mod laws;
-mod mode;
-mod named;
-mod national_number;
-mod reading;
-pub mod validator;
-
-pub use carrier::Carrier;
-pub use error::ParseError;
-pub use extension::Extension;
-pub use kind::Type;
-pub use mode::Mode;
-pub use national_number::NationalNumber;
-pub use reading::Reading;
-pub use validator::Validation;
+pub use phone_base::MetadataError;
+pub use phone_chars::{chars, is_viable};
+pub use phone_values::{
+    Carrier, Extension, Mode, NationalNumber, ParseError, Reading, Type, Validation, consts,
+    country, equality, laws, validator,
+};

@@ -8,13 +8,13 @@ use Rattle.std.proofs.lemmas.List.{drop-drop, drop_at, take_at}
 use Rattle.std.proofs.lemmas.Str.{IsCharBoundary-at_seam, IsUtf8-append, IsUtf8-take, chars-nil}
 use Rattle.std.specs.Str.{chars}
 use Rattle.phone_chars.specs.Characters.{is_digit}
-use Rattle.phone_core.specs.declared.country.Id.{Id}
+use Rattle.phone_values.specs.declared.country.Id.{Id}
 use Rattle.phone_parts.specs.Texts.{begins}
 use Rattle.phone_records.specs.declared.loader.Metadata.{Metadata}
 use Rattle.phone_choice.proofs.OneReading.{reading_same}
 use Rattle.phone_choice.specs.Readings.{ReadsBy}
 use Rattle.phone_choice.specs.declared.rules.Rules.{Rules}
-use Rattle.phone_core.specs.declared.reading.Reading.{Reading}
+use Rattle.phone_values.specs.declared.reading.Reading.{Reading}
 use Rattle.phone_find.proofs.Alone.{alone}
 use Rattle.phone_find.proofs.Begins.{candidate_begins, candidate_digit, candidate_opening}
 use Rattle.phone_find.proofs.Places.{piece_before, starts_behind}

@@ -12,8 +12,8 @@ use Rattle.std.specs.Option.{option_map_or, option_or}
 use Rattle.std.specs.Str.{chars}
 use Rattle.ucd_category.proofs.Computing.{ucd_category}
 use Rattle.phone_chars.specs.Characters.{is_digit, is_punctuation}
-use Rattle.phone_core.specs.Numbers.{text_of}
-use Rattle.phone_core.specs.declared.mode.Mode.TheVariants.{International}
+use Rattle.phone_values.specs.Numbers.{text_of}
+use Rattle.phone_values.specs.declared.mode.Mode.TheVariants.{International}
 use Rattle.phone_meta.specs.CodeLookUps.{first_of, territories}
 use Rattle.phonenumber.specs.Bounds.{IsBounded}
 use Rattle.phone_util.specs.Possibilities.{possibility_under}
@@ -25,7 +25,7 @@ use Rattle.phone_parts.proofs.Cores.{ends-push}
 use Rattle.phone_parts.proofs.PrintedInternational.{all_printed, international_parts, is_printed}
 use Rattle.phone_parts.specs.Texts.{begins, ends}
 use Rattle.phone_records.specs.declared.loader.Metadata.{Metadata}
-use Rattle.phone_core.specs.declared.reading.Reading.{Reading}
+use Rattle.phone_values.specs.declared.reading.Reading.{Reading}
 use Rattle.phone_read.specs.Regions.{home}
 use Rattle.phone_rules.specs.Kinds.{is_known, type_of}
 use Rattle.phonenumber.proofs.BackLaws.{international_back, punctuated}

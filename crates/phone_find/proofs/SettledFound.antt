@@ -5,9 +5,9 @@ use Rattle.std.specs.Str.{chars}
 use Rattle.phone_chars.specs.Characters.{is_digit}
 use Rattle.phone_choice.specs.Readings.{ReadsBy}
 use Rattle.phone_choice.specs.declared.rules.Rules.TheVariants.{Library}
-use Rattle.phone_core.specs.Numbers.{text_of}
-use Rattle.phone_core.specs.declared.country.Id.{Id}
-use Rattle.phone_core.specs.declared.reading.Reading.{Reading}
+use Rattle.phone_values.specs.Numbers.{text_of}
+use Rattle.phone_values.specs.declared.country.Id.{Id}
+use Rattle.phone_values.specs.declared.reading.Reading.{Reading}
 use Rattle.phone_library_laws.proofs.ReadAgain.{settled_characters, settled_digits, settled_enough, settled_few}
 use Rattle.phone_library_laws.specs.Again.{IsSettled, e164_reading}
 use Rattle.phone_parts.specs.Texts.{begins, ends}

@@ -3,14 +3,14 @@ use Rattle.std.proofs.Common.{◌≡◌, ℕ, Bool, true, false, if◌then◌els
 use Rattle.std.proofs.Common.{Result, Ok, Err, IfOk, MatchOption, inl, inr, ◌⊎◌, refl, sym, subst}
 use Rattle.std.proofs.Common.{◌∙◌, true≢false}
 use Rattle.std.specs.Str.{chars}
-use Rattle.phone_core.specs.declared.country.Id.{Id}
-use Rattle.phone_core.specs.declared.error.ParseError.{ParseError}
-use Rattle.phone_core.specs.declared.error.ParseError.TheVariants.{Memory}
+use Rattle.phone_values.specs.declared.country.Id.{Id}
+use Rattle.phone_values.specs.declared.error.ParseError.{ParseError}
+use Rattle.phone_values.specs.declared.error.ParseError.TheVariants.{Memory}
 use Rattle.phone_records.specs.declared.loader.Metadata.{Metadata}
 use Rattle.phone_choice.proofs.OneReading.{reading_same}
 use Rattle.phone_choice.specs.Readings.{ReadsBy}
 use Rattle.phone_choice.specs.declared.rules.Rules.{Rules}
-use Rattle.phone_core.specs.declared.reading.Reading.{Reading}
+use Rattle.phone_values.specs.declared.reading.Reading.{Reading}
 use Rattle.phone_find.specs.Candidates.{is_candidate}
 use Rattle.phone_find.specs.Leniencies.{suffices}
 use Rattle.phone_find.specs.Numbers.{IsNumberBetween, IsReadWell}

@@ -3,13 +3,13 @@ use Rattle.std.specs.Prelude.{◌≡◌, ◌⊎◌, ℕ, ◌≤◌, ◌+◌, tru
 use Rattle.std.specs.Prelude.{None, Some}
 use Rattle.std.specs.List.{list_any}
 use Rattle.phone_chars.specs.Characters.{is_digit}
-use Rattle.phone_core.specs.Numbers.{text_of}
-use Rattle.phone_core.specs.declared.mode.Mode.TheVariants.{International}
+use Rattle.phone_values.specs.Numbers.{text_of}
+use Rattle.phone_values.specs.declared.mode.Mode.TheVariants.{International}
 use Rattle.phone_meta.specs.CodeLookUps.{is_prefix_free}
 use Rattle.phone_print.specs.Texts.{laid_out}
 use Rattle.phone_parts.specs.Texts.{ends}
 use Rattle.phone_records.specs.declared.loader.Metadata.{Metadata}
-use Rattle.phone_core.specs.declared.reading.Reading.{Reading}
+use Rattle.phone_values.specs.declared.reading.Reading.{Reading}
 use Rattle.phonenumber.specs.Plain.{IsBenign, IsIdle, IsPlainInternational}
 use Rattle.phone_find.specs.Candidates.{is_number_shaped, is_opening}
 use Rattle.phone_find.specs.Founds.{most_bytes}

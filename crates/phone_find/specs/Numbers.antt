@@ -1,11 +1,11 @@
 -- Which numbers stand in a running text, by whose rules, under a database, a hint and a leniency. A
 -- text is the list of its bytes, a place an offset in it.
 use Rattle.std.specs.Prelude.{◌≡◌, ℕ, true, List, Option, Ok, chars, drop, take, slice_range}
-use Rattle.phone_core.specs.declared.country.Id.{Id}
+use Rattle.phone_values.specs.declared.country.Id.{Id}
 use Rattle.phone_records.specs.declared.loader.Metadata.{Metadata}
 use Rattle.phone_choice.specs.Readings.{ReadsBy}
 use Rattle.phone_choice.specs.declared.rules.Rules.{Rules}
-use Rattle.phone_core.specs.declared.reading.Reading.{Reading}
+use Rattle.phone_values.specs.declared.reading.Reading.{Reading}
 use Rattle.phone_find.specs.Candidates.{is_candidate}
 use Rattle.phone_find.specs.Founds.{AreFound}
 use Rattle.phone_find.specs.Leniencies.{suffices}

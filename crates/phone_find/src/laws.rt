@@ -2,11 +2,11 @@
 //! functions do nothing, but for those that run the readers to show that each text has an answer.
 ghost use Rattle.std.specs.Prelude.{◌≡◌, ◌<◌, ◌≤◌, ◌+◌, ◌++◌, ◌∷◌, [], ℕ, List, Option, None};
 ghost use Rattle.std.specs.Prelude.{Some, IsUtf8, length, true};
-ghost use Rattle.phone_core.specs.declared.country.Id.{Id};
-ghost use Rattle.phone_core.specs.declared.mode.Mode.TheVariants as mode;
+ghost use Rattle.phone_values.specs.declared.country.Id.{Id};
+ghost use Rattle.phone_values.specs.declared.mode.Mode.TheVariants as mode;
 ghost use Rattle.phonenumber.specs.Bounds.{IsBounded};
 ghost use Rattle.phonenumber.specs.Printed.{printed};
-ghost use Rattle.phone_core.specs.declared.reading.Reading.{Reading};
+ghost use Rattle.phone_values.specs.declared.reading.Reading.{Reading};
 ghost use Rattle.phone_records.specs.declared.loader.Metadata as loader;
 ghost use Rattle.phone_library_laws.specs.Again.{IsSettled, e164_reading};
 ghost use Rattle.phone_print.specs.Texts.{e164_text};

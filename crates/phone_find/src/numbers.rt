@@ -1,6 +1,6 @@
 //! The numbers of a running text.
 ghost use Rattle.std.specs.Prelude.{◌≡◌, ℕ, IfOk, MatchOption, None, Some, true, if◌then◌else◌};
-ghost use Rattle.phone_core.specs.declared.reading.Reading.{Reading};
+ghost use Rattle.phone_values.specs.declared.reading.Reading.{Reading};
 ghost use Rattle.phone_find.specs.Leniencies.{suffices};
 ghost use Rattle.phone_find.specs.declared.leniency.Leniency.TheVariants as leniency;
 ghost use Rattle.phone_find.specs.Numbers.{AreNumbers, IsNumberBetween, IsReadWell};
@@ -9,8 +9,8 @@ use crate::candidates::{is_candidate, may_begin};
 use crate::leniency::{Leniency, suffices};
 use crate::search::{Found, Judge, all_accepted};
 use phone_choice::{Rules, parse_by};
-use phone_core::ParseError;
-use phone_core::country::Id;
+use phone_values::ParseError;
+use phone_values::country::Id;
 use phone_meta::Database;
 use phonenumber::PhoneNumber;
 use std::alloc::{AllocError, Global};

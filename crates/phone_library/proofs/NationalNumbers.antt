@@ -2,9 +2,9 @@
 use Rattle.std.proofs.Common.{◌≡◌, ◌==◌, ◌&&◌, ◌≤◌, ◌<◌, ◌-◌, ◌+◌, ◌^◌, ℕ, suc, Bool, true, false, cond, nat_lt, List, [], ◌∷◌, length, take, drop, Result, Ok, Err, MatchResult, eqb-true, refl, ap, ◌∙◌, arith}
 use Rattle.std.proofs.lemmas.Bool.{cond-false, cond-true, le-ltb, lt-ltb}
 use Rattle.phone_chars.specs.Cuts.{after_front}
-use Rattle.phone_core.specs.Numbers.{National, leading_zeros, national_in, national_with, number_in}
-use Rattle.phone_core.specs.declared.error.ParseError.{ParseError}
-use Rattle.phone_core.specs.declared.error.ParseError.TheVariants.{TooLong}
+use Rattle.phone_values.specs.Numbers.{National, leading_zeros, national_in, national_with, number_in}
+use Rattle.phone_values.specs.declared.error.ParseError.{ParseError}
+use Rattle.phone_values.specs.declared.error.ParseError.TheVariants.{TooLong}
 use Rattle.phone_library.specs.Readings.{national_number}
 
 -- without its zeros at the front

@@ -1,6 +1,6 @@
 -- The code of a hint's territory, cut off the digits or not.
 use Rattle.std.proofs.Common.{◌≡◌, ℕ, Bool, true, false, if◌then◌else◌, List, Option, None, Some, unwrap_or, ap, sym, ◌∙◌}
-use Rattle.phone_core.specs.declared.country.Source.TheVariants.{Number, Default}
+use Rattle.phone_values.specs.declared.country.Source.TheVariants.{Number, Default}
 use Rattle.phone_library.specs.LibraryCodes.{behind_code, code_by_territory, has_code}
 use Rattle.phone_read.specs.Hints.{Coded}
 use Rattle.phone_records.specs.declared.loader.Metadata.{Metadata}

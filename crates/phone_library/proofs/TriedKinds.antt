@@ -2,8 +2,8 @@
 use Rattle.std.proofs.Common.{◌≡◌, ◌∙◌, ℕ, Bool, true, if◌then◌else◌, List, Option, None, Some, option_map, refl, ap, sym}
 use Rattle.std.specs.List.{find}
 use Rattle.std.specs.Option.{option_map_or}
-use Rattle.phone_core.specs.declared.kind.«Type».{«Type»}
-use Rattle.phone_core.specs.declared.kind.«Type».TheVariants.{Unknown}
+use Rattle.phone_values.specs.declared.kind.«Type».{«Type»}
+use Rattle.phone_values.specs.declared.kind.«Type».TheVariants.{Unknown}
 use Rattle.phone_rules.proofs.TriedKinds.{find-map}
 use Rattle.phone_library.specs.Kinds.{is_number_of, kind_in, line_or_mobile}
 use Rattle.phone_library.specs.declared.kinds.TheConstants.{TRIED}

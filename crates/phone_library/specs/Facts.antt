@@ -1,12 +1,12 @@
 -- What a database tells of a number: as libphonenumber tells it.
 use Rattle.std.specs.Prelude.{Bool, List, Option}
 use Rattle.std.specs.Option.{option_and_then, option_map_or}
-use Rattle.phone_core.specs.Ids.{id_of}
-use Rattle.phone_core.specs.Numbers.{text_of}
-use Rattle.phone_core.specs.declared.country.Id.{Id}
-use Rattle.phone_core.specs.declared.kind.«Type».{«Type»}
-use Rattle.phone_core.specs.declared.kind.«Type».TheVariants.{Unknown}
-use Rattle.phone_core.specs.declared.reading.Reading.{Reading}
+use Rattle.phone_values.specs.Ids.{id_of}
+use Rattle.phone_values.specs.Numbers.{text_of}
+use Rattle.phone_values.specs.declared.country.Id.{Id}
+use Rattle.phone_values.specs.declared.kind.«Type».{«Type»}
+use Rattle.phone_values.specs.declared.kind.«Type».TheVariants.{Unknown}
+use Rattle.phone_values.specs.declared.reading.Reading.{Reading}
 use Rattle.phone_rules.specs.Kinds.{is_known}
 use Rattle.phone_library.specs.Kinds.{kind_in, territory_in}
 use Rattle.phone_records.specs.declared.loader.Metadata.{Metadata}

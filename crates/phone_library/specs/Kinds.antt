@@ -4,8 +4,9 @@ use Rattle.std.specs.Prelude.{ℕ, ◌&&◌, Bool, false, if◌then◌else◌, L
 use Rattle.std.specs.Prelude.{None, Some}
 use Rattle.std.specs.List.{find}
 use Rattle.std.specs.Option.{option_map_or}
-use Rattle.phone_core.specs.declared.kind.«Type».{«Type»}
-use Rattle.phone_core.specs.declared.kind.«Type».TheVariants.{FixedLine, FixedLineOrMobile, Unknown}
+use Rattle.phone_values.specs.declared.kind.«Type».{«Type»}
+use Rattle.phone_values.specs.declared.kind.«Type».TheVariants.{FixedLine, FixedLineOrMobile}
+use Rattle.phone_values.specs.declared.kind.«Type».TheVariants.{Unknown}
 use Rattle.phone_rules.specs.Kinds.{is_known, tried_kinds}
 use Rattle.phone_meta.specs.CodeLookUps.{territories}
 use Rattle.phone_records.specs.declared.loader.Descriptor.{Descriptor}

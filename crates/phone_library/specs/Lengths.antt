@@ -2,9 +2,9 @@
 use Rattle.std.specs.Prelude.{ℕ, nat_eq, Bool, true, false, if◌then◌else◌, List, [], length}
 use Rattle.std.specs.List.{list_any}
 use Rattle.std.specs.Option.{option_map_or}
-use Rattle.phone_core.specs.declared.validator.Validation.{Validation}
-use Rattle.phone_core.specs.declared.validator.Validation.TheVariants.{IsPossible, TooLong}
-use Rattle.phone_core.specs.declared.validator.Validation.TheVariants.{IsPossibleLocalOnly}
+use Rattle.phone_values.specs.declared.validator.Validation.{Validation}
+use Rattle.phone_values.specs.declared.validator.Validation.TheVariants.{IsPossible, TooLong}
+use Rattle.phone_values.specs.declared.validator.Validation.TheVariants.{IsPossibleLocalOnly}
 use Rattle.phone_rules.specs.Verdicts.{general_lengths, verdict}
 use Rattle.phone_records.specs.declared.loader.Descriptor.{Descriptor}
 use Rattle.phone_records.specs.declared.loader.Metadata.{Metadata}

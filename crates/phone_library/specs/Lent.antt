@@ -2,7 +2,7 @@
 use Rattle.std.specs.Prelude.{ℕ, List, Option, None, Some}
 use Rattle.std.specs.Cow.{cow_str_bytes}
 use Rattle.std.specs.Option.{option_copied}
-use Rattle.phone_core.specs.declared.reading.Reading.{Reading}
+use Rattle.phone_values.specs.declared.reading.Reading.{Reading}
 use Rattle.phone_library.specs.Stripping.{untouched}
 use Rattle.phone_library.specs.declared.codes.Coded.{Coded as HeldCoded}
 use Rattle.phone_library.specs.declared.reading.MainNumber.{MainNumber}

@@ -7,7 +7,7 @@ ghost use Rattle.phone_library.specs.Kinds.{is_number_of, kind_in, line_or_mobil
 ghost use Rattle.phone_territory.specs.First.{is_whole_match};
 ghost use Rattle.phone_territory.specs.Kinds.{descriptor_for};
 
-use phone_core::Type;
+use phone_values::Type;
 use phone_territory::{Descriptor, Descriptors, Metadata, Pattern};
 use std::alloc::AllocError;
 

@@ -5,8 +5,8 @@ ghost use Rattle.phone_library.specs.Readings.{ReadsByLibrary};
 ghost use Rattle.phone_read.specs.Hints.{hinted};
 
 use crate::reading::reading_under;
-use phone_core::country::Id;
-use phone_core::{ParseError, Reading};
+use phone_values::country::Id;
+use phone_values::{ParseError, Reading};
 use phone_library_text::read_written;
 use phone_meta::{Database, Metadata};
 use phonenumber::PhoneNumber;

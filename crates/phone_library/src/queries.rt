@@ -2,9 +2,9 @@
 //! it is valid.
 ghost use Rattle.std.specs.Prelude.{◌≡◌, IfOk};
 ghost use Rattle.std.specs.Option.{option_and_then, option_map_or};
-ghost use Rattle.phone_core.specs.Ids.{id_of};
-ghost use Rattle.phone_core.specs.Numbers.{text_of};
-ghost use Rattle.phone_core.specs.declared.kind.«Type».TheVariants.{Unknown};
+ghost use Rattle.phone_values.specs.Ids.{id_of};
+ghost use Rattle.phone_values.specs.Numbers.{text_of};
+ghost use Rattle.phone_values.specs.declared.kind.«Type».TheVariants.{Unknown};
 ghost use Rattle.phone_library.specs.Facts.{is_valid_number, kind_of_number, region_of_number};
 ghost use Rattle.phone_library.specs.Homes.{TellsKind};
 ghost use Rattle.phone_library.specs.Told.{facts_by};
@@ -14,8 +14,8 @@ ghost use Rattle.phone_records.specs.declared.loader.Metadata as loader;
 use crate::homes::{Home, home_in};
 use crate::kinds::{is_known, kind_in};
 use itoa::Buffer;
-use phone_core::Type;
-use phone_core::country::Id;
+use phone_values::Type;
+use phone_values::country::Id;
 use phone_meta::Database;
 use phone_print::written::written;
 use phonenumber::PhoneNumber;

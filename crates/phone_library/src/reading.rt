@@ -8,9 +8,9 @@ ghost use Rattle.phone_library.specs.Readings.{reading_under, stripped, strippin
 
 use crate::codes::{Coded, code_in};
 use crate::stripping::{Left, strip_national_prefix};
-use phone_core::consts::{MAX_LENGTH_FOR_NSN, MIN_LENGTH_FOR_NSN};
-use phone_core::country::{Code, Source};
-use phone_core::{Carrier, NationalNumber, ParseError, Reading};
+use phone_values::consts::{MAX_LENGTH_FOR_NSN, MIN_LENGTH_FOR_NSN};
+use phone_values::country::{Code, Source};
+use phone_values::{Carrier, NationalNumber, ParseError, Reading};
 use phone_library_text::WrittenNumber;
 use phone_meta::{Database, Metadata};
 use phone_rules::trims::without_zeros;

@@ -8,10 +8,10 @@ use Rattle.phone_chars.proofs.Norms.{norm_digits}
 use Rattle.phone_chars.specs.Characters.{is_digit, is_plus}
 use Rattle.phone_chars.specs.Cuts.{after_front}
 use Rattle.phone_chars.specs.Norm.{norm}
-use Rattle.phone_core.specs.declared.country.Id.{Id}
-use Rattle.phone_core.specs.declared.country.Source.TheVariants.{Plus, Idd, Default}
-use Rattle.phone_core.specs.declared.error.ParseError.{ParseError}
-use Rattle.phone_core.specs.declared.error.ParseError.TheVariants.{InvalidCountryCode}
+use Rattle.phone_values.specs.declared.country.Id.{Id}
+use Rattle.phone_values.specs.declared.country.Source.TheVariants.{Plus, Idd, Default}
+use Rattle.phone_values.specs.declared.error.ParseError.{ParseError}
+use Rattle.phone_values.specs.declared.error.ParseError.TheVariants.{InvalidCountryCode}
 use Rattle.phone_library.specs.LibraryCodes.{behind_code, code_after_sign, code_in, or_by_hint}
 use Rattle.phone_library.specs.LibraryCodes as second
 use Rattle.phone_library.specs.Kinds.{matches_whole}

@@ -6,11 +6,11 @@ use Rattle.std.proofs.lemmas.List.Folds.{list_all-append}
 use Rattle.std.specs.Fmt.{decimal}
 use Rattle.std.specs.List.{list_all}
 use Rattle.std.specs.Option.{option_map_or}
-use Rattle.phone_core.specs.Numbers.{National, text_of}
-use Rattle.phone_core.specs.declared.country.Id.{Id}
-use Rattle.phone_core.specs.declared.country.Source.TheVariants.{Default}
-use Rattle.phone_core.specs.declared.error.ParseError.{ParseError}
-use Rattle.phone_core.specs.declared.reading.Reading.{Reading}
+use Rattle.phone_values.specs.Numbers.{National, text_of}
+use Rattle.phone_values.specs.declared.country.Id.{Id}
+use Rattle.phone_values.specs.declared.country.Source.TheVariants.{Default}
+use Rattle.phone_values.specs.declared.error.ParseError.{ParseError}
+use Rattle.phone_values.specs.declared.reading.Reading.{Reading}
 use Rattle.phone_rules.specs.Verdicts.{is_too_short, verdict}
 use Rattle.phone_library.specs.LibraryCodes.{code_in}
 use Rattle.phone_library.specs.Kinds.{matches_whole}

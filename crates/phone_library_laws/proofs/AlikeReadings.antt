@@ -7,10 +7,10 @@ use Rattle.phone_chars.proofs.Norms.{norm_digits}
 use Rattle.phone_chars.specs.Characters.{is_digit}
 use Rattle.phone_chars.specs.Norm.{norm}
 use Rattle.phone_chars.specs.Viable.{IsViable}
-use Rattle.phone_core.specs.Numbers.{National}
-use Rattle.phone_core.specs.declared.country.Id.{Id}
-use Rattle.phone_core.specs.declared.error.ParseError.{ParseError}
-use Rattle.phone_core.specs.declared.reading.Reading.{Reading}
+use Rattle.phone_values.specs.Numbers.{National}
+use Rattle.phone_values.specs.declared.country.Id.{Id}
+use Rattle.phone_values.specs.declared.error.ParseError.{ParseError}
+use Rattle.phone_values.specs.declared.reading.Reading.{Reading}
 use Rattle.phone_library.specs.LibraryCodes.{code_in}
 use Rattle.phone_library.specs.Readings as second
 use Rattle.phone_library.specs.Readings.{ReadsByLibrary, after_code_if_any}

@@ -3,12 +3,12 @@ use Rattle.std.proofs.Common.{◌≡◌, inl, inr, ℕ, ◌≤◌, ◌==◌, ◌
 use Rattle.std.proofs.lemmas.Bool.{and_parts, cond-false, le-ltb, or_cases}
 use Rattle.std.specs.List.{find, list_any}
 use Rattle.std.specs.Option.{option_map_or}
-use Rattle.phone_core.specs.Numbers.{text_of}
-use Rattle.phone_core.specs.declared.kind.«Type».{«Type»}
-use Rattle.phone_core.specs.declared.kind.«Type».TheVariants as kind
-use Rattle.phone_core.specs.declared.reading.Reading.{Reading}
-use Rattle.phone_core.specs.declared.validator.Validation.{Validation}
-use Rattle.phone_core.specs.declared.validator.Validation.TheVariants.{IsPossible, IsPossibleLocalOnly, InvalidLength, TooLong, TooShort}
+use Rattle.phone_values.specs.Numbers.{text_of}
+use Rattle.phone_values.specs.declared.kind.«Type».{«Type»}
+use Rattle.phone_values.specs.declared.kind.«Type».TheVariants as kind
+use Rattle.phone_values.specs.declared.reading.Reading.{Reading}
+use Rattle.phone_values.specs.declared.validator.Validation.{Validation}
+use Rattle.phone_values.specs.declared.validator.Validation.TheVariants.{IsPossible, IsPossibleLocalOnly, InvalidLength, TooLong, TooShort}
 use Rattle.phone_rules.specs.Kinds.{is_known, tried_kinds}
 use Rattle.phone_rules.specs.Verdicts.{general_lengths, last_of, verdict_by, verdict_of}
 use Rattle.phone_library.specs.Facts.{is_valid_number, territory_of_number}

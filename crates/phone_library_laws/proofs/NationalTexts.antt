@@ -5,11 +5,11 @@ use Rattle.std.proofs.lemmas.List.{length-replicate}
 use Rattle.std.proofs.lemmas.Fmt.{decimal_digit, decimal_nonempty, first_decimal}
 use Rattle.std.specs.Fmt.{decimal}
 use Rattle.std.specs.List.{list_all}
-use Rattle.phone_core.proofs.Digits.{after_zeros}
-use Rattle.phone_core.specs.Nsn.{nsn}
-use Rattle.phone_core.specs.declared.error.ParseError.{ParseError}
-use Rattle.phone_core.specs.declared.error.ParseError.TheVariants.{TooLong, TooShortNsn}
-use Rattle.phone_core.specs.Numbers.{IsHeld, National, leading_zeros, national_with, number_in, text_of}
+use Rattle.phone_values.proofs.Digits.{after_zeros}
+use Rattle.phone_values.specs.Nsn.{nsn}
+use Rattle.phone_values.specs.declared.error.ParseError.{ParseError}
+use Rattle.phone_values.specs.declared.error.ParseError.TheVariants.{TooLong, TooShortNsn}
+use Rattle.phone_values.specs.Numbers.{IsHeld, National, leading_zeros, national_with, number_in, text_of}
 use Rattle.phone_library.specs.Readings.{national_number}
 use Rattle.phonenumber.proofs.BackCodes.{number_in-decimal}
 

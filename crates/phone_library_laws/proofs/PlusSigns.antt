@@ -7,7 +7,7 @@ use Rattle.std.proofs.lemmas.List.Sums.{AllPass-from_list_all}
 use Rattle.std.specs.List.{filter_map, find, list_all}
 use Rattle.std.specs.Option.{option_map_or}
 use Rattle.phone_chars.specs.Characters.{is_digit, is_in_run, is_one_of, key_letters, keypad}
-use Rattle.phone_core.proofs.Finds.{IfSome-find, IfSome-option_map, list_all-filter_map}
+use Rattle.phone_values.proofs.Finds.{IfSome-find, IfSome-option_map, list_all-filter_map}
 use Rattle.phone_library.specs.Kinds.{matches_whole}
 use Rattle.phone_library.specs.Lengths.{length_in, may_be_left}
 use Rattle.phone_library.specs.Stripping.{left_by_match, left_by_pattern, left_by_prefix, left_by_text, strip, stripped, untouched}

@@ -5,10 +5,10 @@ use Rattle.std.proofs.lemmas.List.Folds.{list_any-append}
 use Rattle.std.proofs.lemmas.List.Sorted.{IsPermutation-reverse, list_any-IsPermutation}
 use Rattle.std.specs.List.{find, list_any}
 use Rattle.std.specs.Option.{option_map_or}
-use Rattle.phone_core.specs.Numbers.{text_of}
-use Rattle.phone_core.specs.declared.kind.«Type».{«Type»}
-use Rattle.phone_core.specs.declared.kind.«Type».TheVariants as kind
-use Rattle.phone_core.specs.declared.reading.Reading.{Reading}
+use Rattle.phone_values.specs.Numbers.{text_of}
+use Rattle.phone_values.specs.declared.kind.«Type».{«Type»}
+use Rattle.phone_values.specs.declared.kind.«Type».TheVariants as kind
+use Rattle.phone_values.specs.declared.reading.Reading.{Reading}
 use Rattle.phone_rules.specs.Kinds.{is_known}
 use Rattle.phone_library.specs.Facts.{is_valid_number, kind_of_number, territory_of_number}
 use Rattle.phone_library.specs.Kinds.{has_digits, kind_in, territory_among}

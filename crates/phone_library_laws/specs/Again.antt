@@ -1,8 +1,8 @@
 -- Which numbers are read again from their E.164 text, and as what.
 use Rattle.std.specs.Prelude.{◌≡◌, ◌≤◌, true, List, length, None}
-use Rattle.phone_core.specs.Numbers.{IsHeld, text_of}
-use Rattle.phone_core.specs.declared.country.Source.TheVariants.{Plus}
-use Rattle.phone_core.specs.declared.reading.Reading.{Reading}
+use Rattle.phone_values.specs.Numbers.{IsHeld, text_of}
+use Rattle.phone_values.specs.declared.country.Source.TheVariants.{Plus}
+use Rattle.phone_values.specs.declared.reading.Reading.{Reading}
 use Rattle.phone_library.specs.Readings.{stripped}
 use Rattle.phone_library.specs.Stripping.{untouched}
 use Rattle.phone_meta.specs.CodeLookUps.{first_of, is_listed, is_prefix_free, territories}

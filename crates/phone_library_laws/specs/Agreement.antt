@@ -5,9 +5,9 @@ use Rattle.std.specs.Prelude.{None, Some, Ok}
 use Rattle.std.specs.Fmt.{decimal}
 use Rattle.std.specs.List.{list_all}
 use Rattle.phone_chars.specs.Characters.{is_digit}
-use Rattle.phone_core.specs.Numbers.{text_of}
-use Rattle.phone_core.specs.declared.country.Id.{Id}
-use Rattle.phone_core.specs.declared.reading.Reading.{Reading}
+use Rattle.phone_values.specs.Numbers.{text_of}
+use Rattle.phone_values.specs.declared.country.Id.{Id}
+use Rattle.phone_values.specs.declared.reading.Reading.{Reading}
 use Rattle.phone_library.specs.LibraryCodes.{code_in}
 use Rattle.phone_library.specs.Readings as second
 use Rattle.phone_library.specs.Stripping.{untouched}

@@ -1,8 +1,8 @@
 //! What is read, and that a number's E.164 text is read as the number.
 ghost use Rattle.std.specs.Prelude.{◌≡◌, ◌≤◌, ℕ, List, Option, Ok, chars, length, true};
-ghost use Rattle.phone_core.specs.Numbers.{IsHeld, text_of};
-ghost use Rattle.phone_core.specs.declared.country.Id.{Id};
-ghost use Rattle.phone_core.specs.declared.reading.Reading.{Reading};
+ghost use Rattle.phone_values.specs.Numbers.{IsHeld, text_of};
+ghost use Rattle.phone_values.specs.declared.country.Id.{Id};
+ghost use Rattle.phone_values.specs.declared.reading.Reading.{Reading};
 ghost use Rattle.phone_library.specs.Readings.{ReadsByLibrary};
 ghost use Rattle.phone_library_laws.specs.Again.{IsSettled, IsSettledIfRead, e164_reading};
 ghost use Rattle.phone_meta.specs.CodeLookUps.{is_listed};

@@ -1,9 +1,9 @@
 //! Where both readings, the first after the original and the second by libphonenumber's rules, are
 //! the same.
 ghost use Rattle.std.specs.Prelude.{◌≡◌, ℕ, List, Option, None, Result, chars, Bool};
-ghost use Rattle.phone_core.specs.declared.country.Id.{Id};
-ghost use Rattle.phone_core.specs.declared.error.ParseError.{ParseError};
-ghost use Rattle.phone_core.specs.declared.reading.Reading.{Reading};
+ghost use Rattle.phone_values.specs.declared.country.Id.{Id};
+ghost use Rattle.phone_values.specs.declared.error.ParseError.{ParseError};
+ghost use Rattle.phone_values.specs.declared.reading.Reading.{Reading};
 ghost use Rattle.phone_library.specs.Readings.{ReadsByLibrary};
 ghost use Rattle.phone_library_laws.specs.Agreement.{IsOwnNumber, IsReadAlike, IsSettledAlike};
 ghost use Rattle.phone_library_laws.specs.Agreement.{digits_text};

@@ -3,10 +3,10 @@ ghost use Rattle.std.specs.Prelude.{◌≡◌, ◌↔◌, List, Some, true, fals
 ghost use Rattle.std.specs.Prelude.{if◌then◌else◌, ◌==◌};
 ghost use Rattle.std.specs.List.{list_any};
 ghost use Rattle.std.specs.Option.{option_map_or};
-ghost use Rattle.phone_core.specs.Numbers.{text_of};
-ghost use Rattle.phone_core.specs.declared.kind.«Type».TheVariants as kind;
-ghost use Rattle.phone_core.specs.declared.reading.Reading.{Reading};
-ghost use Rattle.phone_core.specs.declared.validator.Validation.TheVariants as length_verdict;
+ghost use Rattle.phone_values.specs.Numbers.{text_of};
+ghost use Rattle.phone_values.specs.declared.kind.«Type».TheVariants as kind;
+ghost use Rattle.phone_values.specs.declared.reading.Reading.{Reading};
+ghost use Rattle.phone_values.specs.declared.validator.Validation.TheVariants as length_verdict;
 ghost use Rattle.phone_rules.specs.Verdicts.{general_lengths};
 ghost use Rattle.phone_library.specs.Facts.{is_valid_number, kind_of_number, territory_of_number};
 ghost use Rattle.phone_library.specs.Kinds.{kind_in};

@@ -1,10 +1,10 @@
 //! That each text has one reading, and what a plus sign does for it.
 ghost use Rattle.std.specs.Prelude.{◌≡◌, ◌⊎◌, ℕ, List, Option, None, Result, Ok, Err};
 ghost use Rattle.std.specs.Prelude.{true, false};
-ghost use Rattle.phone_core.specs.declared.country.Id.{Id};
-ghost use Rattle.phone_core.specs.declared.error.ParseError.{ParseError};
-ghost use Rattle.phone_core.specs.declared.error.ParseError.TheVariants as refusal;
-ghost use Rattle.phone_core.specs.declared.reading.Reading.{Reading};
+ghost use Rattle.phone_values.specs.declared.country.Id.{Id};
+ghost use Rattle.phone_values.specs.declared.error.ParseError.{ParseError};
+ghost use Rattle.phone_values.specs.declared.error.ParseError.TheVariants as refusal;
+ghost use Rattle.phone_values.specs.declared.reading.Reading.{Reading};
 ghost use Rattle.phone_library.specs.Readings.{ReadsByLibrary, reading_under};
 ghost use Rattle.phone_library_laws.specs.Signs.{is_told_by_sign, without_sign};
 ghost use Rattle.phone_library_text.specs.Written.{IsWritten};

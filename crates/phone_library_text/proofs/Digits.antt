@@ -16,8 +16,8 @@ use Rattle.ucd_category.specs.declared.GeneralCategory.TheVariants.{DecimalNumbe
 use Rattle.ucd_table.proofs.Facts.{Stepped-below, Stepped-everywhere, same_from_beq}
 use Rattle.ucd_table.proofs.Stepped.{Stepped, of_ranges, zip_stepped}
 use Rattle.ucd_table.specs.Rows as table
-use Rattle.phone_core.proofs.Finds.{IfSome-find, IfSome-option_map, list_all-filter_map}
-use Rattle.phone_core.proofs.ReadBack.{all_digits}
+use Rattle.phone_values.proofs.Finds.{IfSome-find, IfSome-option_map, list_all-filter_map}
+use Rattle.phone_values.proofs.ReadBack.{all_digits}
 use Rattle.phone_chars.specs.Characters.{is_alpha, is_digit, is_in_run, is_nd, is_one_of, is_plus, key_letters, keypad}
 use Rattle.phone_chars.specs.Cuts.{after_front}
 use Rattle.phone_parts.proofs.Endings.{member_passes}

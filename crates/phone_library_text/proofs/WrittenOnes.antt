@@ -2,7 +2,7 @@
 use Rattle.std.proofs.Common.{◌≡◌, ◌⊎◌, inl, inr, ℕ, ◌≤◌, ◌<◌, ◌++◌, List, Option, Some, None, option_map, encode_utf8_all, Bool, false, IsTrue, ◌↔◌, Result, Ok, length, refl, ap, ap₂, sym, subst, ◌∙◌, arith, true≢false}
 use Rattle.std.proofs.lemmas.Bool.{cases_lt}
 use Rattle.phone_chars.specs.Characters.{is_plus}
-use Rattle.phone_core.specs.declared.error.ParseError.{ParseError}
+use Rattle.phone_values.specs.declared.error.ParseError.{ParseError}
 use Rattle.phone_parts.specs.Texts.{begins}
 use Rattle.phone_parts.proofs.Cores.{core_unique}
 use Rattle.phone_library_text.specs.Contexts.{IsContext}

@@ -4,8 +4,8 @@ use Rattle.std.proofs.lemmas.Bool.{cases_lt}
 use Rattle.std.specs.List.{list_all, list_any}
 use Rattle.phone_chars.specs.Characters.{is_nd, is_plus}
 use Rattle.phone_chars.specs.Cuts.{after_front}
-use Rattle.phone_core.specs.declared.error.ParseError.{ParseError}
-use Rattle.phone_core.specs.declared.error.ParseError.TheVariants.{NoNumber, TooLong}
+use Rattle.phone_values.specs.declared.error.ParseError.{ParseError}
+use Rattle.phone_values.specs.declared.error.ParseError.TheVariants.{NoNumber, TooLong}
 use Rattle.phone_parts.specs.Cores.{IsBeforeSecondNumber, IsCore, IsTrimmed, begins_second_number, is_last, is_start}
 use Rattle.phone_parts.specs.Suffixes.{IsFew, IsOptional, is_dash, is_gap, is_lead, is_mark, is_sign}
 use Rattle.phone_parts.specs.Texts.{begins}

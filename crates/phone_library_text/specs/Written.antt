@@ -2,8 +2,8 @@
 use Rattle.std.specs.Prelude.{ℕ, ◌≤◌, ◌<◌, List, length, Option, None, Some, option_map, Result, Ok}
 use Rattle.std.specs.Prelude.{Err, encode_utf8_all}
 use Rattle.phone_chars.specs.Characters.{is_plus}
-use Rattle.phone_core.specs.declared.error.ParseError.{ParseError}
-use Rattle.phone_core.specs.declared.error.ParseError.TheVariants.{NoNumber, TooLong}
+use Rattle.phone_values.specs.declared.error.ParseError.{ParseError}
+use Rattle.phone_values.specs.declared.error.ParseError.TheVariants.{NoNumber, TooLong}
 use Rattle.phone_parts.specs.Texts.{begins}
 use Rattle.phone_library_text.specs.Letters.{digits_in}
 use Rattle.phone_library_text.specs.NumberTexts.{HasNumberText}

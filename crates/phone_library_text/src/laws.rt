@@ -3,7 +3,7 @@
 ghost use Rattle.std.specs.Prelude.{◌≡◌, ◌≤◌, ◌∷◌, ℕ, List, length, Result, Ok, None, true, false};
 ghost use Rattle.std.specs.List.{list_all, list_any};
 ghost use Rattle.phone_chars.specs.Characters.{is_digit, is_in_run, is_nd};
-ghost use Rattle.phone_core.specs.declared.error.ParseError.{ParseError};
+ghost use Rattle.phone_values.specs.declared.error.ParseError.{ParseError};
 ghost use Rattle.phone_library_text.specs.Letters.{zeros};
 ghost use Rattle.phone_library_text.specs.Written.{IsWritten, most_characters};
 ghost use Rattle.phone_library_text.specs.declared.written.WrittenNumber.{WrittenNumber};

@@ -12,7 +12,7 @@ use crate::number_text::number_text;
 use crate::viable::{is_viable, split_extension};
 use phone_chars::chars::is_plus;
 use phone_chars::cuts::split_first;
-use phone_core::{Extension, ParseError};
+use phone_values::{Extension, ParseError};
 use phone_base::Text;
 use phone_base::together::{both, instead};
 use std::alloc::Global;

@@ -3,10 +3,10 @@ use Rattle.std.specs.Prelude.{◌==◌, ◌||◌, ℕ, Bool, true, false, List, 
 use Rattle.std.specs.Prelude.{None}
 use Rattle.std.specs.Borrow.{Bor}
 use Rattle.std.specs.Fmt.{decimal}
-use Rattle.phone_core.specs.Numbers.{text_of}
-use Rattle.phone_core.specs.declared.kind.«Type».{«Type»}
-use Rattle.phone_core.specs.declared.kind.«Type».TheVariants as kind
-use Rattle.phone_core.specs.declared.reading.Reading.{Reading}
+use Rattle.phone_values.specs.Numbers.{text_of}
+use Rattle.phone_values.specs.declared.kind.«Type».{«Type»}
+use Rattle.phone_values.specs.declared.kind.«Type».TheVariants as kind
+use Rattle.phone_values.specs.declared.reading.Reading.{Reading}
 use Rattle.phone_maps.specs.declared.maps.Owner.{Owner}
 use Rattle.phone_maps.specs.declared.maps.Owner.TheVariants as owner
 use Rattle.phone_prefixes.specs.Tables.{Entry, IsLongest, NoneBegins}

@@ -2,7 +2,7 @@
 ghost use Rattle.std.specs.Prelude.{◌≡◌};
 ghost use Rattle.phone_maps.specs.Maps.{has_carrier, is_geographical};
 
-use phone_core::Type;
+use phone_values::Type;
 
 /// Whether numbers of this kind belong to a place in their country: numbers of fixed lines, those
 /// that may be of one, and mobile numbers of the calling codes whose mobile numbers do.

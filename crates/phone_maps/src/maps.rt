@@ -3,12 +3,12 @@ ghost use Rattle.std.specs.Prelude.{◌≡◌, ◌&&◌, ◌||◌, ◌≢◌, fa
 ghost use Rattle.std.specs.Fmt.{decimal};
 ghost use Rattle.phone_maps.specs.Maps.{code_digits, digits_of, has_carrier, is_first};
 ghost use Rattle.phone_maps.specs.Maps.{is_geographical, IsTextOf};
-ghost use Rattle.phone_core.specs.declared.kind.«Type».TheVariants.{Unknown};
+ghost use Rattle.phone_values.specs.declared.kind.«Type».TheVariants.{Unknown};
 
 use crate::digits::digits_of;
 use crate::kinds::{has_carrier, is_geographical};
 use itoa::Buffer;
-use phone_core::Type;
+use phone_values::Type;
 use phone_prefixes::Prefixes;
 use phonenumber::PhoneNumber;
 use std::alloc::{AllocError, Global};

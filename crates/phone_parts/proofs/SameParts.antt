@@ -7,7 +7,7 @@ use Rattle.std.specs.Cow.{cow_str_bytes}
 use Rattle.std.specs.Option.{option_eq}
 use Rattle.std.specs.declared.borrow.CowStr.{CowStr}
 use denote.Enum.Bare.{sameb, same_true, true_same}
-use Rattle.phone_core.specs.contracts.country.Source.{the_type}
+use Rattle.phone_values.specs.contracts.country.Source.{the_type}
 use Rattle.phone_parts.specs.Parts.{HasSameParts}
 use Rattle.phone_parts.specs.declared.number.Number.{Number}
 

@@ -1,7 +1,7 @@
 //! The reader of free text.
 ghost use Rattle.std.specs.Prelude.{◌≡◌, ℕ, List, None, Some, Err, IfOk, chars};
 ghost use Rattle.std.specs.Result.{result_map_both};
-ghost use Rattle.phone_core.specs.declared.country.Source.TheVariants.{Default};
+ghost use Rattle.phone_values.specs.declared.country.Source.TheVariants.{Default};
 ghost use Rattle.phone_parts.specs.Naturals.{IsNatural};
 ghost use Rattle.phone_parts.specs.Parts.{AreLent, IsSlice, parts_of};
 ghost use Rattle.phone_parts.specs.declared.natural.NoReading.TheVariants.{Failure};

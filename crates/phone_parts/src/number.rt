@@ -1,10 +1,10 @@
 //! A number between its text and its reading: its parts, each a text.
 ghost use Rattle.std.specs.Prelude.{◌≡◌, ◌↔◌, None, IsTrue, IfOk, option_map};
 ghost use Rattle.std.specs.Cow.{cow_str_bytes, IsBorrowedStr};
-ghost use Rattle.phone_core.specs.declared.country.Source.TheVariants.{Default};
+ghost use Rattle.phone_values.specs.declared.country.Source.TheVariants.{Default};
 ghost use Rattle.phone_parts.specs.Parts.{HasSameParts};
 
-use phone_core::country::Source;
+use phone_values::country::Source;
 use std::alloc::AllocError;
 use std::borrow::CowStr;
 

@@ -1,6 +1,6 @@
 //! What is read in a text before its calling code is looked for.
 ghost use Rattle.std.specs.Prelude.{◌≡◌, None, IfSome, chars, option_map};
-ghost use Rattle.phone_core.specs.declared.country.Source.TheVariants.{Default};
+ghost use Rattle.phone_values.specs.declared.country.Source.TheVariants.{Default};
 ghost use Rattle.phone_parts.specs.Parts.{AreLent, parts_of};
 ghost use Rattle.phone_parts.specs.Readers.{HasParts};
 

@@ -2,7 +2,7 @@
 ghost use Rattle.std.specs.Prelude.{◌≡◌, ◌==◌, ℕ, List, ◌++◌, Option, None, Some, MatchOption};
 ghost use Rattle.std.specs.Prelude.{IfSome, codes, chars, unwrap_or, option_copied, option_map};
 ghost use Rattle.std.specs.Prelude.{true, IsTrue, ◌↔◌, ◌⊎◌, []};
-ghost use Rattle.phone_core.specs.declared.country.Source.TheVariants.{Default};
+ghost use Rattle.phone_values.specs.declared.country.Source.TheVariants.{Default};
 ghost use Rattle.phone_parts.specs.Parts.{IsSlice, IsLent, AreLent, parts_of};
 ghost use Rattle.phone_parts.specs.Parts.{Parts};
 ghost use Rattle.phone_parts.specs.Tel.{IsTel, IsSignedRun, without_plus};
@@ -15,8 +15,8 @@ use crate::fronts::{begins_with, is_nothing, strip_char, strip_like};
 use crate::number::Number;
 use crate::parameters::read_parameters;
 use phone_chars::cuts::{CharSet, split_run};
-use phone_core::consts::RFC3966_PREFIX;
-use phone_core::country::Source;
+use phone_values::consts::RFC3966_PREFIX;
+use phone_values::country::Source;
 use std::borrow::CowStr;
 
 /// What may stand between a plus sign and the national part.

@@ -5,12 +5,12 @@ use Rattle.std.proofs.Common.{append_assoc, encode_utf8, refl, sym, ap, apâ‚‚, â
 use Rattle.std.specs.Prelude.{unwrap_or}
 use Rattle.std.specs.Fmt.{decimal}
 use Rattle.std.specs.Option.{option_map_or, option_or}
-use Rattle.phone_core.specs.Numbers.{text_of}
-use Rattle.phone_core.specs.declared.mode.Mode.{Mode}
-use Rattle.phone_core.specs.declared.mode.Mode.TheVariants.{International, National, Rfc3966}
+use Rattle.phone_values.specs.Numbers.{text_of}
+use Rattle.phone_values.specs.declared.mode.Mode.{Mode}
+use Rattle.phone_values.specs.declared.mode.Mode.TheVariants.{International, National, Rfc3966}
 use Rattle.phone_territory.specs.Layouts.{laid_by, layout_template, national_template, suits}
 use Rattle.phone_pattern.specs.Rules.{ruled_template}
-use Rattle.phone_core.specs.declared.reading.Reading.{Reading}
+use Rattle.phone_values.specs.declared.reading.Reading.{Reading}
 use Rattle.phone_records.specs.declared.loader.Format.{Format}
 use Rattle.phone_records.specs.declared.loader.Metadata.{Metadata}
 use Rattle.phone_print.specs.Layouts.{laid, layout_for, or_else}

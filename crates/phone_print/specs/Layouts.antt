@@ -3,8 +3,9 @@
 use Rattle.std.specs.Prelude.{ℕ, List, [], ◌∷◌, Option, None, Some}
 use Rattle.std.specs.List.{find}
 use Rattle.std.specs.Option.{option_or}
-use Rattle.phone_core.specs.declared.mode.Mode.{Mode}
-use Rattle.phone_core.specs.declared.mode.Mode.TheVariants.{E164, International, National, Rfc3966}
+use Rattle.phone_values.specs.declared.mode.Mode.{Mode}
+use Rattle.phone_values.specs.declared.mode.Mode.TheVariants.{E164, International, National}
+use Rattle.phone_values.specs.declared.mode.Mode.TheVariants.{Rfc3966}
 use Rattle.phone_territory.specs.Layouts.{laid_by, layout_template, national_template, suits}
 use Rattle.phone_records.specs.declared.loader.Format.{Format}
 use Rattle.phone_records.specs.declared.loader.Metadata.{Metadata}

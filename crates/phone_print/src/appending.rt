@@ -8,7 +8,7 @@ ghost use Rattle.phone_print.specs.Texts.{extension_parameter, extension_part, h
 
 use crate::Printable;
 use crate::hyphens::push_hyphenated;
-use phone_core::consts::{DEFAULT_EXTN_PREFIX, RFC3966_EXTN_PREFIX, RFC3966_PREFIX};
+use phone_values::consts::{DEFAULT_EXTN_PREFIX, RFC3966_EXTN_PREFIX, RFC3966_PREFIX};
 use phone_territory::Metadata;
 use std::alloc::AllocError;
 

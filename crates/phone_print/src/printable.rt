@@ -2,8 +2,8 @@
 ghost use Rattle.std.specs.Prelude.{◌≡◌};
 ghost use Rattle.std.specs.Option.{option_copied};
 
-use phone_core::country::Code;
-use phone_core::{Carrier, Extension, NationalNumber};
+use phone_values::country::Code;
+use phone_values::{Carrier, Extension, NationalNumber};
 use std::fmt;
 use std::marker::Model;
 
@@ -18,7 +18,7 @@ pub struct Printable<'n> {
 
 impl<'n> Model for Printable<'n> {
     ghost use Rattle.std.specs.Option.{option_copied};
-    ghost use Rattle.phone_core.specs.declared.reading.Reading.{Reading};
+    ghost use Rattle.phone_values.specs.declared.reading.Reading.{Reading};
 
     ghost Value = { Reading };
 

@@ -3,7 +3,7 @@ use Rattle.std.proofs.Common.{◌≡◌, ℕ, Bool, refl, ◌&&◌, not, true, f
 use Rattle.std.proofs.Math.Seq.{drop-append_seam}
 use Rattle.std.proofs.lemmas.Bool.{and_from, cond-true, cond-false}
 use Rattle.std.specs.Fmt.{decimal}
-use Rattle.phone_core.specs.declared.country.Source.TheVariants.{Number, Default}
+use Rattle.phone_values.specs.declared.country.Source.TheVariants.{Number, Default}
 use Rattle.phone_records.specs.declared.loader.Metadata.{Metadata}
 use Rattle.phone_territory.specs.Records.{code_of}
 use Rattle.phone_read.specs.Hints.{code_by_hint, looks_national}

@@ -1,8 +1,8 @@
 -- What is lent, and what is answered without memory, told of the number that a step began with.
 use Rattle.std.proofs.Common.{◌≡◌, ◌⊎◌, inl, inr, ⊎_elim, false, Option, None, List, ℕ, Result, Err, IfErr, IfSome, ap, ◌∙◌}
 use Rattle.std.specs.Cow.{IsBorrowedStr}
-use Rattle.phone_core.specs.declared.country.Id.{Id}
-use Rattle.phone_core.specs.declared.error.ParseError.{ParseError}
+use Rattle.phone_values.specs.declared.country.Id.{Id}
+use Rattle.phone_values.specs.declared.error.ParseError.{ParseError}
 use Rattle.phone_records.specs.declared.loader.Metadata.{Metadata}
 use Rattle.phone_parts.specs.Parts.{parts_of}
 use Rattle.phone_parts.specs.declared.number.Number.{Number as Parts}

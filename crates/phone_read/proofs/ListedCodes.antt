@@ -4,14 +4,14 @@ use Rattle.std.proofs.lemmas.Bool.{eq-eqb, or_left, or_right}
 use Rattle.std.specs.Fmt.{decimal}
 use Rattle.std.specs.List.{list_any}
 use Rattle.std.specs.Option.{option_or, option_map_or}
-use Rattle.phone_core.specs.Ids.{name}
+use Rattle.phone_values.specs.Ids.{name}
 use Rattle.phone_chars.specs.Norm.{norm}
-use Rattle.phone_core.specs.Numbers.{number_in}
-use Rattle.phone_core.specs.declared.country.Id.{Id}
-use Rattle.phone_core.specs.declared.country.Source.{Source}
-use Rattle.phone_core.specs.declared.country.Source.TheVariants.{Plus, Idd, Number, Default}
-use Rattle.phone_core.specs.declared.error.ParseError.{ParseError}
-use Rattle.phone_core.specs.declared.error.ParseError.TheVariants.{InvalidCountryCode, MalformedInteger, TooShortNsn}
+use Rattle.phone_values.specs.Numbers.{number_in}
+use Rattle.phone_values.specs.declared.country.Id.{Id}
+use Rattle.phone_values.specs.declared.country.Source.{Source}
+use Rattle.phone_values.specs.declared.country.Source.TheVariants.{Plus, Idd, Number, Default}
+use Rattle.phone_values.specs.declared.error.ParseError.{ParseError}
+use Rattle.phone_values.specs.declared.error.ParseError.TheVariants.{InvalidCountryCode, MalformedInteger, TooShortNsn}
 use Rattle.phone_meta.specs.CodeLookUps.{is_listed, shortest}
 use Rattle.phone_territory.specs.Records.{code_of}
 use Rattle.phone_meta.specs.Records.{has_code, has_id, last_where}

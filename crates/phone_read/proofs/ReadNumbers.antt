@@ -18,18 +18,18 @@ use Rattle.regex.specs.Replace.{bytes_of}
 use Rattle.regex.specs.Templates.{at_dollar, group_called, name_at, text_or_nothing, written_after}
 use Rattle.phone_chars.specs.Characters.{is_digit, is_plus}
 use Rattle.phone_chars.specs.Cuts.{after_front}
-use Rattle.phone_core.specs.Ids.{name}
+use Rattle.phone_values.specs.Ids.{name}
 use Rattle.phone_chars.specs.Norm.{norm}
-use Rattle.phone_core.specs.Nsn.{nsn}
-use Rattle.phone_core.specs.Numbers.{National, leading_zeros, national_in, national_with, number_in, text_of}
-use Rattle.phone_core.specs.declared.country.Id.{Id}
-use Rattle.phone_core.specs.declared.country.Source.{Source}
-use Rattle.phone_core.specs.declared.country.Source.TheVariants.{Plus, Idd, Number, Default}
-use Rattle.phone_core.specs.declared.error.ParseError.{ParseError}
-use Rattle.phone_core.specs.declared.error.ParseError.TheVariants.{InvalidCountryCode, MalformedInteger, TooLong, TooShortNsn}
-use Rattle.phone_core.proofs.Finds.{IfSome-option_or}
+use Rattle.phone_values.specs.Nsn.{nsn}
+use Rattle.phone_values.specs.Numbers.{National, leading_zeros, national_in, national_with, number_in, text_of}
+use Rattle.phone_values.specs.declared.country.Id.{Id}
+use Rattle.phone_values.specs.declared.country.Source.{Source}
+use Rattle.phone_values.specs.declared.country.Source.TheVariants.{Plus, Idd, Number, Default}
+use Rattle.phone_values.specs.declared.error.ParseError.{ParseError}
+use Rattle.phone_values.specs.declared.error.ParseError.TheVariants.{InvalidCountryCode, MalformedInteger, TooLong, TooShortNsn}
+use Rattle.phone_values.proofs.Finds.{IfSome-option_or}
 use Rattle.phone_chars.proofs.Norms.{list_all-norm}
-use Rattle.phone_core.proofs.ReadBack.{after_zeros_of}
+use Rattle.phone_values.proofs.ReadBack.{after_zeros_of}
 use Rattle.phone_meta.specs.CodeLookUps.{first_of, is_listed, is_main_of, is_other_of, shortest, territories}
 use Rattle.phone_territory.specs.First.{Captured, Seen, captured, first_match, group_in, names_in, replaced, with_first_replaced}
 use Rattle.phone_territory.specs.Records.{code_of as code_of_territory}
@@ -47,7 +47,7 @@ use Rattle.phone_read.specs.Regions.{home, region_of, territory_of}
 use Rattle.phone_rules.specs.Strips.{Cut, Stripped, anew, by_match, held, left_by, off_prefix, stay, step, strip, stripped}
 use Rattle.phone_read.specs.TransformRules.{rules_have_no_plus}
 use Rattle.phone_rules.specs.Verdicts.{is_too_short, verdict}
-use Rattle.phone_core.specs.declared.reading.Reading.{Reading}
+use Rattle.phone_values.specs.declared.reading.Reading.{Reading}
 use Rattle.phone_read.proofs.ListedCodes.{code_of-listed}
 use Rattle.phone_read.proofs.ListedFronts.{listed_none}
 

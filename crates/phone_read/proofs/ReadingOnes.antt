@@ -1,7 +1,7 @@
 -- Each text has at most one reading, under each database and hint.
 use Rattle.std.proofs.Common.{◌≡◌, ℕ, List, Option, None, Some, Result, refl, subst}
-use Rattle.phone_core.specs.declared.country.Id.{Id}
-use Rattle.phone_core.specs.declared.error.ParseError.{ParseError}
+use Rattle.phone_values.specs.declared.country.Id.{Id}
+use Rattle.phone_values.specs.declared.error.ParseError.{ParseError}
 use Rattle.phone_chars.specs.Viable.{IsViable}
 use Rattle.phone_records.specs.declared.loader.Metadata.{Metadata}
 use Rattle.phone_read.specs.Readings
@@ -9,7 +9,7 @@ use Rattle.phone_read.specs.Readings.{Reads, stripping_territory}
 use Rattle.phone_rules.specs.Strips.{stripped}
 use Rattle.phone_parts.specs.Parts.{Parts}
 use Rattle.phone_parts.specs.Readers.{HasParts}
-use Rattle.phone_core.specs.declared.reading.Reading.{Reading}
+use Rattle.phone_values.specs.declared.reading.Reading.{Reading}
 use Rattle.phone_parts.proofs.OneParts.{parts_same}
 
 -- the national parts of one text are one

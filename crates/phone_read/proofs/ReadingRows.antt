@@ -5,10 +5,10 @@ use Rattle.std.specs.Fmt.{decimal}
 use Rattle.ucd_case.proofs.Computing.{ucd_case}
 use Rattle.ucd_category.proofs.Computing.{ucd_category}
 use Rattle.phone_chars.specs.Viable.{IsViable}
-use Rattle.phone_core.specs.Ids.{name}
-use Rattle.phone_core.specs.declared.country.Id.TheVariants.{NZ}
-use Rattle.phone_core.specs.declared.country.Source.{Source}
-use Rattle.phone_core.specs.declared.country.Source.TheVariants.{Plus, Default}
+use Rattle.phone_values.specs.Ids.{name}
+use Rattle.phone_values.specs.declared.country.Id.TheVariants.{NZ}
+use Rattle.phone_values.specs.declared.country.Source.{Source}
+use Rattle.phone_values.specs.declared.country.Source.TheVariants.{Plus, Default}
 use Rattle.phone_chars.proofs.Signed.{signed_of_walk}
 use Rattle.phone_read.specs.CallingCodes.{code_of}
 use Rattle.phone_read.specs.Hints.{Coded}
@@ -21,7 +21,7 @@ use Rattle.phone_read.specs.Samples.{nz}
 use Rattle.phone_parts.specs.Tel
 use Rattle.phone_parts.specs.Tel.{IsTel}
 use Rattle.phone_parts.specs.Texts.{begins}
-use Rattle.phone_core.specs.declared.reading.Reading.{Reading}
+use Rattle.phone_values.specs.declared.reading.Reading.{Reading}
 use Rattle.phone_parts.proofs.CoreRows.{no_mark}
 use Rattle.phone_read.proofs.HintCodes.{code_by_hint-other}
 use Rattle.phone_parts.proofs.NaturalRows.{plain_of}

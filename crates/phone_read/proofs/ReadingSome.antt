@@ -2,9 +2,9 @@
 use Rattle.std.proofs.Common.{◌≡◌, ◌↔◌, Bool, true, false, IsTrue, List, ℕ, Option, option_map, Some, Result, Ok, Err, refl, true≢false, sym}
 use Rattle.phone_chars.specs.Norm.{norm}
 use Rattle.phone_chars.specs.Viable.{IsViable}
-use Rattle.phone_core.specs.declared.country.Id.{Id}
-use Rattle.phone_core.specs.declared.error.ParseError.{ParseError}
-use Rattle.phone_core.specs.declared.error.ParseError.TheVariants.{NoNumber}
+use Rattle.phone_values.specs.declared.country.Id.{Id}
+use Rattle.phone_values.specs.declared.error.ParseError.{ParseError}
+use Rattle.phone_values.specs.declared.error.ParseError.TheVariants.{NoNumber}
 use Rattle.phone_records.specs.declared.loader.Metadata.{Metadata}
 use Rattle.phone_read.specs.CallingCodes.{code_of}
 use Rattle.phone_read.specs.Hints.{Coded}
@@ -14,7 +14,7 @@ use Rattle.phone_read.specs.Readings
 use Rattle.phone_read.specs.Readings.{Reads, stripping_territory}
 use Rattle.phone_rules.specs.Strips.{stripped}
 use Rattle.phone_parts.specs.Parts.{Parts}
-use Rattle.phone_core.specs.declared.reading.Reading.{Reading}
+use Rattle.phone_values.specs.declared.reading.Reading.{Reading}
 
 pub some_of_parts : (db : List Metadata) (hint : Option Id) (t : List ℕ) (p : Parts) → HasParts t (Some p) → (viable : Bool) →
     (IsTrue viable ↔ IsViable p.national) → (r : Result Reading ParseError) × Reads db hint t r

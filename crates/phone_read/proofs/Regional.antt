@@ -8,9 +8,9 @@ use Rattle.std.specs.Option.{option_and_then, option_or}
 use Rattle.std.specs.Str.{bytes_eq}
 use Rattle.either.specs.declared.Either.{Either}
 use Rattle.either.specs.declared.Either.TheVariants.{Left, Right}
-use Rattle.phone_core.specs.Ids as ids
-use Rattle.phone_core.specs.declared.country.Id.{Id}
-use Rattle.phone_core.proofs.Texts.{name-id_of}
+use Rattle.phone_values.specs.Ids as ids
+use Rattle.phone_values.specs.declared.country.Id.{Id}
+use Rattle.phone_values.proofs.Texts.{name-id_of}
 use Rattle.phone_meta.proofs.CodeLemmas.{filter-filter, map-reverse}
 use Rattle.phone_meta.specs.CodeLookUps.{first_of, is_main_of, is_other_of, regions, territories}
 use Rattle.phone_meta.specs.Lasts.{with_last}

@@ -7,13 +7,13 @@ use Rattle.std.specs.Cow.{cow_str_bytes}
 use Rattle.std.specs.Option.{option_and_then, option_map_or}
 use Rattle.std.specs.Fmt.{decimal}
 use Rattle.phone_chars.specs.Norm.{norm}
-use Rattle.phone_core.specs.Numbers.{number_in}
-use Rattle.phone_core.specs.declared.country.Id.{Id}
-use Rattle.phone_core.specs.declared.country.Source.{Source}
-use Rattle.phone_core.specs.declared.country.Source.TheVariants.{Plus, Default}
-use Rattle.phone_core.specs.declared.error.ParseError.{ParseError}
-use Rattle.phone_core.specs.declared.error.ParseError.TheVariants.{InvalidCountryCode}
-use Rattle.phone_core.specs.declared.error.ParseError.TheVariants.{MalformedInteger, TooShortNsn}
+use Rattle.phone_values.specs.Numbers.{number_in}
+use Rattle.phone_values.specs.declared.country.Id.{Id}
+use Rattle.phone_values.specs.declared.country.Source.{Source}
+use Rattle.phone_values.specs.declared.country.Source.TheVariants.{Plus, Default}
+use Rattle.phone_values.specs.declared.error.ParseError.{ParseError}
+use Rattle.phone_values.specs.declared.error.ParseError.TheVariants.{InvalidCountryCode}
+use Rattle.phone_values.specs.declared.error.ParseError.TheVariants.{MalformedInteger, TooShortNsn}
 use Rattle.phone_meta.specs.CodeLookUps.{is_listed, shortest}
 use Rattle.phone_records.specs.declared.loader.Metadata.{Metadata}
 use Rattle.phone_parts.specs.declared.number.Number.{Number as Parts}

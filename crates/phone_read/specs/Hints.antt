@@ -3,11 +3,11 @@
 use Rattle.std.specs.Prelude.{ℕ, ◌&&◌, not, Bool, if◌then◌else◌, List, length, drop, Option}
 use Rattle.std.specs.Option.{option_and_then}
 use Rattle.std.specs.Fmt.{decimal}
-use Rattle.phone_core.specs.Ids.{name}
-use Rattle.phone_core.specs.Validations.{is_possible}
-use Rattle.phone_core.specs.declared.country.Id.{Id}
-use Rattle.phone_core.specs.declared.country.Source.{Source}
-use Rattle.phone_core.specs.declared.country.Source.TheVariants.{Number, Default}
+use Rattle.phone_values.specs.Ids.{name}
+use Rattle.phone_values.specs.Validations.{is_possible}
+use Rattle.phone_values.specs.declared.country.Id.{Id}
+use Rattle.phone_values.specs.declared.country.Source.{Source}
+use Rattle.phone_values.specs.declared.country.Source.TheVariants.{Number, Default}
 use Rattle.phone_territory.specs.Records.{code_of}
 use Rattle.phone_meta.specs.Records.{last_with}
 use Rattle.phone_records.specs.declared.loader.Metadata.{Metadata}

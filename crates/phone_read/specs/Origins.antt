@@ -2,7 +2,7 @@
 use Rattle.std.specs.Prelude.{ℕ, Option}
 use Rattle.std.specs.Option.{option_copied}
 use Rattle.either.specs.declared.Either.{Either}
-use Rattle.phone_core.specs.declared.country.Id.{Id}
+use Rattle.phone_values.specs.declared.country.Id.{Id}
 use Rattle.phone_read.specs.declared.validator.Origin.{Origin}
 use Rattle.phone_records.specs.declared.loader.Metadata.{Metadata}
 

@@ -3,9 +3,9 @@ use Rattle.std.specs.Prelude.{◌≡◌, ℕ, ◌==◌, List, Option, None, Some
 use Rattle.phone_chars.specs.Norm.{norm}
 use Rattle.phone_chars.specs.Cuts.{after_front}
 use Rattle.phone_chars.specs.Viable.{IsViable}
-use Rattle.phone_core.specs.declared.country.Id.{Id}
-use Rattle.phone_core.specs.declared.error.ParseError.{ParseError}
-use Rattle.phone_core.specs.declared.error.ParseError.TheVariants.{NoNumber}
+use Rattle.phone_values.specs.declared.country.Id.{Id}
+use Rattle.phone_values.specs.declared.error.ParseError.{ParseError}
+use Rattle.phone_values.specs.declared.error.ParseError.TheVariants.{NoNumber}
 use Rattle.phone_records.specs.declared.loader.Metadata.{Metadata}
 use Rattle.phone_parts.specs.Parts.{Parts}
 use Rattle.phone_parts.specs.Readers.{HasParts}
@@ -14,7 +14,7 @@ use Rattle.phone_read.specs.Hints.{Coded, hinted}
 use Rattle.phone_read.specs.Numbering.{reading_of}
 use Rattle.phone_read.specs.Regions.{home}
 use Rattle.phone_rules.specs.Strips.{stripped}
-use Rattle.phone_core.specs.declared.reading.Reading.{Reading}
+use Rattle.phone_values.specs.declared.reading.Reading.{Reading}
 
 -- digits without their leading zeros
 abbrev pub without_zeros : List ℕ → List ℕ

@@ -6,8 +6,8 @@ use Rattle.std.specs.Option.{option_and_then, option_map_or}
 use Rattle.std.specs.Str.{bytes_eq}
 use Rattle.either.specs.declared.Either.{Either}
 use Rattle.either.specs.declared.Either.TheVariants.{Left, Right}
-use Rattle.phone_core.specs.Ids.{name, id_of}
-use Rattle.phone_core.specs.declared.country.Id.{Id}
+use Rattle.phone_values.specs.Ids.{name, id_of}
+use Rattle.phone_values.specs.declared.country.Id.{Id}
 use Rattle.phone_rules.specs.Kinds.{belongs_to}
 use Rattle.phone_meta.specs.CodeLookUps.{first_of, regions, territories}
 use Rattle.phone_meta.specs.Records.{last_with}

@@ -1,9 +1,9 @@
 -- What is answered without asking for memory, where the calling code of a number is looked for.
 use Rattle.std.specs.Prelude.{◌≡◌, true, List, Option, None, Result, Err, IfErr}
 use Rattle.std.specs.Cow.{IsBorrowedStr}
-use Rattle.phone_core.specs.declared.country.Id.{Id}
-use Rattle.phone_core.specs.declared.error.ParseError.{ParseError}
-use Rattle.phone_core.specs.declared.error.ParseError.TheVariants.{Memory}
+use Rattle.phone_values.specs.declared.country.Id.{Id}
+use Rattle.phone_values.specs.declared.error.ParseError.{ParseError}
+use Rattle.phone_values.specs.declared.error.ParseError.TheVariants.{Memory}
 use Rattle.phone_records.specs.declared.loader.Metadata.{Metadata}
 use Rattle.phone_parts.specs.Parts.{parts_of}
 use Rattle.phone_parts.specs.declared.number.Number.{Number as Parts}

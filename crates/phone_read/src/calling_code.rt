@@ -7,8 +7,8 @@ ghost use Rattle.std.specs.Fmt.{decimal};
 ghost use Rattle.std.specs.Option.{option_copied, option_map_or};
 ghost use Rattle.std.specs.Result.{result_map_both};
 ghost use Rattle.phone_chars.specs.Norm.{norm};
-ghost use Rattle.phone_core.specs.declared.country.Source.{Source};
-ghost use Rattle.phone_core.specs.declared.country.Source.TheVariants.{Plus};
+ghost use Rattle.phone_values.specs.declared.country.Source.{Source};
+ghost use Rattle.phone_values.specs.declared.country.Source.TheVariants.{Plus};
 ghost use Rattle.phone_parts.specs.Parts.{parts_of};
 ghost use Rattle.phone_parts.specs.Texts.{is_front};
 ghost use Rattle.phone_rules.specs.Lent.{IsLentDigits, KeepsLent};
@@ -20,9 +20,9 @@ ghost use Rattle.phone_read.specs.Hints.{Coded, code_by_hint, hinted, looks_nati
 ghost use Rattle.phone_read.specs.WithoutMemory.{AnswersAtOnce, AnswersWithoutMemory};
 
 use crate::hints::{hint_territory, looks_national};
-use phone_core::ParseError;
-use phone_core::consts::MIN_LENGTH_FOR_NSN;
-use phone_core::country::{Id, Source};
+use phone_values::ParseError;
+use phone_values::consts::MIN_LENGTH_FOR_NSN;
+use phone_values::country::{Id, Source};
 use phone_meta::{Database, Metadata, Pattern};
 use phone_parts::Number;
 use phone_rules::dialled::{OfTerritory, read_dialling};

@@ -3,14 +3,14 @@
 //! reading.
 ghost use Rattle.std.specs.Prelude.{◌≡◌, ◌++◌, ℕ, List, chars, Option, Some, Result, Ok, true};
 ghost use Rattle.std.specs.Fmt.{decimal};
-ghost use Rattle.phone_core.specs.declared.country.Id.{Id};
-ghost use Rattle.phone_core.specs.declared.error.ParseError.{ParseError};
+ghost use Rattle.phone_values.specs.declared.country.Id.{Id};
+ghost use Rattle.phone_values.specs.declared.error.ParseError.{ParseError};
 ghost use Rattle.phone_records.specs.declared.loader.Metadata as loader;
 ghost use Rattle.phone_meta.specs.CodeLookUps.{is_listed, shortest};
 ghost use Rattle.phone_read.specs.CallingCodes.{code_of};
 ghost use Rattle.phone_read.specs.Hints.{Coded};
 ghost use Rattle.phone_read.specs.Readings.{Reads};
-ghost use Rattle.phone_core.specs.declared.reading.Reading.{Reading};
+ghost use Rattle.phone_values.specs.declared.reading.Reading.{Reading};
 
 use phone_chars::is_viable;
 use phone_parts::parts;

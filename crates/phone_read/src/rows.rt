@@ -4,8 +4,8 @@ ghost use Rattle.std.specs.Prelude.{◌≡◌, ℕ, List, [], ◌∷◌, ◌++�
 ghost use Rattle.std.specs.Prelude.{Err, true};
 ghost use Rattle.std.specs.List.{list_any};
 ghost use Rattle.std.specs.Str.{bytes_eq};
-ghost use Rattle.phone_core.specs.declared.country.Id.TheVariants.{NZ};
-ghost use Rattle.phone_core.specs.declared.country.Source.TheVariants.{Default, Plus};
+ghost use Rattle.phone_values.specs.declared.country.Id.TheVariants.{NZ};
+ghost use Rattle.phone_values.specs.declared.country.Source.TheVariants.{Default, Plus};
 ghost use Rattle.phone_read.specs.Readings.{Reads};
 ghost use Rattle.phone_read.specs.Samples.{nz};
 

@@ -14,8 +14,8 @@ ghost use Rattle.phone_read.specs.Regions.{home, is_of_last, is_of_region, regio
 ghost use Rattle.phone_read.specs.Regions.{region_of, with_territory};
 
 use either::{Either, Left, Right};
-use phone_core::consts::REGION_CODE_FOR_NON_GEO_ENTITY;
-use phone_core::country::Id;
+use phone_values::consts::REGION_CODE_FOR_NON_GEO_ENTITY;
+use phone_values::country::Id;
 use phone_rules::kinds::belongs_to;
 pub use phone_rules::kinds::{is_general, length, length_of, number_type};
 use phone_meta::{Database, Metadata, WithLast};

@@ -8,7 +8,7 @@ use Rattle.std.proofs.lemmas.Str.Parse.{IsNumeralModel, digits_value_short, nume
 use Rattle.std.specs.Fmt.{decimal}
 use Rattle.std.specs.Str.{bytes_eq}
 use Rattle.std.specs.Str.Parse.{AllDigits, IsNumeral, digits_value, without_leading_plus}
-use Rattle.phone_core.proofs.Digits.{IsNumberBelow}
+use Rattle.phone_values.proofs.Digits.{IsNumberBelow}
 use Rattle.phone_parts.specs.Texts.{is_front}
 use Rattle.phone_parts.proofs.Prefixes.{is_front-drop}
 use Rattle.phone_chars.proofs.Runs.{IsUtf8-after}

@@ -11,8 +11,8 @@ use Rattle.regex.specs.declared.string.regex.Regex.{Regex}
 use Rattle.phone_chars.specs.Characters.{is_digit, is_plus}
 use Rattle.phone_chars.specs.Cuts.{after_front}
 use Rattle.phone_chars.specs.Norm.{norm}
-use Rattle.phone_core.specs.declared.country.Source.{Source}
-use Rattle.phone_core.specs.declared.country.Source.TheVariants.{Plus, Idd, Default}
+use Rattle.phone_values.specs.declared.country.Source.{Source}
+use Rattle.phone_values.specs.declared.country.Source.TheVariants.{Plus, Idd, Default}
 use Rattle.phone_territory.specs.First.{first_span}
 use Rattle.phone_parts.specs.Texts.{begins}
 

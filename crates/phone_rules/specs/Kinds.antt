@@ -5,11 +5,12 @@ use Rattle.std.specs.Prelude.{None, Some}
 use Rattle.std.specs.List.{find}
 use Rattle.std.specs.Option.{option_map_or}
 use Rattle.std.specs.Str.{bytes_eq}
-use Rattle.phone_core.specs.declared.kind.«Type».{«Type»}
-use Rattle.phone_core.specs.declared.kind.«Type».TheVariants.{FixedLine, Mobile, FixedLineOrMobile}
-use Rattle.phone_core.specs.declared.kind.«Type».TheVariants.{TollFree, PremiumRate, SharedCost}
-use Rattle.phone_core.specs.declared.kind.«Type».TheVariants.{PersonalNumber, Voip, Pager, Uan}
-use Rattle.phone_core.specs.declared.kind.«Type».TheVariants.{Voicemail, Unknown}
+use Rattle.phone_values.specs.declared.kind.«Type».{«Type»}
+use Rattle.phone_values.specs.declared.kind.«Type».TheVariants.{FixedLine, Mobile}
+use Rattle.phone_values.specs.declared.kind.«Type».TheVariants.{FixedLineOrMobile}
+use Rattle.phone_values.specs.declared.kind.«Type».TheVariants.{TollFree, PremiumRate, SharedCost}
+use Rattle.phone_values.specs.declared.kind.«Type».TheVariants.{PersonalNumber, Voip, Pager, Uan}
+use Rattle.phone_values.specs.declared.kind.«Type».TheVariants.{Voicemail, Unknown}
 use Rattle.phone_territory.specs.First.{at_start}
 use Rattle.phone_territory.specs.Records.{matches, pattern_of}
 use Rattle.phone_records.specs.declared.loader.Descriptor.{Descriptor}

@@ -5,7 +5,7 @@ use Rattle.std.specs.List.{list_all}
 use Rattle.std.specs.declared.borrow.CowStr.{CowStr}
 use Rattle.phone_chars.specs.Characters.{is_digit, is_plus}
 use Rattle.phone_chars.specs.Cuts.{after_front}
-use Rattle.phone_core.specs.declared.country.Source.TheVariants.{Default}
+use Rattle.phone_values.specs.declared.country.Source.TheVariants.{Default}
 use Rattle.phone_parts.specs.declared.number.Number.{Number as Parts}
 
 -- a part is lent, and ASCII digits after its leading plus signs

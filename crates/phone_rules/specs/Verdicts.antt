@@ -4,13 +4,13 @@ use Rattle.std.specs.Prelude.{ℕ, ◌==◌, nat_lt, nat_eq, length, Bool, true,
 use Rattle.std.specs.Prelude.{List, [], ◌∷◌, Option, None, Some}
 use Rattle.std.specs.List.{list_any}
 use Rattle.std.specs.Option.{option_map_or}
-use Rattle.phone_core.specs.declared.kind.«Type».{«Type»}
-use Rattle.phone_core.specs.declared.kind.«Type».TheVariants.{Unknown}
-use Rattle.phone_core.specs.declared.validator.Validation.{Validation}
-use Rattle.phone_core.specs.declared.validator.Validation.TheVariants.{IsPossible}
-use Rattle.phone_core.specs.declared.validator.Validation.TheVariants.{IsPossibleLocalOnly}
-use Rattle.phone_core.specs.declared.validator.Validation.TheVariants.{TooShort, InvalidLength}
-use Rattle.phone_core.specs.declared.validator.Validation.TheVariants.{TooLong}
+use Rattle.phone_values.specs.declared.kind.«Type».{«Type»}
+use Rattle.phone_values.specs.declared.kind.«Type».TheVariants.{Unknown}
+use Rattle.phone_values.specs.declared.validator.Validation.{Validation}
+use Rattle.phone_values.specs.declared.validator.Validation.TheVariants.{IsPossible}
+use Rattle.phone_values.specs.declared.validator.Validation.TheVariants.{IsPossibleLocalOnly}
+use Rattle.phone_values.specs.declared.validator.Validation.TheVariants.{TooShort, InvalidLength}
+use Rattle.phone_values.specs.declared.validator.Validation.TheVariants.{TooLong}
 use Rattle.phone_territory.specs.Kinds.{descriptor_for, kinds_of}
 use Rattle.phone_records.specs.declared.loader.Descriptor.{Descriptor}
 use Rattle.phone_records.specs.declared.loader.Metadata.{Metadata}

@@ -13,7 +13,7 @@ ghost use Rattle.phone_rules.specs.Strips.{Stripped, by_match, cut_of, held, is_
 ghost use Rattle.phone_rules.specs.Strips.{step, strip, stripped};
 
 use crate::trims::{part, trim, without_front};
-use phone_core::{Type, Validation};
+use phone_values::{Type, Validation};
 use crate::kinds::{is_general, length_of};
 use phone_parts::Number;
 use phone_territory::{Captured, Metadata, Pattern};

@@ -5,7 +5,7 @@ use Rattle.std.proofs.lemmas.Fmt.{IsAscii-from_digits}
 use Rattle.std.proofs.lemmas.Str.{chars-IsAscii}
 use Rattle.std.specs.List.{list_all, list_any}
 use Rattle.std.specs.Str.{chars}
-use Rattle.phone_core.proofs.ReadBack.{all_digits}
+use Rattle.phone_values.proofs.ReadBack.{all_digits}
 use Rattle.phone_chars.specs.Characters.{is_digit}
 use Rattle.phone_library_text.proofs.Digits.{digits_bytes}
 use Rattle.phone_short.specs.Emergencies.{fronts}

@@ -4,7 +4,7 @@ ghost use Rattle.phone_short.specs.Regions as regions;
 
 use crate::rates::Cost;
 use crate::regions;
-use phone_core::country::Id;
+use phone_values::country::Id;
 use phone_meta::Database;
 use std::alloc::AllocError;
 

@@ -1,7 +1,7 @@
 //! What holds of short numbers under every database. These functions do nothing; their contracts
 //! are the statements.
 ghost use Rattle.std.specs.Prelude.{◌≡◌, ◌↔◌, ℕ, List, Some, true};
-ghost use Rattle.phone_core.specs.declared.country.Id.{Id};
+ghost use Rattle.phone_values.specs.declared.country.Id.{Id};
 ghost use Rattle.phone_records.specs.declared.loader.Metadata.{Metadata};
 ghost use Rattle.phone_short.specs.Regions.{is_emergency, is_possible_short, is_valid_short};
 ghost use Rattle.phone_short.specs.Regions.{reaches_emergency, short_kind};

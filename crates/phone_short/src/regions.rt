@@ -7,7 +7,7 @@ use crate::emergency::{is_emergency_in, reaches_emergency_in};
 use crate::kind::{ShortKind, kind_in};
 use crate::numbers;
 use crate::rates::{Cost, cost_in};
-use phone_core::country::Id;
+use phone_values::country::Id;
 use phone_meta::Database;
 use std::alloc::AllocError;
 

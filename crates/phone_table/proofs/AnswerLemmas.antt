@@ -1,8 +1,8 @@
 -- The answer to a number that was read.
 use Rattle.std.proofs.Common.{◌≡◌, ℕ, List, Option, None, Some, option_map, refl, sym, ap, ap₂, [], ◌∷◌}
 use Rattle.std.proofs.lemmas.Option.{none-some, same_Some}
-use Rattle.phone_core.specs.declared.mode.Mode.TheVariants.{E164, International, National}
-use Rattle.phone_core.specs.declared.reading.Reading.{Reading}
+use Rattle.phone_values.specs.declared.mode.Mode.TheVariants.{E164, International, National}
+use Rattle.phone_values.specs.declared.reading.Reading.{Reading}
 use Rattle.phone_records.specs.declared.loader.Metadata.{Metadata}
 use Rattle.phone_print.specs.Texts.{text_by}
 use Rattle.phone_choice.specs.Facts.{printed_as}

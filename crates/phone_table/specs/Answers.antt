@@ -3,14 +3,14 @@ use Rattle.std.specs.Prelude.{◌≡◌, ◌⊎◌, ◌==◌, ℕ, Bool, true, f
 use Rattle.std.specs.Prelude.{chars, length}
 use Rattle.std.specs.Prelude.{Option, Some, None, Ok, Err}
 use Rattle.std.specs.Str.{IsUtf8, trim}
-use Rattle.phone_core.specs.Refusals.{report_words}
-use Rattle.phone_core.specs.declared.country.Id.{Id}
-use Rattle.phone_core.specs.declared.error.ParseError.{ParseError}
-use Rattle.phone_core.specs.declared.mode.Mode.TheVariants.{E164, International, National}
+use Rattle.phone_values.specs.Refusals.{report_words}
+use Rattle.phone_values.specs.declared.country.Id.{Id}
+use Rattle.phone_values.specs.declared.error.ParseError.{ParseError}
+use Rattle.phone_values.specs.declared.mode.Mode.TheVariants.{E164, International, National}
 use Rattle.phone_csv.specs.Formats.{Record}
 use Rattle.phone_meta.specs.CodeLookUps.{first_of, territories}
 use Rattle.phone_records.specs.declared.loader.Metadata.{Metadata}
-use Rattle.phone_core.specs.declared.reading.Reading.{Reading}
+use Rattle.phone_values.specs.declared.reading.Reading.{Reading}
 use Rattle.phonenumber.specs.Reports.{kind_word, region_word, validity_word}
 use Rattle.phone_print.specs.Texts.{text_by}
 use Rattle.phone_choice.specs.Facts.{is_valid_by, kind_by, printed_as, region_by}

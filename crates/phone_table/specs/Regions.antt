@@ -5,9 +5,9 @@ use Rattle.std.specs.Char.{to_ascii_lowercase}
 use Rattle.std.specs.List.{find}
 use Rattle.std.specs.Str.{IsUtf8, bytes_eq, trim}
 use Rattle.csv.specs.Records.{field_at}
-use Rattle.phone_core.specs.Ids.{name}
-use Rattle.phone_core.specs.declared.country.Id.{Id}
-use Rattle.phone_core.specs.declared.country.TheConstants.{ALL}
+use Rattle.phone_values.specs.Ids.{name}
+use Rattle.phone_values.specs.declared.country.Id.{Id}
+use Rattle.phone_values.specs.declared.country.TheConstants.{ALL}
 use Rattle.phone_csv.specs.Formats.{Record}
 use Rattle.phone_table.specs.declared.region.Named.{Named}
 use Rattle.phone_table.specs.declared.region.Named.TheVariants.{Nothing, Region, Unknown}

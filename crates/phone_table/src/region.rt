@@ -3,7 +3,7 @@ ghost use Rattle.std.specs.Prelude.{◌≡◌};
 ghost use Rattle.std.specs.List.{find};
 ghost use Rattle.phone_table.specs.Regions.{Names, hint_under, id_in, is_id, named_by};
 
-use phone_core::country::{ALL, Id};
+use phone_values::country::{ALL, Id};
 
 /// What the field of a region names.
 #[derive(Clone, Copy, PartialEq, Eq, Debug)]

@@ -1,7 +1,7 @@
 //! The words of a refusal.
 ghost use Rattle.std.specs.Prelude.{◌≡◌, IfOk, IsErr};
-ghost use Rattle.phone_core.specs.declared.error.ParseError.TheVariants as refusal;
-ghost use Rattle.phone_core.specs.Refusals.{report_words};
+ghost use Rattle.phone_values.specs.declared.error.ParseError.TheVariants as refusal;
+ghost use Rattle.phone_values.specs.Refusals.{report_words};
 
 use phonenumber::ParseError;
 use std::alloc::AllocError;

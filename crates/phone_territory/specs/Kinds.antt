@@ -1,7 +1,7 @@
 -- The descriptors of a territory, by kind: after the original's `metadata/metadata`.
 use Rattle.std.specs.Prelude.{◌≡◌, None, Option}
-use Rattle.phone_core.specs.declared.kind.«Type».{«Type»}
-use Rattle.phone_core.specs.declared.kind.«Type».TheVariants as kind
+use Rattle.phone_values.specs.declared.kind.«Type».{«Type»}
+use Rattle.phone_values.specs.declared.kind.«Type».TheVariants as kind
 use Rattle.phone_records.specs.Kinds.{Four}
 use Rattle.phone_records.specs.Missing.{missing_in_descriptor}
 use Rattle.phone_records.specs.declared.loader.Descriptor.{Descriptor}

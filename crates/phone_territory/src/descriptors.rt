@@ -8,7 +8,7 @@ ghost use Rattle.phone_records.specs.Missing.{missing_in_descriptor};
 use crate::descriptor::Descriptor;
 use crate::loader;
 use crate::together::both_read;
-use phone_core::Type;
+use phone_values::Type;
 use phone_pattern::Pool;
 use phone_records::LoadMetadata;
 use std::marker::Model;

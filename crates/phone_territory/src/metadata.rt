@@ -2,7 +2,7 @@
 ghost use Rattle.std.specs.Prelude.{◌≡◌, None, Some, IfOk, IfErr, option_map};
 ghost use Rattle.std.specs.List.{AllByRecursion, flat_map};
 ghost use Rattle.std.specs.Option.{option_and_then, option_copied};
-ghost use Rattle.phone_core.specs.Ids.{id_of};
+ghost use Rattle.phone_values.specs.Ids.{id_of};
 ghost use Rattle.phone_territory.specs.Records.{id_of as id_text};
 ghost use Rattle.phone_territory.specs.Refusals.{IsPatternRefusal, patterns_in};
 ghost use Rattle.phone_territory.specs.First.{IsPattern, IsLentPattern};
@@ -18,7 +18,7 @@ use crate::patterns::Patterns;
 use crate::territory_id::TerritoryId;
 use crate::together::both_read;
 use crate::{lent, prefixes};
-use phone_core::country::Id;
+use phone_values::country::Id;
 use phone_pattern::{Pattern, Pool};
 use phone_records::LoadMetadata;
 use regex::Regex;

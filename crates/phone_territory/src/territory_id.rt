@@ -1,9 +1,9 @@
 //! A territory's id, and the region that it stands for.
 ghost use Rattle.std.specs.Prelude.{◌≡◌};
-ghost use Rattle.phone_core.specs.Ids.{id_of};
+ghost use Rattle.phone_values.specs.Ids.{id_of};
 
 use crate::loader::Text;
-use phone_core::country::Id;
+use phone_values::country::Id;
 use std::marker::Model;
 
 /// A territory's id, and the region that it is the id of, where it is one's: found once, since each
@@ -16,7 +16,7 @@ pub(crate) struct TerritoryId {
 
 impl Model for TerritoryId {
     ghost use Rattle.std.specs.Prelude.{◌≡◌, ℕ, List};
-    ghost use Rattle.phone_core.specs.Ids.{id_of};
+    ghost use Rattle.phone_values.specs.Ids.{id_of};
 
     ghost Value = { List ℕ };
 

@@ -4,11 +4,11 @@ use Rattle.std.proofs.Math.Seq.{drop-append_seam, take-append_seam}
 use Rattle.std.specs.Fmt.{decimal}
 use Rattle.std.specs.List.{find}
 use Rattle.std.specs.Option.{option_map_or, option_or}
-use Rattle.phone_core.specs.Numbers.{text_of}
-use Rattle.phone_core.specs.declared.country.Id.{Id}
-use Rattle.phone_core.specs.declared.mode.Mode.{Mode}
-use Rattle.phone_core.specs.declared.mode.Mode.TheVariants.{International, National}
-use Rattle.phone_core.specs.declared.reading.Reading.{Reading}
+use Rattle.phone_values.specs.Numbers.{text_of}
+use Rattle.phone_values.specs.declared.country.Id.{Id}
+use Rattle.phone_values.specs.declared.mode.Mode.{Mode}
+use Rattle.phone_values.specs.declared.mode.Mode.TheVariants.{International, National}
+use Rattle.phone_values.specs.declared.reading.Reading.{Reading}
 use Rattle.phone_territory.specs.First.{is_whole_match, led_by}
 use Rattle.phone_print.specs.Layouts.{laid, layouts_for, template_for}
 use Rattle.phone_print.specs.Texts.{e164_text, extension_part, international_text, laid_out, national_text}

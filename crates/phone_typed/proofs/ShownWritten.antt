@@ -5,9 +5,9 @@ use Rattle.std.specs.Fmt.{decimal}
 use Rattle.std.specs.List.{list_all}
 use Rattle.std.specs.Option.{option_map_or}
 use Rattle.phone_chars.specs.Characters.{is_digit}
-use Rattle.phone_core.specs.declared.country.Id.{Id}
-use Rattle.phone_core.specs.declared.error.ParseError.{ParseError}
-use Rattle.phone_core.specs.declared.mode.Mode.TheVariants.{International}
+use Rattle.phone_values.specs.declared.country.Id.{Id}
+use Rattle.phone_values.specs.declared.error.ParseError.{ParseError}
+use Rattle.phone_values.specs.declared.mode.Mode.TheVariants.{International}
 use Rattle.phone_library_text.specs.Written.{IsWritten, most_characters}
 use Rattle.phone_library_text.specs.declared.written.WrittenNumber.{WrittenNumber}
 use Rattle.phone_library_text.proofs.PlainWritten.{international_written, national_written}

@@ -1,6 +1,6 @@
 -- A field in which a number is typed.
 use Rattle.std.specs.Prelude.{ℕ, List, Option}
-use Rattle.phone_core.specs.declared.country.Id.{Id}
+use Rattle.phone_values.specs.declared.country.Id.{Id}
 use Rattle.phone_records.specs.declared.loader.Metadata.{Metadata}
 use Rattle.phone_typed.specs.Typed.{typed}
 

@@ -3,9 +3,9 @@ ghost use Rattle.std.specs.Prelude.{◌≡◌, ◌-◌, ◌∷◌, ◌++◌, ◌
 ghost use Rattle.std.specs.Prelude.{◌≤◌, filter, length, take, true, Result};
 ghost use Rattle.std.specs.List.{list_all};
 ghost use Rattle.phone_chars.specs.Characters.{is_digit};
-ghost use Rattle.phone_core.specs.declared.country.Id.{Id};
-ghost use Rattle.phone_core.specs.declared.error.ParseError.{ParseError};
-ghost use Rattle.phone_core.specs.declared.reading.Reading.{Reading};
+ghost use Rattle.phone_values.specs.declared.country.Id.{Id};
+ghost use Rattle.phone_values.specs.declared.error.ParseError.{ParseError};
+ghost use Rattle.phone_values.specs.declared.reading.Reading.{Reading};
 ghost use Rattle.phone_library_text.specs.Written.{IsWritten, most_characters};
 ghost use Rattle.phone_library_text.specs.declared.written.WrittenNumber.{WrittenNumber};
 ghost use Rattle.phone_print.specs.Texts.{e164_text, international_text, national_text};

@@ -10,7 +10,7 @@ ghost use Rattle.phone_typed.specs.Typed.{is_short, with_nines};
 ghost use Rattle.std.specs.Option.{option_or};
 
 use crate::keys::{end_of_key, shows};
-use phone_core::Mode;
+use phone_values::Mode;
 use phone_territory::{FirstGroup, Format, Metadata};
 use phone_base::together::instead;
 use std::alloc::{AllocError, Global};

@@ -3,7 +3,7 @@ ghost use Rattle.std.specs.Prelude.{◌≡◌, ◌∷◌, ◌++◌, IfOk, chars,
 ghost use Rattle.std.specs.Prelude.{true};
 ghost use Rattle.std.specs.Fmt.{decimal};
 ghost use Rattle.std.specs.Option.{option_copied, option_map_or};
-ghost use Rattle.phone_core.specs.declared.mode.Mode.TheVariants as mode;
+ghost use Rattle.phone_values.specs.declared.mode.Mode.TheVariants as mode;
 ghost use Rattle.phone_parts.specs.Texts.{is_front};
 ghost use Rattle.phone_read.specs.Hints.{hinted};
 ghost use Rattle.phone_typed.specs.Keys.{keys_in};
@@ -12,8 +12,8 @@ ghost use Rattle.phone_typed.specs.Typed.{text_of_keys, typed};
 
 use crate::keys::keys_in;
 use crate::layouts::text_of_keys;
-use phone_core::Mode;
-use phone_core::country::Id;
+use phone_values::Mode;
+use phone_values::country::Id;
 use phone_meta::{Database, Metadata};
 use phone_parts::Number;
 use phone_rules::stripping::national_number;

@@ -1,8 +1,8 @@
 -- Texts in which the same number is written are read alike.
 use Rattle.std.proofs.Common.{ℕ, List, Option, Result, Ok, Err}
-use Rattle.phone_core.specs.declared.country.Id.{Id}
-use Rattle.phone_core.specs.declared.error.ParseError.{ParseError}
-use Rattle.phone_core.specs.declared.reading.Reading.{Reading}
+use Rattle.phone_values.specs.declared.country.Id.{Id}
+use Rattle.phone_values.specs.declared.error.ParseError.{ParseError}
+use Rattle.phone_values.specs.declared.reading.Reading.{Reading}
 use Rattle.phone_library.specs.Readings
 use Rattle.phone_library.specs.Readings.{ReadsByLibrary}
 use Rattle.phone_library_text.specs.Written.{IsWritten}

@@ -2,9 +2,9 @@
 ghost use Rattle.std.specs.Prelude.{◌≡◌, ◌≤◌, ◌∷◌, ℕ, List, Option, Result, length, true};
 ghost use Rattle.std.specs.List.{list_all};
 ghost use Rattle.phone_chars.specs.Characters.{is_digit};
-ghost use Rattle.phone_core.specs.declared.country.Id.{Id};
-ghost use Rattle.phone_core.specs.declared.error.ParseError.{ParseError};
-ghost use Rattle.phone_core.specs.declared.reading.Reading.{Reading};
+ghost use Rattle.phone_values.specs.declared.country.Id.{Id};
+ghost use Rattle.phone_values.specs.declared.error.ParseError.{ParseError};
+ghost use Rattle.phone_values.specs.declared.reading.Reading.{Reading};
 ghost use Rattle.phone_library.specs.Readings.{ReadsByLibrary};
 ghost use Rattle.phone_library_text.specs.Written.{most_characters};
 ghost use Rattle.phone_records.specs.declared.loader.Metadata as loader;

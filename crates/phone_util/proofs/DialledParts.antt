@@ -10,15 +10,15 @@ use Rattle.std.specs.Str.{chars}
 use Rattle.phone_chars.proofs.Norms.{norm_digits}
 use Rattle.phone_chars.specs.Characters.{digit_of, is_digit, is_one_of, is_punctuation}
 use Rattle.phone_chars.specs.Norm.{norm}
-use Rattle.phone_core.specs.Numbers.{IsHeld, text_of}
-use Rattle.phone_core.specs.declared.mode.Mode.TheVariants.{International}
+use Rattle.phone_values.specs.Numbers.{IsHeld, text_of}
+use Rattle.phone_values.specs.declared.mode.Mode.TheVariants.{International}
 use Rattle.phone_records.specs.declared.loader.Metadata.{Metadata}
 use Rattle.phone_parts.proofs.AnnouncedParts.{announced_parts}
 use Rattle.phone_parts.proofs.Ends.{all_wider}
 use Rattle.phone_parts.proofs.PrintedInternational.{international_parts}
 use Rattle.phone_parts.proofs.PrintedTexts.{digit_apart, none_apart, none_append}
 use Rattle.phone_parts.specs.Texts.{ends}
-use Rattle.phone_core.specs.declared.reading.Reading.{Reading}
+use Rattle.phone_values.specs.declared.reading.Reading.{Reading}
 use Rattle.phonenumber.proofs.BackLaws.{IsAnnounced, IsFoundBefore, punctuated, quiet_between}
 use Rattle.phonenumber.proofs.BackNumbers.{list_all-text_of}
 use Rattle.phonenumber.proofs.BackPrefixes.{announced_safely}

@@ -17,12 +17,12 @@ use Rattle.phone_chars.specs.Characters.{digit_of, is_digit, is_plus}
 use Rattle.phone_chars.specs.Cuts.{after_front}
 use Rattle.phone_chars.specs.Norm.{norm}
 use Rattle.phone_chars.specs.Viable.{IsViable}
-use Rattle.phone_core.specs.Nsn.{nsn}
-use Rattle.phone_core.specs.Numbers.{text_of}
-use Rattle.phone_core.specs.declared.country.Id.{Id}
-use Rattle.phone_core.specs.declared.country.Source.{Source}
-use Rattle.phone_core.specs.declared.country.Source.TheVariants.{Default, Idd, Plus}
-use Rattle.phone_core.specs.declared.mode.Mode.TheVariants.{International}
+use Rattle.phone_values.specs.Nsn.{nsn}
+use Rattle.phone_values.specs.Numbers.{text_of}
+use Rattle.phone_values.specs.declared.country.Id.{Id}
+use Rattle.phone_values.specs.declared.country.Source.{Source}
+use Rattle.phone_values.specs.declared.country.Source.TheVariants.{Default, Idd, Plus}
+use Rattle.phone_values.specs.declared.mode.Mode.TheVariants.{International}
 use Rattle.phone_meta.specs.CodeLookUps.{first_of, is_listed, territories}
 use Rattle.phone_records.specs.declared.loader.Metadata.{Metadata}
 use Rattle.phone_parts.proofs.Ends.{ends-append}
@@ -40,7 +40,7 @@ use Rattle.phone_read.specs.Numbering.{reading_of}
 use Rattle.phone_read.specs.Readings
 use Rattle.phone_read.specs.Readings.{Reads}
 use Rattle.phone_rules.specs.Strips.{stripped}
-use Rattle.phone_core.specs.declared.reading.Reading.{Reading}
+use Rattle.phone_values.specs.declared.reading.Reading.{Reading}
 use Rattle.phonenumber.specs.Bounds.{IsBounded}
 use Rattle.phone_print.specs.Texts.{extension_part, laid_out}
 use Rattle.phonenumber.proofs.BackCodes.{shortest-decimal}

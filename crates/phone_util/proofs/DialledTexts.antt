@@ -2,11 +2,11 @@
 use Rattle.std.proofs.Common.{◌≡◌, ℕ, ◌==◌, true, false, List, ◌++◌, codes, drop, Option, None, Some, IfOk, option_map, Result, Ok, Err, append_assoc, refl, ap, ap₂, sym, ◌∙◌, ◌∷◌, []}
 use Rattle.std.proofs.lemmas.Bool.{cond-false, cond-true}
 use Rattle.std.specs.Option.{option_map_or}
-use Rattle.phone_core.specs.declared.mode.Mode.{Mode}
-use Rattle.phone_core.specs.declared.mode.Mode.TheVariants.{International, National}
+use Rattle.phone_values.specs.declared.mode.Mode.{Mode}
+use Rattle.phone_values.specs.declared.mode.Mode.TheVariants.{International, National}
 use Rattle.phone_territory.specs.Records.{code_of}
 use Rattle.phone_records.specs.declared.loader.Metadata.{Metadata}
-use Rattle.phone_core.specs.declared.reading.Reading.{Reading}
+use Rattle.phone_values.specs.declared.reading.Reading.{Reading}
 use Rattle.phone_print.specs.Texts.{international_text, national_text, text_by}
 use Rattle.phone_util.specs.Dialled.{dialled_by, dialled_prefix, dialling_prefix_of}
 use Rattle.phone_util.specs.declared.dialled.DialError.{DialError}

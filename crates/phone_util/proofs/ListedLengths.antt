@@ -4,9 +4,9 @@ use Rattle.std.proofs.lemmas.Bool.{and_parts, cond-true}
 use Rattle.std.proofs.lemmas.List.Folds.{list_any-append}
 use Rattle.std.specs.List.{filter_map, find, flat_map}
 use Rattle.std.specs.Option.{option_map_or, option_or}
-use Rattle.phone_core.specs.Numbers.{text_of}
-use Rattle.phone_core.specs.declared.kind.«Type».{«Type»}
-use Rattle.phone_core.specs.declared.kind.«Type».TheVariants as kind
+use Rattle.phone_values.specs.Numbers.{text_of}
+use Rattle.phone_values.specs.declared.kind.«Type».{«Type»}
+use Rattle.phone_values.specs.declared.kind.«Type».TheVariants as kind
 use Rattle.phone_meta.specs.CodeLookUps.{first_of, territories}
 use Rattle.phone_territory.specs.Kinds.{Kinds, descriptor_for, kinds_of}
 use Rattle.phone_territory.specs.Records.{allows_length, matches, pattern_of}
@@ -16,7 +16,7 @@ use Rattle.phone_records.specs.declared.loader.Metadata.{Metadata}
 use Rattle.phone_rules.specs.Kinds.{is_of}
 use Rattle.phone_read.specs.Regions.{home}
 use Rattle.phone_rules.specs.Kinds.{is_known, is_one_pattern, line_or_mobile, tried_kinds, type_of}
-use Rattle.phone_core.specs.declared.reading.Reading.{Reading}
+use Rattle.phone_values.specs.declared.reading.Reading.{Reading}
 use Rattle.phonenumber.specs.Queries.{is_valid}
 use Rattle.phone_util.specs.Possibilities.{counting_descriptors, has_listed_kind, is_among, kind_descriptors}
 use Rattle.phone_util.specs.Possibilities.{lengths_of, lists_lengths, possibility_by_crate, possibility_under}

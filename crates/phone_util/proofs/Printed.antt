@@ -1,7 +1,7 @@
 -- The printed texts of a number that is read back are one number.
 use Rattle.std.proofs.Common.{ℕ, if◌then◌else◌, List, Option, Ok, sym, subst, ◌∙◌, arith}
 use Rattle.phone_records.specs.declared.loader.Metadata.{Metadata}
-use Rattle.phone_core.specs.declared.reading.Reading.{Reading}
+use Rattle.phone_values.specs.declared.reading.Reading.{Reading}
 use Rattle.phonenumber.specs.RoundTrips.{IsReadAs}
 use Rattle.phonenumber.specs.Plain.{IsPlainE164, IsPlainInternational, IsPlainRfc3966}
 use Rattle.phone_choice.specs.declared.rules.Rules.TheVariants.{Crate}

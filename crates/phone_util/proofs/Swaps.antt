@@ -4,7 +4,7 @@ use Rattle.std.proofs.lemmas.Bool.{cond-true, eq-eqb}
 use Rattle.std.proofs.lemmas.Slice.Eq.{bytes_eq-Decides}
 use Rattle.std.specs.Fmt.{decimal}
 use Rattle.std.specs.Str.{bytes_eq}
-use Rattle.phone_core.specs.Numbers.{National as Nsn}
+use Rattle.phone_values.specs.Numbers.{National as Nsn}
 use Rattle.phone_util.specs.Sameness.{is_end, is_one_extension, sameness_by, sameness_by_end, sameness_of, sameness_under_code, sameness_without_code}
 use Rattle.phone_util.specs.declared.sameness.Sameness.{Sameness}
 use Rattle.phone_util.specs.declared.sameness.Sameness.TheVariants.{Exact, Number, National, End, Different}

@@ -1,16 +1,16 @@
 -- What a text is taken as: there is at most one side of it, and numbers that were read are compared
 -- by code, national number and extension.
 use Rattle.std.proofs.Common.{◌≡◌, ◌⊎◌, inl, inr, ℕ, if◌then◌else◌, List, None, Some, Result, Ok, Err, refl, ap, ap₂, sym, subst, ◌∙◌}
-use Rattle.phone_core.specs.Numbers.{National as Nsn}
-use Rattle.phone_core.specs.declared.error.ParseError.{ParseError}
-use Rattle.phone_core.specs.declared.error.ParseError.TheVariants as error
+use Rattle.phone_values.specs.Numbers.{National as Nsn}
+use Rattle.phone_values.specs.declared.error.ParseError.{ParseError}
+use Rattle.phone_values.specs.declared.error.ParseError.TheVariants as error
 use Rattle.phone_parts.proofs.OneParts.{parts_same}
 use Rattle.phone_library_text.proofs.WrittenOnes.{written_same}
 use Rattle.phone_choice.proofs.OneReading.{reading_same}
 use Rattle.phone_choice.specs.Readings.{ReadsBy}
 use Rattle.phone_choice.specs.declared.rules.Rules.{Rules}
 use Rattle.phone_choice.specs.declared.rules.Rules.TheVariants.{Library, Crate}
-use Rattle.phone_core.specs.declared.reading.Reading.{Reading}
+use Rattle.phone_values.specs.declared.reading.Reading.{Reading}
 use Rattle.phone_records.specs.declared.loader.Metadata.{Metadata}
 use Rattle.phone_util.proofs.Swaps.{sameness_of-one, sameness_of-swap}
 use Rattle.phone_util.specs.Sameness

@@ -4,10 +4,10 @@ use Rattle.std.specs.Prelude.{None, Some, Ok}
 use Rattle.std.specs.Fmt.{decimal}
 use Rattle.std.specs.List.{list_all}
 use Rattle.phone_chars.specs.Characters.{is_digit}
-use Rattle.phone_core.specs.Ids.{name}
-use Rattle.phone_core.specs.Numbers.{text_of}
-use Rattle.phone_core.specs.declared.country.Id.{Id}
-use Rattle.phone_core.specs.declared.country.Source.{Source}
+use Rattle.phone_values.specs.Ids.{name}
+use Rattle.phone_values.specs.Numbers.{text_of}
+use Rattle.phone_values.specs.declared.country.Id.{Id}
+use Rattle.phone_values.specs.declared.country.Source.{Source}
 use Rattle.phone_territory.specs.Records.{code_of}
 use Rattle.phone_meta.specs.CodeLookUps.{is_prefix_free}
 use Rattle.phone_meta.specs.Records.{last_with}
@@ -15,7 +15,7 @@ use Rattle.phone_records.specs.declared.loader.Metadata.{Metadata}
 use Rattle.phone_rules.specs.Dialling.{after_match, found_in}
 use Rattle.phone_read.specs.Readings.{Reads}
 use Rattle.phone_rules.specs.Strips.{strip}
-use Rattle.phone_core.specs.declared.reading.Reading.{Reading}
+use Rattle.phone_values.specs.declared.reading.Reading.{Reading}
 use Rattle.phonenumber.specs.RoundTrips.{IsSame}
 use Rattle.phonenumber.specs.Plain.{IsBenign, IsPlainInternational}
 use Rattle.phone_util.specs.Dialled.{dialled_prefix}

@@ -4,12 +4,12 @@ use Rattle.std.specs.Prelude.{Result, Ok, Err}
 use Rattle.std.specs.List.{range_with_len}
 use Rattle.std.specs.Option.{option_and_then}
 use Rattle.std.specs.Result.{result_map_both}
-use Rattle.phone_core.specs.Ids.{name}
-use Rattle.phone_core.specs.declared.country.Id.{Id}
-use Rattle.phone_core.specs.declared.country.TheConstants.{ALL}
-use Rattle.phone_core.specs.declared.error.ParseError.{ParseError}
-use Rattle.phone_core.specs.declared.error.ParseError.TheVariants.{Memory}
-use Rattle.phone_core.specs.declared.kind.«Type».{«Type»}
+use Rattle.phone_values.specs.Ids.{name}
+use Rattle.phone_values.specs.declared.country.Id.{Id}
+use Rattle.phone_values.specs.declared.country.TheConstants.{ALL}
+use Rattle.phone_values.specs.declared.error.ParseError.{ParseError}
+use Rattle.phone_values.specs.declared.error.ParseError.TheVariants.{Memory}
+use Rattle.phone_values.specs.declared.kind.«Type».{«Type»}
 use Rattle.phone_territory.specs.Kinds.{descriptor_for, kinds_of}
 use Rattle.phone_meta.specs.CodeLookUps.{is_listed}
 use Rattle.phone_meta.specs.Records.{last_with}
@@ -17,7 +17,7 @@ use Rattle.phone_records.specs.declared.loader.Descriptor.{Descriptor}
 use Rattle.phone_records.specs.declared.loader.Metadata.{Metadata}
 use Rattle.phone_choice.specs.Readings.{ReadsBy}
 use Rattle.phone_choice.specs.declared.rules.Rules.{Rules}
-use Rattle.phone_core.specs.declared.reading.Reading.{Reading}
+use Rattle.phone_values.specs.declared.reading.Reading.{Reading}
 
 -- a region has a territory
 unfoldable pub has_region : List Metadata → Id → Bool

@@ -3,12 +3,12 @@ use Rattle.std.specs.Prelude.{ℕ, ◌==◌, nat_lt, not, Bool, false, if◌then
 use Rattle.std.specs.Prelude.{length, Option, Result, Ok, Err}
 use Rattle.std.specs.List.{filter_map, flat_map, list_all, list_any}
 use Rattle.std.specs.Option.{option_map_or, option_or}
-use Rattle.phone_core.specs.Numbers.{text_of}
-use Rattle.phone_core.specs.declared.error.ParseError.{ParseError}
-use Rattle.phone_core.specs.declared.error.ParseError.TheVariants as error
-use Rattle.phone_core.specs.declared.kind.«Type».{«Type»}
-use Rattle.phone_core.specs.declared.validator.Validation.{Validation}
-use Rattle.phone_core.specs.declared.validator.Validation.TheVariants as validation
+use Rattle.phone_values.specs.Numbers.{text_of}
+use Rattle.phone_values.specs.declared.error.ParseError.{ParseError}
+use Rattle.phone_values.specs.declared.error.ParseError.TheVariants as error
+use Rattle.phone_values.specs.declared.kind.«Type».{«Type»}
+use Rattle.phone_values.specs.declared.validator.Validation.{Validation}
+use Rattle.phone_values.specs.declared.validator.Validation.TheVariants as validation
 use Rattle.phone_library.specs.Lengths.{length_in}
 use Rattle.phone_meta.specs.CodeLookUps.{first_of, territories}
 use Rattle.phone_territory.specs.Kinds.{descriptor_for, kinds_of}
@@ -16,7 +16,7 @@ use Rattle.phone_records.specs.declared.loader.Descriptor.{Descriptor}
 use Rattle.phone_records.specs.declared.loader.Metadata.{Metadata}
 use Rattle.phone_read.specs.Regions.{home}
 use Rattle.phone_rules.specs.Kinds.{tried_kinds, type_of}
-use Rattle.phone_core.specs.declared.reading.Reading.{Reading}
+use Rattle.phone_values.specs.declared.reading.Reading.{Reading}
 use Rattle.phone_choice.specs.declared.rules.Rules.{Rules}
 use Rattle.phone_choice.specs.declared.rules.Rules.TheVariants.{Library, Crate}
 use Rattle.phone_util.specs.declared.possibilities.Possibility.{Possibility}

@@ -5,9 +5,9 @@ use Rattle.std.specs.Prelude.{Result, Ok, Err, if◌then◌else◌}
 use Rattle.std.specs.Result.{result_map_both}
 use Rattle.phone_chars.specs.Characters.{is_plus}
 use Rattle.phone_chars.specs.Norm.{norm}
-use Rattle.phone_core.specs.Nsn.{nsn}
-use Rattle.phone_core.specs.declared.error.ParseError.{ParseError}
-use Rattle.phone_core.specs.declared.error.ParseError.TheVariants.{InvalidCountryCode}
+use Rattle.phone_values.specs.Nsn.{nsn}
+use Rattle.phone_values.specs.declared.error.ParseError.{ParseError}
+use Rattle.phone_values.specs.declared.error.ParseError.TheVariants.{InvalidCountryCode}
 use Rattle.phone_parts.specs.Parts.{Parts}
 use Rattle.phone_parts.specs.Readers.{HasParts}
 use Rattle.phone_parts.specs.Texts.{begins}
@@ -17,7 +17,7 @@ use Rattle.phone_library_text.specs.declared.written.WrittenNumber.{WrittenNumbe
 use Rattle.phone_choice.specs.Readings.{ReadsBy}
 use Rattle.phone_choice.specs.declared.rules.Rules.{Rules}
 use Rattle.phone_choice.specs.declared.rules.Rules.TheVariants.{Library, Crate}
-use Rattle.phone_core.specs.declared.reading.Reading.{Reading}
+use Rattle.phone_values.specs.declared.reading.Reading.{Reading}
 use Rattle.phone_records.specs.declared.loader.Metadata.{Metadata}
 use Rattle.phone_util.specs.declared.sides.Side.{Side}
 

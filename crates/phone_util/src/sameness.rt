@@ -8,7 +8,7 @@ ghost use Rattle.phone_util.specs.Sameness.{sameness_without_code};
 
 use crate::sides::{Side, taken_as};
 use phone_choice::Rules;
-use phone_core::{Extension, ParseError};
+use phone_values::{Extension, ParseError};
 use phone_meta::Database;
 use std::alloc::{AllocError, Global};
 

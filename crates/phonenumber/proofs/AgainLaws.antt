@@ -1,12 +1,12 @@
 -- A number that is printed and read again, by the laws of reading back.
 use Rattle.std.proofs.Common.{◌≡◌, inl, inr, List, ℕ, IsUtf8, Option, None, Some, option_map, Result, Ok, refl, ap, sym, subst, ◌∙◌}
 use Rattle.std.specs.Str.{chars}
-use Rattle.phone_core.specs.declared.error.ParseError.{ParseError}
-use Rattle.phone_core.specs.declared.mode.Mode.{Mode}
+use Rattle.phone_values.specs.declared.error.ParseError.{ParseError}
+use Rattle.phone_values.specs.declared.mode.Mode.{Mode}
 use Rattle.phone_meta.specs.CodeLookUps.{first_of, territories}
 use Rattle.phone_records.specs.declared.loader.Metadata.{Metadata}
 use Rattle.phone_read.proofs.ReadingOnes.{reading_same}
-use Rattle.phone_core.specs.declared.reading.Reading.{Reading}
+use Rattle.phone_values.specs.declared.reading.Reading.{Reading}
 use Rattle.phonenumber.specs.RoundTrips.{IsAgain, IsReadAs, IsReadOfPrinted}
 use Rattle.phonenumber.specs.Printed.{printed}
 use Rattle.phone_print.specs.Texts.{text_by}

@@ -11,8 +11,8 @@ use Rattle.std.specs.List.{list_all, list_any}
 use Rattle.std.specs.Option.{option_or}
 use Rattle.std.specs.Str.{all_ascii_digits, bytes_eq}
 use Rattle.std.specs.Str.Parse.{digits_value, without_leading_plus}
-use Rattle.phone_core.proofs.Digits.{number_some}
-use Rattle.phone_core.specs.Numbers.{number_in}
+use Rattle.phone_values.proofs.Digits.{number_some}
+use Rattle.phone_values.specs.Numbers.{number_in}
 use Rattle.phone_meta.specs.CodeLookUps.{begins, front_number, is_listed, is_prefix_free, listed_front, listed_if_some, shortest}
 use Rattle.phone_territory.specs.Records.{code_of}
 use Rattle.phone_meta.specs.Records.{has_code}

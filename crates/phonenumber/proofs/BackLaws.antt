@@ -14,11 +14,11 @@ use Rattle.phone_chars.proofs.Signed.{after_front-append}
 use Rattle.phone_chars.specs.Characters.{digit_of, is_digit, is_one_of, is_plus, is_punctuation, is_separator}
 use Rattle.phone_chars.specs.Cuts.{after_front}
 use Rattle.phone_chars.specs.Norm.{norm}
-use Rattle.phone_core.specs.Nsn.{nsn}
-use Rattle.phone_core.specs.Numbers.{IsHeld, text_of}
-use Rattle.phone_core.specs.declared.country.Source.TheVariants.{Plus}
-use Rattle.phone_core.specs.declared.mode.Mode.{Mode}
-use Rattle.phone_core.specs.declared.mode.Mode.TheVariants.{E164, International, Rfc3966}
+use Rattle.phone_values.specs.Nsn.{nsn}
+use Rattle.phone_values.specs.Numbers.{IsHeld, text_of}
+use Rattle.phone_values.specs.declared.country.Source.TheVariants.{Plus}
+use Rattle.phone_values.specs.declared.mode.Mode.{Mode}
+use Rattle.phone_values.specs.declared.mode.Mode.TheVariants.{E164, International, Rfc3966}
 use Rattle.phone_meta.specs.CodeLookUps.{first_of, is_listed, is_prefix_free, territories}
 use Rattle.phone_records.specs.declared.loader.Metadata.{Metadata}
 use Rattle.phone_parts.proofs.Ends.{all_wider}
@@ -27,7 +27,7 @@ use Rattle.phone_parts.specs.Readers.{HasParts}
 use Rattle.phone_parts.specs.Texts.{ends}
 use Rattle.phone_read.proofs.ListedFronts.{listed_some}
 use Rattle.phone_read.specs.TransformRules.{rules_have_no_plus}
-use Rattle.phone_core.specs.declared.reading.Reading.{Reading}
+use Rattle.phone_values.specs.declared.reading.Reading.{Reading}
 use Rattle.phonenumber.specs.RoundTrips.{IsReadAs}
 use Rattle.phonenumber.specs.Bounds.{IsBounded}
 use Rattle.phonenumber.specs.Plain.{IsAnnouncedByWord, IsIdle, IsPlain, IsPlainE164, IsPlainInternational, IsPlainRfc3966, has_digits}

@@ -8,10 +8,10 @@ use Rattle.std.specs.Fmt.{decimal}
 use Rattle.std.specs.List.{list_all}
 use Rattle.std.specs.Str.{all_ascii_digits}
 use Rattle.std.specs.Str.Parse.{digits_value}
-use Rattle.phone_core.proofs.Digits.{national_in-text_of}
+use Rattle.phone_values.proofs.Digits.{national_in-text_of}
 use Rattle.phone_chars.specs.Characters.{is_digit}
-use Rattle.phone_core.specs.Nsn.{nsn}
-use Rattle.phone_core.specs.Numbers.{IsHeld, National, text_of}
+use Rattle.phone_values.specs.Nsn.{nsn}
+use Rattle.phone_values.specs.Numbers.{IsHeld, National, text_of}
 
 own : IsNumeralModel (λ ds. all_ascii_digits ds ≡ true) (digits_value 10)
 own = numerals_by_value _ tells_all_ascii_digits

@@ -8,13 +8,13 @@ use Rattle.std.specs.Str.{bytes_eq, chars}
 use Rattle.ucd_case.proofs.Computing.{ucd_case}
 use Rattle.ucd_category.proofs.Computing.{ucd_category}
 use Rattle.phone_chars.specs.Characters.{is_digit, is_letter}
-use Rattle.phone_core.specs.declared.mode.Mode.TheVariants.{International}
+use Rattle.phone_values.specs.declared.mode.Mode.TheVariants.{International}
 use Rattle.phone_territory.specs.Prefixes.{benign_prefixes, is_benign_prefix}
 use Rattle.phone_records.specs.declared.loader.Metadata.{Metadata}
 use Rattle.phone_parts.specs.Announcements.{IsAnnouncement, is_space}
 use Rattle.phone_parts.specs.Suffixes.{indicators, is_mark}
 use Rattle.phone_parts.specs.Texts.{ends, is_like}
-use Rattle.phone_core.specs.declared.reading.Reading.{Reading}
+use Rattle.phone_values.specs.declared.reading.Reading.{Reading}
 use Rattle.phonenumber.specs.Plain.{IsBenign}
 use Rattle.phone_print.specs.Texts.{laid_out}
 use Rattle.phonenumber.proofs.BackLaws.{IsAnnounced}

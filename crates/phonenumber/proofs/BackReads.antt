@@ -8,12 +8,12 @@ use Rattle.phone_chars.proofs.Norms.{norm_digits}
 use Rattle.phone_chars.specs.Characters.{is_plus}
 use Rattle.phone_chars.specs.Cuts.{after_front}
 use Rattle.phone_chars.specs.Norm.{norm}
-use Rattle.phone_core.specs.Nsn.{nsn}
-use Rattle.phone_core.specs.Numbers.{National, text_of}
+use Rattle.phone_values.specs.Nsn.{nsn}
+use Rattle.phone_values.specs.Numbers.{National, text_of}
 use Rattle.phone_chars.specs.Viable.{IsViable}
-use Rattle.phone_core.specs.declared.country.Source.{Source}
-use Rattle.phone_core.specs.declared.country.Source.TheVariants.{Plus}
-use Rattle.phone_core.specs.declared.error.ParseError.{ParseError}
+use Rattle.phone_values.specs.declared.country.Source.{Source}
+use Rattle.phone_values.specs.declared.country.Source.TheVariants.{Plus}
+use Rattle.phone_values.specs.declared.error.ParseError.{ParseError}
 use Rattle.phone_meta.specs.CodeLookUps.{is_listed, is_prefix_free, shortest}
 use Rattle.phone_records.specs.declared.loader.Metadata.{Metadata}
 use Rattle.phone_parts.specs.Parts.{Parts}
@@ -29,7 +29,7 @@ use Rattle.phone_read.specs.Readings.{Reads, without_zeros}
 use Rattle.phone_read.specs.Regions.{home}
 use Rattle.phone_rules.specs.Strips.{Stripped, stripped}
 use Rattle.phone_read.specs.TransformRules.{rules_have_no_plus}
-use Rattle.phone_core.specs.declared.reading.Reading.{Reading}
+use Rattle.phone_values.specs.declared.reading.Reading.{Reading}
 use Rattle.phonenumber.specs.RoundTrips.{IsReadAs}
 use Rattle.phonenumber.specs.Plain.{IsIdle}
 use Rattle.phonenumber.proofs.BackCodes.{number_in-decimal, shortest-decimal}

@@ -10,13 +10,13 @@ use Rattle.std.specs.Option.{option_map_or}
 use Rattle.std.specs.Str.{IsAscii, chars}
 use Rattle.phone_chars.proofs.Runs.{IsUtf8-after}
 use Rattle.phone_chars.specs.Characters.{is_digit, is_separator}
-use Rattle.phone_core.specs.Numbers.{IsHeld, text_of}
-use Rattle.phone_core.specs.declared.mode.Mode.TheVariants.{International, Rfc3966}
+use Rattle.phone_values.specs.Numbers.{IsHeld, text_of}
+use Rattle.phone_values.specs.declared.mode.Mode.TheVariants.{International, Rfc3966}
 use Rattle.phone_records.specs.declared.loader.Format.{Format}
 use Rattle.phone_records.specs.declared.loader.Metadata.{Metadata}
 use Rattle.phone_parts.proofs.Ends.{all_wider}
 use Rattle.phone_parts.specs.Texts.{begins}
-use Rattle.phone_core.specs.declared.reading.Reading.{Reading}
+use Rattle.phone_values.specs.declared.reading.Reading.{Reading}
 use Rattle.phone_print.specs.Layouts.{laid, layout_for}
 use Rattle.phonenumber.specs.Plain.{has_digits}
 use Rattle.phone_print.specs.Texts.{e164_text, extension_parameter, extension_part, hyphenated, international_text, laid_out, rfc3966_text}

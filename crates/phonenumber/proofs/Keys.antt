@@ -6,13 +6,13 @@ use Rattle.std.proofs.lemmas.List.{append_cancel_left, take-append-le}
 use Rattle.std.proofs.lemmas.Slice.Eq.{bytes_eq-Decides}
 use Rattle.std.specs.Fmt.{decimal}
 use Rattle.std.specs.List.{list_all, list_any}
-use Rattle.phone_core.specs.Numbers.{National, IsHeld, text_of}
-use Rattle.phone_core.proofs.ReadBack.{text_of-injective}
+use Rattle.phone_values.specs.Numbers.{National, IsHeld, text_of}
+use Rattle.phone_values.proofs.ReadBack.{text_of-injective}
 use Rattle.phone_meta.specs.CodeLookUps.{begins, is_listed, is_prefix_free}
 use Rattle.phone_territory.specs.Records.{code_of}
 use Rattle.phone_meta.specs.Records.{has_code}
 use Rattle.phone_records.specs.declared.loader.Metadata.{Metadata}
-use Rattle.phone_core.specs.declared.reading.Reading.{Reading}
+use Rattle.phone_values.specs.declared.reading.Reading.{Reading}
 use Rattle.phone_print.specs.Texts.{e164_text}
 
 -- what holds of all of a list, of which one passes, holds of one that passes

@@ -4,13 +4,13 @@ use Rattle.std.specs.Prelude.{⊤}
 use Rattle.std.specs.Str.{IsUtf8}
 use Rattle.std.proofs.lemmas.Option.{same_Some}
 use Rattle.std.proofs.lemmas.Result.{IfErr-at_err, IfOk-at_ok, MatchResult-at_err}
-use Rattle.phone_core.specs.declared.country.Id.{Id}
-use Rattle.phone_core.specs.declared.error.ParseError.{ParseError}
+use Rattle.phone_values.specs.declared.country.Id.{Id}
+use Rattle.phone_values.specs.declared.error.ParseError.{ParseError}
 use Rattle.phone_meta.specs.CodeLookUps.{first_of, territories}
 use Rattle.phone_read.proofs.ReadNumbers.{has_territory}
 use Rattle.phone_read.proofs.ReadingOnes.{reading_same}
 use Rattle.phone_read.specs.Readings.{Reads}
-use Rattle.phone_core.specs.declared.reading.Reading.{Reading}
+use Rattle.phone_values.specs.declared.reading.Reading.{Reading}
 use Rattle.phone_records.specs.declared.loader.Metadata.{Metadata}
 use Rattle.phonenumber.specs.Reports.{IsReportLine, number_line, refusal_line}
 use Rattle.phonenumber.specs.Reports.IsReportLine.{no_text, refused, read}

@@ -5,17 +5,17 @@ use Rattle.std.proofs.lemmas.Str.{is_utf8-from_IsUtf8}
 use Rattle.std.specs.Fmt.{decimal}
 use Rattle.std.specs.Option.{option_and_then, option_map_or}
 use Rattle.std.specs.Str.{chars, is_utf8}
-use Rattle.phone_core.specs.Ids.{id_of, name}
+use Rattle.phone_values.specs.Ids.{id_of, name}
 use Rattle.phone_chars.specs.Viable.{IsViable}
-use Rattle.phone_core.specs.declared.country.Id.{Id}
-use Rattle.phone_core.specs.declared.country.Id.TheVariants.{NZ}
-use Rattle.phone_core.specs.declared.country.Source.TheVariants.{Default}
-use Rattle.phone_core.specs.declared.error.ParseError.TheVariants.{NoNumber}
-use Rattle.phone_core.specs.declared.kind.«Type».{«Type»}
-use Rattle.phone_core.specs.declared.kind.«Type».TheVariants.{Unknown}
-use Rattle.phone_core.specs.declared.mode.Mode.TheVariants.{E164, International, National, Rfc3966}
+use Rattle.phone_values.specs.declared.country.Id.{Id}
+use Rattle.phone_values.specs.declared.country.Id.TheVariants.{NZ}
+use Rattle.phone_values.specs.declared.country.Source.TheVariants.{Default}
+use Rattle.phone_values.specs.declared.error.ParseError.TheVariants.{NoNumber}
+use Rattle.phone_values.specs.declared.kind.«Type».{«Type»}
+use Rattle.phone_values.specs.declared.kind.«Type».TheVariants.{Unknown}
+use Rattle.phone_values.specs.declared.mode.Mode.TheVariants.{E164, International, National, Rfc3966}
 use Rattle.phone_records.specs.declared.loader.Metadata.{Metadata}
-use Rattle.phone_core.proofs.Texts.{id_of-name}
+use Rattle.phone_values.proofs.Texts.{id_of-name}
 use Rattle.phone_chars.proofs.ViableRows.{not_viable}
 use Rattle.phone_read.specs.Hints.{code_by_hint}
 use Rattle.phone_read.specs.Readings.{Reads}
@@ -23,7 +23,7 @@ use Rattle.phone_read.specs.Regions.{home}
 use Rattle.phone_rules.specs.Kinds.{type_of, is_known}
 use Rattle.phone_read.specs.Samples.{nz}
 use Rattle.phone_parts.specs.Texts.{begins}
-use Rattle.phone_core.specs.declared.reading.Reading.{Reading}
+use Rattle.phone_values.specs.declared.reading.Reading.{Reading}
 use Rattle.phone_rules.proofs.DigitTexts.{encode_utf8_all-digits}
 use Rattle.phone_read.proofs.HintCodes.{code_by_hint-other}
 use Rattle.phone_read.proofs.ReadingRows.{decimal_64}

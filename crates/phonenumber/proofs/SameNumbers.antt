@@ -5,11 +5,11 @@ use Rattle.std.specs.Bool.{nat_eq}
 use Rattle.std.specs.Cmp.Lexicographic.{pointwise, same_text, other_text}
 use Rattle.std.specs.Option.{option_eq}
 use denote.Enum.Bare.{sameb, same_true, true_same}
-use Rattle.phone_core.specs.Numbers.{IsHeld, National, packed}
-use Rattle.phone_core.specs.contracts.country.Source.{the_type}
-use Rattle.phone_core.specs.declared.country.Source.{Source}
-use Rattle.phone_core.proofs.ReadBack.{packed-injective}
-use Rattle.phone_core.specs.declared.reading.Reading.{Reading}
+use Rattle.phone_values.specs.Numbers.{IsHeld, National, packed}
+use Rattle.phone_values.specs.contracts.country.Source.{the_type}
+use Rattle.phone_values.specs.declared.country.Source.{Source}
+use Rattle.phone_values.proofs.ReadBack.{packed-injective}
+use Rattle.phone_values.specs.declared.reading.Reading.{Reading}
 
 abbrev same_texts : Option (List ℕ) → Option (List ℕ) → Bool
 same_texts x y = option_eq (pointwise nat_eq) x y

@@ -4,7 +4,7 @@ use Rattle.std.proofs.Common.{List, [], ◌∷◌, ◌++◌, Option, refl, sym, 
 use Rattle.std.proofs.lemmas.List.{append-nil, length-drop, nil_from_length, take_all, take_more}
 use Rattle.std.proofs.lemmas.List.Edits.{between_more, between_none}
 use Rattle.std.proofs.lemmas.Slice.{between_to_end}
-use Rattle.phone_core.specs.declared.country.Id.{Id}
+use Rattle.phone_values.specs.declared.country.Id.{Id}
 use Rattle.phone_records.specs.declared.loader.Metadata.{Metadata}
 use Rattle.phone_lines.specs.Lines.{last_line, without_return}
 use Rattle.phone_lines.specs.LineReports.AreAnswers.{none}

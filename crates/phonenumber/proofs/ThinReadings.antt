@@ -2,13 +2,13 @@
 use Rattle.std.proofs.Common.{◌≡◌, ⊎_elim, ℕ, ◌==◌, ◌≤◌, if◌then◌else◌, Bool, true, false, List, [], ◌∷◌, ◌++◌, Option, option_map, Some, None, Result, Ok, Err, length, refl, ap, sym, subst, ◌∙◌, true≢false, arith}
 use Rattle.std.specs.List.{list_any, count_by}
 use Rattle.phone_chars.specs.Characters.{is_digit, is_plus}
-use Rattle.phone_core.specs.Ids.{name}
+use Rattle.phone_values.specs.Ids.{name}
 use Rattle.phone_chars.specs.Cuts.{after_front}
 use Rattle.phone_chars.specs.Norm.{norm}
 use Rattle.phone_chars.specs.Viable.{IsViable}
-use Rattle.phone_core.specs.declared.country.Id.{Id}
-use Rattle.phone_core.specs.declared.error.ParseError.{ParseError}
-use Rattle.phone_core.specs.declared.error.ParseError.TheVariants.{InvalidCountryCode}
+use Rattle.phone_values.specs.declared.country.Id.{Id}
+use Rattle.phone_values.specs.declared.error.ParseError.{ParseError}
+use Rattle.phone_values.specs.declared.error.ParseError.TheVariants.{InvalidCountryCode}
 use Rattle.phone_records.specs.declared.loader.Metadata.{Metadata}
 use Rattle.phone_records.specs.Empty.{no_metadata}
 use Rattle.phone_meta.specs.Records.{last_with, has_id}
@@ -28,9 +28,9 @@ use Rattle.phone_parts.specs.Parts.{Parts}
 use Rattle.phone_parts.specs.Tel.{IsTel, is_phonedigit}
 use Rattle.phone_parts.specs.Texts.{begins, without_front}
 use Rattle.phone_rules.specs.Verdicts.{verdict, is_too_short}
-use Rattle.phone_core.specs.declared.country.Source.TheVariants.{Default}
+use Rattle.phone_values.specs.declared.country.Source.TheVariants.{Default}
 use Rattle.phone_parts.specs.declared.natural.NoReading.TheVariants.{Error}
-use Rattle.phone_core.specs.declared.reading.Reading.{Reading}
+use Rattle.phone_values.specs.declared.reading.Reading.{Reading}
 use Rattle.phone_parts.proofs.OneParts.{parts_same}
 use Rattle.phonenumber.specs.Thin
 use Rattle.phonenumber.specs.Thin.{IsThinDatabase, ThinReads, is_thin, thin_reading, thin_rest}

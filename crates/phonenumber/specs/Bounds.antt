@@ -1,7 +1,7 @@
 -- What every number keeps, whatever it was made of.
 use Rattle.std.specs.Prelude.{◌^◌, ◌<◌}
-use Rattle.phone_core.specs.Numbers.{IsHeld}
-use Rattle.phone_core.specs.declared.reading.Reading.{Reading}
+use Rattle.phone_values.specs.Numbers.{IsHeld}
+use Rattle.phone_values.specs.declared.reading.Reading.{Reading}
 
 -- what every number keeps that a `PhoneNumber` holds: value and zeros have room in their word, and
 -- the code has 16 bits

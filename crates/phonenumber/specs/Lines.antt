@@ -1,7 +1,7 @@
 -- The end of a number's report line.
 use Rattle.std.specs.Prelude.{ℕ, List, [], ◌∷◌}
 use Rattle.phone_records.specs.declared.loader.Metadata.{Metadata}
-use Rattle.phone_core.specs.declared.reading.Reading.{Reading}
+use Rattle.phone_values.specs.declared.reading.Reading.{Reading}
 use Rattle.phonenumber.specs.Queries.{region_of_number, kind_of_number, is_valid}
 use Rattle.phonenumber.specs.Reports.{kind_word, region_word, source_word, validity_word}
 use Rattle.phone_print.specs.Tabbed.{tabbed}

@@ -1,7 +1,7 @@
 -- What a number is printed as under a database.
 use Rattle.std.specs.Prelude.{ℕ, List, Option, option_map}
-use Rattle.phone_core.specs.declared.mode.Mode.{Mode}
-use Rattle.phone_core.specs.declared.reading.Reading.{Reading}
+use Rattle.phone_values.specs.declared.mode.Mode.{Mode}
+use Rattle.phone_values.specs.declared.reading.Reading.{Reading}
 use Rattle.phone_meta.specs.CodeLookUps.{first_of, territories}
 use Rattle.phone_print.specs.Tabbed.{texts_by}
 use Rattle.phone_print.specs.Texts.{text_by}

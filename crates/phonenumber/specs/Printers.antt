@@ -1,10 +1,10 @@
 -- What a printer holds.
 use Rattle.std.specs.Prelude.{ℕ, List, Option}
 use Rattle.std.specs.Option.{option_copied}
-use Rattle.phone_core.specs.declared.mode.Mode.{Mode}
+use Rattle.phone_values.specs.declared.mode.Mode.{Mode}
 use Rattle.phone_records.specs.declared.loader.Format.{Format}
 use Rattle.phone_records.specs.declared.loader.Metadata.{Metadata}
-use Rattle.phone_core.specs.declared.reading.Reading.{Reading}
+use Rattle.phone_values.specs.declared.reading.Reading.{Reading}
 use Rattle.phonenumber.specs.Printed.{printed_texts}
 use Rattle.phonenumber.specs.Printed.{printed}
 use Rattle.phonenumber.specs.declared.formatter.Formatter.{Formatter}

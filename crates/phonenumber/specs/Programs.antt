@@ -2,8 +2,8 @@
 use Rattle.std.specs.Prelude.{◌≡◌, ◌⊎◌, ℕ, ◌+◌, ◌&&◌, nat_lt, if◌then◌else◌, codes, List, []}
 use Rattle.std.specs.Prelude.{◌∷◌, ◌++◌, Option, None, Some, Result, Ok, Err, MatchResult, ⊤}
 use Rattle.std.specs.Option.{option_map_or}
-use Rattle.phone_core.specs.Ids.{id_of}
-use Rattle.phone_core.specs.declared.country.Id.{Id}
+use Rattle.phone_values.specs.Ids.{id_of}
+use Rattle.phone_values.specs.declared.country.Id.{Id}
 use Rattle.phone_device.specs.Passing.{Takes, TakesFront}
 use Rattle.phone_lines.specs.declared.blocks.RunError.{RunError}
 use Rattle.phone_lines.specs.declared.blocks.RunError.TheVariants.{Input, Memory, Output}

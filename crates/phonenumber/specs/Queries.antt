@@ -3,15 +3,15 @@
 use Rattle.std.specs.Prelude.{Bool, false, List, Option}
 use Rattle.std.specs.Fmt.{decimal}
 use Rattle.std.specs.Option.{option_and_then, option_map_or}
-use Rattle.phone_core.specs.Ids.{id_of}
-use Rattle.phone_core.specs.Numbers.{text_of}
-use Rattle.phone_core.specs.declared.country.Id.{Id}
-use Rattle.phone_core.specs.declared.kind.«Type».{«Type»}
-use Rattle.phone_core.specs.declared.kind.«Type».TheVariants.{Unknown}
+use Rattle.phone_values.specs.Ids.{id_of}
+use Rattle.phone_values.specs.Numbers.{text_of}
+use Rattle.phone_values.specs.declared.country.Id.{Id}
+use Rattle.phone_values.specs.declared.kind.«Type».{«Type»}
+use Rattle.phone_values.specs.declared.kind.«Type».TheVariants.{Unknown}
 use Rattle.phone_records.specs.declared.loader.Metadata.{Metadata}
 use Rattle.phone_read.specs.Regions.{home}
 use Rattle.phone_rules.specs.Kinds.{is_known, type_of}
-use Rattle.phone_core.specs.declared.reading.Reading.{Reading}
+use Rattle.phone_values.specs.declared.reading.Reading.{Reading}
 
 -- its territory: the home of its value, without leading zeros
 abbrev pub territory_of_number : List Metadata → Reading → Option Metadata

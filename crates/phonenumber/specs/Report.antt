@@ -1,6 +1,6 @@
 -- The report on bytes that are lines of phone numbers.
 use Rattle.std.specs.Prelude.{ℕ, List, Option}
-use Rattle.phone_core.specs.declared.country.Id.{Id}
+use Rattle.phone_values.specs.declared.country.Id.{Id}
 use Rattle.phone_lines.specs.LineReports as on_lines
 use Rattle.phone_records.specs.declared.loader.Metadata.{Metadata}
 use Rattle.phonenumber.specs.Reports.{IsReportLine}

@@ -4,24 +4,26 @@ use Rattle.std.specs.Prelude.{Option, Some, None, Ok, Err}
 use Rattle.std.specs.Fmt.{decimal}
 use Rattle.std.specs.Option.{option_map_or}
 use Rattle.std.specs.Str.{IsUtf8}
-use Rattle.phone_core.specs.Ids.{name}
-use Rattle.phone_core.specs.Refusals.{refusal_number, report_words}
-use Rattle.phone_core.specs.declared.country.Id.{Id}
-use Rattle.phone_core.specs.declared.country.Source.{Source}
-use Rattle.phone_core.specs.declared.country.Source.TheVariants.{Plus, Idd, Number, Default}
-use Rattle.phone_core.specs.declared.error.ParseError.{ParseError}
-use Rattle.phone_core.specs.declared.kind.«Type».{«Type»}
-use Rattle.phone_core.specs.declared.kind.«Type».TheVariants.{FixedLine, Mobile, FixedLineOrMobile}
-use Rattle.phone_core.specs.declared.kind.«Type».TheVariants.{TollFree, PremiumRate, SharedCost}
-use Rattle.phone_core.specs.declared.kind.«Type».TheVariants.{PersonalNumber, Voip, Pager, Uan}
-use Rattle.phone_core.specs.declared.kind.«Type».TheVariants.{Emergency, Voicemail, ShortCode}
-use Rattle.phone_core.specs.declared.kind.«Type».TheVariants.{StandardRate, Carrier}
-use Rattle.phone_core.specs.declared.kind.«Type».TheVariants.{NoInternational, Unknown}
-use Rattle.phone_core.specs.declared.mode.Mode.TheVariants.{E164, International, National, Rfc3966}
+use Rattle.phone_values.specs.Ids.{name}
+use Rattle.phone_values.specs.Refusals.{refusal_number, report_words}
+use Rattle.phone_values.specs.declared.country.Id.{Id}
+use Rattle.phone_values.specs.declared.country.Source.{Source}
+use Rattle.phone_values.specs.declared.country.Source.TheVariants.{Plus, Idd, Number, Default}
+use Rattle.phone_values.specs.declared.error.ParseError.{ParseError}
+use Rattle.phone_values.specs.declared.kind.«Type».{«Type»}
+use Rattle.phone_values.specs.declared.kind.«Type».TheVariants.{FixedLine, Mobile}
+use Rattle.phone_values.specs.declared.kind.«Type».TheVariants.{FixedLineOrMobile}
+use Rattle.phone_values.specs.declared.kind.«Type».TheVariants.{TollFree, PremiumRate, SharedCost}
+use Rattle.phone_values.specs.declared.kind.«Type».TheVariants.{PersonalNumber, Voip, Pager, Uan}
+use Rattle.phone_values.specs.declared.kind.«Type».TheVariants.{Emergency, Voicemail, ShortCode}
+use Rattle.phone_values.specs.declared.kind.«Type».TheVariants.{StandardRate, Carrier}
+use Rattle.phone_values.specs.declared.kind.«Type».TheVariants.{NoInternational, Unknown}
+use Rattle.phone_values.specs.declared.mode.Mode.TheVariants.{E164, International, National}
+use Rattle.phone_values.specs.declared.mode.Mode.TheVariants.{Rfc3966}
 use Rattle.phone_meta.specs.CodeLookUps.{first_of, territories}
 use Rattle.phone_records.specs.declared.loader.Metadata.{Metadata}
 use Rattle.phone_read.specs.Readings.{Reads}
-use Rattle.phone_core.specs.declared.reading.Reading.{Reading}
+use Rattle.phone_values.specs.declared.reading.Reading.{Reading}
 use Rattle.phonenumber.specs.Queries.{region_of_number, kind_of_number, is_valid}
 use Rattle.phone_print.specs.Tabbed.{tabbed}
 use Rattle.phone_print.specs.Texts.{text_by}

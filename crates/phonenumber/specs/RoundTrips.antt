@@ -1,11 +1,11 @@
 -- What is answered where a number is printed and read again.
 use Rattle.std.specs.Prelude.{◌≡◌, ◌⊎◌, ℕ, IsUtf8, List, Option, None, Some, Result, Ok, Err, chars}
-use Rattle.phone_core.specs.declared.error.ParseError.{ParseError}
-use Rattle.phone_core.specs.declared.error.ParseError.TheVariants.{InvalidCountryCode, Memory}
-use Rattle.phone_core.specs.declared.mode.Mode.{Mode}
+use Rattle.phone_values.specs.declared.error.ParseError.{ParseError}
+use Rattle.phone_values.specs.declared.error.ParseError.TheVariants.{InvalidCountryCode, Memory}
+use Rattle.phone_values.specs.declared.mode.Mode.{Mode}
 use Rattle.phone_records.specs.declared.loader.Metadata.{Metadata}
 use Rattle.phone_read.specs.Readings.{Reads}
-use Rattle.phone_core.specs.declared.reading.Reading.{Reading}
+use Rattle.phone_values.specs.declared.reading.Reading.{Reading}
 use Rattle.phonenumber.specs.Printed.{printed}
 
 -- m has the code and the national number of n, and the extension e; source and carrier may differ

@@ -7,9 +7,9 @@ use Rattle.std.specs.List.{list_all}
 use Rattle.phone_chars.specs.Characters.{is_digit}
 use Rattle.phone_chars.specs.Norm.{norm}
 use Rattle.phone_chars.specs.Viable.{IsViable}
-use Rattle.phone_core.specs.declared.country.Id.{Id}
-use Rattle.phone_core.specs.declared.error.ParseError.{ParseError}
-use Rattle.phone_core.specs.declared.error.ParseError.TheVariants.{NoNumber, InvalidCountryCode}
+use Rattle.phone_values.specs.declared.country.Id.{Id}
+use Rattle.phone_values.specs.declared.error.ParseError.{ParseError}
+use Rattle.phone_values.specs.declared.error.ParseError.TheVariants.{NoNumber, InvalidCountryCode}
 use Rattle.phone_records.specs.Empty.{no_metadata}
 use Rattle.phone_records.specs.declared.loader.Descriptor.{Descriptor}
 use Rattle.phone_records.specs.declared.loader.Metadata.{Metadata}
@@ -17,7 +17,7 @@ use Rattle.phone_read.specs.Hints.{Coded, code_by_hint, hinted}
 use Rattle.phone_read.specs.Numbering.{reading_of}
 use Rattle.phone_parts.specs.Texts.{ends, without_front}
 use Rattle.phone_rules.specs.Verdicts.{verdict, is_too_short}
-use Rattle.phone_core.specs.declared.reading.Reading.{Reading}
+use Rattle.phone_values.specs.declared.reading.Reading.{Reading}
 
 -- one record, which has a general descriptor, an id, a calling code and perhaps a national prefix,
 -- and nothing else

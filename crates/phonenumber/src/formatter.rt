@@ -3,14 +3,14 @@ ghost use Rattle.std.specs.Prelude.{◌≡◌, ◌↔◌, ◌∷◌, ◌++◌, �
 ghost use Rattle.std.specs.Prelude.{IsErr, OnErr, string_bytes};
 ghost use Rattle.std.specs.Fmt.{DisplaysOnOk, DisplaysStyledOnOk};
 ghost use Rattle.std.specs.Option.{option_copied};
-ghost use Rattle.phone_core.specs.declared.mode.Mode.TheVariants as mode;
+ghost use Rattle.phone_values.specs.declared.mode.Mode.TheVariants as mode;
 ghost use Rattle.phonenumber.specs.Printers.{database_of, layout_of, mode_of, number_of, text_of};
 ghost use Rattle.phonenumber.specs.Printers.{texts_of};
 ghost use Rattle.phonenumber.specs.Printed.{printed};
 ghost use Rattle.phonenumber.specs.Sinks.{IsWrittenWhole, puts};
 
 use crate::{PhoneNumber, TextSink};
-use phone_core::Mode;
+use phone_values::Mode;
 use phone_meta::{Database, Format};
 use phone_print::{Texts, printing};
 use std::alloc::Global;

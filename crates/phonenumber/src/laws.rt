@@ -5,15 +5,15 @@ ghost use Rattle.std.specs.Prelude.{None, Some, Result, Ok, IsUtf8, chars, fold,
 ghost use Rattle.std.specs.Hash.DefaultHasher as sip;
 ghost use Rattle.std.specs.List.{list_all};
 ghost use Rattle.phone_chars.specs.Characters.{is_separator};
-ghost use Rattle.phone_core.specs.Numbers.{IsHeld, text_of};
-ghost use Rattle.phone_core.specs.declared.country.Id.{Id};
-ghost use Rattle.phone_core.specs.declared.error.ParseError.{ParseError};
-ghost use Rattle.phone_core.specs.declared.mode.Mode.TheVariants as mode;
+ghost use Rattle.phone_values.specs.Numbers.{IsHeld, text_of};
+ghost use Rattle.phone_values.specs.declared.country.Id.{Id};
+ghost use Rattle.phone_values.specs.declared.error.ParseError.{ParseError};
+ghost use Rattle.phone_values.specs.declared.mode.Mode.TheVariants as mode;
 ghost use Rattle.phone_meta.specs.CodeLookUps.{is_listed, is_prefix_free};
 ghost use Rattle.phone_records.specs.declared.loader.Metadata as loader;
 ghost use Rattle.phone_read.specs.Readings.{Reads};
 ghost use Rattle.phone_read.specs.TransformRules.{rules_have_no_plus};
-ghost use Rattle.phone_core.specs.declared.reading.Reading.{Reading};
+ghost use Rattle.phone_values.specs.declared.reading.Reading.{Reading};
 ghost use Rattle.phonenumber.specs.RoundTrips.{IsReadAs};
 ghost use Rattle.phone_print.specs.Layouts.{layout_for};
 ghost use Rattle.phonenumber.specs.Bounds.{IsBounded};
@@ -24,7 +24,7 @@ ghost use Rattle.phonenumber.specs.Printed.{printed};
 ghost use Rattle.phonenumber.specs.Thin.{IsThinDatabase, ThinReads, is_thin};
 
 use crate::PhoneNumber;
-use phone_core::equality;
+use phone_values::equality;
 use std::hash::Hash;
 
 /// What a thin text is read as under a thin database is what it is read as: the short definition

@@ -17,7 +17,7 @@ pub use formatter::{FormatError, Formatter, format_with};
 pub use metadata::Metadata;
 pub use parser::parse_with;
 pub use phone_chars::is_viable;
-pub use phone_core::{
+pub use phone_values::{
     Carrier, Extension, Mode, NationalNumber, ParseError, Type, Validation, country,
 };
 pub use phone_number::PhoneNumber;

@@ -3,8 +3,8 @@ ghost use Rattle.std.specs.Prelude.{◌≡◌, ◌⊎◌, Err, chars};
 ghost use Rattle.phone_read.specs.Readings.{Reads};
 
 use crate::PhoneNumber;
-use phone_core::ParseError;
-use phone_core::country::Id;
+use phone_values::ParseError;
+use phone_values::country::Id;
 use phone_meta::Database;
 use phone_read::{Reading, read};
 

@@ -3,9 +3,9 @@ ghost use Rattle.std.specs.Prelude.{◌≡◌, IfOk};
 ghost use Rattle.std.specs.Option.{option_copied};
 ghost use Rattle.phonenumber.specs.Bounds.{IsBounded};
 
-use phone_core::country::Code;
-use phone_core::equality::SameValue;
-use phone_core::{Carrier, Extension, NationalNumber};
+use phone_values::country::Code;
+use phone_values::equality::SameValue;
+use phone_values::{Carrier, Extension, NationalNumber};
 use phone_print::Printable;
 use serde::{Deserialize, DeserializeOwned, Deserializer, Format, Serialize};
 use std::alloc::{AllocError, Global};
@@ -24,7 +24,7 @@ pub struct PhoneNumber {
 }
 
 impl Model for PhoneNumber {
-    ghost use Rattle.phone_core.specs.declared.reading.Reading.{Reading};
+    ghost use Rattle.phone_values.specs.declared.reading.Reading.{Reading};
 
     ghost Value = { Reading };
 

@@ -1,8 +1,8 @@
 //! What a database tells of a number: its territory, its kind, its region, whether it is valid.
 ghost use Rattle.std.specs.Prelude.{◌≡◌, IfOk, false};
 ghost use Rattle.std.specs.Option.{option_and_then, option_copied, option_map_or};
-ghost use Rattle.phone_core.specs.Ids.{id_of};
-ghost use Rattle.phone_core.specs.declared.kind.«Type».TheVariants.{Unknown};
+ghost use Rattle.phone_values.specs.Ids.{id_of};
+ghost use Rattle.phone_values.specs.declared.kind.«Type».TheVariants.{Unknown};
 ghost use Rattle.phone_read.specs.Regions.{home};
 ghost use Rattle.phone_rules.specs.Kinds.{is_known, type_of};
 ghost use Rattle.phone_records.specs.declared.loader.Metadata as loader;
@@ -11,8 +11,8 @@ ghost use Rattle.phonenumber.specs.Queries.{territory_of_number};
 
 use crate::PhoneNumber;
 use itoa::Buffer;
-use phone_core::Type;
-use phone_core::country::{Code, Id};
+use phone_values::Type;
+use phone_values::country::{Code, Id};
 use phone_meta::{Database, Metadata};
 use phone_print::written::text_of_value;
 use phone_read::validator;
@@ -37,7 +37,7 @@ pub struct Country<'a> {
 }
 
 impl<'a> Model for Country<'a> {
-    ghost use Rattle.phone_core.specs.declared.reading.Reading.{Reading};
+    ghost use Rattle.phone_values.specs.declared.reading.Reading.{Reading};
 
     ghost Value = { Reading };
 

@@ -1,14 +1,14 @@
 //! Numbers that are printed, and read again without a hint.
 ghost use Rattle.std.specs.Prelude.{◌≡◌, ◌⊎◌, ◌≤◌, None, true};
-ghost use Rattle.phone_core.specs.Numbers.{text_of};
-ghost use Rattle.phone_core.specs.declared.mode.Mode.TheVariants as mode;
+ghost use Rattle.phone_values.specs.Numbers.{text_of};
+ghost use Rattle.phone_values.specs.declared.mode.Mode.TheVariants as mode;
 ghost use Rattle.phone_meta.specs.CodeLookUps.{is_prefix_free};
 ghost use Rattle.phonenumber.specs.RoundTrips.{IsAgain, IsReadOfPrinted};
 ghost use Rattle.phonenumber.specs.Plain.{IsBenign, IsIdle};
 ghost use Rattle.phonenumber.specs.Plain.{IsPlainE164, IsPlainInternational, IsPlainRfc3966};
 
 use crate::{FormatError, PhoneNumber, format_with, parse_with};
-use phone_core::{Mode, ParseError};
+use phone_values::{Mode, ParseError};
 use phone_meta::Database;
 
 /// What the E.164 text of a number is read as. Where the number is plain, stripping leaves its

@@ -1,7 +1,7 @@
 //! Rows that are computed on the definitions of this crate. These functions do nothing; their
 //! contracts are the rows.
 ghost use Rattle.std.specs.Prelude.{List, [], ◌∷◌, codes, Some};
-ghost use Rattle.phone_core.specs.declared.country.Id.TheVariants.{NZ};
+ghost use Rattle.phone_values.specs.declared.country.Id.TheVariants.{NZ};
 ghost use Rattle.phone_read.specs.Samples.{nz};
 ghost use Rattle.phonenumber.specs.Reports.{IsReportLine};
 

@@ -1,12 +1,12 @@
-//! The calls of `phone_core` and `phone_chars`.
+//! The calls of `phone_values` and `phone_chars`.
 use crate::marks::{around, begin};
 use crate::table::Row;
 use crate::words::{refusal, truth};
 use anyhow::Result;
 use phone_chars::chars::{self, normalize};
 use phone_chars::is_viable;
-use phone_core::country::Id;
-use phone_core::{NationalNumber, ParseError, Validation};
+use phone_values::country::Id;
+use phone_values::{NationalNumber, ParseError, Validation};
 use std::alloc::{AllocError, Global};
 use std::borrow::CowStr;
 

@@ -1,7 +1,7 @@
 //! How tables write what the crates answer.
 use anyhow::{Result, anyhow};
-use phone_core::country::{Id, Source};
-use phone_core::{Mode, ParseError, Type};
+use phone_values::country::{Id, Source};
+use phone_values::{Mode, ParseError, Type};
 use std::alloc::{AllocError, Global};
 
 /// The kinds by their names, in their order.

@@ -4,7 +4,7 @@ use crate::given::with_extension;
 use crate::printing::text_or_refusal;
 use crate::reading::parts_or_refusal;
 use anyhow::{Result, anyhow};
-use phone_core::{Mode, ParseError};
+use phone_values::{Mode, ParseError};
 use phone_meta::Database;
 use phone_base::together::both;
 use phonenumber::{PhoneNumber, round_trip, format_with};

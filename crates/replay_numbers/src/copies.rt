@@ -1,8 +1,8 @@
 //! Copies: whether a value that was copied is equal to its copy, and has the same hash.
 use anyhow::Result;
 use crate::given::number_of_row;
-use phone_core::equality::{SameValue, hash_of};
-use phone_core::{Carrier, Extension};
+use phone_values::equality::{SameValue, hash_of};
+use phone_values::{Carrier, Extension};
 use phonenumber::country::Id;
 use phonenumber::metadata::Database;
 use phonenumber::{PhoneNumber, Texts, format_with, laws, parse_with};

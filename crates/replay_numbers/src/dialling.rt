@@ -2,8 +2,8 @@
 //! prefix, calling code and national prefix.
 use anyhow::Result;
 use replay_database::named::territory;
-use phone_core::ParseError;
-use phone_core::country::Source;
+use phone_values::ParseError;
+use phone_values::country::Source;
 use phone_meta::Database;
 use phone_read::{Number, helper};
 use regex::{Regex, RegexBuilder};

@@ -1,7 +1,7 @@
 //! The texts of errors that no other call tells, and the errors of records as copies.
 use anyhow::{Result, anyhow};
 use phone_book::{BookError, BookNewError};
-use phone_core::country::UnknownId;
+use phone_values::country::UnknownId;
 use phone_base::MetadataError;
 use phone_base::together::both;
 use phonenumber::{FormatError, ParseError};

@@ -1,7 +1,7 @@
 //! How the tables tell a number: its parts, its texts in the four modes, and what a database tells
 //! of it.
 use anyhow::{Result, anyhow};
-use phone_core::country::Id;
+use phone_values::country::Id;
 use phone_meta::Database;
 use phonenumber::{FormatError, Formatter, PhoneNumber, Facts, Texts};
 use replay_base::marks::{around, begin};

@@ -1,8 +1,8 @@
 //! Forms of values: what serde reads of a JSON text, and what it writes.
 use anyhow::{Result, anyhow};
 use crate::given::number_of_row;
-use phone_core::country::{self, Code, Id, Source};
-use phone_core::{Carrier, Extension, NationalNumber, Type};
+use phone_values::country::{self, Code, Id, Source};
+use phone_values::{Carrier, Extension, NationalNumber, Type};
 use phonenumber::PhoneNumber;
 use replay_base::marks::{around, begin};
 use replay_base::table::Row;

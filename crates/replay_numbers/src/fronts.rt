@@ -1,7 +1,7 @@
 //! The fronts of a text, cut between its characters: each is read, or refused. No marks stand
 //! around these readings: there are many in a line, and `parse` has marks around one.
 use anyhow::Result;
-use phone_core::country::Id;
+use phone_values::country::Id;
 use phone_meta::Database;
 use phonenumber::{ParseError, parse_with};
 use replay_base::table::Row;

@@ -3,8 +3,8 @@
 use crate::given::with_extension;
 use anyhow::{Result, anyhow};
 use phone_chars::chars::{is_digit, is_punctuation, is_separator};
-use phone_core::consts::{MAX_LENGTH_FOR_NSN, MIN_LENGTH_FOR_NSN};
-use phone_core::{Mode, Type, Validation};
+use phone_values::consts::{MAX_LENGTH_FOR_NSN, MIN_LENGTH_FOR_NSN};
+use phone_values::{Mode, Type, Validation};
 use phone_meta::{Database, Metadata};
 use phone_read::Number;
 use phone_read::helper::national_number;

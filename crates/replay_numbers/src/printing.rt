@@ -3,7 +3,7 @@ use crate::given::{number, number_of_row};
 use crate::page::Page;
 use crate::facts::{facts, texts};
 use anyhow::{Result, anyhow};
-use phone_core::{Carrier, Extension};
+use phone_values::{Carrier, Extension};
 use phone_meta::{Database, Format, Metadata};
 use phone_base::together::both;
 use phonenumber::{FormatError, Formatter, PhoneNumber, format_with};

@@ -2,7 +2,7 @@
 use anyhow::Result;
 use replay_database::named::{code_of, territory};
 use either::{Either, Left, Right};
-use phone_core::country::Id;
+use phone_values::country::Id;
 use phone_meta::{Database, Metadata};
 use phone_read::{Number, validator};
 use replay_base::marks::{around, begin};

@@ -3,7 +3,7 @@
 use crate::premises::{how_told, is_within};
 use anyhow::{Result, anyhow};
 use replay_numbers::given::with_extension;
-use phone_core::country::Id;
+use phone_values::country::Id;
 use phone_meta::{Database, Metadata};
 use phone_util::dialled::{DialError, dialled_from};
 use phonenumber::PhoneNumber;

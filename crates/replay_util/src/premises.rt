@@ -4,7 +4,7 @@
 use anyhow::Result;
 use replay_numbers::premises::Premises;
 use phone_chars::chars::is_digit;
-use phone_core::{Mode, Type, Validation};
+use phone_values::{Mode, Type, Validation};
 use phone_meta::{Database, Metadata};
 use phone_read::Number;
 use phone_read::helper::national_number;

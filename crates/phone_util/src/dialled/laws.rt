@@ -1,9 +1,9 @@
 //! What holds of dialled numbers. These functions do nothing; their contracts are the statements.
 ghost use Rattle.std.specs.Prelude.{◌≡◌, ℕ, List, IsUtf8, Ok, chars};
-ghost use Rattle.phone_core.specs.declared.country.Id.{Id};
-ghost use Rattle.phone_core.specs.declared.country.Source.TheVariants as source;
+ghost use Rattle.phone_values.specs.declared.country.Id.{Id};
+ghost use Rattle.phone_values.specs.declared.country.Source.TheVariants as source;
 ghost use Rattle.phone_records.specs.declared.loader.Metadata as loader;
-ghost use Rattle.phone_core.specs.declared.reading.Reading.{Reading};
+ghost use Rattle.phone_values.specs.declared.reading.Reading.{Reading};
 ghost use Rattle.phonenumber.specs.Bounds.{IsBounded};
 ghost use Rattle.phone_util.specs.Back.{IsAfterPlus, IsAfterPrefix, IsPlainDialled, IsReadUnder};
 ghost use Rattle.phone_util.specs.Dialled.{dialled_text};

@@ -9,7 +9,7 @@ ghost use Rattle.phone_print.specs.Tabbed.{tabbed, texts_by};
 
 use crate::report::words::{kind_word, refusal_line, region_word, source_word, validity_word};
 use crate::{FormatError, PhoneNumber, format_with, parse_with};
-use phone_core::country::Id;
+use phone_values::country::Id;
 use phone_lines::Answers;
 use phone_meta::Database;
 use std::alloc::{AllocError, Global};

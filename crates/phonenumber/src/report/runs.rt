@@ -1,6 +1,6 @@
 //! The run over all lines of a source, and laws of its report.
 ghost use Rattle.std.specs.Prelude.{◌≡◌, ℕ, List, Option};
-ghost use Rattle.phone_core.specs.declared.country.Id.{Id};
+ghost use Rattle.phone_values.specs.declared.country.Id.{Id};
 ghost use Rattle.phone_lines.specs.Ends.{Ends, seen};
 ghost use Rattle.phone_lines.specs.LineReports.{TakesA};
 ghost use Rattle.phone_records.specs.declared.loader.Metadata as loader;
@@ -8,7 +8,7 @@ ghost use Rattle.phonenumber.specs.Reports.{IsReportLine};
 ghost use Rattle.phonenumber.specs.Report.{IsBeginning, IsReport, TakesBeginning};
 
 use crate::report::line::Reporter;
-use phone_core::country::Id;
+use phone_values::country::Id;
 use phone_device::{ByteSink, ByteSource};
 use phone_lines::{RunError, answer_lines, without_return};
 use phone_meta::Database;

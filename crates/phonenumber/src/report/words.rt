@@ -1,11 +1,11 @@
 //! The words of a report's fields.
 ghost use Rattle.std.specs.Prelude.{◌≡◌, IfOk, IsErr, string_bytes};
-ghost use Rattle.phone_core.specs.declared.error.ParseError.TheVariants as refusal;
+ghost use Rattle.phone_values.specs.declared.error.ParseError.TheVariants as refusal;
 ghost use Rattle.phonenumber.specs.Reports.{kind_word, refusal_line, region_word, source_word};
 ghost use Rattle.phonenumber.specs.Reports.{validity_word};
 
-use phone_core::country::{Id, Source};
-use phone_core::{ParseError, Type};
+use phone_values::country::{Id, Source};
+use phone_values::{ParseError, Type};
 use std::alloc::{AllocError, Global};
 
 /// How a calling code was found, in a word.

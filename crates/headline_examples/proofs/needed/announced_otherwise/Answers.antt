@@ -1,7 +1,7 @@
 use Rattle.std.proofs.Common.{codes, Some, refl, arith, inr}
 use Rattle.std.specs.Fmt.{digits}
 use Rattle.std.specs.Str.{chars}
-use Rattle.phone_core.specs.Ids.{id_of, name}
+use Rattle.phone_values.specs.Ids.{id_of, name}
 use Rattle.headline_examples.proofs.ByText.{international, is_plain, not_behind_digit, not_known}
 use Rattle.headline_examples.proofs.Laid.{at_by_x_laid, spaced_laid}
 use Rattle.headline_examples.specs.Samples.{al_by_e, at_by_x, number}

@@ -1,6 +1,6 @@
 use Rattle.std.proofs.Common.{refl, inr}
 use Rattle.std.specs.Fmt.{digits}
-use Rattle.phone_core.specs.Ids.{id_of, name}
+use Rattle.phone_values.specs.Ids.{id_of, name}
 use Rattle.phone_meta.specs.CodeLookUps.{begins}
 use Rattle.headline_examples.proofs.ByText.{is_plain}
 use Rattle.headline_examples.specs.Samples.{ar, bare_ad}

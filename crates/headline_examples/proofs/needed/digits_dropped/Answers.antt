@@ -1,7 +1,7 @@
 use Rattle.std.proofs.Common.{◌≡◌, ℕ, List, length, codes, None, refl, ap, arith, inr}
 use Rattle.std.specs.Fmt.{digits}
 use Rattle.std.specs.Str.{chars}
-use Rattle.phone_core.specs.Ids.{id_of, name}
+use Rattle.phone_values.specs.Ids.{id_of, name}
 use Rattle.headline_examples.proofs.ByText.{is_plain, not_international, not_rfc3966}
 use Rattle.headline_examples.proofs.Laid.{am_laid}
 use Rattle.headline_examples.specs.Samples.{am, db_c, number}

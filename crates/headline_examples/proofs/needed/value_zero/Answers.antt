@@ -1,5 +1,5 @@
 use Rattle.std.proofs.Common.{◌<◌, refl, arith, inr}
-use Rattle.phone_core.specs.Ids.{id_of, name}
+use Rattle.phone_values.specs.Ids.{id_of, name}
 use Rattle.headline_examples.specs.Samples.{ad}
 use Rattle.headline_examples.proofs.needed.value_zero.Goals as goal
 

@@ -1,7 +1,7 @@
 use Rattle.std.proofs.Common.{[], codes, Some, refl, arith, inr}
 use Rattle.std.specs.Fmt.{digits}
 use Rattle.std.specs.Str.{chars}
-use Rattle.phone_core.specs.Ids.{id_of, name}
+use Rattle.phone_values.specs.Ids.{id_of, name}
 use Rattle.headline_examples.proofs.ByText.{benign, international, is_plain}
 use Rattle.headline_examples.proofs.Laid.{spaced_laid}
 use Rattle.headline_examples.specs.Samples.{am_by_anexo, number}

@@ -1,4 +1,4 @@
-use Rattle.phone_core.specs.Ids.{id_of}
+use Rattle.phone_values.specs.Ids.{id_of}
 use Rattle.phone_c.proofs.hint.id_of.Goals as goal
 
 pub returns : goal.returns

@@ -1,6 +1,6 @@
 use Rattle.std.proofs.lemmas.Fmt.{IsAscii-from_digits}
 use Rattle.std.proofs.lemmas.Str.{chars-IsAscii, encodes-IsAscii}
-use Rattle.phone_core.proofs.ReadBack.{all_digits}
+use Rattle.phone_values.proofs.ReadBack.{all_digits}
 use Rattle.phone_chars.proofs.laws.digits_are_bytes.Goals as goal
 
 pub returns-clause-read : goal.returns-clause-read

@@ -3,7 +3,7 @@ use Rattle.std.proofs.lemmas.Fmt.{IsAscii-from_digits}
 use Rattle.std.proofs.lemmas.Str.{encodes-IsAscii, encodes-chars}
 use Rattle.std.specs.List.{list_all}
 use Rattle.std.specs.Str.{chars, IsUtf8}
-use Rattle.phone_core.proofs.ReadBack.{all_digits}
+use Rattle.phone_values.proofs.ReadBack.{all_digits}
 use Rattle.phone_chars.specs.Characters.{is_digit}
 use Rattle.phone_chars.proofs.viable.is_two_digits.Goals as goal
 

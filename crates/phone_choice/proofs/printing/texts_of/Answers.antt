@@ -1,5 +1,5 @@
 use Rattle.std.proofs.lemmas.Result.{IfOk-weaker}
-use Rattle.phone_core.specs.declared.mode.Mode.TheVariants.{E164, International, National, Rfc3966}
+use Rattle.phone_values.specs.declared.mode.Mode.TheVariants.{E164, International, National, Rfc3966}
 use Rattle.phone_choice.proofs.PrintedOwn.{printed_own}
 use Rattle.phone_choice.proofs.printing.texts_of.Goals as goal
 

@@ -1,5 +1,5 @@
 use Rattle.std.proofs.Common.{◌+◌, ◌<◌, ℕ, List, Option, length}
-use Rattle.phone_core.specs.declared.country.Id.{Id}
+use Rattle.phone_values.specs.declared.country.Id.{Id}
 use Rattle.phone_records.specs.declared.loader.Metadata.{Metadata}
 use Rattle.phone_find.specs.Founds.{IsDecided}
 use Rattle.phone_find.specs.Numbers.{IsNumberAt}

@@ -1,6 +1,6 @@
 use Rattle.std.proofs.Common.{rules, ◌≡◌, inl, inr, ⊎_elim, Ok, Err, ap, sym, subst, ◌∙◌}
 use Rattle.std.specs.Str.{chars}
-use Rattle.phone_core.specs.declared.error.ParseError.TheVariants.{Memory}
+use Rattle.phone_values.specs.declared.error.ParseError.TheVariants.{Memory}
 use Rattle.phone_library.specs.Readings
 use Rattle.phone_library.specs.Readings.{ReadsByLibrary, reading_under}
 use Rattle.phone_library_text.specs.Written.{IsWritten}

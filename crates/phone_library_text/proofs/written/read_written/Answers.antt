@@ -1,8 +1,8 @@
 use Rattle.std.proofs.Common.{◌≡◌, ◌⊎◌, inl, inr, List, ℕ, length, Some, option_map, Result, Err, ap, sym, subst, ◌∙◌}
 use Rattle.std.specs.Cow.{cow_str_bytes}
 use Rattle.std.specs.Str.{chars}
-use Rattle.phone_core.specs.declared.error.ParseError.{ParseError}
-use Rattle.phone_core.specs.declared.error.ParseError.TheVariants.{Memory}
+use Rattle.phone_values.specs.declared.error.ParseError.{ParseError}
+use Rattle.phone_values.specs.declared.error.ParseError.TheVariants.{Memory}
 use Rattle.phone_library_text.specs.NumberTexts.{HasNumberText}
 use Rattle.phone_library_text.specs.Written
 use Rattle.phone_library_text.specs.Written.{IsWritten, IsWrittenIn}

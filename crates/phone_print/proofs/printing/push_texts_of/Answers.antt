@@ -1,5 +1,5 @@
 use Rattle.std.proofs.Common.{◌≡◌, ◌∷◌, ◌++◌, OnOk, string_bytes, option_copied, sym, ap, subst, ◌∙◌}
-use Rattle.phone_core.specs.declared.mode.Mode.TheVariants.{International, National}
+use Rattle.phone_values.specs.declared.mode.Mode.TheVariants.{International, National}
 use Rattle.phone_print.specs.Layouts.{layout_for}
 use Rattle.phone_print.proofs.TextsLaid.{laid-laid_out, texts_laid-texts_by}
 use Rattle.phone_print.proofs.printing.push_texts_of.Goals as goal

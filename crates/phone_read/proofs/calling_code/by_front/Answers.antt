@@ -1,7 +1,7 @@
 use Rattle.std.proofs.Common.{rules, ◌≡◌, ◌∙◌, Result, Err, IfErr, ap, sym, subst, List, ℕ}
 use Rattle.std.specs.Cow.{cow_str_bytes}
 use Rattle.std.specs.Result.{result_map_both}
-use Rattle.phone_core.specs.declared.error.ParseError.{ParseError}
+use Rattle.phone_values.specs.declared.error.ParseError.{ParseError}
 use Rattle.phone_read.specs.CallingCodes.{code_by_front, with_three}
 use Rattle.phone_read.specs.Hints.{Coded}
 use Rattle.phone_read.proofs.calling_code.by_front.Goals as goal

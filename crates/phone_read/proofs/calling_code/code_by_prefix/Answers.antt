@@ -1,5 +1,5 @@
 use Rattle.std.proofs.Common.{ap, ◌∙◌}
-use Rattle.phone_core.specs.declared.country.Source.TheVariants.{Plus}
+use Rattle.phone_values.specs.declared.country.Source.TheVariants.{Plus}
 use Rattle.phone_read.specs.CallingCodes.{with_three}
 use Rattle.phone_read.proofs.calling_code.code_by_prefix.Goals as goal
 

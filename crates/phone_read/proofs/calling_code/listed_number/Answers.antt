@@ -1,5 +1,5 @@
 use Rattle.std.proofs.Common.{sym, ◌∙◌}
-use Rattle.phone_core.proofs.Digits.{number_some, number_none}
+use Rattle.phone_values.proofs.Digits.{number_some, number_none}
 use Rattle.phone_read.proofs.ListedFronts.{prefix_listed, prefix_malformed, prefix_unlisted}
 use Rattle.phone_read.proofs.calling_code.listed_number.Goals as goal
 

@@ -1,9 +1,9 @@
 use Rattle.std.proofs.Common.{ℕ, Option, Ok, Err, Result, List, drop, length, sym, ap, ◌∙◌}
 use Rattle.std.specs.Fmt.{decimal}
 use Rattle.std.specs.Option.{option_map_or}
-use Rattle.phone_core.specs.declared.country.Source.{Source}
-use Rattle.phone_core.specs.declared.error.ParseError.{ParseError}
-use Rattle.phone_core.specs.declared.error.ParseError.TheVariants.{InvalidCountryCode}
+use Rattle.phone_values.specs.declared.country.Source.{Source}
+use Rattle.phone_values.specs.declared.error.ParseError.{ParseError}
+use Rattle.phone_values.specs.declared.error.ParseError.TheVariants.{InvalidCountryCode}
 use Rattle.phone_read.specs.Hints.{Coded}
 use Rattle.phone_parts.specs.Texts.{is_front}
 use Rattle.phone_parts.proofs.Prefixes.{is_front-append}

@@ -3,8 +3,8 @@ use Rattle.std.specs.Cow.{cow_str_bytes, IsBorrowedStr}
 use Rattle.std.specs.Fmt.{decimal}
 use Rattle.std.specs.Option.{option_copied}
 use Rattle.std.specs.Result.{result_map_both}
-use Rattle.phone_core.specs.declared.country.Source.TheVariants.{Plus}
-use Rattle.phone_core.specs.declared.error.ParseError.{ParseError}
+use Rattle.phone_values.specs.declared.country.Source.TheVariants.{Plus}
+use Rattle.phone_values.specs.declared.error.ParseError.{ParseError}
 use Rattle.phone_parts.specs.declared.number.Number.{Number as Parts}
 use Rattle.phone_read.specs.CallingCodes.{IsCoded, KeepsLentCode, code_by, code_by_prefix, with_three}
 use Rattle.phone_read.specs.Hints.{Coded}

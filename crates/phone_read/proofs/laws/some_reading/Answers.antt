@@ -1,5 +1,5 @@
 use Rattle.std.proofs.Common.{Err, chars}
-use Rattle.phone_core.specs.declared.error.ParseError.TheVariants.{NoNumber}
+use Rattle.phone_values.specs.declared.error.ParseError.TheVariants.{NoNumber}
 use Rattle.phone_parts.specs.Parts.{parts_of}
 use Rattle.phone_read.specs.Readings
 use Rattle.phone_read.proofs.ReadingSome.{some_of_parts}

@@ -4,8 +4,8 @@ use Rattle.std.specs.Option.{option_copied}
 use Rattle.std.specs.Str.{chars}
 use Rattle.phone_chars.specs.Norm.{norm}
 use Rattle.phone_chars.specs.Viable.{IsViable}
-use Rattle.phone_core.specs.declared.country.Id.{Id}
-use Rattle.phone_core.specs.declared.country.Source.{Source}
+use Rattle.phone_values.specs.declared.country.Id.{Id}
+use Rattle.phone_values.specs.declared.country.Source.{Source}
 use Rattle.phone_records.specs.declared.loader.Metadata.{Metadata}
 use Rattle.phone_parts.specs.Parts.{parts_of}
 use Rattle.phone_read.specs.Hints.{Coded}

@@ -1,6 +1,6 @@
 use Rattle.std.proofs.Common.{◌≡◌, drop}
 use Rattle.std.specs.List.{find}
-use Rattle.phone_core.specs.declared.kind.«Type».{«Type»}
+use Rattle.phone_values.specs.declared.kind.«Type».{«Type»}
 use Rattle.phone_territory.specs.Kinds.{descriptor_for}
 use Rattle.phone_rules.specs.Kinds.{is_of}
 use Rattle.phone_rules.proofs.kinds.first_kind.Given as goal

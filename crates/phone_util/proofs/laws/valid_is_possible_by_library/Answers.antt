@@ -1,8 +1,8 @@
 use Rattle.std.proofs.Common.{◌≡◌, ◌==◌, Bool, true, false, if◌then◌else◌, length, refl, ap, ◌∙◌}
 use Rattle.std.specs.List.{list_any}
 use Rattle.std.specs.Option.{option_map_or}
-use Rattle.phone_core.specs.Numbers.{text_of}
-use Rattle.phone_core.specs.declared.validator.Validation.TheVariants.{IsPossible, IsPossibleLocalOnly}
+use Rattle.phone_values.specs.Numbers.{text_of}
+use Rattle.phone_values.specs.declared.validator.Validation.TheVariants.{IsPossible, IsPossibleLocalOnly}
 use Rattle.phone_library.specs.Lengths.{length_in, local_lengths}
 use Rattle.phone_records.specs.declared.loader.Metadata.{Metadata}
 use Rattle.phone_util.specs.Possibilities.{verdict_said}

@@ -1,6 +1,6 @@
 use Rattle.std.proofs.Common.{◌≡◌, ◌++◌, drop, map, Bor}
 use Rattle.std.specs.List.{filter_map}
-use Rattle.phone_core.specs.declared.kind.«Type».{«Type»}
+use Rattle.phone_values.specs.declared.kind.«Type».{«Type»}
 use Rattle.phone_territory.specs.Kinds.{descriptor_for, kinds_of}
 use Rattle.phone_records.specs.declared.loader.Descriptor.{Descriptor}
 use Rattle.phone_util.proofs.possibilities.descriptors_of.Given as goal

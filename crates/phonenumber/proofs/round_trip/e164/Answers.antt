@@ -1,4 +1,4 @@
-use Rattle.phone_core.specs.declared.mode.Mode.TheVariants.{E164}
+use Rattle.phone_values.specs.declared.mode.Mode.TheVariants.{E164}
 use Rattle.phone_parts.proofs.PrintedE164.{e164_parts}
 use Rattle.phonenumber.proofs.AgainLaws.{again_by}
 use Rattle.phonenumber.proofs.BackLaws.{e164_back}

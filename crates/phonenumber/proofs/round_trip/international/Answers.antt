@@ -1,4 +1,4 @@
-use Rattle.phone_core.specs.declared.mode.Mode.TheVariants.{International}
+use Rattle.phone_values.specs.declared.mode.Mode.TheVariants.{International}
 use Rattle.phone_parts.proofs.AnnouncedParts.{announced_parts}
 use Rattle.phone_parts.proofs.PrintedInternational.{international_parts}
 use Rattle.phonenumber.proofs.AgainLaws.{again_by}

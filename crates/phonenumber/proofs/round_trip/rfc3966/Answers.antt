@@ -1,4 +1,4 @@
-use Rattle.phone_core.specs.declared.mode.Mode.TheVariants.{Rfc3966}
+use Rattle.phone_values.specs.declared.mode.Mode.TheVariants.{Rfc3966}
 use Rattle.phone_parts.proofs.PrintedTel.{rfc3966_parts}
 use Rattle.phonenumber.proofs.AgainLaws.{again_by}
 use Rattle.phonenumber.proofs.BackLaws.{rfc3966_back}

@@ -1,8 +1,8 @@
 use Rattle.std.proofs.Common.{◌≡◌, ℕ, ◌+◌, ◌∷◌, ◌++◌, [], List, length, map, take, get_or, Bor, Option, None, ap, sym, subst, subst₂, ◌∙◌, arith}
 use Rattle.std.proofs.Math.Seq.{take-length}
 use Rattle.std.proofs.lemmas.List.{length_push, map-append, take_more}
-use Rattle.phone_core.specs.declared.country.Id.{Id}
-use Rattle.phone_core.specs.declared.reading.Reading.{Reading}
+use Rattle.phone_values.specs.declared.country.Id.{Id}
+use Rattle.phone_values.specs.declared.reading.Reading.{Reading}
 use Rattle.phone_book.specs.Answers.{AreAnsweredBy, HaveNumbersBy, IsAnsweredBy, line_of}
 use Rattle.phone_book.specs.Firsts.{firsts}
 use Rattle.phone_book.proofs.AnswerLemmas.{answered-push, lines-firsts}

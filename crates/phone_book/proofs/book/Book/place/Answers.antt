@@ -2,7 +2,7 @@ use Rattle.std.proofs.Common.{◌≡◌, ◌∷◌, ◌++◌, [], true, false, l
 use Rattle.std.proofs.lemmas.List.{length-map}
 use Rattle.std.specs.Map.{values_of}
 use Rattle.phone_meta.specs.CodeLookUps.{is_listed}
-use Rattle.phone_core.specs.declared.reading.Reading.{Reading}
+use Rattle.phone_values.specs.declared.reading.Reading.{Reading}
 use Rattle.phone_book.specs.Books.{AreKept}
 use Rattle.phone_book.specs.Firsts.{firsts, is_among}
 use Rattle.phone_book.proofs.Keyed.{after-new, found-same, some_from}

@@ -1,6 +1,6 @@
 use Rattle.std.proofs.Common.{subst}
-use Rattle.phone_core.specs.Numbers.{IsHeld}
-use Rattle.phone_core.specs.declared.reading.Reading.{Reading}
+use Rattle.phone_values.specs.Numbers.{IsHeld}
+use Rattle.phone_values.specs.declared.reading.Reading.{Reading}
 use Rattle.phonenumber.proofs.SameNumbers.{numbers_same}
 use Rattle.phonenumber.proofs.phone_number.PhoneNumberSameValue.is_same.Goals as goal
 

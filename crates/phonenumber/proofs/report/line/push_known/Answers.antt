@@ -1,5 +1,5 @@
 use Rattle.std.proofs.Common.{◌≡◌, ◌∷◌, ◌++◌, OnOk, string_bytes, ap, subst, ◌∙◌}
-use Rattle.phone_core.specs.declared.country.Code.{Code}
+use Rattle.phone_values.specs.declared.country.Code.{Code}
 use Rattle.phonenumber.specs.Queries.{is_valid, kind_of_number, region_of_number}
 use Rattle.phonenumber.specs.Reports.{kind_word, region_word, source_word, validity_word}
 use Rattle.phonenumber.proofs.NumberLines.{words_by}

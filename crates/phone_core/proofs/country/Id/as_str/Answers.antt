@@ -1,6 +1,0 @@
-use Rattle.std.proofs.Common.{◌∙◌}
-use Rattle.phone_core.proofs.Names.{name_at_tag}
-use Rattle.phone_core.proofs.country.Id.as_str.Goals as goal
-
-pub returns : goal.returns
-returns c = c.name_at.ensures ∙ name_at_tag c.args.self.now

@@ -1,7 +1,0 @@
-use Rattle.std.proofs.Common.{◌∙◌, sym}
-use Rattle.phone_core.specs.Ids.{id_of}
-use Rattle.phone_core.proofs.country.IdFromStr.from_str.Goals as goal
-
-pub returns : goal.returns
-unfolding id_of
-returns c = sym c.ok_or.ensures.ok_part ∙ c.find_id.ensures

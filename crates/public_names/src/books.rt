@@ -1,0 +1,2 @@
+//! The names of `phone_book`.
+pub use phone_book::{Book, BookError, BookNewError, Place};

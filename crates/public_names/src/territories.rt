@@ -1,0 +1,7 @@
+//! The names of `phone_meta`.
+pub use phone_meta::loader::{
+    Defaults, Descriptor as DescriptorRecord, Format as FormatRecord, Metadata as MetadataRecord,
+};
+pub use phone_meta::{
+    Database, Descriptor, Descriptors, Format, Iter, LoadMetadata, Metadata, Steps,
+};
