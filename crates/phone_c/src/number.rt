@@ -200,7 +200,11 @@ fn own_texts(
 }
 
 /// The number of plain numbers with its texts; `BAD_NUMBER` where they are none, else `MEMORY`.
-pub(crate) fn to_phone_number(alloc: Global, number: &Number, bytes: &[u8]) -> Result<PhoneNumber, u32>
+pub(crate) fn to_phone_number(
+    alloc: Global,
+    number: &Number,
+    bytes: &[u8],
+) -> Result<PhoneNumber, u32>
     ensures found { IfOk result (λ n. IsNumber number.now bytes.now n) }
     ensures bad { (result ≡ Err BAD_NUMBER) ↔ AreNoNumber number.now bytes.now }
     ensures refused { IfErr result (λ s. (s ≡ MEMORY) ⊎ (s ≡ BAD_NUMBER)) }

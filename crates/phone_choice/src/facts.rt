@@ -5,7 +5,7 @@ ghost use Rattle.phone_choice.specs.Facts.{is_valid_by, kind_by, region_by};
 use crate::rules::Rules;
 use phone_library::{NumberFacts, facts};
 use phone_meta::Database;
-use phonenumber::{PhoneNumber, Facts};
+use phonenumber::{Facts, PhoneNumber};
 use std::alloc::AllocError;
 
 /// The region of a number, its kind, and whether it is valid: by the rules of libphonenumber as

@@ -3,9 +3,9 @@ ghost use Rattle.std.specs.Prelude.{◌≡◌, ◌⊎◌, Err, chars};
 ghost use Rattle.phone_choice.specs.Readings.{ReadsBy};
 
 use crate::rules::Rules;
+use phone_meta::Database;
 use phone_values::ParseError;
 use phone_values::country::Id;
-use phone_meta::Database;
 use phonenumber::{PhoneNumber, parse_with};
 
 /// Reads a text as a phone number under a database and a hint: by the rules of libphonenumber as

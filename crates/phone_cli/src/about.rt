@@ -1,7 +1,7 @@
 //! What the program says of itself, and of what words it knows.
 use crate::usage::{HELP, NAME};
-use phone_values::country::{ALL, Id};
 use phone_device::{ByteSink, Fault, write_all};
+use phone_values::country::{ALL, Id};
 use std::alloc::AllocGlobal;
 use std::fs::{self, Files};
 

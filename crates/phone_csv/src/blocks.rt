@@ -267,7 +267,9 @@ pub fn answer_records<A: Answers, C: Counter, S: ByteSource, W: ByteSink>(
     match end {
         End::Whole => Ok(()),
         End::Input => Err(RunError::Input),
-        End::Record => Err(RunError::Record(start.feeds.saturating_add(pending.cutter.feeds_before))),
+        End::Record => Err(RunError::Record(
+            start.feeds.saturating_add(pending.cutter.feeds_before),
+        )),
         End::Memory => Err(RunError::Memory),
     }
 }

@@ -5,11 +5,11 @@ mod answers;
 mod blocks;
 mod cutter;
 mod delimiter;
-mod pending_output;
 mod first;
 mod front;
 pub mod laws;
 mod machine;
+mod pending_output;
 mod spelled;
 
 pub use answers::{Answers, Counter, Refusal, add_record};

@@ -9,9 +9,9 @@ use crate::candidates::{is_candidate, may_begin};
 use crate::leniency::{Leniency, suffices};
 use crate::search::{Found, Judge, all_accepted};
 use phone_choice::{Rules, parse_by};
+use phone_meta::Database;
 use phone_values::ParseError;
 use phone_values::country::Id;
-use phone_meta::Database;
 use phonenumber::PhoneNumber;
 use std::alloc::{AllocError, Global};
 

@@ -4,8 +4,8 @@ ghost use Rattle.phone_base.specs.Errors.{told};
 ghost use Rattle.phone_json.specs.Told.{refusal_of};
 
 use crate::steps::both;
-use phone_records::LoadMetadata;
 use phone_base::MetadataError;
+use phone_records::LoadMetadata;
 use std::alloc::{AllocError, Global};
 
 /// Why a value is refused.

@@ -15,11 +15,11 @@ ghost use Rattle.phone_rules.specs.Dialling.{after_match, found_in};
 use crate::kinds::matches_general;
 use crate::lengths::{is_too_long, length_in};
 use crate::stripping::strip;
-use phone_values::ParseError;
-use phone_values::country::Source;
+use phone_base::together::{beside, instead};
 use phone_meta::{Database, Metadata};
 use phone_rules::trims::{begins_with_number, behind_number};
-use phone_base::together::{beside, instead};
+use phone_values::ParseError;
+use phone_values::country::Source;
 use std::alloc::AllocError;
 use std::borrow::CowStr;
 

@@ -8,8 +8,8 @@ ghost use Rattle.phone_library.specs.Kinds.{has_digits, territory_in};
 ghost use Rattle.phone_meta.specs.CodeLookUps.{is_main_of, is_other_of, territories};
 
 use crate::kinds::{is_known, kind_in};
-use phone_values::Type;
 use phone_meta::{Database, Metadata};
+use phone_values::Type;
 use std::alloc::AllocError;
 
 /// A territory that has digits, and their kind there, where that was told on the way.

@@ -7,8 +7,8 @@ ghost use Rattle.phone_library.specs.Kinds.{is_number_of, kind_in, line_or_mobil
 ghost use Rattle.phone_territory.specs.First.{is_whole_match};
 ghost use Rattle.phone_territory.specs.Kinds.{descriptor_for};
 
-use phone_values::Type;
 use phone_territory::{Descriptor, Descriptors, Metadata, Pattern};
+use phone_values::Type;
 use std::alloc::AllocError;
 
 /// The kinds in the order in which they are tried.

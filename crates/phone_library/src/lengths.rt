@@ -3,9 +3,9 @@ ghost use Rattle.std.specs.Prelude.{◌≡◌, ◌==◌, if◌then◌else◌};
 ghost use Rattle.std.specs.List.{list_any};
 ghost use Rattle.phone_library.specs.Lengths.{is_too_long, length_in, may_be_left};
 
-use phone_values::{Type, Validation};
 use phone_rules::kinds::length_of;
 use phone_territory::Metadata;
+use phone_values::{Type, Validation};
 
 /// What so many national digits, whatever their kind, are in a territory: a number that is
 /// possible, possible only within its area, too short, too long, or of a length between these that

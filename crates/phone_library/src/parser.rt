@@ -5,10 +5,10 @@ ghost use Rattle.phone_library.specs.Readings.{ReadsByLibrary};
 ghost use Rattle.phone_read.specs.Hints.{hinted};
 
 use crate::reading::reading_under;
-use phone_values::country::Id;
-use phone_values::{ParseError, Reading};
 use phone_library_text::read_written;
 use phone_meta::{Database, Metadata};
+use phone_values::country::Id;
+use phone_values::{ParseError, Reading};
 use phonenumber::PhoneNumber;
 
 /// Reads a text as a phone number by libphonenumber's rules. The hint is the region that a text

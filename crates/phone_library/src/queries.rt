@@ -14,10 +14,10 @@ ghost use Rattle.phone_records.specs.declared.loader.Metadata as loader;
 use crate::homes::{Home, home_in};
 use crate::kinds::{is_known, kind_in};
 use itoa::Buffer;
-use phone_values::Type;
-use phone_values::country::Id;
 use phone_meta::Database;
 use phone_print::written::written;
+use phone_values::Type;
+use phone_values::country::Id;
 use phonenumber::PhoneNumber;
 use std::alloc::AllocError;
 

@@ -8,13 +8,13 @@ ghost use Rattle.phone_library.specs.Readings.{reading_under, stripped, strippin
 
 use crate::codes::{Coded, code_in};
 use crate::stripping::{Left, strip_national_prefix};
-use phone_values::consts::{MAX_LENGTH_FOR_NSN, MIN_LENGTH_FOR_NSN};
-use phone_values::country::{Code, Source};
-use phone_values::{Carrier, NationalNumber, ParseError, Reading};
+use phone_base::together::{beside, instead};
 use phone_library_text::WrittenNumber;
 use phone_meta::{Database, Metadata};
 use phone_rules::trims::without_zeros;
-use phone_base::together::{beside, instead};
+use phone_values::consts::{MAX_LENGTH_FOR_NSN, MIN_LENGTH_FOR_NSN};
+use phone_values::country::{Code, Source};
+use phone_values::{Carrier, NationalNumber, ParseError, Reading};
 use std::alloc::{AllocError, Global};
 
 /// The number that was written so, under a hint's territory.

@@ -11,9 +11,9 @@ ghost use Rattle.phone_territory.specs.First.{AreCuts, IsCut, last_group};
 
 use crate::kinds::matches_general;
 use crate::lengths::{length_in, may_be_left};
+use phone_base::together::{beside, instead};
 use phone_rules::trims::{has_front, trim};
 use phone_territory::{Captured, Metadata, Pattern};
-use phone_base::together::{beside, instead};
 use std::alloc::AllocError;
 use std::borrow::CowStr;
 
@@ -28,7 +28,10 @@ pub(crate) struct Left<'a> {
 
 /// What a territory's stripping leaves of digits; none where they stay, as they do where fewer than
 /// a number has would be left, or not as many as one can have.
-pub(crate) fn strip_national_prefix<'a>(m: &Metadata, digits: &'a str) -> Result<Option<Left<'a>>, AllocError>
+pub(crate) fn strip_national_prefix<'a>(
+    m: &Metadata,
+    digits: &'a str,
+) -> Result<Option<Left<'a>>, AllocError>
     ensures { IfOk result (λ left. left_of digits.entry.now left ≡
         stripped (Some m.now) digits.entry.now) }
 {

@@ -10,11 +10,11 @@ ghost use Rattle.phone_library_text.specs.Written.{IsWritten, IsWrittenIn, most_
 use crate::letters::digits_in;
 use crate::number_text::number_text;
 use crate::viable::{is_viable, split_extension};
+use phone_base::Text;
+use phone_base::together::{both, instead};
 use phone_chars::chars::is_plus;
 use phone_chars::cuts::split_first;
 use phone_values::{Extension, ParseError};
-use phone_base::Text;
-use phone_base::together::{both, instead};
 use std::alloc::Global;
 
 /// A number as it is written.

@@ -3,8 +3,8 @@
 
 mod answers;
 mod blocks;
-mod pending_output;
 pub mod laws;
+mod pending_output;
 
 pub use answers::{Answers, without_return};
 pub use blocks::{RunError, answer_lines};

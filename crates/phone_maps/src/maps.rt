@@ -8,8 +8,8 @@ ghost use Rattle.phone_values.specs.declared.kind.«Type».TheVariants.{Unknown}
 use crate::digits::digits_of;
 use crate::kinds::{has_carrier, is_geographical};
 use itoa::Buffer;
-use phone_values::Type;
 use phone_prefixes::Prefixes;
+use phone_values::Type;
 use phonenumber::PhoneNumber;
 use std::alloc::{AllocError, Global};
 

@@ -2,14 +2,14 @@
 //! and the formatting rules that change the template of a match.
 #![tactic(auto)]
 
-mod uncached;
-mod machine_cache;
+mod intern_table;
 mod leading;
+mod machine_cache;
 mod pattern;
 mod pool;
 mod ruled;
 mod rules;
-mod intern_table;
+mod uncached;
 
 pub use leading::Leading;
 pub use pattern::{Captured, Pattern};

@@ -5,8 +5,8 @@ ghost use Rattle.phone_pattern.specs.First.{at_start, captured, first_span, repl
 ghost use Rattle.phone_pattern.specs.First.{AreCuts, IsCut, IsUnderX};
 ghost use Rattle.phone_pattern.specs.MachineCaches.{as_captured, Serves};
 
-use crate::uncached;
 use crate::pattern::Captured;
+use crate::uncached;
 use phone_automaton::Machine;
 use regex::Regex;
 use regex_syntax::Config;
@@ -118,7 +118,11 @@ impl MachineCache {
     /// A new machine of a pattern, for one of another pattern or none.
     #[cold]
     #[inline(never)]
-    fn machine_for(&self, other: Option<Box<CachedMachine>>, pattern: &str) -> Option<Box<CachedMachine>>
+    fn machine_for(
+        &self,
+        other: Option<Box<CachedMachine>>,
+        pattern: &str,
+    ) -> Option<Box<CachedMachine>>
         ensures { IfSome result (λ h. h.value ≡ pattern.now) }
     {
         drop(other);

@@ -4,9 +4,9 @@ ghost use Rattle.std.specs.List.{AllByRecursion};
 ghost use Rattle.phone_pattern.specs.First.{IsPattern};
 ghost use Rattle.phone_pattern.specs.Refusals.{IsPatternRefusal};
 
+use crate::intern_table::InternTable;
 use crate::leading::Leading;
 use crate::pattern::Pattern;
-use crate::intern_table::InternTable;
 use phone_base::{LoadMetadata, Text};
 use std::alloc::{AllocError, Global};
 use std::rc::Rc;

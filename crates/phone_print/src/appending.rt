@@ -8,8 +8,8 @@ ghost use Rattle.phone_print.specs.Texts.{extension_parameter, extension_part, h
 
 use crate::Printable;
 use crate::hyphens::push_hyphenated;
-use phone_values::consts::{DEFAULT_EXTN_PREFIX, RFC3966_EXTN_PREFIX, RFC3966_PREFIX};
 use phone_territory::Metadata;
+use phone_values::consts::{DEFAULT_EXTN_PREFIX, RFC3966_EXTN_PREFIX, RFC3966_PREFIX};
 use std::alloc::AllocError;
 
 /// The E.164 text of a code and digits.

@@ -20,9 +20,9 @@ use crate::appending::{
 };
 use crate::written::{ROOM, text_of_value};
 use itoa::Buffer;
-use phone_values::Mode;
-use phone_territory::{FirstGroup, Format, Metadata};
 use phone_base::together::both;
+use phone_territory::{FirstGroup, Format, Metadata};
+use phone_values::Mode;
 use std::alloc::{AllocError, Global};
 
 /// The text in a mode, by a territory.

@@ -20,14 +20,14 @@ ghost use Rattle.phone_read.specs.Hints.{Coded, code_by_hint, hinted, looks_nati
 ghost use Rattle.phone_read.specs.WithoutMemory.{AnswersAtOnce, AnswersWithoutMemory};
 
 use crate::hints::{hint_territory, looks_national};
-use phone_values::ParseError;
-use phone_values::consts::MIN_LENGTH_FOR_NSN;
-use phone_values::country::{Id, Source};
+use phone_base::together::{beside, instead};
 use phone_meta::{Database, Metadata, Pattern};
 use phone_parts::Number;
 use phone_rules::dialled::{OfTerritory, read_dialling};
 use phone_rules::trims::{begins_with_number, behind_number, lent_front, trim};
-use phone_base::together::{beside, instead};
+use phone_values::ParseError;
+use phone_values::consts::MIN_LENGTH_FOR_NSN;
+use phone_values::country::{Id, Source};
 use std::alloc::{AllocError, Global};
 use std::borrow::CowStr;
 
@@ -86,7 +86,10 @@ pub fn country_code<'a>(
 }
 
 /// A number whose code was found; its prefix, where it has none, is the code in decimal.
-fn with_code_as_prefix<'a>(alloc: Global, coded: CodedNumber<'a, '_>) -> Result<Number<'a>, AllocError>
+fn with_code_as_prefix<'a>(
+    alloc: Global,
+    coded: CodedNumber<'a, '_>,
+) -> Result<Number<'a>, AllocError>
     ensures kept { IsSome coded.entry.number.prefix → result ≡ Ok coded.entry.number }
     ensures prefix { IfOk result (λ n. option_map cow_str_bytes n.prefix ≡
         Some (unwrap_or (option_map cow_str_bytes coded.entry.number.prefix)

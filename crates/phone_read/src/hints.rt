@@ -3,10 +3,10 @@ ghost use Rattle.std.specs.Prelude.{◌≡◌, IfOk};
 ghost use Rattle.std.specs.Option.{option_copied};
 ghost use Rattle.phone_read.specs.Hints.{hinted, looks_national};
 
+use phone_meta::{Database, Metadata};
+use phone_rules::kinds::{is_general, length_of};
 use phone_values::Type;
 use phone_values::country::Id;
-use phone_rules::kinds::{is_general, length_of};
-use phone_meta::{Database, Metadata};
 use std::alloc::AllocError;
 
 /// The territory of the hint: the last record with its id.

@@ -11,6 +11,6 @@ mod reading;
 mod rows;
 pub mod validator;
 
-pub use phone_values::Reading;
 pub use phone_parts::{Number, natural, rfc3966};
+pub use phone_values::Reading;
 pub use reading::read;

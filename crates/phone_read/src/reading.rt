@@ -13,15 +13,15 @@ ghost use Rattle.phone_read.specs.Regions.{home};
 
 use crate::calling_code::{CodedNumber, find_calling_code};
 use crate::validator::territory_of;
+use phone_base::together::{both, instead};
 use phone_chars::is_viable;
-use phone_values::consts::{MAX_LENGTH_FOR_NSN, MIN_LENGTH_FOR_NSN};
-use phone_values::country::{Code, Id};
-use phone_values::{Carrier, Extension, NationalNumber, ParseError, Reading};
 use phone_meta::{Database, Metadata};
 use phone_parts::{Number, parts};
 use phone_rules::stripping::strip_national_prefix;
 use phone_rules::trims::without_zeros;
-use phone_base::together::{both, instead};
+use phone_values::consts::{MAX_LENGTH_FOR_NSN, MIN_LENGTH_FOR_NSN};
+use phone_values::country::{Code, Id};
+use phone_values::{Carrier, Extension, NationalNumber, ParseError, Reading};
 use std::alloc::{AllocError, Global};
 use std::borrow::CowStr;
 

@@ -14,11 +14,11 @@ ghost use Rattle.phone_read.specs.Regions.{home, is_of_last, is_of_region, regio
 ghost use Rattle.phone_read.specs.Regions.{region_of, with_territory};
 
 use either::{Either, Left, Right};
-use phone_values::consts::REGION_CODE_FOR_NON_GEO_ENTITY;
-use phone_values::country::Id;
+use phone_meta::{Database, Metadata, WithLast};
 use phone_rules::kinds::belongs_to;
 pub use phone_rules::kinds::{is_general, length, length_of, number_type};
-use phone_meta::{Database, Metadata, WithLast};
+use phone_values::consts::REGION_CODE_FOR_NON_GEO_ENTITY;
+use phone_values::country::Id;
 use std::alloc::AllocError;
 
 /// The region of a number with this calling code and these digits: of the ids of the code the first
@@ -210,7 +210,11 @@ fn is_of_last(text: &str, last: Option<&Metadata>) -> Result<bool, AllocError>
 /// The territory that a number of a calling code belongs to: the last record of its region, or the
 /// first territory of the code where `001` is its sole id; none where it belongs to none. Refused
 /// only for memory.
-pub fn territory_of<'a>(db: &'a Database, code: u16, text: &str) -> Result<Option<&'a Metadata>, AllocError>
+pub fn territory_of<'a>(
+    db: &'a Database,
+    code: u16,
+    text: &str,
+) -> Result<Option<&'a Metadata>, AllocError>
     ensures { IfOk result (λ m. option_copied m ≡ home db.entry.now code text.now) }
 {
     match origin_of(db, code, text)? {

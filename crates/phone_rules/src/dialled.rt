@@ -18,12 +18,12 @@ ghost use Rattle.phone_rules.specs.Dialling.{unsigned};
 ghost use Rattle.phone_rules.specs.Lent.{IsLentDigits, KeepsLent};
 
 use crate::trims::trim;
+use phone_base::together::{beside, both};
 use phone_chars::chars::{is_plus, normalize};
 use phone_chars::cuts::{CharSet, after_run};
-use phone_values::country::Source;
 use phone_parts::Number;
 use phone_territory::Pattern;
-use phone_base::together::{beside, both};
+use phone_values::country::Source;
 use regex::{Match, Regex};
 use std::alloc::{AllocError, Global};
 use std::borrow::CowStr;

@@ -9,9 +9,9 @@ ghost use Rattle.phone_rules.specs.Kinds.{belongs_to, is_known, is_of, is_one_pa
 ghost use Rattle.phone_rules.specs.Kinds.{line_or_mobile, type_of};
 ghost use Rattle.phone_rules.specs.Verdicts.{last_of, verdict_by, verdict_for};
 
-use phone_values::{Type, Validation};
 use phone_parts::Number;
 use phone_territory::{Descriptor, Descriptors, Metadata};
+use phone_values::{Type, Validation};
 use std::alloc::AllocError;
 
 /// The kinds in the order in which they are tried.

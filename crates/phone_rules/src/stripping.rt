@@ -12,12 +12,12 @@ ghost use Rattle.phone_rules.specs.Lent.{KeepsLent};
 ghost use Rattle.phone_rules.specs.Strips.{Stripped, by_match, cut_of, held, is_anew, left_by};
 ghost use Rattle.phone_rules.specs.Strips.{step, strip, stripped};
 
-use crate::trims::{part, trim, without_front};
-use phone_values::{Type, Validation};
 use crate::kinds::{is_general, length_of};
+use crate::trims::{part, trim, without_front};
+use phone_base::together::{beside, instead};
 use phone_parts::Number;
 use phone_territory::{Captured, Metadata, Pattern};
-use phone_base::together::{beside, instead};
+use phone_values::{Type, Validation};
 use std::alloc::{AllocError, Global};
 use std::borrow::CowStr;
 
@@ -239,7 +239,10 @@ pub fn strip<'b>(m: &Metadata, digits: &'b str) -> Result<Number<'b>, AllocError
 }
 
 /// The digits that stripping leaves; all of them without a territory.
-pub fn strip_national_prefix<'b>(m: Option<&Metadata>, digits: &'b str) -> Result<Number<'b>, AllocError>
+pub fn strip_national_prefix<'b>(
+    m: Option<&Metadata>,
+    digits: &'b str,
+) -> Result<Number<'b>, AllocError>
     ensures national { IfOk result (λ n. cow_str_bytes n.national ≡
         (stripped (option_copied m.entry) digits.entry.now).national) }
     ensures carrier { IfOk result (λ n. option_map cow_str_bytes n.carrier ≡

@@ -4,8 +4,8 @@ ghost use Rattle.phone_short.specs.Regions as regions;
 
 use crate::rates::Cost;
 use crate::regions;
-use phone_values::country::Id;
 use phone_meta::Database;
+use phone_values::country::Id;
 use std::alloc::AllocError;
 
 /// What is known of a text as a short number of a region.

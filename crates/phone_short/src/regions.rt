@@ -7,8 +7,8 @@ use crate::emergency::{is_emergency_in, reaches_emergency_in};
 use crate::kind::{ShortKind, kind_in};
 use crate::numbers;
 use crate::rates::{Cost, cost_in};
-use phone_values::country::Id;
 use phone_meta::Database;
+use phone_values::country::Id;
 use std::alloc::AllocError;
 
 /// Whether a text may be a short number of a region: the region's general descriptor lists the

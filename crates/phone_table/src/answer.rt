@@ -14,7 +14,7 @@ use phone_choice::{Rules, facts_by, parse_by, texts_by};
 use phonenumber::country::Id;
 use phonenumber::metadata::Database;
 use phonenumber::report::{kind_word, region_word, validity_word};
-use phonenumber::{FormatError, ParseError, PhoneNumber, Facts, Texts};
+use phonenumber::{Facts, FormatError, ParseError, PhoneNumber, Texts};
 use std::alloc::{AllocError, Global};
 
 /// What the field of a number is answered.

@@ -8,9 +8,9 @@ ghost use Rattle.phone_records.specs.Missing.{missing_in_descriptor};
 use crate::descriptor::Descriptor;
 use crate::loader;
 use crate::together::both_read;
-use phone_values::Type;
 use phone_pattern::Pool;
 use phone_records::LoadMetadata;
+use phone_values::Type;
 use std::marker::Model;
 
 /// What the numbers of each kind look like in a territory.

@@ -10,9 +10,9 @@ ghost use Rattle.phone_typed.specs.Typed.{is_short, with_nines};
 ghost use Rattle.std.specs.Option.{option_or};
 
 use crate::keys::{end_of_key, shows};
-use phone_values::Mode;
-use phone_territory::{FirstGroup, Format, Metadata};
 use phone_base::together::instead;
+use phone_territory::{FirstGroup, Format, Metadata};
+use phone_values::Mode;
 use std::alloc::{AllocError, Global};
 
 /// Fewer digits are shown as they are.

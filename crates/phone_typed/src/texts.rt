@@ -12,14 +12,14 @@ ghost use Rattle.phone_typed.specs.Typed.{text_of_keys, typed};
 
 use crate::keys::keys_in;
 use crate::layouts::text_of_keys;
-use phone_values::Mode;
-use phone_values::country::Id;
+use phone_base::together::instead;
 use phone_meta::{Database, Metadata};
 use phone_parts::Number;
+use phone_print::written::ROOM;
 use phone_rules::stripping::national_number;
 use phone_rules::trims::behind_number;
-use phone_print::written::ROOM;
-use phone_base::together::instead;
+use phone_values::Mode;
+use phone_values::country::Id;
 use std::alloc::AllocError;
 
 /// What is shown of a number while it is typed, once these keys are: the digits of a text by their

@@ -5,8 +5,8 @@ ghost use Rattle.phone_typed.specs.Keys.{up_to_key, with_key};
 
 use crate::keys::{end_of_key, push_key};
 use crate::texts::text_of;
-use phone_values::country::Id;
 use phone_meta::Database;
+use phone_values::country::Id;
 use std::alloc::AllocError;
 use std::marker::Model;
 

@@ -10,9 +10,9 @@ ghost use Rattle.phone_util.specs.Dialled.{if_digits, if_some};
 
 pub mod laws;
 
+use phone_meta::{Database, Metadata};
 use phone_values::Mode;
 use phone_values::country::Id;
-use phone_meta::{Database, Metadata};
 use phonenumber::{FormatError, PhoneNumber, format_with};
 use std::alloc::{AllocError, Global};
 use thiserror::Error;

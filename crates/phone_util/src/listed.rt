@@ -4,9 +4,9 @@ ghost use Rattle.phone_util.specs.Listed.{AnswersExample, example_text, has_regi
 ghost use Rattle.phone_util.specs.Listed.{codes_below, listed_codes, listed_regions};
 
 use phone_choice::{Rules, parse_by};
+use phone_meta::Database;
 use phone_values::country::{ALL, Id};
 use phone_values::{ParseError, Type};
-use phone_meta::Database;
 use phonenumber::PhoneNumber;
 use std::alloc::AllocError;
 

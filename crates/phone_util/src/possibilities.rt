@@ -17,11 +17,11 @@ ghost use Rattle.phone_util.specs.Possibilities.{possibility_under};
 ghost use Rattle.phone_choice.specs.Readings.{ReadsBy};
 
 use phone_choice::{Rules, parse_by};
-use phone_values::country::Id;
-use phone_values::{ParseError, Type, Validation};
 use phone_library::length_in;
 use phone_meta::{Database, Descriptor, Metadata};
 use phone_read::validator::territory_of;
+use phone_values::country::Id;
+use phone_values::{ParseError, Type, Validation};
 use phonenumber::PhoneNumber;
 use std::alloc::{AllocError, Global};
 

@@ -8,8 +8,8 @@ ghost use Rattle.phone_util.specs.Sameness.{sameness_without_code};
 
 use crate::sides::{Side, taken_as};
 use phone_choice::Rules;
-use phone_values::{Extension, ParseError};
 use phone_meta::Database;
+use phone_values::{Extension, ParseError};
 use std::alloc::{AllocError, Global};
 
 /// The fewest digits that are told to be an end of others.
@@ -42,7 +42,12 @@ pub enum Sameness {
 ///
 /// In the other order the answer is the same, and so is a refusal, unless both texts are refused,
 /// each for a reason of its own: then the two refusals change places.
-pub fn compare_texts(rules: Rules, database: &Database, a: &str, b: &str) -> Result<Sameness, ParseError>
+pub fn compare_texts(
+    rules: Rules,
+    database: &Database,
+    a: &str,
+    b: &str,
+) -> Result<Sameness, ParseError>
     ensures { (result ≡ Err ParseError.Memory) ⊎
         IsAnswer rules database.now (chars a.now) (chars b.now) result }
 {

@@ -14,13 +14,13 @@ ghost use Rattle.phone_util.specs.Sides.{written_side};
 
 use phone_chars::chars::{is_plus, normalize};
 use phone_choice::Rules;
-use phone_values::consts::{MAX_LENGTH_FOR_NSN, MIN_LENGTH_FOR_NSN};
-use phone_values::{Extension, NationalNumber, ParseError};
 use phone_library_text::{WrittenNumber, read_written};
 use phone_meta::Database;
 use phone_parts::{Number, parts};
-use phone_rules::trims::without_zeros;
 use phone_read::{Reading, read};
+use phone_rules::trims::without_zeros;
+use phone_values::consts::{MAX_LENGTH_FOR_NSN, MIN_LENGTH_FOR_NSN};
+use phone_values::{Extension, NationalNumber, ParseError};
 use phonenumber::PhoneNumber;
 use std::alloc::{AllocError, Global};
 use std::borrow::CowStr;

@@ -10,9 +10,9 @@ ghost use Rattle.phonenumber.specs.Printed.{printed};
 ghost use Rattle.phonenumber.specs.Sinks.{IsWrittenWhole, puts};
 
 use crate::{PhoneNumber, TextSink};
-use phone_values::Mode;
 use phone_meta::{Database, Format};
 use phone_print::{Texts, printing};
+use phone_values::Mode;
 use std::alloc::Global;
 use std::fmt;
 use thiserror::Error;

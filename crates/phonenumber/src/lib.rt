@@ -2,7 +2,6 @@
 //! them all.
 #![tactic(auto)]
 
-pub mod round_trip;
 mod formatter;
 pub mod laws;
 pub mod metadata;
@@ -10,19 +9,20 @@ mod parser;
 mod phone_number;
 mod queries;
 pub mod report;
+pub mod round_trip;
 mod rows;
 mod text_sink;
 
 pub use formatter::{FormatError, Formatter, format_with};
 pub use metadata::Metadata;
 pub use parser::parse_with;
+pub use phone_base::MetadataError;
 pub use phone_chars::is_viable;
-pub use phone_values::{
-    Carrier, Extension, Mode, NationalNumber, ParseError, Type, Validation, country,
-};
 pub use phone_number::PhoneNumber;
 pub use phone_print::Texts;
 pub use phone_read::validator;
-pub use phone_base::MetadataError;
+pub use phone_values::{
+    Carrier, Extension, Mode, NationalNumber, ParseError, Type, Validation, country,
+};
 pub use queries::{Country, Facts, is_valid_with};
 pub use text_sink::TextSink;

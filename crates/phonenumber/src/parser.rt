@@ -3,10 +3,10 @@ ghost use Rattle.std.specs.Prelude.{◌≡◌, ◌⊎◌, Err, chars};
 ghost use Rattle.phone_read.specs.Readings.{Reads};
 
 use crate::PhoneNumber;
-use phone_values::ParseError;
-use phone_values::country::Id;
 use phone_meta::Database;
 use phone_read::{Reading, read};
+use phone_values::ParseError;
+use phone_values::country::Id;
 
 /// Reads a text as a phone number under a database. The hint is the region whose international
 /// prefix counts, whose calling code counts where the text tells none, and by whose rules its

@@ -3,10 +3,10 @@ ghost use Rattle.std.specs.Prelude.{◌≡◌, IfOk};
 ghost use Rattle.std.specs.Option.{option_copied};
 ghost use Rattle.phonenumber.specs.Bounds.{IsBounded};
 
+use phone_print::Printable;
 use phone_values::country::Code;
 use phone_values::equality::SameValue;
 use phone_values::{Carrier, Extension, NationalNumber};
-use phone_print::Printable;
 use serde::{Deserialize, DeserializeOwned, Deserializer, Format, Serialize};
 use std::alloc::{AllocError, Global};
 use std::fmt;

@@ -11,11 +11,11 @@ ghost use Rattle.phonenumber.specs.Queries.{territory_of_number};
 
 use crate::PhoneNumber;
 use itoa::Buffer;
-use phone_values::Type;
-use phone_values::country::{Code, Id};
 use phone_meta::{Database, Metadata};
 use phone_print::written::text_of_value;
 use phone_read::validator;
+use phone_values::Type;
+use phone_values::country::{Code, Id};
 use std::alloc::AllocError;
 use std::marker::Model;
 

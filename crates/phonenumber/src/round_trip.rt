@@ -8,8 +8,8 @@ ghost use Rattle.phonenumber.specs.Plain.{IsBenign, IsIdle};
 ghost use Rattle.phonenumber.specs.Plain.{IsPlainE164, IsPlainInternational, IsPlainRfc3966};
 
 use crate::{FormatError, PhoneNumber, format_with, parse_with};
-use phone_values::{Mode, ParseError};
 use phone_meta::Database;
+use phone_values::{Mode, ParseError};
 
 /// What the E.164 text of a number is read as. Where the number is plain, stripping leaves its
 /// digits alone, its code has one to three digits and no listed code begins another, it is a number

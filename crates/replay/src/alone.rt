@@ -1,8 +1,8 @@
 //! One line, whose requests for memory may be refused.
 use crate::calls::answer;
 use anyhow::{Result, anyhow};
-use replay_database::named::Named;
 use replay_base::table::Row;
+use replay_database::named::Named;
 use std::alloc::AllocGlobal;
 use std::fs::{self, Files};
 

@@ -1,10 +1,10 @@
 //! The answer to a line, by the library that knows its call.
 use anyhow::{Result, anyhow};
+use phone_meta::Database;
+use replay_base::table::Row;
 use replay_database::look_ups;
 use replay_database::named::{Named, load, of_name};
 use replay_numbers::printing::layouts_of;
-use phone_meta::Database;
-use replay_base::table::Row;
 use std::alloc::{AllocGlobal, Global};
 use std::fs::Files;
 

@@ -1,8 +1,8 @@
 //! The answers to the lines of a file.
 use crate::calls::answer_or_error;
 use anyhow::Result;
-use replay_database::named::Named;
 use replay_base::table::{Row, escape};
+use replay_database::named::Named;
 use std::alloc::AllocGlobal;
 use std::fs::{self, Files};
 

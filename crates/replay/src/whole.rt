@@ -1,9 +1,9 @@
 //! All tables.
 use crate::calls::answer_or_error;
 use anyhow::Result;
-use replay_database::named::Named;
 use replay_base::table::Row;
 use replay_base::tally::Tally;
+use replay_database::named::Named;
 use std::alloc::AllocGlobal;
 use std::fs::{self, Files};
 

@@ -1,10 +1,10 @@
 //! The records of which a database is made: as serde writes and reads them, and how their refusals
 //! are told in words.
 use anyhow::{Result, anyhow};
-use phone_records::LoadMetadata;
-use phone_records::loader::Metadata;
 use phone_base::MetadataError;
 use phone_base::together::both;
+use phone_records::LoadMetadata;
+use phone_records::loader::Metadata;
 use replay_base::marks::{around, begin};
 use replay_base::table::Row;
 use std::alloc::{AllocError, Global};

@@ -1,9 +1,9 @@
 //! Databases read from a text, from bytes, from a source that fails, and from a file: what the
 //! answer is, told as the tables tell it.
 use anyhow::{Result, anyhow};
+use phone_base::MetadataError;
 use phone_device::{MemorySource, Script};
 use phone_meta::{Database, LoadMetadata};
-use phone_base::MetadataError;
 use replay_base::devices::fault;
 use replay_base::marks::{around, begin};
 use replay_base::table::Row;

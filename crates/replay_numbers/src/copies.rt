@@ -1,6 +1,6 @@
 //! Copies: whether a value that was copied is equal to its copy, and has the same hash.
-use anyhow::Result;
 use crate::given::number_of_row;
+use anyhow::Result;
 use phone_values::equality::{SameValue, hash_of};
 use phone_values::{Carrier, Extension};
 use phonenumber::country::Id;

@@ -1,16 +1,16 @@
 //! The calls of the module `helper` of `phone_read` that cut a number's digits: international
 //! prefix, calling code and national prefix.
 use anyhow::Result;
-use replay_database::named::territory;
-use phone_values::ParseError;
-use phone_values::country::Source;
 use phone_meta::Database;
 use phone_read::{Number, helper};
+use phone_values::ParseError;
+use phone_values::country::Source;
 use regex::{Regex, RegexBuilder};
 use replay_base::marks::{around, begin};
 use replay_base::readers::number;
 use replay_base::table::Row;
 use replay_base::words::{hint, refusal};
+use replay_database::named::territory;
 use std::alloc::Global;
 use std::borrow::CowStr;
 

@@ -1,9 +1,9 @@
 //! The texts of errors that no other call tells, and the errors of records as copies.
 use anyhow::{Result, anyhow};
-use phone_book::{BookError, BookNewError};
-use phone_values::country::UnknownId;
 use phone_base::MetadataError;
 use phone_base::together::both;
+use phone_book::{BookError, BookNewError};
+use phone_values::country::UnknownId;
 use phonenumber::{FormatError, ParseError};
 use replay_base::marks::{around, begin};
 use replay_base::table::Row;

@@ -1,9 +1,9 @@
 //! How the tables tell a number: its parts, its texts in the four modes, and what a database tells
 //! of it.
 use anyhow::{Result, anyhow};
-use phone_values::country::Id;
 use phone_meta::Database;
-use phonenumber::{FormatError, Formatter, PhoneNumber, Facts, Texts};
+use phone_values::country::Id;
+use phonenumber::{Facts, FormatError, Formatter, PhoneNumber, Texts};
 use replay_base::marks::{around, begin};
 use replay_base::words::{part, source};
 use std::alloc::{AllocError, Global};

@@ -1,6 +1,6 @@
 //! Forms of values: what serde reads of a JSON text, and what it writes.
-use anyhow::{Result, anyhow};
 use crate::given::number_of_row;
+use anyhow::{Result, anyhow};
 use phone_values::country::{self, Code, Id, Source};
 use phone_values::{Carrier, Extension, NationalNumber, Type};
 use phonenumber::PhoneNumber;

@@ -1,8 +1,8 @@
 //! The fronts of a text, cut between its characters: each is read, or refused. No marks stand
 //! around these readings: there are many in a line, and `parse` has marks around one.
 use anyhow::Result;
-use phone_values::country::Id;
 use phone_meta::Database;
+use phone_values::country::Id;
 use phonenumber::{ParseError, parse_with};
 use replay_base::table::Row;
 use replay_base::words::hint;

@@ -1,9 +1,9 @@
 //! The number that a line gives by its parts: calling code, value and zeros, perhaps an extension
 //! and a carrier.
 use anyhow::Result;
+use phone_base::together::{beside, both};
 use phone_values::country::{Code, Source};
 use phone_values::{Carrier, Extension, NationalNumber};
-use phone_base::together::{beside, both};
 use phonenumber::PhoneNumber;
 use replay_base::table::Row;
 use std::alloc::{AllocError, Global};

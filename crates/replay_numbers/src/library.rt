@@ -1,11 +1,11 @@
 //! Texts that are read by libphonenumber's rules: `library` tells of the number what `report` tells
 //! of one that is read as the original reads.
-use crate::reading::report_with;
 use crate::facts::facts_words;
+use crate::reading::report_with;
 use anyhow::Result;
 use phone_library::{NumberFacts, facts, parse, without_carrier};
 use phone_meta::Database;
-use phonenumber::{PhoneNumber, Facts, format_with};
+use phonenumber::{Facts, PhoneNumber, format_with};
 use replay_base::marks::{around, begin};
 use replay_base::table::Row;
 use replay_base::words::{hint, refusal};

@@ -2,14 +2,14 @@
 //! by code of its own and not by reading a text.
 use crate::given::with_extension;
 use anyhow::{Result, anyhow};
+use phone_base::together::both;
 use phone_chars::chars::{is_digit, is_punctuation, is_separator};
-use phone_values::consts::{MAX_LENGTH_FOR_NSN, MIN_LENGTH_FOR_NSN};
-use phone_values::{Mode, Type, Validation};
 use phone_meta::{Database, Metadata};
 use phone_read::Number;
 use phone_read::helper::national_number;
-use phone_read::validator::{territory_of, length_of};
-use phone_base::together::both;
+use phone_read::validator::{length_of, territory_of};
+use phone_values::consts::{MAX_LENGTH_FOR_NSN, MIN_LENGTH_FOR_NSN};
+use phone_values::{Mode, Type, Validation};
 use phonenumber::{FormatError, PhoneNumber, format_with};
 use replay_base::table::Row;
 use replay_base::words::{mode, truth};

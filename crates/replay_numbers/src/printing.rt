@@ -1,11 +1,11 @@
 //! The calls that print a number which a line gives by its parts.
+use crate::facts::{facts, texts};
 use crate::given::{number, number_of_row};
 use crate::page::Page;
-use crate::facts::{facts, texts};
 use anyhow::{Result, anyhow};
-use phone_values::{Carrier, Extension};
-use phone_meta::{Database, Format, Metadata};
 use phone_base::together::both;
+use phone_meta::{Database, Format, Metadata};
+use phone_values::{Carrier, Extension};
 use phonenumber::{FormatError, Formatter, PhoneNumber, format_with};
 use replay_base::marks::{around, begin};
 use replay_base::table::Row;

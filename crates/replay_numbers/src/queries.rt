@@ -1,13 +1,13 @@
 //! The calls that ask a database of a number which a line gives by its parts.
-use crate::given::number;
 use crate::facts::{facts_words, region_name};
+use crate::given::number;
 use anyhow::Result;
-use replay_database::look_ups::record;
 use phone_meta::Database;
 use phonenumber::{PhoneNumber, is_valid_with};
 use replay_base::marks::{around, begin};
 use replay_base::table::Row;
 use replay_base::words::truth;
+use replay_database::look_ups::record;
 use std::alloc::{AllocError, Global};
 
 /// The calls that ask.

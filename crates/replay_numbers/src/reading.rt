@@ -1,8 +1,8 @@
 //! Texts that are read: `parse` tells the number, `report` all that the database tells of it
 //! besides, `parse-made` the number of a text that the line makes, and `fronts` how many fronts of
 //! a text are answered.
+use crate::facts::{facts, parts, texts};
 use crate::fronts::fronts;
-use crate::facts::{parts, facts, texts};
 use anyhow::Result;
 use phone_meta::Database;
 use phonenumber::{Formatter, ParseError, PhoneNumber, format_with, parse_with};

@@ -1,9 +1,9 @@
 //! Short numbers of a region: `short` tells the answers of the six calls on a text, `short-kind`
 //! what kind of short number it is.
 use anyhow::Result;
-use phone_values::country::Id;
 use phone_meta::Database;
 use phone_short::{ShortFacts, short_facts, short_kind};
+use phone_values::country::Id;
 use replay_base::marks::{around, begin};
 use replay_base::table::Row;
 use std::alloc::{AllocError, Global};

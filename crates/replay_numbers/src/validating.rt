@@ -1,13 +1,13 @@
 //! The calls of the module `validator` of `phone_read`, each on the database that its line names.
 use anyhow::Result;
-use replay_database::named::{code_of, territory};
 use either::{Either, Left, Right};
-use phone_values::country::Id;
 use phone_meta::{Database, Metadata};
 use phone_read::{Number, validator};
+use phone_values::country::Id;
 use replay_base::marks::{around, begin};
 use replay_base::table::Row;
 use replay_base::words::kind;
+use replay_database::named::{code_of, territory};
 use std::alloc::{AllocError, Global};
 
 /// What the port answers to a call of this module, as the table writes it; none for any other call.

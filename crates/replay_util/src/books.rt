@@ -1,8 +1,6 @@
 //! The calls of `phone_book`: lines that are added to a contact book.
 use crate::by_rules::by_rules;
 use anyhow::{Result, anyhow};
-use replay_database::named::load;
-use replay_numbers::facts::parts;
 use phone_book::{Book, BookError, Place};
 use phone_choice::Rules;
 use phone_values::ParseError;
@@ -10,6 +8,8 @@ use phone_values::country::Id;
 use replay_base::marks::{around, begin};
 use replay_base::table::Row;
 use replay_base::words::hint;
+use replay_database::named::load;
+use replay_numbers::facts::parts;
 use std::alloc::{AllocError, AllocGlobal, Global};
 use std::fs::Files;
 

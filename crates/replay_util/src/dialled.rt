@@ -2,13 +2,13 @@
 //! whether it lies within the premises of being read back there.
 use crate::premises::{how_told, is_within};
 use anyhow::{Result, anyhow};
-use replay_numbers::given::with_extension;
-use phone_values::country::Id;
 use phone_meta::{Database, Metadata};
 use phone_util::dialled::{DialError, dialled_from};
+use phone_values::country::Id;
 use phonenumber::PhoneNumber;
 use replay_base::marks::{around, begin};
 use replay_base::table::Row;
+use replay_numbers::given::with_extension;
 use std::alloc::Global;
 
 /// The text that is dialled, `UnknownRegion` or `UnknownCode`; of `dial-premises` how the code is

@@ -1,16 +1,16 @@
 //! The calls that ask what a database lists: its regions, its calling codes, and example numbers.
 use crate::by_rules::by_rules;
 use anyhow::Result;
-use replay_numbers::facts::parts;
 use phone_choice::Rules;
-use phone_values::ParseError;
-use phone_values::country::Id;
 use phone_meta::Database;
 use phone_util::{codes, example, regions};
+use phone_values::ParseError;
+use phone_values::country::Id;
 use phonenumber::PhoneNumber;
 use replay_base::marks::{around, begin};
 use replay_base::table::Row;
 use replay_base::words::{kind, refusal};
+use replay_numbers::facts::parts;
 use std::alloc::{AllocError, Global};
 
 /// What the database lists, as the table writes it; none for any other call. An error where a line

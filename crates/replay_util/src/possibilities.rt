@@ -2,7 +2,6 @@
 //! parts, `possible-text` of a text under a hint.
 use crate::by_rules::by_rules;
 use anyhow::Result;
-use replay_numbers::given::number;
 use phone_choice::Rules;
 use phone_meta::Database;
 use phone_util::{possibility_of, possibility_of_text};
@@ -10,6 +9,7 @@ use phonenumber::PhoneNumber;
 use replay_base::marks::{around, begin};
 use replay_base::table::Row;
 use replay_base::words::{hint, refusal};
+use replay_numbers::given::number;
 use std::alloc::Global;
 
 /// What its length says of a number, as the table writes it; none for any other call. An error
@@ -29,7 +29,12 @@ fn of_number(alloc: Global, rules: Rules, row: &Row, db: &Database) -> Result<St
 }
 
 /// What is said of a number.
-fn possibility_words(alloc: Global, rules: Rules, db: &Database, number: &PhoneNumber) -> Result<String> {
+fn possibility_words(
+    alloc: Global,
+    rules: Rules,
+    db: &Database,
+    number: &PhoneNumber,
+) -> Result<String> {
     let found = around(alloc, begin(alloc), possibility_of(rules, db, number))??;
     Ok(format!(in alloc; "{found:?}")?)
 }
@@ -37,7 +42,11 @@ fn possibility_words(alloc: Global, rules: Rules, db: &Database, number: &PhoneN
 /// What is said of a line's text, or the refusal.
 fn of_text(alloc: Global, rules: Rules, row: &Row, db: &Database) -> Result<String> {
     let (hint, text) = (hint(row.argument(1))?, row.argument(2));
-    match around(alloc, begin(alloc), possibility_of_text(rules, db, hint, text))? {
+    match around(
+        alloc,
+        begin(alloc),
+        possibility_of_text(rules, db, hint, text),
+    )? {
         Ok(found) => Ok(format!(in alloc; "{found:?}")?),
         Err(error) => refusal(alloc, &error),
     }

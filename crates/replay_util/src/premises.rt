@@ -2,14 +2,14 @@
 //! `phone_util::dialled::laws` under which it is read back there, decided by code of its own and
 //! not by reading a text.
 use anyhow::Result;
-use replay_numbers::premises::Premises;
 use phone_chars::chars::is_digit;
-use phone_values::{Mode, Type, Validation};
 use phone_meta::{Database, Metadata};
 use phone_read::Number;
 use phone_read::helper::national_number;
 use phone_read::validator::length_of;
+use phone_values::{Mode, Type, Validation};
 use phonenumber::PhoneNumber;
+use replay_numbers::premises::Premises;
 use std::alloc::{AllocError, Global};
 
 /// The greatest calling code that is found at the front of digits.

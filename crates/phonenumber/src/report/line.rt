@@ -9,9 +9,9 @@ ghost use Rattle.phone_print.specs.Tabbed.{tabbed, texts_by};
 
 use crate::report::words::{kind_word, refusal_line, region_word, source_word, validity_word};
 use crate::{FormatError, PhoneNumber, format_with, parse_with};
-use phone_values::country::Id;
 use phone_lines::Answers;
 use phone_meta::Database;
+use phone_values::country::Id;
 use std::alloc::{AllocError, Global};
 use std::marker::Model;
 

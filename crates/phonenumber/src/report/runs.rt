@@ -8,11 +8,11 @@ ghost use Rattle.phonenumber.specs.Reports.{IsReportLine};
 ghost use Rattle.phonenumber.specs.Report.{IsBeginning, IsReport, TakesBeginning};
 
 use crate::report::line::Reporter;
-use phone_values::country::Id;
 use phone_device::{ByteSink, ByteSource};
 use phone_lines::{RunError, answer_lines, without_return};
 use phone_meta::Database;
 use phone_read::laws::some_reading;
+use phone_values::country::Id;
 
 /// Reads lines from a source and writes the report on them to a sink.
 ///

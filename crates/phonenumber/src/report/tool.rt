@@ -8,10 +8,10 @@ ghost use Rattle.phonenumber.specs.Programs.{status_of};
 ghost use Rattle.phonenumber.specs.Reports.{IsReportLine};
 
 use crate::report::runs::run;
-use phone_values::country::Id;
 use phone_device::{ByteSink, ByteSource, write_all};
 use phone_lines::RunError;
 use phone_meta::Database;
+use phone_values::country::Id;
 use std::alloc::AllocGlobal;
 use std::fs::Files;
 
