@@ -1,5 +1,5 @@
 -- Which texts are short numbers of a region, by the region's record.
-use Rattle.std.specs.Prelude.{ℕ, ◌&&◌, if◌then◌else◌, List, Option, None, Some}
+use Rattle.std.specs.Prelude.{ℕ, ◌&&◌, if◌then◌else◌, List, Option, None, Some, codes}
 use Rattle.phone_records.specs.declared.loader.Metadata.{Metadata}
 use Rattle.phone_short.specs.Emergencies.{is_emergency_in}
 use Rattle.phone_short.specs.Numbers.{is_valid}
@@ -14,3 +14,8 @@ kind_in m t =
     if is_emergency_in m t then Some Emergency
     else if is_dialled_within t && is_valid m (digits_in t) then Some ShortNumber
     else None
+
+-- the name of a kind
+abbrev pub kind_name : ShortKind → List ℕ
+kind_name ShortNumber = codes "ShortNumber"
+kind_name Emergency = codes "Emergency"

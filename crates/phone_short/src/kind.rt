@@ -1,6 +1,6 @@
 //! Which texts are short numbers of a region.
 ghost use Rattle.std.specs.Prelude.{◌≡◌, ◌&&◌, IfOk, chars};
-ghost use Rattle.phone_short.specs.Kinds.{kind_in};
+ghost use Rattle.phone_short.specs.Kinds.{kind_in, kind_name};
 ghost use Rattle.phone_short.specs.Numbers as numbers;
 ghost use Rattle.phone_short.specs.Texts as texts;
 
@@ -17,6 +17,18 @@ pub enum ShortKind {
     ShortNumber,
     /// An emergency number.
     Emergency,
+}
+
+impl ShortKind {
+    /// The name of the kind: `ShortNumber` or `Emergency`.
+    pub fn as_str(&self) -> &'static str
+        ensures { result.now ≡ kind_name self.now }
+    {
+        match self {
+            ShortKind::ShortNumber => "ShortNumber",
+            ShortKind::Emergency => "Emergency",
+        }
+    }
 }
 
 /// The kind of a text: an emergency number, before all else; or a text that is dialled within the

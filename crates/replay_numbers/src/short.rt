@@ -45,7 +45,7 @@ fn told(alloc: Global, facts: ShortFacts) -> Result<String, AllocError> {
 fn kind(alloc: Global, row: &Row, db: &Database) -> Result<String> {
     let region = region(row)?;
     match around(alloc, begin(alloc), short_kind(db, region, row.argument(2)))?? {
-        Some(kind) => Ok(format!(in alloc; "{kind:?}")?),
+        Some(kind) => Ok(String::from_str(alloc, kind.as_str())?),
         None => Ok(String::from_str(alloc, "-")?),
     }
 }
