@@ -8,4 +8,4 @@ pub mod laws;
 mod norm;
 mod viable;
 
-pub use viable::is_viable;
+pub use viable::{PlusSigns, is_viable};

@@ -8,8 +8,8 @@ use crate::chars::{is_alpha, is_digit, is_plus, is_punctuation, is_star};
 use crate::cuts::{CharSet, after_run, split_first};
 use crate::norm::has_digits_alone;
 
-/// The plus signs.
-struct PlusSigns;
+/// The plus signs, `+` and the fullwidth one.
+pub struct PlusSigns;
 
 impl CharSet for PlusSigns {
     ghost members = { λ _. is_plus };

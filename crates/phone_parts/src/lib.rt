@@ -13,9 +13,10 @@ pub mod printed_international;
 mod readers;
 pub mod rfc3966;
 mod rows;
-mod sets;
+pub mod sets;
 mod suffix;
 mod tails;
 
 pub use number::Number;
 pub use readers::parts;
+pub use tails::before_run;

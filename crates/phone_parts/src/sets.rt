@@ -4,7 +4,7 @@ use phone_chars::chars::is_nd;
 use phone_chars::cuts::CharSet;
 
 /// What may follow an indicator at once.
-pub(crate) struct Marks;
+pub struct Marks;
 
 impl CharSet for Marks {
     ghost use Rattle.phone_parts.specs.Suffixes.{is_mark};
@@ -17,7 +17,7 @@ impl CharSet for Marks {
 }
 
 /// What may stand between an indicator and the digits.
-pub(crate) struct Gaps;
+pub struct Gaps;
 
 impl CharSet for Gaps {
     ghost use Rattle.phone_parts.specs.Suffixes.{is_gap};
@@ -30,7 +30,7 @@ impl CharSet for Gaps {
 }
 
 /// Digits of any script.
-pub(crate) struct Digits;
+pub struct Digits;
 
 impl CharSet for Digits {
     ghost use Rattle.phone_chars.specs.Characters.{is_nd};

@@ -27,8 +27,9 @@ fn before_few<'a, S: CharSet>(text: &'a str, set: &S, most: usize) -> &'a str
     left
 }
 
-/// The text without its longest end of characters of the set.
-fn before_run<'a, S: CharSet>(text: &'a str, set: &S) -> &'a str
+/// The text without its longest end of characters of the set. It is lent from the text and takes no
+/// memory; its time is that of the end.
+pub fn before_run<'a, S: CharSet>(text: &'a str, set: &S) -> &'a str
     ensures read { IsWithoutLongest (λ w. list_all (S.members set.now) w ≡
         true) (chars text.now) (chars result.now) }
     ensures front { (v : List ℕ) × (text.now ≡ result.now ++ v) }
