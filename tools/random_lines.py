@@ -6,9 +6,10 @@ keypad, digits of other scripts, second numbers, a plus sign before what is no c
 the others are of any characters, or about as long as a text may be. A line depends on the seed, its database's place and its own.
 
 The random databases have closed patterns alone, as data/world.json has, of digits, and else what that table hasn't: several
-records of an id or a code, empty lists of lengths, codes that begin others, leading digits that nothing has.
+records of an id or a code, empty lists of lengths, codes that begin others, leading digits that nothing has. No line has a character that this Python's Unicode leaves unassigned.
 """
 import json
+import unicodedata
 
 import random_rows as rows
 
@@ -170,6 +171,11 @@ def hint_for(rng, records, record, form):
     return "-" if region == "001" else region
 
 
+def known(text):
+    """The text, with U+FFFD in place of what this Python's Unicode leaves unassigned, and the port's, a newer one, may have as a letter."""
+    return "".join("\ufffd" if unicodedata.category(c) == "Cn" else c for c in text)
+
+
 def line(seed, database, place, records):
     """The hint and the text at a place under the database of a place, which has no line feed."""
     rng = rows.source(seed, "line", database, place)
@@ -183,7 +189,7 @@ def line(seed, database, place, records):
     if rows.one_in(rng, 4):
         for _ in range(rng.randint(1, 3)):
             text = rows.edited(rng, text)
-    return hint_for(rng, records, record, form), text.replace("\n", " ")
+    return hint_for(rng, records, record, form), known(text.replace("\n", " "))
 
 
 # ------------------------------------------------------------------ databases
