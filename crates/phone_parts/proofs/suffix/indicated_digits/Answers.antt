@@ -8,9 +8,9 @@ use Rattle.phone_parts.proofs.Slices.{slice_of_end}
 use Rattle.phone_parts.proofs.Starts.{indicated_rest, not_indicated_nil}
 use Rattle.phone_parts.proofs.suffix.indicated_digits.Goals as goal
 
-pub returns-in-Some-announced-clause-read : goal.returns-in-Some-announced-clause-read
+pub returns-in-Some-announced_digits-clause-read : goal.returns-in-Some-announced_digits-clause-read
 unfolding chars
-returns-in-Some-announced-clause-read c =
+returns-in-Some-announced_digits-clause-read c =
     let i = c.loop-c.invariant.2 in
     record {
       lead = i.0;
@@ -20,8 +20,8 @@ returns-in-Some-announced-clause-read c =
       announced = c.in-Some-announced_digits.ensures.read;
     }
 
-pub returns-in-Some-announced-clause-slice : goal.returns-in-Some-announced-clause-slice
-returns-in-Some-announced-clause-slice c =
+pub returns-in-Some-announced_digits-clause-slice : goal.returns-in-Some-announced_digits-clause-slice
+returns-in-Some-announced_digits-clause-slice c =
     let v = c.loop-c.invariant.1 in
     slice_of_end c.args.text.now v.0 c.loop-c.rest.now c.in-Some-announced_digits.digits.now v.1 c.in-Some-announced_digits.ensures.slice
 
@@ -56,7 +56,7 @@ pub returns-clause-read : goal.returns-clause-read
 returns-clause-read c = λ d h.
     not_indicated_nil d (subst (λ t. IsIndicated t d) (ap chars c.in_default.ensures.cut ∙ chars-nil) (c.loop-c.invariant.3 d h))
 
-pub announced-requires : goal.announced-requires
-announced-requires c =
+pub announced_digits-requires : goal.announced_digits-requires
+announced_digits-requires c =
     let v = c.loop-c.invariant.1 in
     up_to_of_end IsSomeEnding c.args.limit c.args.text.now v.0 c.loop-c.rest.now v.1 c.requires

@@ -15,8 +15,8 @@ returns-in_err-coded-clause-no_memory c =
     subst (AnswersWithoutMemory c.args.db.now c.args.hint c.args.number) (sym same)
     (refused_again c.args.db.now c.args.hint c.args.number c.in_err-coded.field-0.0 c.in_err-coded.ensures.no_memory)
 
-pub returns-in_err-prefixed-clause-no_memory : goal.returns-in_err-prefixed-clause-no_memory
-returns-in_err-prefixed-clause-no_memory c = record {
+pub returns-in_err-with_code_as_prefix-clause-no_memory : goal.returns-in_err-with_code_as_prefix-clause-no_memory
+returns-in_err-with_code_as_prefix-clause-no_memory c = record {
   refusals = λ none bare. subst (λ r. IfErr r (λ e. c.from_residual-in_err-with_code_as_prefix.result ≡ Err e)) (sym c.in_ok-coded.ensures.coded.1) tt;
   answers = λ none lent plain memory.
       let n = chars (cow_str_bytes c.args.number.national) in
