@@ -70,16 +70,19 @@ HaveNumbersBy rules db (l ∷ ls) answers ns = (a : Answer) × (others : List An
     (first rest : List Reading) × (answers ≡ a ∷ others) × (HasNumbersBy rules db l a first) ×
     (HaveNumbersBy rules db ls others rest) × (ns ≡ first ++ rest)
 
--- the same by the rules of the crate
+-- what an answer says of a line, by the rules of the crate
 abbrev pub IsAnswered : List Metadata → List Reading → Line → Answer → List Reading → Type 0
 IsAnswered db before line a after = IsAnsweredBy Crate db before line a after
 
+-- one answer a line, in order, by the rules of the crate
 abbrev pub AreAnswered : List Metadata → List Reading → List Line → List Answer → List Reading →
     Type 0
 AreAnswered db before lines answers after = AreAnsweredBy Crate db before lines answers after
 
+-- the numbers of a line, as the rules of the crate read it
 abbrev pub HasNumbers : List Metadata → Line → Answer → List Reading → Type 0
 HasNumbers db line a ns = HasNumbersBy Crate db line a ns
 
+-- the numbers of lines with their answers, in order, by the rules of the crate
 abbrev pub HaveNumbers : List Metadata → List Line → List Answer → List Reading → Type 0
 HaveNumbers db lines answers ns = HaveNumbersBy Crate db lines answers ns

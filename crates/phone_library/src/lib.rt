@@ -17,3 +17,4 @@ pub use lengths::length_in;
 pub use parser::parse;
 pub use printing::without_carrier;
 pub use queries::{NumberFacts, facts, is_valid, number_type, region};
+pub use reading::national_number;

@@ -180,9 +180,13 @@ fn carrier_of(alloc: Global, text: Option<&str>) -> Result<Option<Carrier>, Allo
     }
 }
 
-/// The national number of 2 to 17 digits. The zeros before the last digit are leading zeros, so
-/// zeros alone are a number of value 0.
-fn national_number(digits: &str) -> Result<NationalNumber, ParseError>
+/// The national number of a text of 2 to 17 digits from `0` to `9`. The zeros before the last digit
+/// are leading zeros, so zeros alone are a number of value 0.
+///
+/// `TooShortNsn` where the text has fewer than 2 bytes; `TooLong` where it has more than 17, or a
+/// value of 2^56 or more; `MalformedInteger` where what follows the zeros is no number. It takes no
+/// memory.
+pub fn national_number(digits: &str) -> Result<NationalNumber, ParseError>
     ensures { result ≡ national_number digits.now }
 {
     if digits.len() < MIN_LENGTH_FOR_NSN {

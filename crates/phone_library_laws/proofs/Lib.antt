@@ -7,5 +7,6 @@ pub mod PlusSigns
 pub mod ReadAgain
 pub mod ReadOnce
 pub mod SignedCodes
+pub mod TakenCodes
 pub mod ValidNumbers
 pub mod WhatIsRead

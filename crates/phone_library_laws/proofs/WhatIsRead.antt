@@ -1,11 +1,11 @@
 -- What holds of every number that is read: its code is listed, and its national text has 2 to 17 digits.
-use Rattle.std.proofs.Common.{◌≡◌, ℕ, suc, ◌-◌, ◌≤◌, ◌^◌, ◌==◌, ◌&&◌, ◌||◌, not, nat_le, nat_lt, Bool, true, false, if◌then◌else◌, List, [], ◌∷◌, ◌++◌, length, take, drop, replicate, All, Option, None, Some, IfSome, Result, Ok, Err, IfOk, refl, ap, sym, subst, ◌∙◌, arith, eq-eqb, eqb-true, ltb-true}
-use Rattle.std.proofs.lemmas.Bool.{and_parts, cond_both, ltb-false, or_left, or_right}
+use Rattle.std.proofs.Common.{◌≡◌, ℕ, suc, ◌-◌, ◌≤◌, ◌^◌, ◌==◌, ◌&&◌, not, nat_lt, Bool, true, false, if◌then◌else◌, List, [], ◌∷◌, ◌++◌, length, take, drop, replicate, All, Option, None, Some, IfSome, Result, Ok, Err, IfOk, refl, ap, sym, subst, ◌∙◌, arith, eq-eqb, eqb-true, ltb-true}
+use Rattle.std.proofs.lemmas.Bool.{and_parts, cond_both, ltb-false}
 use Rattle.std.proofs.lemmas.Fmt.{decimal_digit}
 use Rattle.std.proofs.lemmas.List.Elements.{All-drop, All-weaker}
 use Rattle.std.proofs.lemmas.List.Sums.{AllPass-from_list_all}
 use Rattle.std.specs.Fmt.{decimal}
-use Rattle.std.specs.List.{list_all, list_any}
+use Rattle.std.specs.List.{list_all}
 use Rattle.std.specs.Option.{option_map_or, option_or}
 use Rattle.std.specs.Result.{result_map_both}
 use Rattle.phone_values.specs.Ids.{name}
@@ -16,7 +16,7 @@ use Rattle.phone_values.specs.declared.country.Source.TheVariants.{Plus, Idd, Nu
 use Rattle.phone_values.specs.declared.error.ParseError.{ParseError}
 use Rattle.phone_values.specs.declared.error.ParseError.TheVariants as refusal
 use Rattle.phone_values.specs.declared.reading.Reading.{Reading}
-use Rattle.phone_library.specs.LibraryCodes.{behind_code, code_after_sign, code_by_hint, code_by_territory, code_in, cut_off, has_code, or_by_hint}
+use Rattle.phone_library.specs.LibraryCodes.{behind_code, code_after_sign, code_by_hint, code_by_territory, code_in, has_code}
 use Rattle.phone_library.specs.Readings
 use Rattle.phone_library.specs.Readings.{ReadsByLibrary, after_code, after_code_if_any, national_number, reading_of, reading_under, stripping_territory}
 use Rattle.phone_library.specs.Stripping.{stripped}
@@ -24,7 +24,7 @@ use Rattle.phone_library_laws.specs.Again.{IsSettled, IsSettledIfRead}
 use Rattle.phone_library_text.specs.Written
 use Rattle.phone_library_text.specs.Written.{IsWritten, IsWrittenIn}
 use Rattle.phone_library_text.specs.declared.written.WrittenNumber.{WrittenNumber}
-use Rattle.phone_meta.specs.CodeLookUps.{is_listed, shortest}
+use Rattle.phone_meta.specs.CodeLookUps.{is_listed}
 use Rattle.phone_meta.specs.Records.{has_id, last_where}
 use Rattle.phone_meta.specs.Records as records
 use Rattle.phone_parts.specs.Texts.{begins}
@@ -32,13 +32,13 @@ use Rattle.phone_rules.specs.Dialling.{after_match, found_in}
 use Rattle.phone_rules.specs.Strips.{Stripped}
 use Rattle.phone_read.proofs.ListedFronts.{shortest-listed}
 use Rattle.phone_read.proofs.ReadNumbers.{nsn-own}
-use Rattle.phone_read.specs.CallingCodes.{code_by_front}
 use Rattle.phone_read.specs.Hints.{Coded, hinted}
 use Rattle.phone_read.specs.TransformRules.{rules_have_no_plus}
 use Rattle.phone_records.specs.declared.loader.Metadata.{Metadata}
 use Rattle.phone_territory.specs.Records.{code_of}
 use Rattle.phone_library_laws.proofs.NationalTexts.{national_number-nsn, national_number-text_of}
 use Rattle.phone_library_laws.proofs.PlusSigns.{All-strip, All-stripped, IfSome-first, IsNoPlus, is_no_plus, written_no_plus}
+use Rattle.phone_library_laws.proofs.TakenCodes.{IfOk-code_after_sign, IfOk-code_in, last_any}
 
 -- the number is held, and its text has 2 to 17 digits
 pub record IsNational (n : National) : Type 0 where
@@ -118,16 +118,7 @@ module _ (s : List ℕ) (n : National) (plain : All IsNoPlus s) (read : national
   pub national_of_digits : IsNational n
   national_of_digits = national_if_read (list_all (λ d. d == 48) s) refl
 
--- a territory of a database is among its records
-last_any : {X : Type 0} (passes q : X → Bool) (xs : List X) (x : X) → last_where passes xs ≡ Some x → q x ≡ true → list_any q xs ≡ true
-last_any {X = X} passes q [] x e h = cc
-last_any {X = X} passes q (y ∷ ys) x e h = at (λ f. last_any passes q ys x f h) (last_where passes ys) refl (passes y) e
-  where
-    at : (last_where passes ys ≡ Some x → list_any q ys ≡ true) → (o : Option X) → last_where passes ys ≡ o → (b : Bool) → option_or o (if b then Some y else None) ≡ Some x → (q y || list_any q ys) ≡ true
-    at again (Some z) f b g = or_right (q y) (list_any q ys) (again (f ∙ g))
-    at again None f true g = let same : y ≡ x = cc in or_left (q y) (list_any q ys) (ap q same ∙ h)
-    at again None f false g = cc
-
+-- what all pass is passed by the last that passes another test
 last_has : {X : Type 0} (passes q : X → Bool) (xs : List X) (x : X) → list_all q xs ≡ true → last_where passes xs ≡ Some x → q x ≡ true
 last_has {X = X} passes q [] x all e = cc
 last_has {X = X} passes q (y ∷ ys) x all e =
@@ -195,12 +186,8 @@ module _ (db : List Metadata) where
 
   plain_after_sign : (source : Source) (digits : List ℕ) → All IsNoPlus digits → PlainIfFound (code_after_sign db source digits)
   plain_after_sign source digits plain =
-      cond_both (nat_le (length digits) 2) (Err refusal.TooShortAfterIdd) (code_by_front db source digits) PlainIfFound (λ _. tt) (λ _. at (shortest db digits) refl)
-    where
-      at : (o : Option ℕ) → shortest db digits ≡ o →
-          PlainIfFound (option_map_or (λ code. Ok (record { source = source; value = code; rest = drop (length (decimal code)) digits })) o (Err refusal.InvalidCountryCode))
-      at None e = tt
-      at (Some code) e = record { listed = shortest-listed db digits code e; plain = All-drop IsNoPlus (length (decimal code)) digits plain }
+      IfOk-code_after_sign db (IsPlainCode db) source digits
+      (λ code e. record { listed = shortest-listed db digits code e; plain = All-drop IsNoPlus (length (decimal code)) digits plain })
 
   plain_by_territory : (m : Metadata) (digits : List ℕ) → IsOfDatabase db m → All IsNoPlus digits → IsPlainCode db (code_by_territory m digits)
   plain_by_territory m digits h plain =
@@ -225,27 +212,9 @@ module _ (db : List Metadata) where
       at None none = plain_by_territory m digits h plain
       at (Some after) some = plain_after_sign Idd after some
 
-  plain_cut : (source : Source) (value : ℕ) (rest : List ℕ) → IsPlainCode db (record { source = source; value = value; rest = rest }) →
-      PlainIfFound (cut_off (Ok (record { source = source; value = value; rest = rest })))
-  plain_cut Default value rest h = tt
-  plain_cut Plus value rest h = h
-  plain_cut Idd value rest h = h
-  plain_cut Number value rest h = h
-
-  plain_cut_off : (r : Result Coded ParseError) → PlainIfFound r → PlainIfFound (cut_off r)
-  plain_cut_off (Err e) h = tt
-  plain_cut_off (Ok c) h = plain_cut c.source c.value c.rest h
-
-  plain_or_by_hint : (o : Option Metadata) (digits : List ℕ) (r : Result Coded ParseError) → PlainIfFound r → PlainIfFound (code_by_hint db o digits) →
-      PlainIfFound (or_by_hint db o digits r)
-  plain_or_by_hint o digits (Err refusal.InvalidCountryCode) h by_hint = plain_cut_off (code_by_hint db o digits) by_hint
-  plain_or_by_hint o digits (Err e) h by_hint = tt
-  plain_or_by_hint o digits (Ok c) h by_hint = h
-
   plain_code_in : (o : Option Metadata) (has_plus : Bool) (digits : List ℕ) → IfSome o (IsOfDatabase db) → All IsNoPlus digits → PlainIfFound (code_in db o has_plus digits)
-  plain_code_in o true digits h plain =
-      plain_or_by_hint o digits (code_after_sign db Plus digits) (plain_after_sign Plus digits plain) (plain_by_hint o digits h plain)
-  plain_code_in o false digits h plain = plain_by_hint o digits h plain
+  plain_code_in o has_plus digits h plain =
+      IfOk-code_in db (IsPlainCode db) o has_plus digits (plain_after_sign Plus digits plain) (plain_by_hint o digits h plain)
 
   abbrev FineIfRead : Result Reading ParseError → Type 0
   FineIfRead r = IfOk r (IsFine db)

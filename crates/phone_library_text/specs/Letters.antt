@@ -24,7 +24,7 @@ is_latin c = is_alpha c || is_one_of (0x130 ∷ 0x131 ∷ 0x17F ∷ 0x212A ∷ [
 abbrev pub is_early : ℕ → Bool
 is_early c = is_separator c || (c == 88) || is_star c || is_nd c
 
--- letters may stand after its third digit
+-- what may stand after a number's third digit: all that may stand anywhere, and letters
 abbrev pub is_allowed : ℕ → Bool
 is_allowed c = is_early c || is_latin c
 

@@ -32,7 +32,7 @@ abbrev pub is_mark_gap : List ℕ → Bool
 is_mark_gap [] = true
 is_mark_gap (c ∷ cs) = (is_gap c || is_mark c) && is_gap_run cs
 
--- that, as what a text may be
+-- a text that is perhaps a mark, and then a gap
 abbrev pub IsMarkGap : List ℕ → Type 0
 IsMarkGap t = is_mark_gap t ≡ true
 

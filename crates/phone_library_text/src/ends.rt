@@ -1,12 +1,12 @@
 //! Ends of a text, found from its last character on.
-ghost use Rattle.std.specs.Prelude.{◌≡◌, ℕ, List, ◌++◌, true, chars, length};
-ghost use Rattle.std.specs.List.{list_all};
+ghost use Rattle.std.specs.Prelude.{◌≡◌, ℕ, List, ◌++◌, chars};
 ghost use Rattle.phone_parts.specs.Longest.{AreEndsUpTo, IsWithoutLongest};
 ghost use Rattle.phone_parts.specs.Suffixes.{IsFew};
 ghost use Rattle.phone_library_text.specs.Scans.{IsMarkGap, IsSignless};
 
-use crate::sets::{Gaps, Marks};
 use phone_chars::cuts::{CharSet, split_last};
+use phone_parts::before_run;
+use phone_parts::sets::{Gaps, Marks};
 
 /// What follows a front of the text. Where the other text is no front of this one, the answer is
 /// some end of this one.
@@ -28,15 +28,6 @@ fn before_one<'a, S: CharSet>(text: &'a str, set: &S) -> &'a str
         }
     }
     text
-}
-
-/// The text without its longest end of characters of the set.
-pub(crate) fn before_run<'a, S: CharSet>(text: &'a str, set: &S) -> &'a str
-    ensures read { IsWithoutLongest (λ w. list_all (S.members set.now) w ≡
-        true) (chars text.now) (chars result.now) }
-    ensures front { (v : List ℕ) × (text.now ≡ result.now ++ v) }
-{
-    text.trim_end_matches(|c: char| set.has(c))
 }
 
 /// How many bytes an end of the text may have that is perhaps a mark, and then a gap. Each end with

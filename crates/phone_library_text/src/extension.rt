@@ -4,9 +4,10 @@ ghost use Rattle.phone_parts.specs.Parts.{IsSlice};
 ghost use Rattle.phone_library_text.specs.Extensions.{HasLongestExtension, HasNoExtension};
 
 use crate::announcement::before_announcement;
-use crate::ends::{after, before_run, split_sign};
+use crate::ends::{after, split_sign};
 use crate::labels::is_nothing;
-use crate::sets::Digits;
+use phone_parts::before_run;
+use phone_parts::sets::Digits;
 
 /// How many characters the text has.
 fn count_chars(text: &str) -> usize

@@ -10,10 +10,9 @@ ghost use Rattle.phone_chars.specs.Cuts.{after_front};
 ghost use Rattle.phone_library_text.specs.Letters.{digits_in, folded, is_early, is_latin};
 ghost use Rattle.phone_library_text.specs.Letters.{is_lettered, key_of, script_zeros, value_of};
 
-use crate::sets::PlusSigns;
-use phone_chars::chars;
 use phone_chars::chars::{is_alpha, is_digit, is_separator, is_star, keypad};
 use phone_chars::cuts::after_run;
+use phone_chars::{PlusSigns, chars};
 use std::alloc::{AllocError, Global};
 use std::borrow::CowStr;
 use unicode::case::simple_fold;
@@ -95,8 +94,9 @@ fn find_zero(zeros: &[u32], c: u32) -> Option<u32>
         .find(|zero| *zero <= c && c - *zero < 10)
 }
 
-/// The ASCII digit of the value of a digit of any script; none for all other characters.
-fn value_of(c: char) -> Option<char>
+/// The ASCII digit, `0` to `9`, of the value of a decimal digit of any script; none for every other
+/// character. Digits of ASCII are asked first; the time is at most that of a table of 76 scripts.
+pub fn value_of(c: char) -> Option<char>
     ensures { result ≡ value_of c }
 {
     if is_digit(c) {

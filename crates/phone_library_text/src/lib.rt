@@ -15,6 +15,6 @@ mod sets;
 mod viable;
 mod written;
 
-pub use letters::digit_values;
+pub use letters::{digit_values, value_of};
 pub use viable::{is_viable, split_extension};
 pub use written::{WrittenNumber, read_written};

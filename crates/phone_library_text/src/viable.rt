@@ -11,7 +11,7 @@ ghost use Rattle.phone_library_text.specs.Viable.{IsViable};
 use crate::extension::find_extension;
 use crate::labels::is_nothing;
 use crate::letters::{is_early, is_latin, is_nd};
-use crate::sets::PlusSigns;
+use phone_chars::PlusSigns;
 use phone_chars::cuts::{after_run, split_first};
 
 /// Whether the text is a digit and another.

@@ -4,9 +4,9 @@ ghost use Rattle.std.specs.Prelude.{OnErr, OnOk};
 ghost use Rattle.phone_typed.specs.Keys.{is_key, is_mark, key_of, keys_in, shows, up_to_key};
 ghost use Rattle.phone_typed.specs.Keys.{with_key};
 
-use crate::digits::value_of;
 use phone_chars::chars::is_plus;
 use phone_chars::cuts::split_first;
+use phone_library_text::value_of;
 use std::alloc::{AllocError, Global};
 
 /// Whether a byte is a key: a digit, or the plus sign.

@@ -1,7 +1,6 @@
 //! A number as it is typed: the beginning of what is printed of it once it is complete.
 #![tactic(auto)]
 
-mod digits;
 mod keys;
 pub mod laws;
 mod layouts;

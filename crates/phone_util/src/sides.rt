@@ -4,7 +4,6 @@ ghost use Rattle.std.specs.Prelude.{Some, option_map};
 ghost use Rattle.std.specs.Cow.{cow_str_bytes};
 ghost use Rattle.phone_chars.specs.Characters.{is_plus};
 ghost use Rattle.phone_chars.specs.Norm.{norm};
-ghost use Rattle.phone_library.specs.Readings.{national_number};
 ghost use Rattle.phone_values.specs.Nsn.{nsn};
 ghost use Rattle.phone_parts.specs.Parts.{Parts, parts_of};
 ghost use Rattle.phone_parts.specs.Readers.{HasParts};
@@ -14,11 +13,11 @@ ghost use Rattle.phone_util.specs.Sides.{written_side};
 
 use phone_chars::chars::{is_plus, normalize};
 use phone_choice::Rules;
+use phone_library::national_number;
 use phone_library_text::{WrittenNumber, read_written};
 use phone_meta::Database;
 use phone_parts::{Number, parts};
 use phone_read::{Reading, read};
-use phone_rules::trims::without_zeros;
 use phone_values::consts::{MAX_LENGTH_FOR_NSN, MIN_LENGTH_FOR_NSN};
 use phone_values::{Extension, NationalNumber, ParseError};
 use phonenumber::PhoneNumber;
@@ -115,23 +114,6 @@ fn written_side(number: WrittenNumber) -> Result<Side, ParseError>
         }),
         Err(error) => Err(error),
     }
-}
-
-/// The national number of 2 to 17 digits. The zeros before the last digit are leading zeros, so
-/// zeros alone are a number of value 0.
-fn national_number(digits: &str) -> Result<NationalNumber, ParseError>
-    ensures { result ≡ national_number digits.now }
-{
-    if digits.len() < MIN_LENGTH_FOR_NSN {
-        return Err(ParseError::TooShortNsn);
-    }
-    if digits.len() > MAX_LENGTH_FOR_NSN {
-        return Err(ParseError::TooLong);
-    }
-    if without_zeros(digits).is_empty() {
-        return NationalNumber::new(0, (digits.len() - 1) as u8);
-    }
-    digits.parse::<NationalNumber>()
 }
 
 /// The same by the rules of the crate.
