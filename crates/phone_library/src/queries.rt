@@ -15,7 +15,7 @@ use crate::homes::{Home, home_in};
 use crate::kinds::{is_known, kind_in};
 use itoa::Buffer;
 use phone_meta::Database;
-use phone_print::written::written;
+use phone_print::written::text_of_value;
 use phone_values::Type;
 use phone_values::country::Id;
 use phonenumber::PhoneNumber;
@@ -53,7 +53,7 @@ fn facts_told(database: &Database, number: &PhoneNumber) -> Result<NumberFacts, 
         let digits = buffer.format(national.value());
         return facts_in(database, number.code().value(), digits);
     }
-    let digits = written(database.allocator(), format_args!("{national}"))?;
+    let digits = text_of_value(database.allocator(), format_args!("{national}"))?;
     facts_in(database, number.code().value(), digits.as_str())
 }
 
@@ -85,7 +85,7 @@ pub fn region(database: &Database, number: &PhoneNumber) -> Result<Option<Id>, A
         let digits = buffer.format(national.value());
         return region_in(database, number.code().value(), digits);
     }
-    let digits = written(database.allocator(), format_args!("{national}"))?;
+    let digits = text_of_value(database.allocator(), format_args!("{national}"))?;
     region_in(database, number.code().value(), digits.as_str())
 }
 
