@@ -32,9 +32,9 @@ returns-then-starts_with c after e f =
     let first : begins (λ d. d == 43) context ≡ true =
     sym (starts-begins (λ d. d == 43) (FindsCharPrefix 43) (one_char 43) c.args.context.now c.starts_with.result c.utf8.context c.starts_with.ensures.cases) ∙ c.if-starts_with.true in
     let plain : list_any (λ d. d == 59) context ≡ false = ap (list_any (λ d. d == 59)) f ∙ context_plain after in
-    has_local text front after context (chars (string_bytes c.in_ok-joined.field-0))
+    has_local text front after context (chars (string_bytes c.in_ok-join.field-0))
     (NumberTexts.local front after e (subst IsContext f (c.is_context.ensures.0 c.if-not-is_context.false))) f
-    (c.in_ok-joined.ensures ∙ ap (λ t. context ++ before_first (codes ";isub=") t) c.local_part-local.ensures ∙ sym (joined_text context (local_part text front) first plain))
+    (c.in_ok-join.ensures ∙ ap (λ t. context ++ before_first (codes ";isub=") t) c.local_part-local.ensures ∙ sym (joined_text context (local_part text front) first plain))
 
 pub returns : goal.returns
 returns c after e f =
