@@ -176,11 +176,11 @@ fn verdict(alloc: Global, name: &str) -> Result<String, AllocError> {
 fn refusal_text(alloc: Global, number: &str) -> Result<String> {
     let number = number.parse::<u8>()?;
     let error = ParseError::with_number(number).unwrap_or(ParseError::Memory);
-    let text = around(alloc, begin(alloc), refusal_text(alloc, &error))??;
+    let text = around(alloc, begin(alloc), error_text(alloc, &error))??;
     Ok(text)
 }
 
 /// A refusal as it is printed.
-fn refusal_text(alloc: Global, error: &ParseError) -> Result<String, AllocError> {
+fn error_text(alloc: Global, error: &ParseError) -> Result<String, AllocError> {
     format!(in alloc; "{error}")
 }
