@@ -95,5 +95,5 @@ code_by-listed db hint None Number digits c e = front-listed db Number digits c 
 code_by-listed db hint None Default digits c e = hint-listed db hint digits c (hinted db hint) refl e
 
 -- a code that was found is listed
-pub code_of-listed : (db : List Metadata) (hint : Option Id) (n : List ℕ) (p : Option (List ℕ)) (c : Coded) → Codes.code_of db hint n p ≡ Ok c → is_listed c.value db ≡ true
+pub code_of-listed : (db : List Metadata) (hint : Option Id) (n : List ℕ) (p : Option (List ℕ)) (c : Coded) → CallingCodes.code_of db hint n p ≡ Ok c → is_listed c.value db ≡ true
 code_of-listed db hint n p c e = code_by-listed db hint (option_map norm p) (dialled_under db hint n p).source (dialled_under db hint n p).digits c e
