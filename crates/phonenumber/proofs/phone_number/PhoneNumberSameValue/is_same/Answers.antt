@@ -7,5 +7,5 @@ use Rattle.phonenumber.proofs.phone_number.PhoneNumberSameValue.is_same.Goals as
 pub returns : goal.returns
 returns c =
     let held = λ (n : Reading). IsHeld n.national in
-    numbers_same c.args.self.now c.args.other.now (subst held c.self.view_is c.value.ensures.held) (subst held c.other.view_is c.value-2.ensures.held) c.eq.result
+    numbers_same c.args.self.now c.args.other.now (subst held c.self.view_is c.value-value.ensures.held) (subst held c.other.view_is c.value-other.ensures.held) c.eq.result
     c.eq.ensures
