@@ -1,0 +1,4 @@
+pub mod CrateReports
+pub mod NumberLines
+pub mod OneLine
+pub mod SomeLines

@@ -1,0 +1,3 @@
+pub mod Known
+pub mod ReportLines
+pub mod Reports
