@@ -4,9 +4,10 @@ use Rattle.std.proofs.lemmas.List.{append-nil}
 use Rattle.phone_csv.specs.Formats.{Record, record_text}
 use Rattle.phone_csv.specs.RecordReports.{AreAnswers, Gives}
 use Rattle.phone_csv.specs.RecordReports.AreAnswers.{none, next}
+use Rattle.phone_csv.specs.declared.format.Format.{Format}
 
 -- the answer to one more record
-pub AreAnswers-then : (gives : Gives) (d : ℕ) (records : List Record) (text : List ℕ) (fields answer : Record) →
+pub AreAnswers-then : (gives : Gives) (d : Format) (records : List Record) (text : List ℕ) (fields answer : Record) →
     AreAnswers gives d records text → gives fields answer →
     AreAnswers gives d (records ++ fields ∷ []) (text ++ record_text d (fields ++ answer))
 AreAnswers-then gives d records text fields answer none given =

@@ -7,9 +7,10 @@ use Rattle.std.proofs.lemmas.List.Sums.{fold-append}
 use Rattle.phone_device.specs.Passing.{Takes}
 use Rattle.phone_csv.specs.Formats.{Record, record_text}
 use Rattle.phone_csv.specs.Runs.{HoldsCounted, IsCounted}
+use Rattle.phone_csv.specs.declared.format.Format.{Format}
 use Rattle.phone_csv.proofs.Progress.{takes_nothing, takes_then}
 
-module _ {C : Type 0} (after : C → Record → C) (d : ℕ) (first : C) where
+module _ {C : Type 0} (after : C → Record → C) (d : Format) (first : C) where
   -- one more row
   counted-then : (now : C) (text : List ℕ) (row : Record) → IsCounted after d first text now → IsCounted after d first (text ++ record_text d row) (after now row)
   counted-then now text row s = record {
@@ -43,7 +44,7 @@ module _ {C : Type 0} (after : C → Record → C) (d : ℕ) (first : C) where
   }
 
 -- nothing was counted yet
-pub held-nothing : {C : Type 0} (after : C → Record → C) (d : ℕ) (first : C) (held : List ℕ) (a : Option (List ℕ)) → held ≡ [] → HoldsCounted after d first first held a a
+pub held-nothing : {C : Type 0} (after : C → Record → C) (d : Format) (first : C) (held : List ℕ) (a : Option (List ℕ)) → held ≡ [] → HoldsCounted after d first first held a a
 held-nothing after d first held a empty = record {
   written = [];
   taken = takes_nothing a;

@@ -79,7 +79,7 @@ after_end_closed true = refl
 after_end_closed false = refl
 
 -- what a byte does in a field without quotes
-abbrev in_field : (a b : Bool) → State → State × Action
+abbrev pub in_field : (a b : Bool) → State → State × Action
 in_field a b s = if a then (st.StartField, act.EndField) else if b then (s, act.EndRecord) else (st.InField, act.Copy)
 
 in_field_open : (a b : Bool) (s : State) → is_end (in_field a b s).1 ≡ false → ends_at_end (in_field a b s).0 ≡ true
@@ -93,7 +93,7 @@ in_field_closed false true s h e = h
 in_field_closed false false s h e = cc e
 
 -- and behind a quote, or in front of a field
-abbrev by_quote : (q a b : Bool) → State → Action → State → State × Action
+abbrev pub by_quote : (q a b : Bool) → State → Action → State → State × Action
 by_quote q a b t act s = if q then (t, act) else in_field a b s
 
 by_quote_open : (q a b : Bool) (t s : State) (action : Action) → ends_at_end t ≡ true → is_end (by_quote q a b t action s).1 ≡ false → ends_at_end (by_quote q a b t action s).0 ≡ true
@@ -106,7 +106,7 @@ by_quote_closed true a b t s action n h e = absurd (cc (sym n ∙ e))
 by_quote_closed false a b t s action n h e = in_field_closed a b s h e
 
 -- between quotes
-abbrev in_quoted : Bool → State × Action
+abbrev pub in_quoted : Bool → State × Action
 in_quoted q = if q then (st.AfterQuote, act.Skip) else (st.InQuoted, act.Copy)
 
 quoted_open : (q : Bool) → ends_at_end (in_quoted q).0 ≡ true
@@ -128,7 +128,7 @@ stays_open d place.AfterQuote x h e = by_quote_open (x == 34) (x == d) (is_line_
 stays_open d place.AfterReturn x h e = cc h
 
 -- in front of a record: a line end stays there, and another byte begins one
-abbrev in_front : (r l q a : Bool) → State → State × Action
+abbrev pub in_front : (r l q a : Bool) → State → State × Action
 in_front r l q a s = if r || l then (st.StartRecord, act.Skip) else by_quote q a (r || l) st.InQuoted act.Skip s
 
 in_front_goes_on : (r l q a : Bool) (s : State) → is_end (in_front r l q a s).1 ≡ false
@@ -151,7 +151,7 @@ in_front_begins false false false true s e = refl
 in_front_begins false false false false s e = refl
 
 -- behind a carriage return a line feed is one too
-abbrev past_return : (r l q a : Bool) → State → State × Action
+abbrev pub past_return : (r l q a : Bool) → State → State × Action
 past_return r l q a s = if l then (st.StartRecord, act.Skip) else in_front r l q a s
 
 past_return_goes_on : (r l q a : Bool) (s : State) → is_end (past_return r l q a s).1 ≡ false
@@ -217,17 +217,17 @@ line_end_byte : (x : ℕ) → is_line_end x ≡ true → past_line_ends (x ∷ [
 line_end_byte x e = rw e refl
 
 module _ (c c' : Cutter) (state : State) (bytes rest : List ℕ) (x : ℕ) (was : Counts c state bytes rest)
-    (place : state_of c'.place ≡ (step (reading c.delimiter) (state_of c.place) x).0)
+    (place : state_of c'.place ≡ (step (reading c.format.delimiter) (state_of c.place) x).0)
     (feeds : c'.feeds ≡ (if x == 10 then counted (c.feeds + 1) else c.feeds))
     (before : c'.feeds_before ≡ (if ends_at_end (state_of c.place) then c.feeds_before else c.feeds)) where
   feeds_are : c'.feeds ≡ counted (line_feeds (bytes ++ x ∷ []))
   feeds_are = feeds ∙ line_feeds-next bytes x c.feeds (x == 10) refl was.feeds
 
   -- in a record
-  grown_open : ends_at_end (state_of c.place) ≡ true → is_end (step (reading c.delimiter) (state_of c.place) x).1 ≡ false →
+  grown_open : ends_at_end (state_of c.place) ≡ true → is_end (step (reading c.format.delimiter) (state_of c.place) x).1 ≡ false →
       Counts c' state (bytes ++ x ∷ []) (rest ++ x ∷ [])
   grown_open is_open e =
-      let still = ap ends_at_end place ∙ stays_open c.delimiter c.place x is_open e in
+      let still = ap ends_at_end place ∙ stays_open c.format.delimiter c.place x is_open e in
       record {
         feeds = feeds_are;
         before = λ h. (rw is_open at before) ∙ was.before is_open ∙ ap counted (sym (feeds_before-begun state bytes rest (x ∷ []) (was.begun is_open)));
@@ -247,7 +247,7 @@ module _ (c c' : Cutter) (state : State) (bytes rest : List ℕ) (x : ℕ) (was 
   -- in front of one
   grown_closed : ends_at_end (state_of c.place) ≡ false → (b : Bool) → is_line_end x ≡ b → Counts c' state (bytes ++ x ∷ []) (rest ++ x ∷ [])
   grown_closed closed true e =
-      let still = ap ends_at_end place ∙ stays_in_front c.delimiter c.place x closed e in
+      let still = ap ends_at_end place ∙ stays_in_front c.format.delimiter c.place x closed e in
       record {
         feeds = feeds_are;
         before = λ h. absurd (cc (sym still ∙ h));
@@ -256,7 +256,7 @@ module _ (c c' : Cutter) (state : State) (bytes rest : List ℕ) (x : ℕ) (was 
         blank = λ h. past_line_ends-blank rest (x ∷ []) (was.blank closed) ∙ line_end_byte x e;
       }
   grown_closed closed false e =
-      let opened = ap ends_at_end place ∙ begins c.delimiter c.place x closed e in
+      let opened = ap ends_at_end place ∙ begins c.format.delimiter c.place x closed e in
       let left = past_line_ends-blank rest (x ∷ []) (was.blank closed) ∙ other_byte x e in
       record {
         feeds = feeds_are;
@@ -267,7 +267,7 @@ module _ (c c' : Cutter) (state : State) (bytes rest : List ℕ) (x : ℕ) (was 
       }
 
   -- a byte that ends no record
-  pub Counts-grown : is_end (step (reading c.delimiter) (state_of c.place) x).1 ≡ false → Counts c' state (bytes ++ x ∷ []) (rest ++ x ∷ [])
+  pub Counts-grown : is_end (step (reading c.format.delimiter) (state_of c.place) x).1 ≡ false → Counts c' state (bytes ++ x ∷ []) (rest ++ x ∷ [])
   Counts-grown e = by (ends_at_end (state_of c.place)) refl
     where
       by : (b : Bool) → ends_at_end (state_of c.place) ≡ b → Counts c' state (bytes ++ x ∷ []) (rest ++ x ∷ [])
@@ -275,17 +275,17 @@ module _ (c c' : Cutter) (state : State) (bytes rest : List ℕ) (x : ℕ) (was 
       by false h = grown_closed h (is_line_end x) refl
 
   -- the byte that ends the record, and what is counted in front of it, whatever stands behind
-  pub Counts-ended : is_end (step (reading c.delimiter) (state_of c.place) x).1 ≡ true → (more : List ℕ) →
+  pub Counts-ended : is_end (step (reading c.format.delimiter) (state_of c.place) x).1 ≡ true → (more : List ℕ) →
       c'.feeds_before ≡ counted (0 + feeds_before state (bytes ++ more) (rest ++ more))
   Counts-ended e more =
-      let is_open = ends_open c.delimiter c.place x e in
+      let is_open = ends_open c.format.delimiter c.place x e in
       (rw is_open at before) ∙ was.before is_open ∙ ap counted (sym (feeds_before-begun state bytes rest more (was.begun is_open))) ∙ from_none (feeds_before state (bytes ++ more) (rest ++ more))
 
   -- behind it nothing was read yet
-  pub Counts-next : (n : Cutter) → is_end (step (reading c.delimiter) (state_of c.place) x).1 ≡ true → n.place ≡ c'.place → n.feeds ≡ c'.feeds →
+  pub Counts-next : (n : Cutter) → is_end (step (reading c.format.delimiter) (state_of c.place) x).1 ≡ true → n.place ≡ c'.place → n.feeds ≡ c'.feeds →
       Counts n (state_of c'.place) (bytes ++ x ∷ []) []
   Counts-next n e same_place same_feeds =
-      let closed = ap ends_at_end place ∙ ends_closed c.delimiter c.place x e in
+      let closed = ap ends_at_end place ∙ ends_closed c.format.delimiter c.place x e in
       let at = ap (λ p. ends_at_end (state_of p)) same_place in
       record {
         feeds = same_feeds ∙ feeds_are;

@@ -41,7 +41,7 @@ unfolding next_record
 at_no_end cfg s f p e = rw e refl
 
 pub AreAll-records : (d : ℕ) (start : State) (bytes : List ℕ) (all : List Record) → AreAll d start bytes all → AreRecords (reading d) start bytes all
-AreAll-records d start bytes all (records, state, rest, cut, (after, fields, field, fed), is) = by (ends_at_end after) refl
+AreAll-records d start bytes all (records, state, rest, cut, (after, fields, field, fed, closed), is) = by (ends_at_end after) refl
   where
     on : next_record (reading d) state [] [] rest ≡ next_record (reading d) after fields field []
     on = feeds_rest (reading d) state after [] fields [] field rest fed

@@ -1,6 +1,7 @@
 pub mod CutLemmas
 pub mod FeedLemmas
 pub mod AnswerLemmas
+pub mod QuoteLemmas
 pub mod Progress
 pub mod Counted
 pub mod Ends

@@ -14,15 +14,18 @@ use Rattle.std.specs.Bool.{MatchBool}
 use Rattle.csv.proofs.ReadFacts.{feeds-push}
 use Rattle.phone_csv.specs.Feeds.{counted, feeds_before}
 use Rattle.phone_csv.specs.Formats.{Record, reading, record_text, state_of}
-use Rattle.phone_csv.specs.Records.{IsEnded}
-use Rattle.phone_csv.specs.RecordReports.{AreAnswers, Gives, IsBeginning, IsReport, IsReportBefore, IsReportOnEnded, IsReportOnFirst, last_record}
+use Rattle.phone_csv.specs.Quotes.{opens_quote}
+use Rattle.phone_csv.specs.Records.{IsEnded, in_quotes}
+use Rattle.phone_csv.specs.RecordReports.{AreAnswers, Gives, IsBeginning, IsReport, IsReportBefore, IsReportBeforeQuote, IsReportOnEnded, IsReportOnFirst, last_record}
 use Rattle.phone_csv.specs.RecordReports.AreAnswers.{none as unanswered}
 use Rattle.phone_csv.specs.Records.AreCut.{none as uncut}
 use Rattle.phone_csv.specs.Runs.{BreaksOff, Holds, IsSoFar, Stands, TakesA}
 use Rattle.phone_csv.specs.declared.cutter.Cutter.{Cutter}
+use Rattle.phone_csv.specs.declared.format.Format.{Format}
 use Rattle.phone_csv.proofs.AnswerLemmas.{AreAnswers-then}
 use Rattle.phone_csv.proofs.CutLemmas.{AreCut-ended, AreCut-grown}
-use Rattle.phone_csv.proofs.FeedLemmas.{Counts-ended, Counts-grown, Counts-next, Counts-nothing, counted-more, counted-more-first, from_none}
+use Rattle.phone_csv.proofs.FeedLemmas.{Counts-ended, Counts-grown, Counts-next, Counts-nothing, counted-more, counted-more-first, ends_closed, from_none}
+use Rattle.phone_csv.proofs.QuoteLemmas.{Quotes-next, closed_in_quotes, closed_quotes, ends_in_quotes}
 
 -- what follows at an `Ok` from two facts that hold at it
 pub both_ok : {T E P Q S : Type 0} (r : Result T E) → OnOk r P → OnOk r Q → (P → Q → S) → OnOk r S
@@ -60,42 +63,54 @@ at_end cfg s f p false e = rw e refl
 
 -- the last record, where one stands behind the last line end, or none does
 pub IsSoFar-last : (gives : Gives) (start : State) (bytes : List ℕ) (c : Cutter) (answers : List ℕ) (s : IsSoFar gives start bytes c answers) (b : Bool) →
-    ends_at_end (state_of c.place) ≡ b → last_record c.delimiter s.state s.rest ≡ if b then (fields_of c.fields ++ c.field.items ∷ []) ∷ [] else []
+    ends_at_end (state_of c.place) ≡ b → last_record c.format.delimiter s.state s.rest ≡ if b then (fields_of c.fields ++ c.field.items ∷ []) ∷ [] else []
 IsSoFar-last gives start bytes c answers s b e =
-    ap (λ r. records_next (λ _ _. []) r) (feeds_rest (reading c.delimiter) s.state (state_of c.place) [] (fields_of c.fields) [] c.field.items s.rest s.fed)
-    ∙ at_end (reading c.delimiter) (state_of c.place) (fields_of c.fields) c.field.items b e
+    ap (λ r. records_next (λ _ _. []) r) (feeds_rest (reading c.format.delimiter) s.state (state_of c.place) [] (fields_of c.fields) [] c.field.items s.rest s.fed)
+    ∙ at_end (reading c.format.delimiter) (state_of c.place) (fields_of c.fields) c.field.items b e
 
 -- what a byte does to a record that isn't ended yet
 pub record Steps (before after : Cutter) (x : ℕ) : Type 0 where
-  pub place : state_of after.place ≡ (step (reading before.delimiter) (state_of before.place) x).0
-  pub fields : fields_of after.fields ≡ fields_after (step (reading before.delimiter) (state_of before.place) x).1 (fields_of before.fields) before.field.items
-  pub field : after.field.items ≡ field_after (step (reading before.delimiter) (state_of before.place) x).1 x before.field.items
-  pub delimiter : after.delimiter ≡ before.delimiter
+  pub place : state_of after.place ≡ (step (reading before.format.delimiter) (state_of before.place) x).0
+  pub fields : fields_of after.fields ≡ fields_after (step (reading before.format.delimiter) (state_of before.place) x).1 (fields_of before.fields) before.field.items
+  pub field : after.field.items ≡ field_after (step (reading before.format.delimiter) (state_of before.place) x).1 x before.field.items
+  pub format : after.format ≡ before.format
   pub feeds : after.feeds ≡ (if x == 10 then counted (before.feeds + 1) else before.feeds)
   pub feeds_before : after.feeds_before ≡ (if ends_at_end (state_of before.place) then before.feeds_before else before.feeds)
+  pub feeds_to_quote : after.feeds_to_quote ≡ (if opens_quote (state_of before.place) x then before.feeds else before.feeds_to_quote)
 
 -- a byte that ends no record
 pub IsSoFar-grown : (gives : Gives) (start : State) (bytes : List ℕ) (c c' : Cutter) (answers : List ℕ) (x : ℕ) → IsSoFar gives start bytes c answers →
-    Steps c c' x → is_end (step (reading c.delimiter) (state_of c.place) x).1 ≡ false → IsSoFar gives start (bytes ++ x ∷ []) c' answers
+    Steps c c' x → is_end (step (reading c.format.delimiter) (state_of c.place) x).1 ≡ false → IsSoFar gives start (bytes ++ x ∷ []) c' answers
 IsSoFar-grown gives start bytes c c' answers x s on e =
-    let fed = feeds-push (reading c.delimiter) s.state (state_of c.place) [] (fields_of c.fields) [] c.field.items s.rest x s.fed in
+    let fed = feeds-push (reading c.format.delimiter) s.state (state_of c.place) [] (fields_of c.fields) [] c.field.items s.rest x s.fed in
     record {
       records = s.records;
       state = s.state;
       rest = s.rest ++ x ∷ [];
-      cut = rw on.delimiter (AreCut-grown c.delimiter start s.state bytes s.rest (x ∷ []) s.records s.cut);
-      fed = rw (on.delimiter, on.place, on.fields, on.field) (rw e at fed);
+      cut = rw on.format (AreCut-grown c.format.delimiter start s.state bytes s.rest (x ∷ []) s.records s.cut);
+      fed = rw (on.format, on.place, on.fields, on.field) (rw e at fed);
       counts = Counts-grown c c' s.state bytes s.rest x s.counts on.place on.feeds on.feeds_before e;
-      answered = rw on.delimiter s.answered;
+      quotes = λ closed. Quotes-next c c' start bytes x (s.quotes closed) (λ begins. record {
+        records = s.records;
+        state = s.state;
+        rest = s.rest;
+        cut = s.cut;
+        at = state_of c.place;
+        fields = fields_of c.fields;
+        field = c.field.items;
+        fed = s.fed;
+        begins = begins;
+      }) s.counts.feeds on.format on.place on.feeds_to_quote;
+      answered = rw on.format s.answered;
     }
 
 -- a byte that ends the record
 pub IsSoFar-is_ended : (gives : Gives) (start : State) (bytes : List ℕ) (c c' : Cutter) (answers : List ℕ) (x : ℕ) (s : IsSoFar gives start bytes c answers) →
-    Steps c c' x → is_end (step (reading c.delimiter) (state_of c.place) x).1 ≡ true →
-    IsEnded c.delimiter s.state (s.rest ++ x ∷ []) (fields_of c'.fields) (state_of c'.place)
+    Steps c c' x → is_end (step (reading c.format.delimiter) (state_of c.place) x).1 ≡ true →
+    IsEnded c.format.delimiter s.state (s.rest ++ x ∷ []) (fields_of c'.fields) (state_of c'.place)
 IsSoFar-is_ended gives start bytes c c' answers x s on e =
-    let fed = feeds-push (reading c.delimiter) s.state (state_of c.place) [] (fields_of c.fields) [] c.field.items s.rest x s.fed in
-    (field_after (step (reading c.delimiter) (state_of c.place) x).1 x c.field.items, rw (on.place, on.fields) (rw e at fed))
+    let fed = feeds-push (reading c.format.delimiter) s.state (state_of c.place) [] (fields_of c.fields) [] c.field.items s.rest x s.fed in
+    (field_after (step (reading c.format.delimiter) (state_of c.place) x).1 x c.field.items, rw (on.place, on.fields) (rw e at fed))
 
 -- behind a record no byte of a field stands
 field_ended : (a : Action) (x : ℕ) (field : List ℕ) → is_end a ≡ true → field_after a x field ≡ []
@@ -111,35 +126,36 @@ at_start d s s' fields field e f g = (e, f, g, refl)
 
 -- and the answer to it
 pub IsSoFar-ended : (gives : Gives) (start : State) (bytes : List ℕ) (c m c' : Cutter) (written held : List ℕ) (given : Record) (x : ℕ) →
-    IsSoFar gives start bytes c (written ++ held) → Steps c m x → is_end (step (reading c.delimiter) (state_of c.place) x).1 ≡ true →
+    IsSoFar gives start bytes c (written ++ held) → Steps c m x → is_end (step (reading c.format.delimiter) (state_of c.place) x).1 ≡ true →
     gives (fields_of m.fields) given →
-    c'.delimiter ≡ c.delimiter → c'.place ≡ m.place → fields_of c'.fields ≡ [] → c'.field.items ≡ m.field.items → c'.feeds ≡ m.feeds →
-    IsSoFar gives start (bytes ++ x ∷ []) c' (written ++ (held ++ record_text m.delimiter (fields_of m.fields ++ given)))
+    c'.format ≡ c.format → c'.place ≡ m.place → fields_of c'.fields ≡ [] → c'.field.items ≡ m.field.items → c'.feeds ≡ m.feeds →
+    IsSoFar gives start (bytes ++ x ∷ []) c' (written ++ (held ++ record_text m.format (fields_of m.fields ++ given)))
 IsSoFar-ended gives start bytes c m c' written held given x s on e is same place bare empty feeds =
     record {
       records = s.records ++ fields_of m.fields ∷ [];
       state = state_of m.place;
       rest = [];
-      cut = rw same (AreCut-ended c.delimiter start s.state (state_of m.place) (bytes ++ x ∷ []) (s.rest ++ x ∷ []) s.records (fields_of m.fields)
-          (AreCut-grown c.delimiter start s.state bytes s.rest (x ∷ []) s.records s.cut) (IsSoFar-is_ended gives start bytes c m (written ++ held) x s on e));
-      fed = at_start c'.delimiter (state_of m.place) (state_of c'.place) (fields_of c'.fields) c'.field.items (ap state_of place) bare
+      cut = rw same (AreCut-ended c.format.delimiter start s.state (state_of m.place) (bytes ++ x ∷ []) (s.rest ++ x ∷ []) s.records (fields_of m.fields)
+          (AreCut-grown c.format.delimiter start s.state bytes s.rest (x ∷ []) s.records s.cut) (IsSoFar-is_ended gives start bytes c m (written ++ held) x s on e));
+      fed = at_start c'.format.delimiter (state_of m.place) (state_of c'.place) (fields_of c'.fields) c'.field.items (ap state_of place) bare
           (empty ∙ on.field ∙ field_ended _ x c.field.items e);
       counts = Counts-next c m s.state bytes s.rest x s.counts on.place on.feeds on.feeds_before c' e place feeds;
-      answered = rw (same, on.delimiter, sym (append_assoc written held (record_text c.delimiter (fields_of m.fields ++ given))))
-          (AreAnswers-then gives c.delimiter s.records (written ++ held) (fields_of m.fields) given s.answered is);
+      quotes = λ closed. closed_quotes c' start (bytes ++ x ∷ []) (ap (λ p. ends_at_end (state_of p)) place ∙ ap ends_at_end on.place ∙ ends_closed c.format.delimiter c.place x e);
+      answered = rw (same, on.format, sym (append_assoc written held (record_text c.format (fields_of m.fields ++ given))))
+          (AreAnswers-then gives c.format s.records (written ++ held) (fields_of m.fields) given s.answered is);
     }
 
 -- and that it is refused
 pub IsSoFar-refused : (gives : Gives) (refuses : Record → Type 0) (start : State) (bytes : List ℕ) (c m : Cutter) (answers : List ℕ) (x : ℕ) →
-    IsSoFar gives start bytes c answers → Steps c m x → is_end (step (reading c.delimiter) (state_of c.place) x).1 ≡ true →
+    IsSoFar gives start bytes c answers → Steps c m x → is_end (step (reading c.format.delimiter) (state_of c.place) x).1 ≡ true →
     refuses (fields_of m.fields) → (feeds : ℕ) → feeds ≡ m.feeds_before → (to_come : Option (List ℕ)) (more : List ℕ) →
-    IsReportBefore gives refuses c.delimiter start 0 feeds to_come (bytes ++ x ∷ more) answers
+    IsReportBefore gives refuses c.format start 0 feeds to_come (bytes ++ x ∷ more) answers
 IsSoFar-refused gives refuses start bytes c m answers x s on e is feeds counts to_come more = (
   s.records,
   s.state,
   s.rest ++ x ∷ more,
   fields_of m.fields,
-  AreCut-grown c.delimiter start s.state bytes s.rest (x ∷ more) s.records s.cut,
+  AreCut-grown c.format.delimiter start s.state bytes s.rest (x ∷ more) s.records s.cut,
   inl (s.rest ++ x ∷ [], more, state_of m.place, sym (append_assoc s.rest (x ∷ []) more), IsSoFar-is_ended gives start bytes c m answers x s on e),
   counts ∙ Counts-ended c m s.state bytes s.rest x s.counts on.place on.feeds on.feeds_before e (x ∷ more),
   is,
@@ -188,10 +204,10 @@ Stands-holds gives start bytes c held before after is_text s on = record { writt
 
 -- in front of the rest of the bytes it has answered some first records
 pub Stands-first : (gives : Gives) (start : State) (bytes rest : List ℕ) (c : Cutter) (held : List ℕ) (before after : Option (List ℕ)) →
-    Stands gives start bytes c held before after → Holds (IsReportOnFirst gives c.delimiter start (bytes ++ rest)) held before after
+    Stands gives start bytes c held before after → Holds (IsReportOnFirst gives c.format start (bytes ++ rest)) held before after
 Stands-first gives start bytes rest c held before after s =
-    Stands-holds gives start bytes c held before after (IsReportOnFirst gives c.delimiter start (bytes ++ rest)) s
-    (λ written f. (f.records, f.state, f.rest ++ rest, AreCut-grown c.delimiter start f.state bytes f.rest rest f.records f.cut, f.answered))
+    Stands-holds gives start bytes c held before after (IsReportOnFirst gives c.format start (bytes ++ rest)) s
+    (λ written f. (f.records, f.state, f.rest ++ rest, AreCut-grown c.format.delimiter start f.state bytes f.rest rest f.records f.cut, f.answered))
 
 front_then : (before middle after : Option (List ℕ)) (written held : List ℕ) → Takes before written middle → TakesFront middle held after →
     TakesFront before (written ++ held) after
@@ -203,7 +219,7 @@ front_then before middle after written held t f = record {
 }
 
 -- where a sink fails in the middle of what is held
-pub Holds-breaks : (gives : Gives) (d : ℕ) (start : State) (bytes held : List ℕ) (before middle after : Option (List ℕ)) →
+pub Holds-breaks : (gives : Gives) (d : Format) (start : State) (bytes held : List ℕ) (before middle after : Option (List ℕ)) →
     Holds (IsReportOnFirst gives d start bytes) held before middle → TakesFront middle held after → BreaksOff gives d start bytes before after
 Holds-breaks gives d start bytes held before middle after h f = (h.written ++ held, h.text, front_then before middle after h.written held h.taken f)
 
@@ -227,16 +243,16 @@ Holds-out is_text held before middle after h t = (h.written ++ held, h.text, tak
 
 -- the whole report, where nothing stands behind the last line end
 pub Stands-whole : (gives : Gives) (start : State) (bytes : List ℕ) (c : Cutter) (held : List ℕ) (before after : Option (List ℕ)) →
-    ends_at_end (state_of c.place) ≡ false → Stands gives start bytes c held before after → Holds (IsReport gives c.delimiter start bytes) held before after
+    ends_at_end (state_of c.place) ≡ false → Stands gives start bytes c held before after → Holds (IsReport gives c.format start bytes) held before after
 Stands-whole gives start bytes c held before after e s =
-    Stands-holds gives start bytes c held before after (IsReport gives c.delimiter start bytes) s (λ written f. (
+    Stands-holds gives start bytes c held before after (IsReport gives c.format start bytes) s (λ written f. (
       f.records,
       (
         f.records,
         f.state,
         f.rest,
         f.cut,
-        (state_of c.place, fields_of c.fields, c.field.items, f.fed),
+        (state_of c.place, fields_of c.fields, c.field.items, f.fed, closed_in_quotes (state_of c.place) e),
         sym (ap (λ l. f.records ++ l) (IsSoFar-last gives start bytes c (written ++ held) f false e) ∙ append-nil f.records),
       ),
       f.answered,
@@ -244,9 +260,9 @@ Stands-whole gives start bytes c held before after e s =
 
 -- and where one record does, and was answered
 pub Stands-last : (gives : Gives) (start : State) (bytes : List ℕ) (c : Cutter) (held : List ℕ) (fields given : Record) (before after : Option (List ℕ)) →
-    ends_at_end (state_of c.place) ≡ true → fields ≡ fields_of c.fields ++ c.field.items ∷ [] → Stands gives start bytes c held before after →
-    gives fields given → Holds (IsReport gives c.delimiter start bytes) (held ++ record_text c.delimiter (fields ++ given)) before after
-Stands-last gives start bytes c held fields given before after e is s on =
+    ends_at_end (state_of c.place) ≡ true → in_quotes (state_of c.place) ≡ false → fields ≡ fields_of c.fields ++ c.field.items ∷ [] →
+    Stands gives start bytes c held before after → gives fields given → Holds (IsReport gives c.format start bytes) (held ++ record_text c.format (fields ++ given)) before after
+Stands-last gives start bytes c held fields given before after e unquoted is s on =
     let f = s.so_far in record {
       written = s.written;
       taken = s.taken;
@@ -257,11 +273,11 @@ Stands-last gives start bytes c held fields given before after e is s on =
           f.state,
           f.rest,
           f.cut,
-          (state_of c.place, fields_of c.fields, c.field.items, f.fed),
+          (state_of c.place, fields_of c.fields, c.field.items, f.fed, unquoted),
           sym (ap (λ l. f.records ++ l) (IsSoFar-last gives start bytes c (s.written ++ held) f true e ∙ ap (λ r. r ∷ []) (sym is))),
         ),
-        subst (λ t. AreAnswers gives c.delimiter (f.records ++ fields ∷ []) t) (append_assoc s.written held (record_text c.delimiter (fields ++ given)))
-            (AreAnswers-then gives c.delimiter f.records (s.written ++ held) fields given f.answered on),
+        subst (λ t. AreAnswers gives c.format (f.records ++ fields ∷ []) t) (append_assoc s.written held (record_text c.format (fields ++ given)))
+            (AreAnswers-then gives c.format f.records (s.written ++ held) fields given f.answered on),
       );
     }
 
@@ -269,9 +285,9 @@ Stands-last gives start bytes c held fields given before after e is s on =
 pub Stands-last-refused : (gives : Gives) (refuses : Record → Type 0) (start : State) (bytes : List ℕ) (c : Cutter) (held : List ℕ) (fields : Record)
     (before after to_come : Option (List ℕ)) (feeds : ℕ) → ends_at_end (state_of c.place) ≡ true → fields ≡ fields_of c.fields ++ c.field.items ∷ [] → IsAtEnd to_come →
     feeds ≡ c.feeds_before → Stands gives start bytes c held before after → refuses fields →
-    Holds (IsReportBefore gives refuses c.delimiter start 0 feeds to_come bytes) held before after
+    Holds (IsReportBefore gives refuses c.format start 0 feeds to_come bytes) held before after
 Stands-last-refused gives refuses start bytes c held fields before after to_come feeds e is end counts s on =
-    Stands-holds gives start bytes c held before after (IsReportBefore gives refuses c.delimiter start 0 feeds to_come bytes) s (λ written f. (
+    Stands-holds gives start bytes c held before after (IsReportBefore gives refuses c.format start 0 feeds to_come bytes) s (λ written f. (
       f.records,
       f.state,
       f.rest,
@@ -294,21 +310,22 @@ Stands-nothing gives start c held a place fields field feeds feeds_before empty 
     state = start;
     rest = [];
     cut = uncut start [];
-    fed = at_start c.delimiter start (state_of c.place) (fields_of c.fields) c.field.items place fields field;
+    fed = at_start c.format.delimiter start (state_of c.place) (fields_of c.fields) c.field.items place fields field;
     counts = Counts-nothing c start place feeds feeds_before;
+    quotes = λ closed. closed_quotes c start [] (ap ends_at_end place ∙ closed);
     answered = rw empty unanswered;
   };
 }
 
 -- what was answered so far is the report on the records that are ended
 pub Stands-ended : (gives : Gives) (start : State) (bytes : List ℕ) (c : Cutter) (held : List ℕ) (before after : Option (List ℕ)) →
-    Stands gives start bytes c held before after → Holds (IsReportOnEnded gives c.delimiter start bytes) held before after
+    Stands gives start bytes c held before after → Holds (IsReportOnEnded gives c.format start bytes) held before after
 Stands-ended gives start bytes c held before after s =
-    Stands-holds gives start bytes c held before after (IsReportOnEnded gives c.delimiter start bytes) s
+    Stands-holds gives start bytes c held before after (IsReportOnEnded gives c.format start bytes) s
     (λ written f. (f.records, f.state, f.rest, f.cut, (state_of c.place, fields_of c.fields, c.field.items, f.fed), f.answered))
 
 -- where a sink fails in the middle of what is held, it took a beginning of the report
-pub Holds-begins : (gives : Gives) (d : ℕ) (start : State) (to_come : Option (List ℕ)) (bytes held : List ℕ) (is_text : List ℕ → Type 0)
+pub Holds-begins : (gives : Gives) (d : Format) (start : State) (to_come : Option (List ℕ)) (bytes held : List ℕ) (is_text : List ℕ → Type 0)
     (before middle after : Option (List ℕ)) →
     ((text : List ℕ) → is_text text → IsReportOnFirst gives d start bytes text ⊎ (IsAtEnd to_come × IsReport gives d start bytes text)) →
     Holds is_text held before middle → TakesFront middle held after → TakesA (IsBeginning gives d start to_come bytes) before after
@@ -323,20 +340,30 @@ Holds-begins gives d start to_come bytes held is_text before middle after on h t
     )
 
 -- and so it did where it failed in the middle of the answers to some first records
-pub BreaksOff-begins : (gives : Gives) (d : ℕ) (start : State) (to_come : Option (List ℕ)) (bytes : List ℕ) (before after : Option (List ℕ)) →
+pub BreaksOff-begins : (gives : Gives) (d : Format) (start : State) (to_come : Option (List ℕ)) (bytes : List ℕ) (before after : Option (List ℕ)) →
     BreaksOff gives d start bytes before after → TakesA (IsBeginning gives d start to_come bytes) before after
 BreaksOff-begins gives d start to_come bytes before after (text, first, f) =
     (f.front, (f.rest, subst (λ u. IsReportOnFirst gives d start bytes u ⊎ (IsAtEnd to_come × IsReport gives d start bytes u)) f.whole (inl first)), f.taken)
 
 -- line feeds that stand in front of the bytes are counted too
-pub IsReportBefore-from : (gives : Gives) (refuses : Record → Type 0) (d : ℕ) (start : State) (earlier feeds all : ℕ) (to_come : Option (List ℕ)) (bytes text : List ℕ) →
+pub IsReportBefore-from : (gives : Gives) (refuses : Record → Type 0) (d : Format) (start : State) (earlier feeds all : ℕ) (to_come : Option (List ℕ)) (bytes text : List ℕ) →
     all ≡ counted (earlier + feeds) → IsReportBefore gives refuses d start 0 feeds to_come bytes text → IsReportBefore gives refuses d start earlier all to_come bytes text
 IsReportBefore-from gives refuses d start earlier feeds all to_come bytes text is (records, state, rest, fields, cut, next, counts, refused, answers) =
     (records, state, rest, fields, cut, next, is ∙ ap (λ n. counted (earlier + n)) (counts ∙ sym (from_none (feeds_before state bytes rest))) ∙ counted-more earlier (feeds_before state bytes rest), refused, answers)
 
 -- and those are no more than can be counted
-pub IsReportBefore-counted : (gives : Gives) (refuses : Record → Type 0) (d : ℕ) (start : State) (earlier all feeds : ℕ) (to_come : Option (List ℕ)) (bytes text : List ℕ) →
+pub IsReportBefore-counted : (gives : Gives) (refuses : Record → Type 0) (d : Format) (start : State) (earlier all feeds : ℕ) (to_come : Option (List ℕ)) (bytes text : List ℕ) →
     earlier ≡ counted all → IsReportBefore gives refuses d start earlier feeds to_come bytes text → IsReportBefore gives refuses d start all feeds to_come bytes text
 IsReportBefore-counted gives refuses d start earlier all feeds to_come bytes text is (records, state, rest, fields, cut, next, counts, refused, answers) =
     let same = counts ∙ ap (λ n. counted (n + feeds_before state bytes rest)) is ∙ counted-more-first all (feeds_before state bytes rest) in
     (records, state, rest, fields, cut, next, same, refused, answers)
+
+-- where the bytes end between quotes, what was answered so far is the report in front of the quote
+pub Stands-quote : (gives : Gives) (start : State) (bytes : List ℕ) (c : Cutter) (held : List ℕ) (before after : Option (List ℕ)) (earlier line : ℕ) →
+    in_quotes (state_of c.place) ≡ true → line ≡ counted (earlier + c.feeds_to_quote + 1) →
+    Stands gives start bytes c held before after → Holds (IsReportBeforeQuote gives c.format start earlier line bytes) held before after
+Stands-quote gives start bytes c held before after earlier line e is s =
+    Stands-holds gives start bytes c held before after (IsReportBeforeQuote gives c.format start earlier line bytes) s (λ written f. (
+      (f.records, f.state, f.rest, f.cut, (state_of c.place, fields_of c.fields, c.field.items, f.fed), f.answered),
+      λ closed. ends_in_quotes c start bytes earlier line (f.quotes closed) e is,
+    ))

@@ -1,16 +1,18 @@
 -- What was written, read again.
-use Rattle.std.proofs.Common.{◌≡◌, ◌≢◌, Bool, ℕ, List, [], ◌∷◌, ◌++◌, Option, Some, None, true, false, refl, ap, subst, ◌∙◌}
+use Rattle.std.proofs.Common.{◌≡◌, ◌≢◌, Bool, ℕ, List, [], ◌∷◌, ◌++◌, Option, Some, None, true, false, if◌then◌else◌, refl, sym, ap, subst, ◌∙◌, append_assoc, ◌≤◌, length, arith}
 use Rattle.std.proofs.lemmas.Option.{same_Some}
 use Rattle.csv.specs.Machine.{Read, ends_at_end, field_after, fields_after, is_end, next_record, step}
 use Rattle.csv.specs.Reading.{AreRecords, Reached, records_next}
-use Rattle.csv.specs.Writing.{read_back}
+use Rattle.csv.specs.Writing.{default_writer, is_blank, read_back, row_body, row_text}
 use Rattle.csv.specs.declared.parser.Action.{Action}
 use Rattle.csv.specs.declared.parser.Action.TheVariants as act
 use Rattle.csv.specs.declared.parser.Config.{Config}
 use Rattle.csv.specs.declared.parser.State.{State}
 use Rattle.csv.specs.declared.parser.State.TheVariants as st
 use Rattle.csv.proofs.RoundTrip.{read-write}
-use Rattle.phone_csv.specs.Formats.{Record, reading}
+use Rattle.phone_csv.specs.Formats.{Record, commas, reading, record_body, record_text}
+use Rattle.phone_csv.specs.declared.format.LineEnd.{LineEnd}
+use Rattle.phone_csv.specs.declared.format.LineEnd.TheVariants as line_end
 use Rattle.phone_csv.specs.Records.{AreCut, IsEnded}
 use Rattle.phone_csv.specs.Records.AreCut.{none as uncut, next as cut}
 use Rattle.phone_csv.specs.RecordReports.{AreAll, AreAnswered, AreAnswers, Gives, last_record}
@@ -76,22 +78,136 @@ full_read_back : (fields answer : Record) → IsFull fields → read_back (field
 full_read_back [] answer full = absurd (full refl)
 full_read_back (f ∷ fs) answer full = refl
 
+-- such a record is written as the kit writes it
+kit_text : (fields : Record) → record_text (commas line_end.Feed) fields ≡ row_text default_writer fields
+kit_text fields = append_assoc (row_body default_writer fields) (if is_blank default_writer fields then 34 ∷ 34 ∷ [] else []) (10 ∷ [])
+
 -- each record that was written is read again
-read_rows : (gives : Gives) (records : List Record) (text : List ℕ) → AllByRecursion IsFull records → AreAnswers gives 44 records text →
+read_rows : (gives : Gives) (records : List Record) (text : List ℕ) → AllByRecursion IsFull records → AreAnswers gives (commas line_end.Feed) records text →
     (rows : List Record) × AreAnswered gives records rows × Reached (reading 44) st.StartRecord text rows st.StartRecord []
 unfolding Reached
 read_rows gives records text full none = ([], none_answered, (refl, refl))
 read_rows gives records text full (next fields answer others more given on) =
     let r = read_rows gives others more full.1 on in
-    let e = read-write (fields ++ answer) more ∙ ap (λ row. Some (row, st.StartRecord, more)) (full_read_back fields answer full.0) in
+    let e = ap (λ t. next_record (reading 44) st.StartRecord [] [] (t ++ more)) (kit_text (fields ++ answer)) ∙ read-write (fields ++ answer) more ∙ ap (λ row. Some (row, st.StartRecord, more)) (full_read_back fields answer full.0) in
     ((fields ++ answer) ∷ r.0, next_answered fields answer others r.0 given r.1, ((fields ++ answer, st.StartRecord, more), e, refl, r.2))
 
 nothing_left : next_record (reading 44) st.StartRecord [] [] [] ≡ None
 unfolding next_record
 nothing_left = refl
 
-pub report_read_again : (gives : Gives) (start : State) (bytes : List ℕ) (records : List Record) (text : List ℕ) → AreAll 44 start bytes records →
-    AreAnswers gives 44 records text → (rows : List Record) × AreAnswered gives records rows × AreRecords (reading 44) st.StartRecord text rows
-report_read_again gives start bytes records text all are =
+pub feeds_read_again : (gives : Gives) (start : State) (bytes : List ℕ) (records : List Record) (text : List ℕ) → AreAll 44 start bytes records →
+    AreAnswers gives (commas line_end.Feed) records text → (rows : List Record) × AreAnswered gives records rows × AreRecords (reading 44) st.StartRecord text rows
+feeds_read_again gives start bytes records text all are =
     let r = read_rows gives records text (all_full 44 start bytes records all) are in
     (r.0, r.1, (st.StartRecord, [], r.2, nothing_left))
+
+-- a read leaves no more bytes than stand behind the first one
+left_within : (cfg : Config) (s : State) (f : Record) (p : List ℕ) (c : ℕ) (x : List ℕ) (r : Read) → next_record cfg s f p (c ∷ x) ≡ Some r → length r.2 ≤ length x
+unfolding next_record
+left_within cfg s f p c [] r e = by (is_end (step cfg s c).1) refl
+  where
+    at_end : (b : Bool) → ends_at_end (step cfg s c).0 ≡ b → is_end (step cfg s c).1 ≡ false → length r.2 ≤ 0
+    at_end true k h = omega (arith, ap (λ (q : Read). length q.2) (same_Some _ r (rw (h, k) at e)))
+    at_end false k h = absurd (cc (rw (h, k) at e))
+
+    by : (b : Bool) → is_end (step cfg s c).1 ≡ b → length r.2 ≤ 0
+    by true h = omega (arith, ap (λ (q : Read). length q.2) (same_Some _ r (rw h at e)))
+    by false h = at_end (ends_at_end (step cfg s c).0) refl h
+left_within cfg s f p c (d ∷ x) r e =
+    by (is_end (step cfg s c).1) refl (left_within cfg (step cfg s c).0 (fields_after (step cfg s c).1 f p) (field_after (step cfg s c).1 c p) d x r)
+  where
+    by : (b : Bool) → is_end (step cfg s c).1 ≡ b →
+        (next_record cfg (step cfg s c).0 (fields_after (step cfg s c).1 f p) (field_after (step cfg s c).1 c p) (d ∷ x) ≡ Some r → length r.2 ≤ length x) →
+        length r.2 ≤ length (d ∷ x)
+    by true h on = omega (arith, ap (λ (q : Read). length q.2) (same_Some _ r (rw h at e)))
+    by false h on = omega (arith, on (rw h at e))
+
+-- so none leaves them all
+none_left : (s : State) (f : Record) (p : List ℕ) (fields : Record) (t : State) → next_record (reading 44) s f p (0 ∷ []) ≡ Some (fields, t, 0 ∷ []) → ⊥
+none_left s f p fields t e = omega (arith, left_within (reading 44) s f p 0 [] (fields, t, 0 ∷ []) e)
+
+-- where a line feed ends a record, a carriage return does, whatever follows
+return_ends : (s : State) (f : Record) (p : List ℕ) (fields : Record) →
+    ((u : List ℕ) → next_record (reading 44) s f p (10 ∷ u) ≡ Some (fields, st.StartRecord, u)) →
+    (u : List ℕ) → next_record (reading 44) s f p (13 ∷ u) ≡ Some (fields, st.AfterCr, u)
+unfolding next_record
+return_ends st.StartRecord f p fields h u = absurd (none_left st.StartRecord f p fields st.StartRecord (h (0 ∷ [])))
+return_ends st.StartField f p fields h u = ap (λ (q : Read). Some (q.0, st.AfterCr, u)) (same_Some _ _ (h u))
+return_ends st.InField f p fields h u = ap (λ (q : Read). Some (q.0, st.AfterCr, u)) (same_Some _ _ (h u))
+return_ends st.InQuoted f p fields h u = absurd (none_left st.InQuoted f (p ++ 10 ∷ []) fields st.StartRecord (h (0 ∷ [])))
+return_ends st.InEscape f p fields h u = absurd (none_left st.InQuoted f (p ++ 10 ∷ []) fields st.StartRecord (h (0 ∷ [])))
+return_ends st.AfterQuote f p fields h u = ap (λ (q : Read). Some (q.0, st.AfterCr, u)) (same_Some _ _ (h u))
+return_ends st.InComment f p fields h u = absurd (none_left st.StartRecord f p fields st.StartRecord (h (0 ∷ [])))
+return_ends st.AfterCr f p fields h u = absurd (none_left st.StartRecord f p fields st.StartRecord (h (0 ∷ [])))
+
+no_end : (t : List ℕ) → t ++ 10 ∷ [] ≡ [] → ⊥
+no_end [] e = cc e
+no_end (c ∷ t) e = cc e
+
+with_return : (s : State) (f : Record) (p t : List ℕ) (fields : Record) →
+    ((u : List ℕ) → next_record (reading 44) s f p (t ++ 10 ∷ u) ≡ Some (fields, st.StartRecord, u)) →
+    (u : List ℕ) → next_record (reading 44) s f p (t ++ 13 ∷ u) ≡ Some (fields, st.AfterCr, u)
+unfolding next_record
+with_return s f p [] fields h u = return_ends s f p fields h u
+with_return s f p (c ∷ t) fields h u =
+    by (is_end (step (reading 44) s c).1) refl (with_return (step (reading 44) s c).0 (fields_after (step (reading 44) s c).1 f p) (field_after (step (reading 44) s c).1 c p) t fields)
+  where
+    by : (b : Bool) → is_end (step (reading 44) s c).1 ≡ b →
+        (((v : List ℕ) → next_record (reading 44) (step (reading 44) s c).0 (fields_after (step (reading 44) s c).1 f p) (field_after (step (reading 44) s c).1 c p) (t ++ 10 ∷ v)
+        ≡ Some (fields, st.StartRecord, v)) →
+        (v : List ℕ) → next_record (reading 44) (step (reading 44) s c).0 (fields_after (step (reading 44) s c).1 f p) (field_after (step (reading 44) s c).1 c p) (t ++ 13 ∷ v)
+        ≡ Some (fields, st.AfterCr, v)) → next_record (reading 44) s f p (c ∷ (t ++ 13 ∷ u)) ≡ Some (fields, st.AfterCr, u)
+    by true e on = absurd (no_end t (ap (λ (q : Read). q.2) (same_Some _ _ (rw e at (h [])))))
+    by false e on = rw e (on (λ v. rw e at (h v)) u)
+
+-- the text of a record with a carriage return and a line feed, read
+row_read : (fields : Record) (u : List ℕ) →
+    next_record (reading 44) st.StartRecord [] [] (record_text (commas line_end.ReturnFeed) fields ++ u) ≡ Some (read_back fields, st.AfterCr, 10 ∷ u)
+row_read fields u =
+    let read = next_record (reading 44) st.StartRecord [] [] in
+    let body = record_body 44 fields in
+    ap read (append_assoc body (13 ∷ 10 ∷ []) u)
+    ∙ with_return st.StartRecord [] [] body (read_back fields) (λ v. ap read (sym (append_assoc body (10 ∷ []) v)) ∙ ap (λ t. read (t ++ v)) (kit_text fields) ∙ read-write fields v) (10 ∷ u)
+
+-- where the text stands behind a record: a line feed may still be to come
+abbrev place_at : Bool → State
+place_at true = st.AfterCr
+place_at false = st.StartRecord
+
+abbrev to_come : Bool → List ℕ
+to_come true = 10 ∷ []
+to_come false = []
+
+skipped : (b : Bool) (rest : List ℕ) → next_record (reading 44) (place_at b) [] [] (to_come b ++ rest) ≡ next_record (reading 44) st.StartRecord [] [] rest
+unfolding next_record
+skipped true rest = refl
+skipped false rest = refl
+
+nothing_at : (b : Bool) → next_record (reading 44) (place_at b) [] [] (to_come b) ≡ None
+unfolding next_record
+nothing_at true = refl
+nothing_at false = refl
+
+nothing_read : (b : Bool) → Reached (reading 44) (place_at b) (to_come b ++ []) [] (place_at b) (to_come b)
+unfolding Reached
+nothing_read true = (refl, refl)
+nothing_read false = (refl, refl)
+
+read_returns : (gives : Gives) (b : Bool) (records : List Record) (text : List ℕ) → AllByRecursion IsFull records → AreAnswers gives (commas line_end.ReturnFeed) records text →
+    (rows : List Record) × AreAnswered gives records rows × ((last : Bool) × Reached (reading 44) (place_at b) (to_come b ++ text) rows (place_at last) (to_come last))
+unfolding Reached
+read_returns gives b records text full none = ([], none_answered, (b, nothing_read b))
+read_returns gives b records text full (next fields answer others more given on) =
+    let r = read_returns gives true others more full.1 on in
+    let e = skipped b (record_text (commas line_end.ReturnFeed) (fields ++ answer) ++ more) ∙ row_read (fields ++ answer) more
+    ∙ ap (λ row. Some (row, st.AfterCr, 10 ∷ more)) (full_read_back fields answer full.0) in
+    ((fields ++ answer) ∷ r.0, next_answered fields answer others r.0 given r.1, (r.2.0, ((fields ++ answer, st.AfterCr, 10 ∷ more), e, refl, r.2.1)))
+
+-- whatever stands behind the records
+pub report_read_again : (gives : Gives) (end : LineEnd) (start : State) (bytes : List ℕ) (records : List Record) (text : List ℕ) → AreAll 44 start bytes records →
+    AreAnswers gives (commas end) records text → (rows : List Record) × AreAnswered gives records rows × AreRecords (reading 44) st.StartRecord text rows
+report_read_again gives line_end.Feed start bytes records text all are = feeds_read_again gives start bytes records text all are
+report_read_again gives line_end.ReturnFeed start bytes records text all are =
+    let r = read_returns gives false records text (all_full 44 start bytes records all) are in
+    (r.0, r.1, (place_at r.2.0, to_come r.2.0, r.2.1, nothing_at r.2.0))

@@ -3,7 +3,8 @@ use Rattle.std.proofs.Common.{◌≡◌, ◌<◌, ◌≤◌, ◌+◌, ◌==◌, 
 use Rattle.std.proofs.lemmas.List.{append-nil, take_all}
 use Rattle.csv.proofs.WriteFacts.{escaped-double, escaped-other, quoted-step, row-step}
 use Rattle.csv.specs.Writing.{escaped, field_text, fields_text, is_blank, next_sep, quoted, row_body}
-use Rattle.phone_csv.specs.Formats.{Record, record_text, writing}
+use Rattle.phone_csv.specs.Formats.{Record, end_text, record_text, writing}
+use Rattle.phone_csv.specs.declared.format.Format.{Format}
 
 pub escaped_quote : (d b : ℕ) → b ≡ 34 → escaped (writing d) (b ∷ []) ≡ 34 ∷ 34 ∷ []
 escaped_quote d b e = escaped-double (writing d) b e refl ∙ ap (λ x. x ∷ x ∷ []) e
@@ -51,8 +52,10 @@ blank_body d (f ∷ g ∷ rows) =
     let e = length-append (field_text (writing d) f) (fields_text (writing d) (g ∷ rows)) in
     ne_eqb _ 0 (λ z. omega (arith, e, z))
 
-pub record_whole : (d : ℕ) (body new : List ℕ) (rows : Record) → body ≡ [] ++ row_body (writing d) rows →
-    new ≡ body ++ ((if length body == 0 then 34 ∷ 34 ∷ [] else []) ++ 10 ∷ []) → new ≡ record_text d rows
-record_whole d body new rows was is =
-    is ∙ ap (λ (t : List ℕ). t ++ ((if length t == 0 then 34 ∷ 34 ∷ [] else []) ++ 10 ∷ [])) was
-    ∙ ap (λ b. row_body (writing d) rows ++ ((if b then 34 ∷ 34 ∷ [] else []) ++ 10 ∷ [])) (blank_body d rows)
+pub record_whole : (format : Format) (body shown new : List ℕ) (rows : Record) → body ≡ [] ++ row_body (writing format.delimiter) rows →
+    shown ≡ body ++ (if length body == 0 then 34 ∷ 34 ∷ [] else []) → new ≡ shown ++ end_text format.line_end → new ≡ record_text format rows
+record_whole format body shown new rows was is ended =
+    let d = format.delimiter in
+    ended ∙ ap (λ t. t ++ end_text format.line_end) (is
+    ∙ ap (λ (t : List ℕ). t ++ (if length t == 0 then 34 ∷ 34 ∷ [] else [])) was
+    ∙ ap (λ b. row_body (writing d) rows ++ (if b then 34 ∷ 34 ∷ [] else [])) (blank_body d rows))

@@ -18,4 +18,5 @@ sink_faults_of (Ok x) = 0
 sink_faults_of (Err error.Input) = 0
 sink_faults_of (Err error.Output) = 1
 sink_faults_of (Err (error.Record feeds)) = 0
+sink_faults_of (Err (error.Quote line)) = 0
 sink_faults_of (Err error.Memory) = 0

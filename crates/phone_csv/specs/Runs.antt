@@ -1,15 +1,20 @@
 -- How far a run over records is, and how it ends.
-use Rattle.std.specs.Prelude.{◌≡◌, ◌≢◌, ◌⊎◌, ℕ, ◌-◌, ◌^◌, List, [], ◌++◌, Option, true, false}
+use Rattle.std.specs.Prelude.{◌≡◌, ◌≢◌, ◌⊎◌, ℕ, ◌-◌, ◌^◌, Bool, List, [], ◌∷◌, ◌++◌, Option}
+use Rattle.std.specs.Prelude.{true, false}
 use Rattle.std.specs.List.{flat_map, fold}
 use Rattle.csv.specs.Machine.{Feeds, ends_at_end}
 use Rattle.csv.specs.Records.{fields_of}
+use Rattle.csv.specs.Writing.{escaped}
 use Rattle.csv.specs.declared.parser.State.{State}
+use Rattle.csv.specs.declared.parser.State.TheVariants as st
 use Rattle.phone_device.specs.Passing.{Passes, Takes, TakesFront}
 use Rattle.phone_csv.specs.Feeds.{counted, feeds_before, line_feeds, past_line_ends}
-use Rattle.phone_csv.specs.Formats.{Record, reading, record_text, state_of}
-use Rattle.phone_csv.specs.Records.{AreCut}
+use Rattle.phone_csv.specs.Formats.{Record, reading, record_text, state_of, writing}
+use Rattle.phone_csv.specs.Quotes.{IsBeforeField}
+use Rattle.phone_csv.specs.Records.{AreCut, in_quotes}
 use Rattle.phone_csv.specs.RecordReports.{AreAnswers, Gives, IsReportOnFirst}
 use Rattle.phone_csv.specs.declared.cutter.Cutter.{Cutter}
+use Rattle.phone_csv.specs.declared.format.Format.{Format}
 
 -- a record that isn't ended yet counts the line feeds of bytes, and, once it has begun, those in
 -- front of it; until then the rest of the bytes are line ends
@@ -22,6 +27,27 @@ pub record Counts (cutter : Cutter) (state : State) (bytes rest : List ℕ) : Ty
   pub closed : ends_at_end (state_of cutter.place) ≡ false → ends_at_end state ≡ false
   pub blank : ends_at_end (state_of cutter.place) ≡ false → past_line_ends rest ≡ []
 
+-- behind a front of the bytes a quote opened a field, in front of which so many line feeds stand;
+-- what follows are the field's bytes, each quote twice, and these last ones
+pub record Opened (delimiter : ℕ) (start : State) (bytes last : List ℕ) (feeds : ℕ) : Type 0 where
+  pub front : List ℕ
+  pub field : List ℕ
+  pub before : IsBeforeField delimiter start front
+  pub whole : bytes ≡ front ++ 34 ∷ (escaped (writing delimiter) field ++ last)
+  pub feeds_before : feeds ≡ counted (line_feeds front)
+
+-- in this state a quote stands behind a field's bytes that may close it
+abbrev pub after_quote : State → Bool
+after_quote st.AfterQuote = true
+after_quote other = false
+
+-- a record that isn't ended yet counts the line feeds in front of the quote of its field
+pub record Quotes (cutter : Cutter) (start : State) (bytes : List ℕ) : Type 0 where
+  pub within : in_quotes (state_of cutter.place) ≡ true →
+      Opened cutter.format.delimiter start bytes [] cutter.feeds_to_quote
+  pub behind : after_quote (state_of cutter.place) ≡ true →
+      Opened cutter.format.delimiter start bytes (34 ∷ []) cutter.feeds_to_quote
+
 -- so far these bytes were read, of which the last record isn't ended yet, and these answers given
 -- to the other ones
 pub record IsSoFar (gives : Record → Record → Type 0) (start : State) (bytes : List ℕ)
@@ -29,11 +55,12 @@ pub record IsSoFar (gives : Record → Record → Type 0) (start : State) (bytes
   pub records : List Record
   pub state : State
   pub rest : List ℕ
-  pub cut : AreCut cutter.delimiter start bytes records state rest
-  pub fed : Feeds (reading cutter.delimiter) state [] [] rest
+  pub cut : AreCut cutter.format.delimiter start bytes records state rest
+  pub fed : Feeds (reading cutter.format.delimiter) state [] [] rest
       (state_of cutter.place) (fields_of cutter.fields) cutter.field.items false
   pub counts : Counts cutter state bytes rest
-  pub answered : AreAnswers gives cutter.delimiter records answers
+  pub quotes : ends_at_end start ≡ false → Quotes cutter start bytes
+  pub answered : AreAnswers gives cutter.format records answers
 
 -- of such answers these are held back, and the others were taken by the sink
 pub record Stands (gives : Record → Record → Type 0) (start : State) (bytes : List ℕ)
@@ -50,22 +77,22 @@ pub record Holds (is_text : List ℕ → Type 0) (held : List ℕ)
   pub text : is_text (written ++ held)
 
 -- a text is that of some rows, one after the other, each of which was counted
-pub record IsCounted {C : Type 0} (after : C → Record → C) (delimiter : ℕ) (first : C)
+pub record IsCounted {C : Type 0} (after : C → Record → C) (format : Format) (first : C)
     (text : List ℕ) (now : C) : Type 0 where
   pub rows : List Record
-  pub written : text ≡ flat_map (record_text delimiter) rows
+  pub written : text ≡ flat_map (record_text format) rows
   pub counted : now ≡ fold after first rows
 
 -- what the sink took and what is held back is such a text
-abbrev pub HoldsCounted : {C : Type 0} → (C → Record → C) → ℕ → (first now : C) → List ℕ →
+abbrev pub HoldsCounted : {C : Type 0} → (C → Record → C) → Format → (first now : C) → List ℕ →
     Option (List ℕ) → Option (List ℕ) → Type 0
-HoldsCounted after delimiter first now held before taken =
-    Holds (λ text. IsCounted after delimiter first text now) held before taken
+HoldsCounted after format first now held before taken =
+    Holds (λ text. IsCounted after format first text now) held before taken
 
 -- a sink took a beginning of the answers to some first records
-abbrev pub BreaksOff : Gives → ℕ → State → List ℕ → Option (List ℕ) → Option (List ℕ) → Type 0
-BreaksOff gives delimiter start bytes before after = (answers : List ℕ) ×
-    IsReportOnFirst gives delimiter start bytes answers × TakesFront before answers after
+abbrev pub BreaksOff : Gives → Format → State → List ℕ → Option (List ℕ) → Option (List ℕ) → Type 0
+BreaksOff gives format start bytes before after = (answers : List ℕ) ×
+    IsReportOnFirst gives format start bytes answers × TakesFront before answers after
 
 -- this holds of the bytes that a source gave
 abbrev pub OfRead : Option (List ℕ) → Option (List ℕ) → (List ℕ → Type 0) → Type 0

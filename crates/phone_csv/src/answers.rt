@@ -4,6 +4,7 @@ ghost use Rattle.csv.specs.Records.{fields_of, partial_of};
 ghost use Rattle.phone_csv.specs.Formats.{Record, record_text};
 ghost use Rattle.phone_csv.specs.declared.answers.Refusal.TheVariants as refusal;
 
+use crate::format::Format;
 use crate::spelled::record_text;
 use csv::ByteRecord;
 use std::alloc::{AllocError, Global};
@@ -48,14 +49,14 @@ pub trait Counter {
 /// Puts the text of a record behind a text. Refused only for memory; then the text is as it was.
 pub fn add_record(
     alloc: Global,
-    delimiter: u8,
+    format: Format,
     fields: &ByteRecord,
     text: &mut Vec<u8>,
 ) -> Result<(), AllocError>
     ensures added { OnOk result (text.new.items ≡
-        text.old.items ++ record_text delimiter (fields_of fields.now)) }
+        text.old.items ++ record_text format (fields_of fields.now)) }
     ensures kept { OnErr result (text.new.items ≡ text.old.items) }
 {
-    let written = record_text(alloc, delimiter, fields)?;
+    let written = record_text(alloc, format, fields)?;
     text.extend_from_slice(written.as_slice())
 }

@@ -6,8 +6,10 @@ ghost use Rattle.csv.specs.declared.parser.State.{State};
 ghost use Rattle.phone_device.specs.Passing.{IsAtEnd};
 ghost use Rattle.phone_csv.specs.Faults.{sink_faults_of};
 ghost use Rattle.phone_csv.specs.Formats.{state_of};
+ghost use Rattle.phone_csv.specs.Feeds.{counted};
 ghost use Rattle.phone_csv.specs.RecordReports.{IsBeginning, IsReport, IsReportBefore};
-ghost use Rattle.phone_csv.specs.RecordReports.{IsReportOnEnded, IsReportOnFirst};
+ghost use Rattle.phone_csv.specs.RecordReports.{IsReportBeforeQuote, IsReportOnEnded};
+ghost use Rattle.phone_csv.specs.RecordReports.{IsReportOnFirst};
 ghost use Rattle.phone_csv.specs.Runs.{BreaksOff, Holds, HoldsCounted, IsCounted, IsFresh};
 ghost use Rattle.phone_csv.specs.Runs.{OfRead, Stands, TakesA};
 ghost use Rattle.phone_csv.specs.Runs.{most_bytes};
@@ -16,6 +18,8 @@ ghost use Rattle.phone_csv.specs.declared.blocks.RunError.TheVariants as error;
 
 use crate::answers::{Answers, Counter, Refusal};
 use crate::cutter::Start;
+use crate::format::Format;
+use crate::machine::in_quotes;
 use crate::pending_output::{PendingOutput, Stop};
 use phone_device::{BLOCK_LENGTH, Block, ByteSink, ByteSource, Fault};
 use std::alloc::Global;
@@ -29,6 +33,9 @@ pub enum RunError {
     Output,
     /// A record is not answered. So many line feeds stand in front of it, 2^64 - 1 at most.
     Record(u64),
+    /// The source ends between quotes. The first of these, which is never closed, stands on this
+    /// line, counted from 1, 2^64 - 1 at most.
+    Quote(u64),
     /// There was no memory for a record or its answer.
     Memory,
 }
@@ -42,6 +49,8 @@ enum End {
     Input,
     /// A record is not answered.
     Record,
+    /// All was read, and ends between quotes.
+    Quote,
     /// There was no memory for a record or its answer.
     Memory,
 }
@@ -59,12 +68,12 @@ fn take_blocks<A: Answers, C: Counter, S: ByteSource, W: ByteSink>(
     requires short { vec_len pending.old.answers < BLOCK_LENGTH }
     ensures end { result ≡ Ok end.Whole → IsAtEnd (S.to_come source.new) }
     ensures counted { result ≡ Ok end.Whole → (first : C) →
-        HoldsCounted C.after pending.old.cutter.delimiter first counter.old pending.old.answers.items
+        HoldsCounted C.after pending.old.cutter.format first counter.old pending.old.answers.items
         (W.taken sink.old) (W.taken sink.old) →
-        HoldsCounted C.after pending.old.cutter.delimiter first counter.new pending.new.answers.items
+        HoldsCounted C.after pending.old.cutter.format first counter.new pending.new.answers.items
         (W.taken sink.old) (W.taken sink.new) }
     ensures partial { result ≡ Ok end.Whole → partial_of pending.new.cutter.fields ≡ [] }
-    ensures delimiter { pending.new.cutter.delimiter ≡ pending.old.cutter.delimiter }
+    ensures format { pending.new.cutter.format ≡ pending.old.cutter.format }
     ensures taken { result ≡ Ok end.Whole → (start : State) →
         IsFresh (A.gives answers.now) start pending.old.cutter pending.old.answers.items
         (W.taken sink.old) →
@@ -75,7 +84,7 @@ fn take_blocks<A: Answers, C: Counter, S: ByteSource, W: ByteSink>(
         IsFresh (A.gives answers.now) start pending.old.cutter pending.old.answers.items
         (W.taken sink.old) →
         OfRead (S.to_come source.old) (S.to_come source.new) (λ bytes. Holds (IsReportOnEnded
-        (A.gives answers.now) pending.old.cutter.delimiter start bytes) pending.new.answers.items
+        (A.gives answers.now) pending.old.cutter.format start bytes) pending.new.answers.items
         (W.taken sink.old) (W.taken sink.new)) }
     ensures cause { result ≡ Ok end.Input → (S.faults source.new ≡ S.faults source.old + 1) ⊎
         OfRead (S.to_come source.old) (S.to_come source.new) (λ bytes. length bytes ≡ most_bytes) }
@@ -83,26 +92,27 @@ fn take_blocks<A: Answers, C: Counter, S: ByteSource, W: ByteSink>(
         IsFresh (A.gives answers.now) start pending.old.cutter pending.old.answers.items
         (W.taken sink.old) →
         OfRead (S.to_come source.old) (S.to_come source.new) (λ bytes. Holds (IsReportBefore
-        (A.gives answers.now) (A.refuses answers.now) pending.old.cutter.delimiter start
+        (A.gives answers.now) (A.refuses answers.now) pending.old.cutter.format start
         0 pending.new.cutter.feeds_before (S.to_come source.new) bytes) pending.new.answers.items
         (W.taken sink.old) (W.taken sink.new)) }
     ensures memory { result ≡ Ok end.Memory → (start : State) →
         IsFresh (A.gives answers.now) start pending.old.cutter pending.old.answers.items
         (W.taken sink.old) →
         OfRead (S.to_come source.old) (S.to_come source.new) (λ bytes. Holds (IsReportOnFirst
-        (A.gives answers.now) pending.old.cutter.delimiter start bytes) pending.new.answers.items
+        (A.gives answers.now) pending.old.cutter.format start bytes) pending.new.answers.items
         (W.taken sink.old) (W.taken sink.new)) }
     ensures broken { OnErr result ((start : State) →
         IsFresh (A.gives answers.now) start pending.old.cutter pending.old.answers.items
         (W.taken sink.old) →
         OfRead (S.to_come source.old) (S.to_come source.new) (λ bytes. BreaksOff
-        (A.gives answers.now) pending.old.cutter.delimiter start bytes (W.taken sink.old)
+        (A.gives answers.now) pending.old.cutter.format start bytes (W.taken sink.old)
         (W.taken sink.new))) }
     ensures no_fault { result ≡ Ok end.Whole → S.faults source.new ≡ S.faults source.old }
     ensures no_fault_at_a_record { result ≡ Ok end.Record →
         S.faults source.new ≡ S.faults source.old }
     ensures no_fault_without_memory { result ≡ Ok end.Memory →
         S.faults source.new ≡ S.faults source.old }
+    ensures no_quote { ¬ (result ≡ Ok end.Quote) }
     ensures sink_no_fault { OnOk result (W.faults sink.new ≡ W.faults sink.old) }
     ensures sink_fault { OnErr result (W.faults sink.new ≡ W.faults sink.old + 1) }
 {
@@ -141,21 +151,21 @@ fn take_all<A: Answers, C: Counter, S: ByteSource, W: ByteSink>(
     requires short { vec_len pending.old.answers < BLOCK_LENGTH }
     ensures end { result ≡ Ok end.Whole → IsAtEnd (S.to_come source.new) }
     ensures counted { result ≡ Ok end.Whole → (first : C) →
-        HoldsCounted C.after pending.old.cutter.delimiter first counter.old pending.old.answers.items
+        HoldsCounted C.after pending.old.cutter.format first counter.old pending.old.answers.items
         (W.taken sink.old) (W.taken sink.old) →
-        HoldsCounted C.after pending.old.cutter.delimiter first counter.new pending.new.answers.items
+        HoldsCounted C.after pending.old.cutter.format first counter.new pending.new.answers.items
         (W.taken sink.old) (W.taken sink.new) }
     ensures taken { result ≡ Ok end.Whole → (start : State) →
         IsFresh (A.gives answers.now) start pending.old.cutter pending.old.answers.items
         (W.taken sink.old) →
         OfRead (S.to_come source.old) (S.to_come source.new) (λ bytes. Holds (IsReport
-        (A.gives answers.now) pending.old.cutter.delimiter start bytes) pending.new.answers.items
+        (A.gives answers.now) pending.old.cutter.format start bytes) pending.new.answers.items
         (W.taken sink.old) (W.taken sink.new)) }
     ensures input { result ≡ Ok end.Input → (start : State) →
         IsFresh (A.gives answers.now) start pending.old.cutter pending.old.answers.items
         (W.taken sink.old) →
         OfRead (S.to_come source.old) (S.to_come source.new) (λ bytes. Holds (IsReportOnEnded
-        (A.gives answers.now) pending.old.cutter.delimiter start bytes) pending.new.answers.items
+        (A.gives answers.now) pending.old.cutter.format start bytes) pending.new.answers.items
         (W.taken sink.old) (W.taken sink.new)) }
     ensures cause { result ≡ Ok end.Input → (S.faults source.new ≡ S.faults source.old + 1) ⊎
         OfRead (S.to_come source.old) (S.to_come source.new) (λ bytes. length bytes ≡ most_bytes) }
@@ -163,20 +173,30 @@ fn take_all<A: Answers, C: Counter, S: ByteSource, W: ByteSink>(
         IsFresh (A.gives answers.now) start pending.old.cutter pending.old.answers.items
         (W.taken sink.old) →
         OfRead (S.to_come source.old) (S.to_come source.new) (λ bytes. Holds (IsReportBefore
-        (A.gives answers.now) (A.refuses answers.now) pending.old.cutter.delimiter start
+        (A.gives answers.now) (A.refuses answers.now) pending.old.cutter.format start
         0 pending.new.cutter.feeds_before (S.to_come source.new) bytes) pending.new.answers.items
         (W.taken sink.old) (W.taken sink.new)) }
     ensures memory { result ≡ Ok end.Memory → (start : State) →
         IsFresh (A.gives answers.now) start pending.old.cutter pending.old.answers.items
         (W.taken sink.old) →
         OfRead (S.to_come source.old) (S.to_come source.new) (λ bytes. Holds (IsReportOnFirst
-        (A.gives answers.now) pending.old.cutter.delimiter start bytes) pending.new.answers.items
+        (A.gives answers.now) pending.old.cutter.format start bytes) pending.new.answers.items
         (W.taken sink.old) (W.taken sink.new)) }
+    ensures quote { result ≡ Ok end.Quote → (start : State) (earlier line : ℕ) →
+        line ≡ counted (earlier + pending.new.cutter.feeds_to_quote + 1) →
+        IsFresh (A.gives answers.now) start pending.old.cutter pending.old.answers.items
+        (W.taken sink.old) →
+        OfRead (S.to_come source.old) (S.to_come source.new) (λ bytes. Holds (IsReportBeforeQuote
+        (A.gives answers.now) pending.old.cutter.format start earlier line bytes)
+        pending.new.answers.items (W.taken sink.old) (W.taken sink.new)) }
+    ensures quote_end { result ≡ Ok end.Quote → IsAtEnd (S.to_come source.new) }
+    ensures no_fault_at_a_quote { result ≡ Ok end.Quote →
+        S.faults source.new ≡ S.faults source.old }
     ensures broken { OnErr result ((start : State) →
         IsFresh (A.gives answers.now) start pending.old.cutter pending.old.answers.items
         (W.taken sink.old) →
         OfRead (S.to_come source.old) (S.to_come source.new) (λ bytes. BreaksOff
-        (A.gives answers.now) pending.old.cutter.delimiter start bytes (W.taken sink.old)
+        (A.gives answers.now) pending.old.cutter.format start bytes (W.taken sink.old)
         (W.taken sink.new))) }
     ensures no_fault { result ≡ Ok end.Whole → S.faults source.new ≡ S.faults source.old }
     ensures no_fault_at_a_record { result ≡ Ok end.Record →
@@ -191,7 +211,11 @@ fn take_all<A: Answers, C: Counter, S: ByteSource, W: ByteSink>(
         Ok(End::Input) => return Ok(End::Input),
         Ok(End::Record) => return Ok(End::Record),
         Ok(End::Memory) => return Ok(End::Memory),
+        Ok(End::Quote) => return Ok(End::Quote),
         Err(_) => return Err(Fault),
+    }
+    if in_quotes(pending.cutter.place) {
+        return Ok(End::Quote);
     }
     match pending.take_last(alloc, answers, counter) {
         Ok(()) => Ok(End::Whole),
@@ -203,8 +227,8 @@ fn take_all<A: Answers, C: Counter, S: ByteSource, W: ByteSink>(
 /// Gives each record of a source back to a sink, unchanged, with the fields of its answer after its
 /// own, in the order of the records, and counts each with its answer. The source is read in blocks
 /// to its end, from this start in front of a record, as the kit's `csv` reads, and records are
-/// written as it writes, with this delimiter, each ended by a line feed. What is held in memory are
-/// a block, the longest record and its answer: it does not grow with the number of records.
+/// written as it writes, with this delimiter and line end. What is held in memory are a block, the
+/// longest record and its answer: it does not grow with the number of records.
 ///
 /// The sink is flushed at the end, unless it failed before. Errors, and what was written:
 ///
@@ -213,43 +237,54 @@ fn take_all<A: Answers, C: Counter, S: ByteSource, W: ByteSink>(
 /// - `Output`: the sink failed, or took no byte of some. A beginning of the report is written.
 /// - `Record`: a record is not answered; the error has the number of line feeds before that record,
 ///   those of the start among them. The answers to all records before are written.
+/// - `Quote`: the source ends between quotes; the error has the line of the one that opened the
+///   field, the line feeds of the start counted too. The answers to all records that are ended are
+///   written.
 /// - `Memory`: there was no room for a record or its answer. The answers to some first records are
 ///   written, each whole.
 pub fn answer_records<A: Answers, C: Counter, S: ByteSource, W: ByteSink>(
     alloc: Global,
     answers: &A,
     counter: &mut C,
-    delimiter: u8,
+    format: Format,
     start: Start,
     source: &mut S,
     sink: &mut W,
 ) -> Result<(), RunError>
     ensures end { OnOk result (IsAtEnd (S.to_come source.new)) }
     ensures report { OnOk result (OfRead (S.to_come source.old) (S.to_come source.new)
-        (λ bytes. TakesA (IsReport (A.gives answers.now) delimiter (state_of start.place) bytes)
+        (λ bytes. TakesA (IsReport (A.gives answers.now) format (state_of start.place) bytes)
         (W.taken sink.old) (W.taken sink.new))) }
     ensures counted { OnOk result (TakesA
-        (λ text. IsCounted C.after delimiter counter.old text counter.new)
+        (λ text. IsCounted C.after format counter.old text counter.new)
         (W.taken sink.old) (W.taken sink.new)) }
     ensures no_fault { OnOk result (S.faults source.new ≡ S.faults source.old) }
     ensures ended { result ≡ Err error.Input →
         OfRead (S.to_come source.old) (S.to_come source.new) (λ bytes. TakesA (IsReportOnEnded
-        (A.gives answers.now) delimiter (state_of start.place) bytes) (W.taken sink.old)
+        (A.gives answers.now) format (state_of start.place) bytes) (W.taken sink.old)
         (W.taken sink.new)) }
     ensures cause { result ≡ Err error.Input → (S.faults source.new ≡ S.faults source.old + 1) ⊎
         OfRead (S.to_come source.old) (S.to_come source.new) (λ bytes. length bytes ≡ most_bytes) }
     ensures beginning { result ≡ Err error.Output →
         OfRead (S.to_come source.old) (S.to_come source.new) (λ bytes. TakesA (IsBeginning
-        (A.gives answers.now) delimiter (state_of start.place) (S.to_come source.new) bytes)
+        (A.gives answers.now) format (state_of start.place) (S.to_come source.new) bytes)
         (W.taken sink.old) (W.taken sink.new)) }
     ensures before { (feeds : ℕ) → result ≡ Err (error.Record feeds) →
         OfRead (S.to_come source.old) (S.to_come source.new) (λ bytes. TakesA (IsReportBefore
-        (A.gives answers.now) (A.refuses answers.now) delimiter (state_of start.place)
+        (A.gives answers.now) (A.refuses answers.now) format (state_of start.place)
         start.feeds feeds (S.to_come source.new) bytes) (W.taken sink.old) (W.taken sink.new)) }
     ensures first { result ≡ Err error.Memory →
         OfRead (S.to_come source.old) (S.to_come source.new) (λ bytes. TakesA (IsReportOnFirst
-        (A.gives answers.now) delimiter (state_of start.place) bytes) (W.taken sink.old)
+        (A.gives answers.now) format (state_of start.place) bytes) (W.taken sink.old)
         (W.taken sink.new)) }
+    ensures quote { (line : ℕ) → result ≡ Err (error.Quote line) →
+        OfRead (S.to_come source.old) (S.to_come source.new) (λ bytes. TakesA (IsReportBeforeQuote
+        (A.gives answers.now) format (state_of start.place) start.feeds line bytes)
+        (W.taken sink.old) (W.taken sink.new)) }
+    ensures quote_end { (line : ℕ) → result ≡ Err (error.Quote line) →
+        IsAtEnd (S.to_come source.new) }
+    ensures no_fault_at_a_quote { (line : ℕ) → result ≡ Err (error.Quote line) →
+        S.faults source.new ≡ S.faults source.old }
     ensures no_fault_at_a_record { (feeds : ℕ) → result ≡ Err (error.Record feeds) →
         S.faults source.new ≡ S.faults source.old }
     ensures no_fault_without_memory { result ≡ Err error.Memory →
@@ -257,7 +292,7 @@ pub fn answer_records<A: Answers, C: Counter, S: ByteSource, W: ByteSink>(
     ensures sink_faults { W.faults sink.new ≡ W.faults sink.old + sink_faults_of result }
     ensures handed_on { result ≢ Err error.Output → W.unflushed sink.new ≡ 0 }
 {
-    let mut pending = PendingOutput::new(alloc, delimiter, start.place);
+    let mut pending = PendingOutput::new(alloc, format, start.place);
     let Ok(end) = take_all(alloc, answers, counter, source, sink, &mut pending) else {
         return Err(RunError::Output);
     };
@@ -270,6 +305,14 @@ pub fn answer_records<A: Answers, C: Counter, S: ByteSource, W: ByteSink>(
         End::Record => Err(RunError::Record(
             start.feeds.saturating_add(pending.cutter.feeds_before),
         )),
+        End::Quote => Err(RunError::Quote(line_of_quote(start, pending.cutter.feeds_to_quote))),
         End::Memory => Err(RunError::Memory),
     }
+}
+
+/// The line of a quote in front of which so many line feeds stand behind a start, counted from 1.
+fn line_of_quote(start: Start, feeds: u64) -> u64
+    ensures { result ≡ counted (start.feeds + feeds + 1) }
+{
+    start.feeds.saturating_add(feeds).saturating_add(1)
 }

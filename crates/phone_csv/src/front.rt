@@ -3,14 +3,14 @@ ghost use Rattle.std.specs.Prelude.{◌≡◌, ◌+◌, ◌⊎◌, [], ◌++◌,
 ghost use Rattle.std.specs.Prelude.{IfSome, IsNone, true, false, length, Ok, Err};
 ghost use Rattle.csv.specs.Records.{fields_of, partial_of};
 ghost use Rattle.phone_device.specs.Passing.{IsAtEnd, Passes};
-ghost use Rattle.phone_csv.specs.Feeds.{counted, line_feeds};
-ghost use Rattle.phone_csv.specs.Firsts.{EndsNoFirst, IsFirst, IsFront, mark_after};
+ghost use Rattle.phone_csv.specs.Firsts.{EndsNoFirst, IsFront, IsHead, holds_mark, mark_after};
 ghost use Rattle.phone_csv.specs.Formats.{state_of};
 ghost use Rattle.phone_csv.specs.Runs.{OfRead, most_bytes};
 ghost use Rattle.phone_csv.specs.declared.first.FirstError.TheVariants as error;
 
 use crate::cutter::Cutter;
 use crate::first::FirstError;
+use crate::format::format_after;
 use crate::machine::Place;
 use phone_device::{ByteSource, Fault};
 use std::alloc::{AllocError, Global};
@@ -26,7 +26,9 @@ pub enum Mark {
     Two,
     /// The whole mark.
     Whole,
-    /// The bytes are more than that.
+    /// The mark, and more behind it.
+    Behind,
+    /// Bytes that are no mark, nor the beginning of one.
     Past,
 }
 
@@ -38,7 +40,18 @@ fn mark_after(mark: Mark, byte: u8) -> Mark
         Mark::Start if byte == 0xEF => Mark::One,
         Mark::One if byte == 0xBB => Mark::Two,
         Mark::Two if byte == 0xBF => Mark::Whole,
-        _ => Mark::Past,
+        Mark::Whole | Mark::Behind => Mark::Behind,
+        Mark::Start | Mark::One | Mark::Two | Mark::Past => Mark::Past,
+    }
+}
+
+/// Whether the bytes so far begin with a whole byte-order mark.
+pub(crate) fn holds_mark(mark: Mark) -> bool
+    ensures { result ≡ holds_mark mark }
+{
+    match mark {
+        Mark::Whole | Mark::Behind => true,
+        Mark::Start | Mark::One | Mark::Two | Mark::Past => false,
     }
 }
 
@@ -74,11 +87,11 @@ impl Front {
     /// Nothing was read yet.
     pub fn new(alloc: Global, delimiter: u8) -> Front
         ensures front { IsFront result.mark [] result.cutter }
-        ensures delimiter { result.cutter.delimiter ≡ delimiter }
+        ensures delimiter { result.cutter.format.delimiter ≡ delimiter }
         ensures partial { partial_of result.cutter.fields ≡ [] }
     {
         Front {
-            cutter: Cutter::new(alloc, delimiter, Place::StartRecord),
+            cutter: Cutter::new(alloc, format_after(delimiter, None), Place::StartRecord),
             mark: Mark::Start,
         }
     }
@@ -87,17 +100,15 @@ impl Front {
     fn take(&mut self, byte: u8) -> Result<bool, AllocError>
         requires { partial_of self.old.cutter.fields ≡ [] }
         ensures partial { OnOk result (partial_of self.new.cutter.fields ≡ []) }
-        ensures delimiter { self.new.cutter.delimiter ≡ self.old.cutter.delimiter }
+        ensures format { self.new.cutter.format ≡ self.old.cutter.format }
         ensures grown { IfOk result (λ ended. ended ≡ false → (bytes : List ℕ) →
             IsFront self.old.mark bytes self.old.cutter →
             IsFront self.new.mark (bytes ++ byte ∷ []) self.new.cutter) }
         ensures ended { IfOk result (λ ended. ended ≡ true → (bytes : List ℕ) →
             IsFront self.old.mark bytes self.old.cutter →
-            IsFirst self.old.cutter.delimiter (bytes ++ byte ∷ [])
-            (fields_of self.new.cutter.fields) (state_of self.new.cutter.place)) }
-        ensures feeds { IfOk result (λ ended. ended ≡ true → (bytes : List ℕ) →
-            IsFront self.old.mark bytes self.old.cutter →
-            self.new.cutter.feeds ≡ counted (line_feeds (bytes ++ byte ∷ []))) }
+            IsHead self.old.cutter.format.delimiter (bytes ++ byte ∷ [])
+            (fields_of self.new.cutter.fields) (state_of self.new.cutter.place)
+            self.new.cutter.feeds (holds_mark self.new.mark)) }
     {
         let ended = self.cutter.take(byte)?;
         self.mark = mark_after(self.mark, byte);
@@ -112,21 +123,21 @@ impl Front {
         requires partial { partial_of self.old.cutter.fields ≡ [] }
         requires front { IsFront self.old.mark [] self.old.cutter }
         ensures partial { OnOk result (partial_of self.new.cutter.fields ≡ []) }
-        ensures delimiter { OnOk result
-            (self.new.cutter.delimiter ≡ self.old.cutter.delimiter) }
+        ensures format { OnOk result (self.new.cutter.format ≡ self.old.cutter.format) }
         ensures ended { result ≡ Ok true →
             OfRead (S.to_come source.old) (S.to_come source.new) (λ bytes.
-            IsFirst self.old.cutter.delimiter bytes (fields_of self.new.cutter.fields)
-            (state_of self.new.cutter.place) ×
-            (self.new.cutter.feeds ≡ counted (line_feeds bytes))) }
+            IsHead self.old.cutter.format.delimiter bytes (fields_of self.new.cutter.fields)
+            (state_of self.new.cutter.place) self.new.cutter.feeds
+            (holds_mark self.new.mark)) }
         ensures front { result ≡ Ok false →
             OfRead (S.to_come source.old) (S.to_come source.new) (λ bytes.
             IsFront self.new.mark bytes self.new.cutter) }
         ensures end { result ≡ Ok false → IsAtEnd (S.to_come source.new) }
         ensures no_fault { OnOk result (S.faults source.new ≡ S.faults source.old) }
         ensures not_absent { ¬ (result ≡ Err error.Absent) }
+        ensures not_quote { (line : ℕ) → ¬ (result ≡ Err (error.Quote line)) }
         ensures unended { OnErr result (OfRead (S.to_come source.old) (S.to_come source.new)
-            (EndsNoFirst self.old.cutter.delimiter)) }
+            (EndsNoFirst self.old.cutter.format.delimiter)) }
         ensures cause { result ≡ Err error.Input →
             (S.faults source.new ≡ S.faults source.old + 1) ⊎
             OfRead (S.to_come source.old) (S.to_come source.new)

@@ -4,7 +4,8 @@ ghost use Rattle.std.specs.Prelude.{ℕ, List};
 ghost use Rattle.csv.specs.Reading.{AreRecords};
 ghost use Rattle.csv.specs.declared.parser.State.{State};
 ghost use Rattle.csv.specs.declared.parser.State.TheVariants as st;
-ghost use Rattle.phone_csv.specs.Formats.{Record, reading};
+ghost use Rattle.phone_csv.specs.Formats.{Record, commas, reading};
+ghost use Rattle.phone_csv.specs.declared.format.LineEnd.{LineEnd};
 ghost use Rattle.phone_csv.specs.RecordReports.{AreAll, AreAnswered, IsReport};
 
 use crate::Answers;
@@ -16,11 +17,11 @@ pub fn records_of_the_kit()
         AreRecords (reading delimiter) start bytes records }
 {}
 
-/// What is written under a comma, read again, are the records that were read, each with its answer
-/// behind its fields.
+/// What is written with commas, read again, are the records that were read, each with its answer
+/// behind its fields, whatever stands behind records.
 pub fn read_again<A: Answers>(answers: &A)
-    ensures { (start : State) (bytes text : List ℕ) →
-        IsReport (A.gives answers.now) 44 start bytes text →
+    ensures { (end : LineEnd) (start : State) (bytes text : List ℕ) →
+        IsReport (A.gives answers.now) (commas end) start bytes text →
         (records rows : List Record) × AreAll 44 start bytes records ×
         AreAnswered (A.gives answers.now) records rows ×
         AreRecords (reading 44) st.StartRecord text rows }

@@ -2,6 +2,8 @@
 ghost use Rattle.std.specs.Prelude.{◌≡◌};
 ghost use Rattle.csv.specs.Machine.{ends_at_end, step};
 ghost use Rattle.phone_csv.specs.Formats.{action_of, reading, state_of};
+ghost use Rattle.phone_csv.specs.Quotes.{opens_quote};
+ghost use Rattle.phone_csv.specs.Records.{in_quotes};
 
 /// Where a text stands.
 #[derive(Clone, Copy, PartialEq, Eq, Debug)]
@@ -104,5 +106,29 @@ pub(crate) fn is_open(place: Place) -> bool
     match place {
         Place::StartRecord | Place::AfterReturn => false,
         Place::StartField | Place::InField | Place::InQuoted | Place::AfterQuote => true,
+    }
+}
+
+/// Whether a text that ends at this place ends between quotes.
+pub(crate) fn in_quotes(place: Place) -> bool
+    ensures { result ≡ in_quotes (state_of place) }
+{
+    match place {
+        Place::InQuoted => true,
+        Place::StartRecord
+        | Place::StartField
+        | Place::InField
+        | Place::AfterQuote
+        | Place::AfterReturn => false,
+    }
+}
+
+/// Whether a byte opens a field between quotes: a quote in front of a field.
+pub(crate) fn opens_quote(place: Place, byte: u8) -> bool
+    ensures { result ≡ opens_quote (state_of place) byte }
+{
+    match place {
+        Place::StartRecord | Place::StartField | Place::AfterReturn => byte == b'"',
+        Place::InField | Place::InQuoted | Place::AfterQuote => false,
     }
 }

@@ -1,10 +1,11 @@
 //! What a run holds: the record that isn't ended yet, and answers that aren't written yet.
 ghost use Rattle.std.specs.Prelude.{◌≡◌, ◌+◌, ◌<◌, ◌++◌, ◌∷◌, [], ℕ, List, Option, Err, OnOk};
-ghost use Rattle.std.specs.Prelude.{OnErr, vec_len};
+ghost use Rattle.std.specs.Prelude.{OnErr, false, vec_len};
 ghost use Rattle.csv.specs.Records.{fields_of, partial_of};
 ghost use Rattle.csv.specs.declared.parser.State.{State};
 ghost use Rattle.phone_device.specs.Passing.{IsAtEnd, Takes, TakesFront};
-ghost use Rattle.phone_csv.specs.Formats.{Record, record_text};
+ghost use Rattle.phone_csv.specs.Formats.{Record, record_text, state_of};
+ghost use Rattle.phone_csv.specs.Records.{in_quotes};
 ghost use Rattle.phone_csv.specs.Faults.{faults_of};
 ghost use Rattle.phone_csv.specs.RecordReports.{IsReport, IsReportBefore, IsReportOnFirst};
 ghost use Rattle.phone_csv.specs.Runs.{BreaksOff, Holds, HoldsCounted, IsSoFar, Stands};
@@ -13,6 +14,7 @@ ghost use Rattle.phone_csv.specs.declared.answers.Refusal.TheVariants as refusal
 
 use crate::answers::{Answers, Counter, Refusal, add_record};
 use crate::cutter::Cutter;
+use crate::format::Format;
 use crate::machine::{Place, is_open};
 use phone_device::{BLOCK_LENGTH, ByteSink, Fault, write_all};
 use std::alloc::Global;
@@ -39,8 +41,8 @@ pub(crate) struct PendingOutput {
 
 impl PendingOutput {
     /// Holds nothing yet, at this place.
-    pub fn new(alloc: Global, delimiter: u8, place: Place) -> PendingOutput
-        ensures delimiter { result.cutter.delimiter ≡ delimiter }
+    pub fn new(alloc: Global, format: Format, place: Place) -> PendingOutput
+        ensures format { result.cutter.format ≡ format }
         ensures place { result.cutter.place ≡ place }
         ensures fields { fields_of result.cutter.fields ≡ [] }
         ensures partial { partial_of result.cutter.fields ≡ [] }
@@ -50,7 +52,7 @@ impl PendingOutput {
         ensures answers { result.answers.items ≡ [] }
     {
         PendingOutput {
-            cutter: Cutter::new(alloc, delimiter, place),
+            cutter: Cutter::new(alloc, format, place),
             answers: Vec::new(alloc),
         }
     }
@@ -64,21 +66,22 @@ impl PendingOutput {
     ) -> Result<(), Refusal>
         requires { partial_of self.old.cutter.fields ≡ [] }
         ensures counted { OnOk result ((first : C) (before taken : Option (List ℕ)) →
-            HoldsCounted C.after self.old.cutter.delimiter first counter.old
+            HoldsCounted C.after self.old.cutter.format first counter.old
             self.old.answers.items before taken →
-            HoldsCounted C.after self.old.cutter.delimiter first counter.new
+            HoldsCounted C.after self.old.cutter.format first counter.new
             self.new.answers.items before taken) }
-        ensures taken { OnOk result ((start : State) (bytes : List ℕ)
-            (before after : Option (List ℕ)) → Stands (A.gives answers.now) start bytes
+        ensures taken { OnOk result (in_quotes (state_of self.old.cutter.place) ≡ false →
+            (start : State) (bytes : List ℕ) (before after : Option (List ℕ)) →
+            Stands (A.gives answers.now) start bytes
             self.old.cutter self.old.answers.items before after →
-            Holds (IsReport (A.gives answers.now) self.old.cutter.delimiter start bytes)
+            Holds (IsReport (A.gives answers.now) self.old.cutter.format start bytes)
             self.new.answers.items before after) }
         ensures refused { result ≡ Err refusal.Record → (start : State) (bytes : List ℕ)
             (before after to_come : Option (List ℕ)) → IsAtEnd to_come →
             Stands (A.gives answers.now) start bytes
             self.old.cutter self.old.answers.items before after →
             Holds (IsReportBefore (A.gives answers.now) (A.refuses answers.now)
-            self.old.cutter.delimiter start 0 self.new.cutter.feeds_before to_come bytes)
+            self.old.cutter.format start 0 self.new.cutter.feeds_before to_come bytes)
             self.new.answers.items before after }
         ensures kept { OnErr result (self.new.answers.items ≡ self.old.answers.items) }
     {
@@ -100,10 +103,10 @@ impl PendingOutput {
     ) -> Result<(), Refusal>
         requires { partial_of self.old.cutter.fields ≡ [] }
         ensures counted { OnOk result ((row : Record) × (self.new.answers.items ≡
-            self.old.answers.items ++ record_text self.old.cutter.delimiter row) ×
+            self.old.answers.items ++ record_text self.old.cutter.format row) ×
             (counter.new ≡ C.after counter.old row)) }
         ensures partial { OnOk result (partial_of self.new.cutter.fields ≡ []) }
-        ensures delimiter { self.new.cutter.delimiter ≡ self.old.cutter.delimiter }
+        ensures format { self.new.cutter.format ≡ self.old.cutter.format }
         ensures place { self.new.cutter.place ≡ self.old.cutter.place }
         ensures field { self.new.cutter.field.items ≡ self.old.cutter.field.items }
         ensures feeds { self.new.cutter.feeds ≡ self.old.cutter.feeds }
@@ -112,14 +115,14 @@ impl PendingOutput {
         ensures added { OnOk result ((answer : Record) ×
             A.gives answers.now (fields_of self.old.cutter.fields) answer ×
             (self.new.answers.items ≡ self.old.answers.items ++ record_text
-            self.old.cutter.delimiter (fields_of self.old.cutter.fields ++ answer))) }
+            self.old.cutter.format (fields_of self.old.cutter.fields ++ answer))) }
         ensures refused { result ≡ Err refusal.Record →
             A.refuses answers.now (fields_of self.old.cutter.fields) }
         ensures answers_kept { OnErr result (self.new.answers.items ≡ self.old.answers.items) }
     {
         answers.answer(alloc, &mut self.cutter.fields)?;
-        let delimiter = self.cutter.delimiter;
-        let Ok(()) = add_record(alloc, delimiter, &self.cutter.fields, &mut self.answers) else {
+        let format = self.cutter.format;
+        let Ok(()) = add_record(alloc, format, &self.cutter.fields, &mut self.answers) else {
             return Err(Refusal::Memory);
         };
         counter.count(&self.cutter.fields);
@@ -137,12 +140,12 @@ impl PendingOutput {
     ) -> Result<(), Refusal>
         requires { partial_of self.old.cutter.fields ≡ [] }
         ensures counted { OnOk result ((first : C) (before taken : Option (List ℕ)) →
-            HoldsCounted C.after self.old.cutter.delimiter first counter.old
+            HoldsCounted C.after self.old.cutter.format first counter.old
             self.old.answers.items before taken →
-            HoldsCounted C.after self.old.cutter.delimiter first counter.new
+            HoldsCounted C.after self.old.cutter.format first counter.new
             self.new.answers.items before taken) }
         ensures partial { OnOk result (partial_of self.new.cutter.fields ≡ []) }
-        ensures delimiter { self.new.cutter.delimiter ≡ self.old.cutter.delimiter }
+        ensures format { self.new.cutter.format ≡ self.old.cutter.format }
         ensures taken { OnOk result ((start : State) (bytes : List ℕ) (written : List ℕ) →
             IsSoFar (A.gives answers.now) start bytes self.old.cutter
             (written ++ self.old.answers.items) →
@@ -151,7 +154,7 @@ impl PendingOutput {
         ensures refused { result ≡ Err refusal.Record → (start : State) (bytes : List ℕ)
             (written : List ℕ) → IsSoFar (A.gives answers.now) start bytes self.old.cutter
             (written ++ self.old.answers.items) → (to_come : Option (List ℕ)) (more : List ℕ) →
-            IsReportBefore (A.gives answers.now) (A.refuses answers.now) self.old.cutter.delimiter
+            IsReportBefore (A.gives answers.now) (A.refuses answers.now) self.old.cutter.format
             start 0 self.new.cutter.feeds_before to_come (bytes ++ byte ∷ more)
             (written ++ self.old.answers.items) }
         ensures answers_kept { OnErr result (self.new.answers.items ≡ self.old.answers.items) }
@@ -212,7 +215,7 @@ impl PendingOutput {
         requires partial { partial_of self.old.cutter.fields ≡ [] }
         requires short { vec_len self.old.answers < BLOCK_LENGTH }
         ensures partial { OnOk result (partial_of self.new.cutter.fields ≡ []) }
-        ensures delimiter { self.new.cutter.delimiter ≡ self.old.cutter.delimiter }
+        ensures format { self.new.cutter.format ≡ self.old.cutter.format }
         ensures taken { OnOk result ((start : State) (bytes : List ℕ) (before : Option (List ℕ)) →
             Stands (A.gives answers.now) start bytes self.old.cutter self.old.answers.items before
             (W.taken sink.old) → Stands (A.gives answers.now) start
@@ -223,23 +226,23 @@ impl PendingOutput {
             Stands (A.gives answers.now) start bytes self.old.cutter self.old.answers.items before
             (W.taken sink.old) →
             Holds (IsReportBefore (A.gives answers.now) (A.refuses answers.now)
-            self.old.cutter.delimiter start 0 self.new.cutter.feeds_before to_come
+            self.old.cutter.format start 0 self.new.cutter.feeds_before to_come
             (bytes ++ block.now)) self.new.answers.items before (W.taken sink.new) }
         ensures memory { result ≡ Err stop.Memory → (start : State) (bytes : List ℕ)
             (before : Option (List ℕ)) →
             Stands (A.gives answers.now) start bytes self.old.cutter self.old.answers.items before
             (W.taken sink.old) → Holds (IsReportOnFirst (A.gives answers.now)
-            self.old.cutter.delimiter start (bytes ++ block.now))
+            self.old.cutter.format start (bytes ++ block.now))
             self.new.answers.items before (W.taken sink.new) }
         ensures broken { result ≡ Err stop.Fault → (start : State) (bytes : List ℕ)
             (before : Option (List ℕ)) →
             Stands (A.gives answers.now) start bytes self.old.cutter self.old.answers.items before
-            (W.taken sink.old) → BreaksOff (A.gives answers.now) self.old.cutter.delimiter start
+            (W.taken sink.old) → BreaksOff (A.gives answers.now) self.old.cutter.format start
             (bytes ++ block.now) before (W.taken sink.new) }
         ensures counted { OnOk result ((first : C) (before : Option (List ℕ)) →
-            HoldsCounted C.after self.old.cutter.delimiter first counter.old
+            HoldsCounted C.after self.old.cutter.format first counter.old
             self.old.answers.items before (W.taken sink.old) →
-            HoldsCounted C.after self.old.cutter.delimiter first counter.new
+            HoldsCounted C.after self.old.cutter.format first counter.new
             self.new.answers.items before (W.taken sink.new)) }
         ensures faults { W.faults sink.new ≡ W.faults sink.old + faults_of result }
         ensures short { OnOk result (vec_len self.new.answers < BLOCK_LENGTH) }

@@ -3,8 +3,9 @@ ghost use Rattle.std.specs.Prelude.{◌≡◌, ◌==◌, [], ◌∷◌, ◌++◌
 ghost use Rattle.std.specs.List.{list_any};
 ghost use Rattle.csv.specs.Records.{fields_of};
 ghost use Rattle.csv.specs.Writing.{escaped, field_text, needs_byte, next_sep, quoted, row_body};
-ghost use Rattle.phone_csv.specs.Formats.{record_text, writing};
+ghost use Rattle.phone_csv.specs.Formats.{end_text, record_text, writing};
 
+use crate::format::{Format, LineEnd};
 use csv::ByteRecord;
 use std::alloc::{AllocError, Global};
 
@@ -93,28 +94,38 @@ fn push_fields(delimiter: u8, fields: &ByteRecord, text: &mut Vec<u8>) -> Result
     Ok(())
 }
 
-/// Puts the end of a record behind its text, which is two quotes where no byte of it shows.
-fn push_end(text: &mut Vec<u8>) -> Result<(), AllocError>
+/// Puts two quotes behind the text of a record where no byte of it shows.
+fn push_blank(text: &mut Vec<u8>) -> Result<(), AllocError>
     ensures { OnOk result (text.new.items ≡ text.old.items ++
-        ((if length text.old.items == 0 then 34 ∷ 34 ∷ [] else []) ++ 10 ∷ [])) }
+        (if length text.old.items == 0 then 34 ∷ 34 ∷ [] else [])) }
 {
     if text.is_empty() {
-        return text.extend_from_slice(b"\"\"\n");
+        return text.extend_from_slice(b"\"\"");
     }
-    text.push(b'\n')?;
     Ok(())
+}
+
+/// Puts a line end behind a text.
+fn push_end(line_end: LineEnd, text: &mut Vec<u8>) -> Result<(), AllocError>
+    ensures { OnOk result (text.new.items ≡ text.old.items ++ end_text line_end) }
+{
+    match line_end {
+        LineEnd::Feed => text.extend_from_slice(b"\n"),
+        LineEnd::ReturnFeed => text.extend_from_slice(b"\r\n"),
+    }
 }
 
 /// The text of a record. Refused only for memory.
 pub(crate) fn record_text(
     alloc: Global,
-    delimiter: u8,
+    format: Format,
     fields: &ByteRecord,
 ) -> Result<Vec<u8>, AllocError>
-    ensures { IfOk result (λ text. text.items ≡ record_text delimiter (fields_of fields.now)) }
+    ensures { IfOk result (λ text. text.items ≡ record_text format (fields_of fields.now)) }
 {
     let mut text = Vec::with_capacity(alloc, ROOM)?;
-    push_fields(delimiter, fields, &mut text)?;
-    push_end(&mut text)?;
+    push_fields(format.delimiter, fields, &mut text)?;
+    push_blank(&mut text)?;
+    push_end(format.line_end, &mut text)?;
     Ok(text)
 }

@@ -1,21 +1,20 @@
 -- What the reading of a header says of a run.
-use Rattle.std.proofs.Common.{◌≡◌, ◌⊎◌, inl, inr, ℕ, ◌+◌, List, [], length, Option, Some, None, Result, Err, IfSome, IsNone, IsSome, option_map, refl, subst, arith}
+use Rattle.std.proofs.Common.{Bool, ◌≡◌, ◌⊎◌, inl, inr, ℕ, ◌+◌, List, [], length, Option, Some, None, Result, Err, IfSome, IsNone, IsSome, option_map, refl, subst, arith}
 use Rattle.std.specs.Prelude.{⊤}
-use Rattle.csv.specs.declared.parser.State.TheVariants as st
 use Rattle.phone_device.specs.Passing.{IsAtEnd}
-use Rattle.phone_csv.specs.Feeds.{counted, line_feeds}
-use Rattle.phone_csv.specs.Firsts.{EndsNoFirst, IsFirst, first_in}
+use Rattle.phone_csv.specs.Firsts.{EndsNoFirst, IsHead, IsOnly, first_in}
 use Rattle.phone_csv.specs.Formats.{Record, state_of}
+use Rattle.phone_csv.specs.Quotes.{IsOpenHeader}
 use Rattle.phone_csv.specs.Runs.{OfRead, most_bytes}
 use Rattle.phone_csv.specs.declared.blocks.RunError.{RunError}
 use Rattle.phone_csv.specs.declared.cutter.Start.{Start}
 use Rattle.phone_csv.specs.declared.first.FirstError.{FirstError}
-use Rattle.phone_csv.specs.declared.first.FirstError.TheVariants.{Absent, Input, Memory}
+use Rattle.phone_csv.specs.declared.first.FirstError.TheVariants.{Absent, Input, Memory, Quote}
 use Rattle.phone_lines.specs.Ends.{Devices, seen}
 use Rattle.phone_table.specs.Ends.{Ends, SourceFails}
 use Rattle.phone_table.specs.Headers.{column_of, region_column}
 use Rattle.phone_table.specs.Runs.{Lacks, NoHeader}
-use Rattle.phone_table.specs.Runs.NoHeader.{absent, input, memory}
+use Rattle.phone_table.specs.Runs.NoHeader.{absent, input, memory, quote}
 use Rattle.phone_table.specs.Tables.{IsHeader}
 use Rattle.phone_table.specs.declared.header.Column.{Column}
 use Rattle.phone_table.specs.declared.header.Column.TheVariants.{Number, Region}
@@ -32,17 +31,21 @@ pub no_header_by : {T : Type 0} (d : ℕ) (before after : Devices) (e : FirstErr
     (◌≡◌ {A = Result T FirstError} (Err e) (Err Absent) → IsAtEnd after.to_come) →
     (◌≡◌ {A = Result T FirstError} (Err e) (Err Absent) → after.source_faults ≡ before.source_faults) →
     (◌≡◌ {A = Result T FirstError} (Err e) (Err Input) → (after.source_faults ≡ before.source_faults + 1) ⊎ OfRead before.to_come after.to_come (λ bytes. length bytes ≡ most_bytes)) →
-    (◌≡◌ {A = Result T FirstError} (Err e) (Err Memory) → after.source_faults ≡ before.source_faults) → NoHeader d before after e
-no_header_by d before after Absent unended none end same cause kept = absent (none refl) (end refl) (same refl)
-no_header_by d before after Input unended none end same cause kept = input unended (caused before after (cause refl))
-no_header_by d before after Memory unended none end same cause kept = memory unended (kept refl)
+    (◌≡◌ {A = Result T FirstError} (Err e) (Err Memory) → after.source_faults ≡ before.source_faults) →
+    ((line : ℕ) → ◌≡◌ {A = Result T FirstError} (Err e) (Err (Quote line)) → OfRead before.to_come after.to_come (IsOpenHeader d line)) →
+    ((line : ℕ) → ◌≡◌ {A = Result T FirstError} (Err e) (Err (Quote line)) → IsAtEnd after.to_come) →
+    ((line : ℕ) → ◌≡◌ {A = Result T FirstError} (Err e) (Err (Quote line)) → after.source_faults ≡ before.source_faults) → NoHeader d before after e
+no_header_by d before after Absent unended none end same cause kept opened quote_end quote_same = absent (none refl) (end refl) (same refl)
+no_header_by d before after Input unended none end same cause kept opened quote_end quote_same = input unended (caused before after (cause refl))
+no_header_by d before after (Quote line) unended none end same cause kept opened quote_end quote_same = quote line (opened line refl) (quote_end line refl) (quote_same line refl)
+no_header_by d before after Memory unended none end same cause kept opened quote_end quote_same = memory unended (kept refl)
 
 -- a header was read, whether something follows it or not
-pub header_read : (d : ℕ) (header : Record) (rest : Option Start) (s0 s1 : Option (List ℕ)) →
-    IfSome rest (λ start. OfRead s0 s1 (λ bytes. IsFirst d bytes header (state_of start.place) × (start.feeds ≡ counted (line_feeds bytes)))) →
-    (IsNone rest → OfRead s0 s1 (λ bytes. first_in d bytes ≡ Some (header, st.StartRecord, []))) → OfRead s0 s1 (λ bytes. IsHeader d header rest bytes)
-header_read d header (Some start) s0 s1 ended only = ended
-header_read d header None s0 s1 ended only = only refl
+pub header_read : (d : ℕ) (header : Record) (rest : Option Start) (has_mark : Bool) (s0 s1 : Option (List ℕ)) →
+    IfSome rest (λ start. OfRead s0 s1 (λ bytes. IsHead d bytes header (state_of start.place) start.feeds has_mark)) →
+    (IsNone rest → OfRead s0 s1 (λ bytes. IsOnly d bytes header has_mark)) → OfRead s0 s1 (λ bytes. IsHeader d header rest has_mark bytes)
+header_read d header (Some start) has_mark s0 s1 ended only = ended
+header_read d header None has_mark s0 s1 ended only = only refl
 
 -- which column a header lacks
 pub lacks_by : {T : Type 0} (asked : Asked) (column : Column) (header : Record) →
@@ -54,7 +57,7 @@ lacks_by asked Number header number found region = number refl
 lacks_by asked Region header number found region = (found refl, region refl)
 
 -- a run that begins where the reading of the header ended, which counted no fault
-pub ends_from : {header : Record} {gives : Record → Record → Type 0} {refuses : Record → Type 0} {d : ℕ} {to_come taken : Option (List ℕ)} {n m faults held : ℕ} {after : Devices}
-    {r : Result ⊤ RunError} → n ≡ m → Ends header gives refuses d (seen to_come n taken faults held) after r → Ends header gives refuses d (seen to_come m taken faults held) after r
-ends_from {header = header} {gives = gives} {refuses = refuses} {d = d} {to_come = to_come} {taken = taken} {faults = faults} {held = held} {after = after} {r = r} same h =
-    subst (λ n. Ends header gives refuses d (seen to_come n taken faults held) after r) same h
+pub ends_from : {header added : Record} {gives : Record → Record → Type 0} {refuses : Record → Type 0} {d : ℕ} {to_come taken : Option (List ℕ)} {n m faults held : ℕ} {after : Devices}
+    {r : Result ⊤ RunError} → n ≡ m → Ends header added gives refuses d (seen to_come n taken faults held) after r → Ends header added gives refuses d (seen to_come m taken faults held) after r
+ends_from {header = header} {added = added} {gives = gives} {refuses = refuses} {d = d} {to_come = to_come} {taken = taken} {faults = faults} {held = held} {after = after} {r = r} same h =
+    subst (λ n. Ends header added gives refuses d (seen to_come n taken faults held) after r) same h

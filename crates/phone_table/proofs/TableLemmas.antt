@@ -1,159 +1,207 @@
 -- The text for a table, put together from its header and what follows.
-use Rattle.std.proofs.Common.{◌≡◌, inl, ℕ, ◌-◌, List, [], ◌++◌, Option, Some, None, refl, sym, ap, ◌∙◌, append_assoc, subst, arith}
+use Rattle.std.proofs.Common.{◌≡◌, inl, ℕ, ◌+◌, ◌-◌, Bool, List, [], ◌++◌, Option, Some, None, refl, sym, ap, ◌∙◌, append_assoc, subst, arith}
 use Rattle.std.proofs.lemmas.List.{append-nil}
 use Rattle.csv.specs.Machine.{next_record}
 use Rattle.csv.specs.declared.parser.State.{State}
 use Rattle.csv.specs.declared.parser.State.TheVariants as st
 use Rattle.phone_device.specs.Passing.{Takes, TakesFront}
 use Rattle.phone_device.proofs.PassingLemmas.{Passes-then}
-use Rattle.phone_csv.specs.Firsts.{IsFirst, first_in}
-use Rattle.phone_csv.specs.Feeds.{line_feeds}
-use Rattle.phone_csv.specs.Formats.{Record, record_text, state_of}
+use Rattle.phone_csv.specs.Feeds.{counted, line_feeds}
+use Rattle.phone_csv.specs.Firsts.{begins_with_mark, first_in}
+use Rattle.phone_csv.specs.Formats.{Record, format_after, state_behind, state_of}
+use Rattle.phone_csv.specs.Quotes.{EndsInQuotes}
 use Rattle.phone_csv.specs.Records.AreCut.{none as uncut}
-use Rattle.phone_csv.specs.RecordReports.{Gives, IsReport, IsReportBefore, IsReportOnFirst}
+use Rattle.phone_csv.specs.RecordReports.{Gives, IsReport, IsReportBefore, IsReportBeforeQuote, IsReportOnEnded, IsReportOnFirst}
 use Rattle.phone_csv.specs.RecordReports as csv
 use Rattle.phone_csv.specs.RecordReports.AreAnswers.{none as unanswered}
 use Rattle.phone_csv.specs.Runs.{OfRead, TakesA}
 use Rattle.phone_csv.specs.declared.cutter.Start.{Start}
+use Rattle.phone_csv.specs.declared.format.Format.{Format}
 use Rattle.phone_csv.proofs.FeedLemmas.{line_feeds-append}
 use Rattle.phone_csv.proofs.Progress.{IsReportBefore-counted, at_start, takes_then}
-use Rattle.phone_table.specs.Headers.{names}
-use Rattle.phone_table.specs.Tables.{IsBeginning, IsHeader, IsHeaderAlone, IsTable}
-
--- what is said of the records behind a header
-abbrev pub Body : Type 1
-Body = State → List ℕ → List ℕ → Type 0
-
--- a header, and what follows it
-pub table_whole : (d : ℕ) (header : Record) (start : Start) (is_body : State → List ℕ → List ℕ → Type 0) (s0 s1 s2 w0 w1 w2 : Option (List ℕ)) →
-    OfRead s0 s1 (λ bytes. IsFirst d bytes header (state_of start.place)) → Takes w0 (record_text d (header ++ names)) w1 →
-    OfRead s1 s2 (λ bytes. TakesA (is_body (state_of start.place) bytes) w1 w2) →
-    OfRead s0 s2 (λ bytes. TakesA (IsTable header is_body d bytes) w0 w2)
-table_whole d header start is_body s0 s1 s2 w0 w1 w2 (hb, hp, h) wrote (rb, rp, (body, on, took)) = (
-  hb ++ rb,
-  Passes-then s0 s1 s2 hb rb hp rp,
-  (
-    record_text d (header ++ names) ++ body,
-    record { after = state_of start.place; rest = rb; body = body; begins = h rb; answered = on; whole = refl },
-    takes_then w0 w1 w2 (record_text d (header ++ names)) body wrote took,
-  ),
-)
+use Rattle.phone_table.specs.Tables.{IsBeginning, IsHeader, IsHeaderAlone, IsTable, head_text}
 
 -- the line feeds of a header are those of all bytes but for those behind it
 feeds_of_header : (hb rb : List ℕ) → line_feeds hb ≡ line_feeds (hb ++ rb) - line_feeds rb
 feeds_of_header hb rb = omega (arith, line_feeds-append hb rb)
 
--- a header, and the records in front of one that is refused
-pub table_before : (gives : Gives) (refuses : Record → Type 0) (d feeds : ℕ) (header : Record) (start : Start) (s0 s1 s2 w0 w1 w2 : Option (List ℕ)) →
-    OfRead s0 s1 (λ bytes. IsHeader d header (Some start) bytes) → Takes w0 (record_text d (header ++ names)) w1 →
-    OfRead s1 s2 (λ bytes. TakesA (IsReportBefore gives refuses d (state_of start.place) start.feeds feeds s2 bytes) w1 w2) →
-    OfRead s0 s2 (λ bytes. TakesA (IsTable header (λ state rest. IsReportBefore gives refuses d state (line_feeds bytes - line_feeds rest) feeds s2 rest) d bytes) w0 w2)
-table_before gives refuses d feeds header start s0 s1 s2 w0 w1 w2 (hb, hp, (h, count)) wrote (rb, rp, (body, on, took)) = (
-  hb ++ rb,
-  Passes-then s0 s1 s2 hb rb hp rp,
-  (
-    record_text d (header ++ names) ++ body,
-    record {
-      after = state_of start.place;
-      rest = rb;
-      body = body;
-      begins = h rb;
-      answered = subst (λ n. IsReportBefore gives refuses d (state_of start.place) n feeds s2 rb body) (feeds_of_header hb rb)
-          (IsReportBefore-counted gives refuses d (state_of start.place) start.feeds (line_feeds hb) feeds s2 rb body count on);
-      whole = refl;
-    },
-    takes_then w0 w1 w2 (record_text d (header ++ names)) body wrote took,
-  ),
-)
+-- the line of a quote, the line feeds of a header counted too
+line_from : (d : ℕ) (s : State) (earlier all line : ℕ) (rest : List ℕ) → earlier ≡ counted all → EndsInQuotes d s earlier line rest → EndsInQuotes d s all line rest
+line_from d s earlier all line rest is (front, opened, told) = (front, opened, told ∙ ap (λ n. counted (n + line_feeds front + 1)) is ∙ once all (line_feeds front))
+  where
+    once : (m n : ℕ) → counted (counted m + n + 1) ≡ counted (m + n + 1)
+    once m n = omega arith
 
--- the same where a beginning of the report was taken
-pub table_begun : (gives : Gives) (d : ℕ) (header : Record) (start : Start) (s0 s1 s2 w0 w1 w2 : Option (List ℕ)) →
-    OfRead s0 s1 (λ bytes. IsFirst d bytes header (state_of start.place)) → Takes w0 (record_text d (header ++ names)) w1 →
-    OfRead s1 s2 (λ bytes. TakesA (csv.IsBeginning gives d (state_of start.place) s2 bytes) w1 w2) →
-    OfRead s0 s2 (λ bytes. TakesA (IsBeginning gives header d s2 bytes) w0 w2)
-table_begun gives d header start s0 s1 s2 w0 w1 w2 (hb, hp, h) wrote (rb, rp, (text, (left, on), took)) = (
-  hb ++ rb,
-  Passes-then s0 s1 s2 hb rb hp rp,
-  (
-    record_text d (header ++ names) ++ text,
+module _ (d : ℕ) (header added : Record) (has_mark : Bool) where
+  -- the text of the header that is written
+  abbrev pub head : State → List ℕ
+  head s = head_text (format_after d s) has_mark (header ++ added)
+
+  -- the same by the bytes that were read
+  marked : (s : State) (bytes body : List ℕ) → begins_with_mark bytes ≡ has_mark →
+      head s ++ body ≡ head_text (format_after d s) (begins_with_mark bytes) (header ++ added) ++ body
+  marked s bytes body e = ap (λ b. head_text (format_after d s) b (header ++ added) ++ body) (sym e)
+
+  module _ (start : Start) (s0 s1 s2 w0 w1 w2 : Option (List ℕ)) (read : OfRead s0 s1 (λ bytes. IsHeader d header (Some start) has_mark bytes))
+      (wrote : Takes w0 (head (state_of start.place)) w1) where
+    -- a header, and what follows it
+    pub table_whole : (is_body : Format → State → List ℕ → List ℕ → Type 0) →
+        OfRead s1 s2 (λ bytes. TakesA (is_body (format_after d (state_of start.place)) (state_of start.place) bytes) w1 w2) →
+        OfRead s0 s2 (λ bytes. TakesA (IsTable header added is_body d bytes) w0 w2)
+    table_whole is_body (rb, rp, (body, on, took)) = (
+      read.0 ++ rb,
+      Passes-then s0 s1 s2 read.0 rb read.1 rp,
+      (
+        head (state_of start.place) ++ body,
+        record {
+          after = state_of start.place;
+          rest = rb;
+          body = body;
+          begins = read.2.first rb;
+          answered = on;
+          whole = marked (state_of start.place) (read.0 ++ rb) body (read.2.marked rb);
+        },
+        takes_then w0 w1 w2 (head (state_of start.place)) body wrote took,
+      ),
+    )
+
+    -- a header, and the records in front of one that is refused
+    pub table_before : (gives : Gives) (refuses : Record → Type 0) (feeds : ℕ) →
+        OfRead s1 s2 (λ bytes. TakesA (IsReportBefore gives refuses (format_after d (state_of start.place)) (state_of start.place) start.feeds feeds s2 bytes) w1 w2) →
+        OfRead s0 s2 (λ bytes. TakesA (IsTable header added (λ format state rest. IsReportBefore gives refuses format state (line_feeds bytes - line_feeds rest) feeds s2 rest) d bytes) w0 w2)
+    table_before gives refuses feeds (rb, rp, (body, on, took)) =
+        let f = format_after d (state_of start.place) in (
+          read.0 ++ rb,
+          Passes-then s0 s1 s2 read.0 rb read.1 rp,
+          (
+            head (state_of start.place) ++ body,
+            record {
+              after = state_of start.place;
+              rest = rb;
+              body = body;
+              begins = read.2.first rb;
+              answered = subst (λ n. IsReportBefore gives refuses f (state_of start.place) n feeds s2 rb body) (feeds_of_header read.0 rb)
+                  (IsReportBefore-counted gives refuses f (state_of start.place) start.feeds (line_feeds read.0) feeds s2 rb body read.2.line_feeds on);
+              whole = marked (state_of start.place) (read.0 ++ rb) body (read.2.marked rb);
+            },
+            takes_then w0 w1 w2 (head (state_of start.place)) body wrote took,
+          ),
+        )
+
+    -- a header, and the records in front of a quote that is never closed
+    pub table_quote : (gives : Gives) (line : ℕ) →
+        OfRead s1 s2 (λ bytes. TakesA (IsReportBeforeQuote gives (format_after d (state_of start.place)) (state_of start.place) start.feeds line bytes) w1 w2) →
+        OfRead s0 s2 (λ bytes. TakesA (IsTable header added
+        (λ format state rest body. IsReportOnEnded gives format state rest body × EndsInQuotes d state (line_feeds bytes - line_feeds rest) line rest) d bytes) w0 w2)
+    table_quote gives line (rb, rp, (body, on, took)) = (
+      read.0 ++ rb,
+      Passes-then s0 s1 s2 read.0 rb read.1 rp,
+      (
+        head (state_of start.place) ++ body,
+        record {
+          after = state_of start.place;
+          rest = rb;
+          body = body;
+          begins = read.2.first rb;
+          answered = (
+            on.0,
+            subst (λ n. EndsInQuotes d (state_of start.place) n line rb) (feeds_of_header read.0 rb)
+                (line_from d (state_of start.place) start.feeds (line_feeds read.0) line rb read.2.line_feeds (on.1 read.2.closed)),
+          );
+          whole = marked (state_of start.place) (read.0 ++ rb) body (read.2.marked rb);
+        },
+        takes_then w0 w1 w2 (head (state_of start.place)) body wrote took,
+      ),
+    )
+
+    -- the same where a beginning of the report was taken
+    pub table_begun : (gives : Gives) →
+        OfRead s1 s2 (λ bytes. TakesA (csv.IsBeginning gives (format_after d (state_of start.place)) (state_of start.place) s2 bytes) w1 w2) →
+        OfRead s0 s2 (λ bytes. TakesA (IsBeginning gives header added d s2 bytes) w0 w2)
+    table_begun gives (rb, rp, (text, (left, on), took)) = (
+      read.0 ++ rb,
+      Passes-then s0 s1 s2 read.0 rb read.1 rp,
+      (
+        head (state_of start.place) ++ text,
+        (
+          left,
+          record {
+            after = state_of start.place;
+            rest = rb;
+            body = text ++ left;
+            begins = read.2.first rb;
+            answered = on;
+            whole = append_assoc (head (state_of start.place)) text left ∙ marked (state_of start.place) (read.0 ++ rb) (text ++ left) (read.2.marked rb);
+          },
+        ),
+        takes_then w0 w1 w2 (head (state_of start.place)) text wrote took,
+      ),
+    )
+
+  header_alone : (rest : Option Start) (bytes : List ℕ) → IsHeader d header rest has_mark bytes → first_in d bytes ≡ Some (header, state_behind rest, [])
+  header_alone (Some start) bytes h = ap (first_in d) (sym (append-nil bytes)) ∙ h.first []
+  header_alone None bytes h = h.first
+
+  mark_alone : (rest : Option Start) (bytes : List ℕ) → IsHeader d header rest has_mark bytes → begins_with_mark bytes ≡ has_mark
+  mark_alone (Some start) bytes h = ap begins_with_mark (sym (append-nil bytes)) ∙ h.marked []
+  mark_alone None bytes h = h.marked
+
+  nothing_answered : (gives : Gives) (f : Format) (s : State) → IsReportOnFirst gives f s [] []
+  nothing_answered gives f s = ([], s, [], uncut s [], unanswered)
+
+  -- the header broken off
+  pub header_begun : (gives : Gives) (rest : Option Start) (s0 s1 w0 w1 : Option (List ℕ)) →
+      OfRead s0 s1 (λ bytes. IsHeader d header rest has_mark bytes) → TakesFront w0 (head (state_behind rest)) w1 →
+      OfRead s0 s1 (λ bytes. TakesA (IsBeginning gives header added d s1 bytes) w0 w1)
+  header_begun gives rest s0 s1 w0 w1 (hb, hp, h) f = (
+    hb,
+    hp,
     (
-      left,
-      record {
-        after = state_of start.place;
-        rest = rb;
-        body = text ++ left;
-        begins = h rb;
-        answered = on;
-        whole = append_assoc (record_text d (header ++ names)) text left;
-      },
+      f.front,
+      (
+        f.rest,
+        record {
+          after = state_behind rest;
+          rest = [];
+          body = [];
+          begins = header_alone rest hb h;
+          answered = inl (nothing_answered gives (format_after d (state_behind rest)) (state_behind rest));
+          whole = sym f.whole ∙ sym (append-nil (head (state_behind rest))) ∙ marked (state_behind rest) hb [] (mark_alone rest hb h);
+        },
+      ),
+      f.taken,
     ),
-    takes_then w0 w1 w2 (record_text d (header ++ names)) text wrote took,
-  ),
-)
+  )
 
--- the state behind a header
-abbrev pub after_header : Option Start → State
-after_header (Some start) = state_of start.place
-after_header None = st.StartRecord
+  no_last : [] ≡ [] ++ csv.last_record d st.StartRecord []
+  unfolding next_record
+  no_last = refl
 
-pub header_alone : (d : ℕ) (header : Record) (rest : Option Start) (bytes : List ℕ) → IsHeader d header rest bytes →
-    first_in d bytes ≡ Some (header, after_header rest, [])
-header_alone d header (Some start) bytes h = ap (first_in d) (sym (append-nil bytes)) ∙ h.0 []
-header_alone d header None bytes h = h
-
-nothing_answered : (gives : Gives) (d : ℕ) (s : State) → IsReportOnFirst gives d s [] []
-nothing_answered gives d s = ([], s, [], uncut s [], unanswered)
-
--- the header broken off
-pub header_begun : (gives : Gives) (d : ℕ) (header : Record) (rest : Option Start) (s0 s1 w0 w1 : Option (List ℕ)) →
-    OfRead s0 s1 (λ bytes. IsHeader d header rest bytes) → TakesFront w0 (record_text d (header ++ names)) w1 →
-    OfRead s0 s1 (λ bytes. TakesA (IsBeginning gives header d s1 bytes) w0 w1)
-header_begun gives d header rest s0 s1 w0 w1 (hb, hp, h) f = (
-  hb,
-  hp,
-  (
-    f.front,
+  -- a header that nothing follows
+  pub table_only : (gives : Gives) (s0 s1 w0 w1 : Option (List ℕ)) →
+      OfRead s0 s1 (λ bytes. IsHeader d header None has_mark bytes) → Takes w0 (head st.StartRecord) w1 →
+      OfRead s0 s1 (λ bytes. TakesA (IsTable header added (IsReport gives) d bytes) w0 w1)
+  table_only gives s0 s1 w0 w1 (hb, hp, h) wrote = (
+    hb,
+    hp,
     (
-      f.rest,
+      head st.StartRecord,
       record {
-        after = after_header rest;
+        after = st.StartRecord;
         rest = [];
         body = [];
-        begins = header_alone d header rest hb h;
-        answered = inl (nothing_answered gives d (after_header rest));
-        whole = sym f.whole ∙ sym (append-nil (record_text d (header ++ names)));
+        begins = h.first;
+        answered = (
+          [],
+          ([], st.StartRecord, [], uncut st.StartRecord [], (st.StartRecord, [], [], at_start d st.StartRecord st.StartRecord [] [] refl refl refl, refl), no_last),
+          unanswered,
+        );
+        whole = sym (append-nil (head st.StartRecord)) ∙ marked st.StartRecord hb [] h.marked;
       },
+      wrote,
     ),
-    f.taken,
-  ),
-)
+  )
 
-no_last : (d : ℕ) → [] ≡ [] ++ csv.last_record d st.StartRecord []
-unfolding next_record
-no_last d = refl
-
--- a header that nothing follows
-pub table_only : (gives : Gives) (d : ℕ) (header : Record) (s0 s1 w0 w1 : Option (List ℕ)) →
-    OfRead s0 s1 (λ bytes. IsHeader d header None bytes) → Takes w0 (record_text d (header ++ names)) w1 →
-    OfRead s0 s1 (λ bytes. TakesA (IsTable header (IsReport gives d) d bytes) w0 w1)
-table_only gives d header s0 s1 w0 w1 (hb, hp, h) wrote = (
-  hb,
-  hp,
-  (
-    record_text d (header ++ names),
-    record {
-      after = st.StartRecord;
-      rest = [];
-      body = [];
-      begins = h;
-      answered = ([], ([], st.StartRecord, [], uncut st.StartRecord [], (st.StartRecord, [], [], at_start d st.StartRecord st.StartRecord [] [] refl refl refl), no_last d), unanswered);
-      whole = sym (append-nil (record_text d (header ++ names)));
-    },
-    wrote,
-  ),
-)
-
--- a header that was read, whether something follows it or not
-pub alone : (d : ℕ) (header : Record) (rest : Option Start) (s0 s1 : Option (List ℕ)) → OfRead s0 s1 (λ bytes. IsHeader d header rest bytes) →
-    OfRead s0 s1 (IsHeaderAlone d header)
-alone d header rest s0 s1 (hb, hp, h) = (hb, hp, (after_header rest, header_alone d header rest hb h))
+  -- a header that was read, whether something follows it or not
+  pub alone : (rest : Option Start) (s0 s1 : Option (List ℕ)) → OfRead s0 s1 (λ bytes. IsHeader d header rest has_mark bytes) → OfRead s0 s1 (IsHeaderAlone d header)
+  alone rest s0 s1 (hb, hp, h) = (hb, hp, (state_behind rest, header_alone rest hb h))

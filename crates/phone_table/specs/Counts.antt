@@ -4,10 +4,11 @@ use Rattle.std.specs.Prelude.{◌≡◌, ℕ, ◌+◌, ◌-◌, ◌&&◌, not, B
 use Rattle.std.specs.Prelude.{◌++◌, codes, length, Option}
 use Rattle.std.specs.Str.{bytes_eq}
 use Rattle.phone_csv.specs.Feeds.{counted}
-use Rattle.phone_csv.specs.Formats.{Record, record_text}
+use Rattle.phone_csv.specs.Formats.{Record}
 use Rattle.phone_csv.specs.Runs.{IsCounted, TakesA}
-use Rattle.phone_table.specs.Headers.{names}
+use Rattle.phone_csv.specs.declared.format.Format.{Format}
 use Rattle.phone_table.specs.Regions.{field_in}
+use Rattle.phone_table.specs.Tables.{head_text}
 use Rattle.phone_table.specs.declared.counts.Counts.{Counts}
 
 -- a row has this word so many fields from its end
@@ -53,10 +54,10 @@ no_counts = record {
   invalid = 0;
 }
 
--- a sink took a header with the seven names behind its own, and then rows that were counted, from
--- one count on to another
-abbrev pub TakesRows : {C : Type 0} → (C → Record → C) → ℕ → Record → (first now : C) →
-    Option (List ℕ) → Option (List ℕ) → Type 0
-TakesRows after delimiter header first now before taken = TakesA (λ text. (body : List ℕ) ×
-    (text ≡ record_text delimiter (header ++ names) ++ body) ×
-    IsCounted after delimiter first body now) before taken
+-- a sink took a header, a byte-order mark in front of it where there is one, and then rows that
+-- were counted, from one count on to another
+abbrev pub TakesRows : {C : Type 0} → (C → Record → C) → Format → Bool → Record →
+    (first now : C) → Option (List ℕ) → Option (List ℕ) → Type 0
+TakesRows after format has_mark header first now before taken = TakesA (λ text.
+    (body : List ℕ) × (text ≡ head_text format has_mark header ++ body) ×
+    IsCounted after format first body now) before taken

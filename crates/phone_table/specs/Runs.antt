@@ -1,20 +1,22 @@
 -- How a run over a table of customers ends.
 use Rattle.std.specs.Prelude.{◌≡◌, ℕ, List, Option, None, Some, Result, Ok, Err, option_map}
-use Rattle.std.specs.Prelude.{IsSome, true, false}
+use Rattle.std.specs.Prelude.{◌++◌, Bool, IsSome, true, false}
 use Rattle.csv.specs.Records.{Row, fields_of}
+use Rattle.csv.specs.declared.parser.State.{State}
 use Rattle.phone_device.specs.Passing.{IsAtEnd}
 use Rattle.phone_csv.specs.Firsts.{EndsNoFirst, first_in}
-use Rattle.phone_csv.specs.Formats.{Record, is_delimiter}
+use Rattle.phone_csv.specs.Formats.{Record, format_after, is_delimiter}
+use Rattle.phone_csv.specs.Quotes.{IsOpenHeader}
 use Rattle.phone_csv.specs.Runs.{OfRead}
 use Rattle.phone_csv.specs.declared.blocks.RunError.{RunError}
 use Rattle.phone_csv.specs.declared.first.FirstError.{FirstError}
-use Rattle.phone_csv.specs.declared.first.FirstError.TheVariants.{Absent, Input, Memory}
+use Rattle.phone_csv.specs.declared.first.FirstError.TheVariants.{Absent, Input, Memory, Quote}
 use Rattle.phone_lines.specs.Ends.{Devices}
 use Rattle.phone_records.specs.declared.loader.Metadata.{Metadata}
 use Rattle.phone_table.specs.Answers.{IsAnswer, IsOfOtherWidth}
 use Rattle.phone_table.specs.Counts.{TakesRows, counts_after, no_counts}
 use Rattle.phone_table.specs.Ends.{Ends, IsUntouched, SourceFails}
-use Rattle.phone_table.specs.Headers.{column_of, columns_of, region_column}
+use Rattle.phone_table.specs.Headers.{column_of, columns_of, names, region_column}
 use Rattle.phone_table.specs.Tables.{IsHeaderAlone}
 use Rattle.phone_table.specs.declared.counts.Counts.{Counts}
 use Rattle.phone_table.specs.declared.header.Column.{Column}
@@ -43,6 +45,9 @@ pub data NoHeader (delimiter : ℕ) (before after : Devices) : FirstError → Ty
       NoHeader delimiter before after Absent
   input : OfRead before.to_come after.to_come (EndsNoFirst delimiter) →
       SourceFails before after → NoHeader delimiter before after Input
+  quote : (line : ℕ) → OfRead before.to_come after.to_come (IsOpenHeader delimiter line) →
+      IsAtEnd after.to_come → after.source_faults ≡ before.source_faults →
+      NoHeader delimiter before after (Quote line)
   memory : OfRead before.to_come after.to_come (EndsNoFirst delimiter) →
       after.source_faults ≡ before.source_faults → NoHeader delimiter before after Memory
 
@@ -68,11 +73,12 @@ pub data RunEnds (db : List Metadata) (asked : Asked) (before after : Devices) :
       IsUntouched before after → RunEnds db asked before after (Err (NoColumn column header))
   whole : (header : Record) (columns : Columns) → is_delimiter asked.delimiter ≡ true →
       columns_in asked header ≡ Some columns →
-      Ends header (IsAnswer db columns asked) (IsOfOtherWidth columns asked)
-      asked.delimiter before after (Ok tt) → (counts : Counts) →
-      TakesRows counts_after asked.delimiter header no_counts counts before.taken after.taken →
+      Ends header names (IsAnswer db columns asked) (IsOfOtherWidth columns asked)
+      asked.delimiter before after (Ok tt) → (counts : Counts) → (after_header : State) →
+      (has_mark : Bool) → TakesRows counts_after (format_after asked.delimiter after_header)
+      has_mark (header ++ names) no_counts counts before.taken after.taken →
       RunEnds db asked before after (Ok counts)
   broken_off : (header : Record) (columns : Columns) (e : RunError) →
       is_delimiter asked.delimiter ≡ true → columns_in asked header ≡ Some columns →
-      Ends header (IsAnswer db columns asked) (IsOfOtherWidth columns asked)
+      Ends header names (IsAnswer db columns asked) (IsOfOtherWidth columns asked)
       asked.delimiter before after (Err e) → RunEnds db asked before after (Err (Rows e))

@@ -1,13 +1,15 @@
 //! The header that is written.
 ghost use Rattle.std.specs.Prelude.{◌≡◌, ◌+◌, ◌++◌, ◌∷◌, [], Err, IfOk, OnOk};
+ghost use Rattle.std.specs.Prelude.{if◌then◌else◌};
 ghost use Rattle.csv.specs.Records.{fields_of, partial_of};
-ghost use Rattle.phone_csv.specs.Formats.{record_text};
+ghost use Rattle.phone_csv.specs.Firsts.{byte_order_mark};
 ghost use Rattle.phone_device.specs.Passing.{Takes, TakesFront};
 ghost use Rattle.phone_table.specs.Headers.{names};
+ghost use Rattle.phone_table.specs.Tables.{head_text};
 ghost use Rattle.phone_table.specs.declared.names.HeaderError.TheVariants as error;
 
 use csv::ByteRecord;
-use phone_csv::add_record;
+use phone_csv::{Format, add_record};
 use phone_device::{ByteSink, write_all};
 use std::alloc::{AllocError, Global};
 
@@ -47,32 +49,51 @@ fn push_names(header: &mut ByteRecord) -> Result<(), AllocError>
     header.push_field("refusal".as_bytes())
 }
 
-/// The text of a header with the seven names behind its own. Refused only for memory.
-fn header_text(alloc: Global, delimiter: u8, header: ByteRecord) -> Result<Vec<u8>, AllocError>
-    requires { partial_of header ≡ [] }
-    ensures { IfOk result (λ text.
-        text.items ≡ record_text delimiter (fields_of header ++ names)) }
+/// The UTF-8 byte-order mark, where there is one, as a text's beginning. Refused only for memory.
+fn mark_text(alloc: Global, has_mark: bool) -> Result<Vec<u8>, AllocError>
+    ensures { IfOk result (λ text. text.items ≡ (if has_mark then byte_order_mark else [])) }
 {
-    let mut header = header;
-    push_names(&mut header)?;
     let mut text = Vec::new(alloc);
-    add_record(alloc, delimiter, &header, &mut text)?;
+    if has_mark {
+        text.extend_from_slice(b"\xEF\xBB\xBF")?;
+    }
     Ok(text)
 }
 
-/// Writes a header with the seven names behind its own. Refused by `Output` where the sink fails:
-/// then a beginning of it is written. By `Memory`: then nothing is.
+/// The text of a header with the seven names behind its own, and with a byte-order mark in front
+/// where there is one. Refused only for memory.
+fn header_text(
+    alloc: Global,
+    format: Format,
+    has_mark: bool,
+    header: ByteRecord,
+) -> Result<Vec<u8>, AllocError>
+    requires { partial_of header ≡ [] }
+    ensures { IfOk result (λ text. text.items ≡
+        head_text format has_mark (fields_of header ++ names)) }
+{
+    let mut header = header;
+    push_names(&mut header)?;
+    let mut text = mark_text(alloc, has_mark)?;
+    add_record(alloc, format, &header, &mut text)?;
+    Ok(text)
+}
+
+/// Writes a header with the seven names behind its own, and with a byte-order mark in front where
+/// there is one. Refused by `Output` where the sink fails: then a beginning of it is written. By
+/// `Memory`: then nothing is.
 pub(crate) fn write_header<W: ByteSink>(
     alloc: Global,
-    delimiter: u8,
+    format: Format,
+    has_mark: bool,
     header: ByteRecord,
     sink: &mut W,
 ) -> Result<(), HeaderError>
     requires { partial_of header ≡ [] }
     ensures written { OnOk result (Takes (W.taken sink.old)
-        (record_text delimiter (fields_of header ++ names)) (W.taken sink.new)) }
+        (head_text format has_mark (fields_of header ++ names)) (W.taken sink.new)) }
     ensures beginning { result ≡ Err error.Output → TakesFront (W.taken sink.old)
-        (record_text delimiter (fields_of header ++ names)) (W.taken sink.new) }
+        (head_text format has_mark (fields_of header ++ names)) (W.taken sink.new) }
     ensures nothing { result ≡ Err error.Memory → W.taken sink.new ≡ W.taken sink.old }
     ensures nothing_held { result ≡ Err error.Memory →
         W.unflushed sink.new ≡ W.unflushed sink.old }
@@ -81,7 +102,7 @@ pub(crate) fn write_header<W: ByteSink>(
     ensures no_fault_without_memory { result ≡ Err error.Memory →
         W.faults sink.new ≡ W.faults sink.old }
 {
-    let Ok(text) = header_text(alloc, delimiter, header) else {
+    let Ok(text) = header_text(alloc, format, has_mark, header) else {
         return Err(HeaderError::Memory);
     };
     match write_all(sink, text.as_slice()) {

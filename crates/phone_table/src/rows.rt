@@ -1,20 +1,23 @@
 //! The rows of a table behind its header.
-ghost use Rattle.std.specs.Prelude.{◌≡◌, ℕ, List, [], Option, IsNone, OnOk};
+ghost use Rattle.std.specs.Prelude.{◌≡◌, ℕ, List, [], ◌++◌, Option, IsNone, OnOk};
 ghost use Rattle.csv.specs.Records.{fields_of, partial_of};
+ghost use Rattle.phone_csv.specs.Formats.{format_after, state_behind};
 ghost use Rattle.phone_csv.specs.Runs.{OfRead};
 ghost use Rattle.phone_device.specs.Passing.{IsAtEnd};
 ghost use Rattle.phone_lines.specs.Ends.{seen};
 ghost use Rattle.phone_table.specs.Counts.{TakesRows};
 ghost use Rattle.phone_table.specs.Ends.{Ends};
+ghost use Rattle.phone_table.specs.Headers.{names};
 ghost use Rattle.phone_table.specs.Tables.{IsHeader};
 
 use crate::names::{HeaderError, write_header};
-use phone_csv::{Answers, Counter, First, RunError, answer_records};
+use phone_csv::{Answers, Counter, First, RunError, answer_records, format_after};
 use phone_device::{ByteSink, ByteSource};
 use std::alloc::Global;
 
 /// Writes a header that was read with the seven names behind it, and then the records that follow
-/// it, each with its answer, and counts these. Refused as `answer_records` refuses; where memory is
+/// it, each with its answer, and counts these. Begins with a byte-order mark where the table does,
+/// and ends each record as the header ends. Refused as `answer_records` refuses; where memory is
 /// refused for the header nothing is written.
 pub(crate) fn write_rows<A: Answers, C: Counter, S: ByteSource, W: ByteSink>(
     alloc: Global,
@@ -28,24 +31,31 @@ pub(crate) fn write_rows<A: Answers, C: Counter, S: ByteSource, W: ByteSink>(
     requires partial { partial_of first.fields ≡ [] }
     requires end { IsNone first.rest → IsAtEnd (S.to_come source.old) }
     ensures ends { (before : Option (List ℕ)) → OfRead before (S.to_come source.old) (λ bytes.
-        IsHeader delimiter (fields_of first.fields) first.rest bytes) →
-        Ends (fields_of first.fields) (A.gives answers.now) (A.refuses answers.now) delimiter
+        IsHeader delimiter (fields_of first.fields) first.rest first.has_mark bytes) →
+        Ends (fields_of first.fields) names (A.gives answers.now) (A.refuses answers.now) delimiter
         (seen before (S.faults source.old) (W.taken sink.old)
         (W.faults sink.old) (W.unflushed sink.old))
         (seen (S.to_come source.new) (S.faults source.new) (W.taken sink.new)
         (W.faults sink.new) (W.unflushed sink.new))
         result }
-    ensures counted { OnOk result (TakesRows C.after delimiter (fields_of first.fields)
-        counter.old counter.new (W.taken sink.old) (W.taken sink.new)) }
+    ensures counted { OnOk result (TakesRows C.after
+        (format_after delimiter (state_behind first.rest)) first.has_mark
+        (fields_of first.fields ++ names) counter.old counter.new
+        (W.taken sink.old) (W.taken sink.new)) }
 {
-    let First { fields, rest } = first;
-    match write_header(alloc, delimiter, fields, sink) {
+    let First {
+        fields,
+        rest,
+        has_mark,
+    } = first;
+    let format = format_after(delimiter, rest);
+    match write_header(alloc, format, has_mark, fields, sink) {
         Ok(()) => {}
         Err(HeaderError::Output) => return Err(RunError::Output),
         Err(HeaderError::Memory) => return Err(RunError::Memory),
     }
     match rest {
-        Some(start) => answer_records(alloc, answers, counter, delimiter, start, source, sink),
+        Some(start) => answer_records(alloc, answers, counter, format, start, source, sink),
         None => match sink.flush() {
             Ok(()) => Ok(()),
             Err(_) => Err(RunError::Output),

@@ -48,15 +48,16 @@ pub enum TableError {
 
 /// Gives a table back: its header with seven names behind its own, `e164`, `international`,
 /// `national`, `type`, `region`, `validity` and `refusal`, and then its records in their order,
-/// unchanged, each with its answer behind its fields. The first record is the header, a byte-order
-/// mark in front of it passed over. The answer to a number is its texts in three modes, its kind,
-/// the id of its region or `-`, `valid` or `invalid`, and an empty field; that to a refusal are six
-/// empty fields and its words; that to bytes that aren't UTF-8 the same, with `not UTF-8`; and that
-/// to a field that is empty, or white space alone, with `empty`. Numbers are read and described by
-/// the rules that are asked for. What is
-/// read and written is CSV as the kit's `csv` has it, with this delimiter. Nothing in memory grows
-/// with the number of records. It gives how many records there were, and how many of them were
-/// answered otherwise than by a valid number.
+/// unchanged, each with its answer behind its fields. The first record is the header. Where a UTF-8
+/// byte-order mark stands in front of it, that is no part of its first name, and the output begins
+/// with one too. Each record is ended by a carriage return and a line feed where a carriage return
+/// ended the header, else by a line feed. The answer to a number is its texts in three modes, its
+/// kind, the id of its region or `-`, `valid` or `invalid`, and an empty field; that to a refusal
+/// are six empty fields and its words; that to bytes that aren't UTF-8 the same, with `not UTF-8`;
+/// and that to a field that is empty, or white space alone, with `empty`. Numbers are read and
+/// described by the rules that are asked for. What is read and written is CSV as the kit's `csv`
+/// has it, with this delimiter. Nothing in memory grows with the number of records. It gives how
+/// many records there were, and how many of them were answered otherwise than by a valid number.
 ///
 /// A record is read under the region whose id stands in its column of regions, in capital or small
 /// letters, with or without white space around; under the hint where that field is empty. Where the
@@ -68,6 +69,8 @@ pub enum TableError {
 /// as `answer_records` has it, with `Record` at a record that has another count of fields than the
 /// header, and the number of line feeds before that record. With `mark_bad` such a record is given
 /// back as it is instead, and after its fields the answer to a refusal, `wrong count of fields`.
+/// `Rows` and `Header` have `Quote` where the table ends between quotes, with the line of the quote
+/// that is never closed, counted from 1.
 pub fn write_table<S: ByteSource, W: ByteSink>(
     database: &Database,
     asked: Asked<'_>,

@@ -1,10 +1,10 @@
-use Rattle.std.proofs.Common.{Ok, ap, inl, inr, sym, ◌∙◌}
+use Rattle.std.proofs.Common.{Ok, ap, inl, inr, refl, sym, ◌∙◌}
 use Rattle.phone_device.specs.Passing.{IsAtEnd}
 use Rattle.phone_csv.specs.Formats.{state_of}
 use Rattle.phone_csv.specs.RecordReports.{IsBeginning, IsReport, IsReportBefore, IsReportOnEnded, IsReportOnFirst}
 use Rattle.phone_csv.specs.Runs.{Holds, IsCounted, IsFresh, OfRead, TakesA}
 use Rattle.phone_csv.proofs.Counted.{held-nothing}
-use Rattle.phone_csv.proofs.Ends.{by_end, same_feeds}
+use Rattle.phone_csv.proofs.Ends.{by_end, same_feeds, same_line}
 use Rattle.phone_csv.proofs.Progress.{BreaksOff-begins, Holds-begins, Holds-out, IsReportBefore-from, Stands-nothing}
 use Rattle.phone_csv.proofs.blocks.answer_records.Goals as goal
 use Rattle.phone_csv.proofs.blocks.answer_records.Goals.{After-new-pending}
@@ -21,13 +21,13 @@ pub returns-in_default-clause-beginning : goal.returns-in_default-clause-beginni
 returns-in_default-clause-beginning g c is =
     let gives = g.A.Answers.gives c.args.answers.now in
     let start = state_of c.args.start.place in
-    let b = rw c.new-pending.ensures.delimiter at (c.in_default.ensures.broken start (fresh g (goal.at.returns-in_default-clause-beginning g c).After-new-pending)) in
-    (b.0, b.1, BreaksOff-begins gives c.args.delimiter start (g.S.ByteSource.to_come c.take_all.new.source) b.0 _ _ b.2)
+    let b = rw c.new-pending.ensures.format at (c.in_default.ensures.broken start (fresh g (goal.at.returns-in_default-clause-beginning g c).After-new-pending)) in
+    (b.0, b.1, BreaksOff-begins gives c.args.format start (g.S.ByteSource.to_come c.take_all.new.source) b.0 _ _ b.2)
 
 pub returns-in_default-write_out-clause-beginning : goal.returns-in_default-write_out-clause-beginning
 returns-in_default-write_out-clause-beginning g c is =
     let gives = g.A.Answers.gives c.args.answers.now in
-    let d = c.args.delimiter in
+    let d = c.args.format in
     let start = state_of c.args.start.place in
     let nothing = fresh g (goal.at.returns-in_default-write_out-clause-beginning g c).After-new-pending in
     let refuses = g.A.Answers.refuses c.args.answers.now in
@@ -41,12 +41,14 @@ returns-in_default-write_out-clause-beginning g c is =
     {B = OfRead before after (λ bytes. Holds (IsReportOnEnded gives d start bytes) held taken middle)}
     {C = OfRead before after (λ bytes. Holds (IsReportBefore gives refuses d start 0 c.take_all.new.pending.cutter.feeds_before after bytes) held taken middle)}
     {D = OfRead before after (λ bytes. Holds (IsReportOnFirst gives d start bytes) held taken middle)}
+    {E = OfRead before after (λ bytes. Holds (IsReportOnEnded gives d start bytes) held taken middle)}
     {Q = OfRead before after (λ bytes. TakesA (IsBeginning gives d start after bytes) taken (g.W.ByteSink.taken c.write_out.new.sink))}
     c.in-Ok.end
-    (λ e. (c.in-Ok.ensures.end (ap Ok e), rw c.new-pending.ensures.delimiter at (c.in-Ok.ensures.taken (ap Ok e) start nothing)))
-    (λ e. rw c.new-pending.ensures.delimiter at (c.in-Ok.ensures.input (ap Ok e) start nothing))
-    (λ e. rw c.new-pending.ensures.delimiter at (c.in-Ok.ensures.refused (ap Ok e) start nothing))
-    (λ e. rw c.new-pending.ensures.delimiter at (c.in-Ok.ensures.memory (ap Ok e) start nothing))
+    (λ e. (c.in-Ok.ensures.end (ap Ok e), rw c.new-pending.ensures.format at (c.in-Ok.ensures.taken (ap Ok e) start nothing)))
+    (λ e. rw c.new-pending.ensures.format at (c.in-Ok.ensures.input (ap Ok e) start nothing))
+    (λ e. rw c.new-pending.ensures.format at (c.in-Ok.ensures.refused (ap Ok e) start nothing))
+    (λ e. rw c.new-pending.ensures.format at (c.in-Ok.ensures.memory (ap Ok e) start nothing))
+    (λ e. let r = rw c.new-pending.ensures.format at (c.in-Ok.ensures.quote (ap Ok e) start 0 _ refl nothing) in (r.0, r.1, record { written = r.2.written; taken = r.2.taken; text = r.2.text.0 }))
     (λ (end, r). (r.0, r.1, Holds-begins gives d start after r.0 held (IsReport gives d start r.0) taken middle _ (λ text whole. inr (end, whole)) r.2 front))
     (λ r. (r.0, r.1, Holds-begins gives d start after r.0 held (IsReportOnEnded gives d start r.0) taken middle _ (λ text (records, state, rest, cut, unended, answers). inl (records, state, rest, cut, answers)) r.2 front))
     (λ r. (
@@ -56,33 +58,41 @@ returns-in_default-write_out-clause-beginning g c is =
           (λ text (records, state, rest, fields, cut, next, counts, refused, answers). inl (records, state, rest, cut, answers)) r.2 front,
     ))
     (λ r. (r.0, r.1, Holds-begins gives d start after r.0 held (IsReportOnFirst gives d start r.0) taken middle _ (λ text first. inl first) r.2 front))
+    (λ r. (r.0, r.1, Holds-begins gives d start after r.0 held (IsReportOnEnded gives d start r.0) taken middle _ (λ text (records, state, rest, cut, unended, answers). inl (records, state, rest, cut, answers)) r.2 front))
 
 pub returns-in-Whole-clause-report : goal.returns-in-Whole-clause-report
 returns-in-Whole-clause-report g c =
-    let r = rw c.new-pending.ensures.delimiter at (c.in-Ok.ensures.taken (ap Ok c.in-Whole.is) _ (fresh g (goal.at.returns-in-Whole-clause-report g c).After-new-pending)) in
+    let r = rw c.new-pending.ensures.format at (c.in-Ok.ensures.taken (ap Ok c.in-Whole.is) _ (fresh g (goal.at.returns-in-Whole-clause-report g c).After-new-pending)) in
     (r.0, r.1, Holds-out _ c.take_all.new.pending.answers.items _ _ _ r.2 c.in-Ok-write_out.ensures.all)
 
 pub returns-in-Input-clause-ended : goal.returns-in-Input-clause-ended
 returns-in-Input-clause-ended g c is =
-    let r = rw c.new-pending.ensures.delimiter at (c.in-Ok.ensures.input (ap Ok c.in-Input.is) _ (fresh g (goal.at.returns-in-Input-clause-ended g c).After-new-pending)) in
-    (r.0, r.1, Holds-out (IsReportOnEnded (g.A.Answers.gives c.args.answers.now) c.args.delimiter (state_of c.args.start.place) r.0) c.take_all.new.pending.answers.items _ _ _ r.2 c.in-Ok-write_out.ensures.all)
+    let r = rw c.new-pending.ensures.format at (c.in-Ok.ensures.input (ap Ok c.in-Input.is) _ (fresh g (goal.at.returns-in-Input-clause-ended g c).After-new-pending)) in
+    (r.0, r.1, Holds-out (IsReportOnEnded (g.A.Answers.gives c.args.answers.now) c.args.format (state_of c.args.start.place) r.0) c.take_all.new.pending.answers.items _ _ _ r.2 c.in-Ok-write_out.ensures.all)
 
 pub returns-in-Record-clause-before : goal.returns-in-Record-clause-before
 returns-in-Record-clause-before g c feeds is =
-    let r = rw c.new-pending.ensures.delimiter at (c.in-Ok.ensures.refused (ap Ok c.in-Record.is) _ (fresh g (goal.at.returns-in-Record-clause-before g c).After-new-pending)) in
+    let r = rw c.new-pending.ensures.format at (c.in-Ok.ensures.refused (ap Ok c.in-Record.is) _ (fresh g (goal.at.returns-in-Record-clause-before g c).After-new-pending)) in
     let t = Holds-out _ c.take_all.new.pending.answers.items _ _ _ r.2 c.in-Ok-write_out.ensures.all in
     let all = sym (same_feeds _ feeds is) ∙ c.saturating_add.ensures in
     (r.0, r.1, (t.0, IsReportBefore-from _ _ _ _ _ _ feeds _ _ _ all t.1, t.2))
 
+pub returns-in-Quote-clause-quote : goal.returns-in-Quote-clause-quote
+returns-in-Quote-clause-quote g c line is =
+    let told = sym (same_line _ line is) ∙ c.line_of_quote.ensures in
+    let r = rw c.new-pending.ensures.format at
+    (c.in-Ok.ensures.quote (ap Ok c.in-Quote.is) _ c.args.start.feeds line told (fresh g (goal.at.returns-in-Quote-clause-quote g c).After-new-pending)) in
+    (r.0, r.1, Holds-out _ c.take_all.new.pending.answers.items _ _ _ r.2 c.in-Ok-write_out.ensures.all)
+
 pub returns-clause-first : goal.returns-clause-first
 returns-clause-first g c is =
-    let r = rw c.new-pending.ensures.delimiter at (c.in-Ok.ensures.memory (ap Ok c.in-Memory.is) _ (fresh g (goal.at.returns-clause-first g c).After-new-pending)) in
+    let r = rw c.new-pending.ensures.format at (c.in-Ok.ensures.memory (ap Ok c.in-Memory.is) _ (fresh g (goal.at.returns-clause-first g c).After-new-pending)) in
     (r.0, r.1, Holds-out _ c.take_all.new.pending.answers.items _ _ _ r.2 c.in-Ok-write_out.ensures.all)
 
 pub returns-in-Whole-clause-counted : goal.returns-in-Whole-clause-counted
 returns-in-Whole-clause-counted g c =
     let after = g.C.Counter.after in
     let was = c.args.counter.now in
-    let nothing = held-nothing after c.args.delimiter was c.new-pending.result.answers.items (g.W.ByteSink.taken c.args.sink.now) c.new-pending.ensures.answers in
-    let held = rw c.new-pending.ensures.delimiter at (c.in-Ok.ensures.counted (ap Ok c.in-Whole.is) was) in
-    Holds-out (λ text. IsCounted after c.args.delimiter was text c.take_all.new.counter) c.take_all.new.pending.answers.items _ _ _ (held nothing) c.in-Ok-write_out.ensures.all
+    let nothing = held-nothing after c.args.format was c.new-pending.result.answers.items (g.W.ByteSink.taken c.args.sink.now) c.new-pending.ensures.answers in
+    let held = rw c.new-pending.ensures.format at (c.in-Ok.ensures.counted (ap Ok c.in-Whole.is) was) in
+    Holds-out (λ text. IsCounted after c.args.format was text c.take_all.new.counter) c.take_all.new.pending.answers.items _ _ _ (held nothing) c.in-Ok-write_out.ensures.all

@@ -1,12 +1,15 @@
-use Rattle.std.proofs.Common.{[], Ok, Err, ap}
+use Rattle.std.proofs.Common.{rules, ◌≡◌, [], Ok, Err, ap, false, true}
 use Rattle.std.proofs.lemmas.List.{append-nil}
-use Rattle.phone_csv.proofs.Progress.{Stands-first}
+use Rattle.phone_csv.specs.Formats.{state_of}
+use Rattle.phone_csv.specs.Records.{in_quotes}
+use Rattle.phone_csv.proofs.Progress.{Stands-first, Stands-quote}
 use Rattle.phone_csv.proofs.blocks.take_all.Goals as goal
 
 pub returns-in-Ok-clause-taken : goal.returns-in-Ok-clause-taken
 returns-in-Ok-clause-taken g c is start fresh =
+    let unquoted : in_quotes (state_of c.take_blocks.new.pending.cutter.place) ≡ false = search rules in
     let t = c.in-Ok-Whole.ensures.taken (ap Ok c.in-Ok-Whole.field-0-is) start fresh in
-    (t.0, t.1, rw c.in-Ok-Whole.ensures.delimiter at (c.in-Ok.ensures.taken start t.0 (g.W.ByteSink.taken c.args.sink.now) (g.W.ByteSink.taken c.take_blocks.new.sink) t.2))
+    (t.0, t.1, rw c.in-Ok-Whole.ensures.format at (c.in-Ok.ensures.taken unquoted start t.0 (g.W.ByteSink.taken c.args.sink.now) (g.W.ByteSink.taken c.take_blocks.new.sink) t.2))
 
 pub returns-in-Err-Record-clause-refused : goal.returns-in-Err-Record-clause-refused
 returns-in-Err-Record-clause-refused g c is start fresh =
@@ -14,7 +17,7 @@ returns-in-Err-Record-clause-refused g c is start fresh =
     let end = c.in-Ok-Whole.ensures.end (ap Ok c.in-Ok-Whole.field-0-is) in (
       t.0,
       t.1,
-      rw c.in-Ok-Whole.ensures.delimiter at (c.in-Err-Record.ensures.refused (ap Err c.in-Err-Record.field-0-is) start t.0
+      rw c.in-Ok-Whole.ensures.format at (c.in-Err-Record.ensures.refused (ap Err c.in-Err-Record.field-0-is) start t.0
           (g.W.ByteSink.taken c.args.sink.now) (g.W.ByteSink.taken c.take_blocks.new.sink) (g.S.ByteSource.to_come c.take_blocks.new.source) end t.2),
     )
 
@@ -27,10 +30,19 @@ returns-in-Err-Memory-clause-memory g c is start fresh =
       t.0,
       t.1,
       rw c.in-Err-Memory.ensures.kept
-          (rw (append-nil t.0, c.in-Ok-Whole.ensures.delimiter) at (Stands-first gives start t.0 [] c.take_blocks.new.pending.cutter c.take_blocks.new.pending.answers.items before after t.2)),
+          (rw (append-nil t.0, c.in-Ok-Whole.ensures.format) at (Stands-first gives start t.0 [] c.take_blocks.new.pending.cutter c.take_blocks.new.pending.answers.items before after t.2)),
     )
 
 pub returns-in-Ok-clause-counted : goal.returns-in-Ok-clause-counted
 returns-in-Ok-clause-counted g c is first fresh =
     let t = c.in-Ok-Whole.ensures.counted (ap Ok c.in-Ok-Whole.field-0-is) first fresh in
-    rw c.in-Ok-Whole.ensures.delimiter at (c.in-Ok.ensures.counted first (g.W.ByteSink.taken c.args.sink.now) (g.W.ByteSink.taken c.take_blocks.new.sink)) t
+    rw c.in-Ok-Whole.ensures.format at (c.in-Ok.ensures.counted first (g.W.ByteSink.taken c.args.sink.now) (g.W.ByteSink.taken c.take_blocks.new.sink)) t
+
+pub returns-then-in_quotes-clause-quote : goal.returns-then-in_quotes-clause-quote
+returns-then-in_quotes-clause-quote g c is start earlier line told fresh =
+    let opened : in_quotes (state_of c.take_blocks.new.pending.cutter.place) ≡ true = search rules in
+    let t = c.in-Ok-Whole.ensures.taken (ap Ok c.in-Ok-Whole.field-0-is) start fresh in
+    let gives = g.A.Answers.gives c.args.answers.now in
+    let before = g.W.ByteSink.taken c.args.sink.now in
+    let after = g.W.ByteSink.taken c.take_blocks.new.sink in
+    (t.0, t.1, rw c.in-Ok-Whole.ensures.format at (Stands-quote gives start t.0 c.take_blocks.new.pending.cutter c.take_blocks.new.pending.answers.items before after earlier line opened told t.2))

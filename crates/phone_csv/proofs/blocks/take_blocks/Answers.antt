@@ -7,12 +7,12 @@ use Rattle.phone_csv.proofs.blocks.take_blocks.Goals as goal
 pub returns-then-read-clause-input : goal.returns-then-read-clause-input
 returns-then-read-clause-input g c is start fresh =
     let was = c.blocks-2.invariant.read_bytes in
-    (was.0, was.1, rw c.blocks-2.invariant.same_delimiter at (Stands-ended (g.A.Answers.gives c.args.answers.now) start was.0 c.blocks-2.pending.cutter c.blocks-2.pending.answers.items (g.W.ByteSink.taken c.args.sink.now) (g.W.ByteSink.taken c.blocks-2.sink) (was.2.1 start fresh)))
+    (was.0, was.1, rw c.blocks-2.invariant.same_format at (Stands-ended (g.A.Answers.gives c.args.answers.now) start was.0 c.blocks-2.pending.cutter c.blocks-2.pending.answers.items (g.W.ByteSink.taken c.args.sink.now) (g.W.ByteSink.taken c.blocks-2.sink) (was.2.1 start fresh)))
 
 pub returns-in_default-clause-input : goal.returns-in_default-clause-input
 returns-in_default-clause-input g c is start fresh =
     let was = c.blocks-2.invariant.read_bytes in
-    (was.0, rw c.in_default.ensures.kept was.1, rw c.blocks-2.invariant.same_delimiter at (Stands-ended (g.A.Answers.gives c.args.answers.now) start was.0 c.blocks-2.pending.cutter c.blocks-2.pending.answers.items (g.W.ByteSink.taken c.args.sink.now) (g.W.ByteSink.taken c.blocks-2.sink) (was.2.1 start fresh)))
+    (was.0, rw c.in_default.ensures.kept was.1, rw c.blocks-2.invariant.same_format at (Stands-ended (g.A.Answers.gives c.args.answers.now) start was.0 c.blocks-2.pending.cutter c.blocks-2.pending.answers.items (g.W.ByteSink.taken c.args.sink.now) (g.W.ByteSink.taken c.blocks-2.sink) (was.2.1 start fresh)))
 
 pub returns-then-is_empty-clause-taken : goal.returns-then-is_empty-clause-taken
 returns-then-is_empty-clause-taken g c is start fresh =
@@ -36,9 +36,9 @@ blocks-2-preserved g c =
         ),
       );
       counted = λ first fresh.
-          rw c.blocks-2.invariant.same_delimiter at (c.in-Ok-take_block.ensures.counted first (g.W.ByteSink.taken c.args.sink.now)) (c.blocks-2.invariant.counted first fresh);
+          rw c.blocks-2.invariant.same_format at (c.in-Ok-take_block.ensures.counted first (g.W.ByteSink.taken c.args.sink.now)) (c.blocks-2.invariant.counted first fresh);
       partial = c.in-Ok-take_block.ensures.partial;
-      same_delimiter = c.in-Ok-take_block.ensures.delimiter ∙ c.blocks-2.invariant.same_delimiter;
+      same_format = c.in-Ok-take_block.ensures.format ∙ c.blocks-2.invariant.same_format;
       source_faults = c.in-Ok.ensures.no_fault ∙ c.blocks-2.invariant.source_faults;
       sink_faults = omega (arith, c.in-Ok-take_block.ensures.faults, c.blocks-2.invariant.sink_faults);
       short = c.in-Ok-take_block.ensures.short;
@@ -49,18 +49,18 @@ returns-in-Err-Fault-clause-broken g c start fresh =
     let was = c.blocks-2.invariant.read_bytes in
     let block = c.bytes-in-blocks-2-2.result.now in
     let passed = rw (sym c.bytes-in-blocks-2-2.ensures) at c.in-Ok.ensures.passes in
-    (was.0 ++ block, Passes-then _ _ _ was.0 block was.1 passed, rw c.blocks-2.invariant.same_delimiter at (c.in-Err-Fault.ensures.broken (ap Err c.in-Err-Fault.field-0-is) start was.0 (g.W.ByteSink.taken c.args.sink.now) (was.2.1 start fresh)))
+    (was.0 ++ block, Passes-then _ _ _ was.0 block was.1 passed, rw c.blocks-2.invariant.same_format at (c.in-Err-Fault.ensures.broken (ap Err c.in-Err-Fault.field-0-is) start was.0 (g.W.ByteSink.taken c.args.sink.now) (was.2.1 start fresh)))
 
 pub returns-in-Err-Record-clause-refused : goal.returns-in-Err-Record-clause-refused
 returns-in-Err-Record-clause-refused g c is start fresh =
     let was = c.blocks-2.invariant.read_bytes in
     let block = c.bytes-in-blocks-2-2.result.now in
     let passed = rw (sym c.bytes-in-blocks-2-2.ensures) at c.in-Ok.ensures.passes in
-    (was.0 ++ block, Passes-then _ _ _ was.0 block was.1 passed, rw c.blocks-2.invariant.same_delimiter at (c.in-Err-Record.ensures.refused (ap Err c.in-Err-Record.field-0-is) start was.0 (g.W.ByteSink.taken c.args.sink.now) (g.S.ByteSource.to_come c.fill.new.source) (was.2.1 start fresh)))
+    (was.0 ++ block, Passes-then _ _ _ was.0 block was.1 passed, rw c.blocks-2.invariant.same_format at (c.in-Err-Record.ensures.refused (ap Err c.in-Err-Record.field-0-is) start was.0 (g.W.ByteSink.taken c.args.sink.now) (g.S.ByteSource.to_come c.fill.new.source) (was.2.1 start fresh)))
 
 pub returns-in-Err-Memory-clause-memory : goal.returns-in-Err-Memory-clause-memory
 returns-in-Err-Memory-clause-memory g c is start fresh =
     let was = c.blocks-2.invariant.read_bytes in
     let block = c.bytes-in-blocks-2-2.result.now in
     let passed = rw (sym c.bytes-in-blocks-2-2.ensures) at c.in-Ok.ensures.passes in
-    (was.0 ++ block, Passes-then _ _ _ was.0 block was.1 passed, rw c.blocks-2.invariant.same_delimiter at (c.in-Err-Memory.ensures.memory (ap Err c.in-Err-Memory.field-0-is) start was.0 (g.W.ByteSink.taken c.args.sink.now) (was.2.1 start fresh)))
+    (was.0 ++ block, Passes-then _ _ _ was.0 block was.1 passed, rw c.blocks-2.invariant.same_format at (c.in-Err-Memory.ensures.memory (ap Err c.in-Err-Memory.field-0-is) start was.0 (g.W.ByteSink.taken c.args.sink.now) (was.2.1 start fresh)))

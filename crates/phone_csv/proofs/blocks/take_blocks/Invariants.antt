@@ -10,10 +10,10 @@ invariant-blocks-2 g l = record {
       ((start : State) → IsFresh (g.A.Answers.gives l.answers) start l.initial.pending.cutter l.initial.pending.answers.items (g.W.ByteSink.taken l.initial.sink) →
       Stands (g.A.Answers.gives l.answers) start bytes l.pending.cutter l.pending.answers.items (g.W.ByteSink.taken l.initial.sink) (g.W.ByteSink.taken l.sink)));
   counted : (first : g.row.C.Denot) →
-      HoldsCounted g.C.Counter.after l.initial.pending.cutter.delimiter first l.initial.counter l.initial.pending.answers.items (g.W.ByteSink.taken l.initial.sink) (g.W.ByteSink.taken l.initial.sink) →
-      HoldsCounted g.C.Counter.after l.initial.pending.cutter.delimiter first l.counter l.pending.answers.items (g.W.ByteSink.taken l.initial.sink) (g.W.ByteSink.taken l.sink);
+      HoldsCounted g.C.Counter.after l.initial.pending.cutter.format first l.initial.counter l.initial.pending.answers.items (g.W.ByteSink.taken l.initial.sink) (g.W.ByteSink.taken l.initial.sink) →
+      HoldsCounted g.C.Counter.after l.initial.pending.cutter.format first l.counter l.pending.answers.items (g.W.ByteSink.taken l.initial.sink) (g.W.ByteSink.taken l.sink);
   partial : partial_of l.pending.cutter.fields ≡ [];
-  same_delimiter : l.pending.cutter.delimiter ≡ l.initial.pending.cutter.delimiter;
+  same_format : l.pending.cutter.format ≡ l.initial.pending.cutter.format;
   source_faults : g.S.ByteSource.faults l.source ≡ g.S.ByteSource.faults l.initial.source;
   sink_faults : g.W.ByteSink.faults l.sink ≡ g.W.ByteSink.faults l.initial.sink;
   short : vec_len l.pending.answers < 8192;

@@ -1,10 +1,11 @@
 use Rattle.std.proofs.Common.{◌∙◌, ◌+◌, ◌++◌, ap, Err, refl, subst, sym}
 use Rattle.csv.specs.Records.{fields_of}
+use Rattle.csv.specs.declared.parser.State.TheVariants as st
 use Rattle.phone_device.specs.Passing.{Takes}
-use Rattle.phone_csv.specs.Formats.{record_text}
+use Rattle.phone_csv.specs.Formats.{format_after, state_behind}
 use Rattle.phone_csv.specs.Runs.{OfRead}
 use Rattle.phone_table.specs.Headers.{names}
-use Rattle.phone_table.specs.Tables.{IsHeader}
+use Rattle.phone_table.specs.Tables.{IsHeader, head_text}
 use Rattle.phone_table.proofs.CountLemmas.{OnOk-weaker, no_rows, rows_taken}
 use Rattle.phone_table.proofs.EndLemmas.{header_ends, header_refused, only_ends, only_held, rows_end}
 use Rattle.phone_table.proofs.rows.write_rows.Goals as goal
@@ -13,13 +14,20 @@ pub returns-in-Err-Output : goal.returns-in-Err-Output
 returns-in-Err-Output g c =
     let e = c.in-Err-Output.ensures in
     let is = ap Err c.in-Err-Output.field-0-is in
-    record { ends = λ before h. header_ends _ _ _ c.args.delimiter before _ _ _ _ _ _ _ _ c.args.first.rest h (e.beginning is) (e.fault is); counted = tt }
+    let begun = rw c.format_after-format.ensures at (e.beginning is) in
+    record {
+      ends = λ before h. header_ends _ names _ _ c.args.delimiter c.args.first.has_mark before _ _ _ _ _ _ _ _ c.args.first.rest h begun (e.fault is);
+      counted = tt;
+    }
 
 pub returns-in-Err-Memory : goal.returns-in-Err-Memory
 returns-in-Err-Memory g c =
     let e = c.in-Err-Memory.ensures in
     let is = ap Err c.in-Err-Memory.field-0-is in
-    record { ends = λ before h. header_refused _ _ _ c.args.delimiter before _ _ _ _ _ _ _ _ c.args.first.rest h (e.nothing is) (e.nothing_held is) (e.no_fault_without_memory is); counted = tt }
+    record {
+      ends = λ before h. header_refused _ names _ _ c.args.delimiter c.args.first.has_mark before _ _ _ _ _ _ _ _ c.args.first.rest h (e.nothing is) (e.nothing_held is) (e.no_fault_without_memory is);
+      counted = tt;
+    }
 
 pub returns-in-Some : goal.returns-in-Some
 returns-in-Some g c =
@@ -27,11 +35,16 @@ returns-in-Some g c =
     let r = c.answer_records.ensures in
     let d = c.args.delimiter in
     let header = fields_of c.args.first.fields in
+    let mark = c.args.first.has_mark in
+    let source = g.S.ByteSource.to_come c.args.source.now in
+    let same = c.format_after-format.ensures ∙ ap (λ rest. format_after d (state_behind rest)) c.in-Some.is in
+    let counts = rows_taken g.C.Counter.after c.format_after-format.result mark (header ++ names) c.args.counter.now c.answer_records.new.counter _ _ _ t.written in
     record {
-      ends = λ before h. rows_end header (g.A.Answers.gives c.args.answers.now) (g.A.Answers.refuses c.args.answers.now) d before (g.S.ByteSource.to_come c.args.source.now) _ _ _ _ _ _ c.in-Some.start _ _ _ _ _ c.answer_records.result
-          (subst (λ rest. OfRead before (g.S.ByteSource.to_come c.args.source.now) (λ bytes. IsHeader d header rest bytes)) c.in-Some.is h)
-          t.written t.no_fault r.end r.report r.no_fault r.ended r.cause r.beginning r.before r.first r.no_fault_at_a_record r.no_fault_without_memory r.sink_faults r.handed_on;
-      counted = OnOk-weaker c.answer_records.result (rows_taken g.C.Counter.after d header c.args.counter.now c.answer_records.new.counter _ _ _ t.written) r.counted;
+      ends = λ before h. rows_end header names (g.A.Answers.gives c.args.answers.now) (g.A.Answers.refuses c.args.answers.now) d mark before source _ _ _ _ _ _ c.in-Some.start _ _ _ _ _ c.answer_records.result
+          (subst (λ rest. OfRead before source (λ bytes. IsHeader d header rest mark bytes)) c.in-Some.is h)
+          (rw same at t.written) t.no_fault r.end (rw same at r.report) r.no_fault (rw same at r.ended) r.cause (rw same at r.beginning) (rw same at r.before)
+          (rw same at r.quote) r.quote_end r.no_fault_at_a_quote (rw same at r.first) r.no_fault_at_a_record r.no_fault_without_memory r.sink_faults r.handed_on;
+      counted = rw c.format_after-format.ensures at (OnOk-weaker c.answer_records.result counts r.counted);
     }
 
 pub returns-in-Ok-flush : goal.returns-in-Ok-flush
@@ -40,12 +53,15 @@ returns-in-Ok-flush g c =
     let f = c.in-Ok-flush.ensures in
     let d = c.args.delimiter in
     let header = fields_of c.args.first.fields in
+    let mark = c.args.first.has_mark in
     let source = g.S.ByteSource.to_come c.args.source.now in
     let end = rw c.in-None.is at c.requires.end in
+    let same = c.format_after-format.ensures ∙ ap (λ rest. format_after d (state_behind rest)) c.in-None.is in
+    let written = subst (λ w. Takes (g.W.ByteSink.taken c.args.sink.now) (head_text c.format_after-format.result mark (header ++ names)) w) (sym f.kept) t.written in
     record {
-      ends = λ before h. only_ends header _ _ d before source _ _ _ _ _ _ _ (subst (λ rest. OfRead before source (λ bytes. IsHeader d header rest bytes)) c.in-None.is h)
-          (end refl) (subst (λ w. Takes (g.W.ByteSink.taken c.args.sink.now) (record_text d (header ++ names)) w) (sym f.kept) t.written) (f.no_fault ∙ t.no_fault) f.handed_on;
-      counted = no_rows g.C.Counter.after d header c.args.counter.now _ _ (subst (λ w. Takes (g.W.ByteSink.taken c.args.sink.now) (record_text d (header ++ names)) w) (sym f.kept) t.written);
+      ends = λ before h. only_ends header names _ _ d mark before source _ _ _ _ _ _ _ (subst (λ rest. OfRead before source (λ bytes. IsHeader d header rest mark bytes)) c.in-None.is h)
+          (end refl) (rw same at written) (f.no_fault ∙ t.no_fault) f.handed_on;
+      counted = rw c.format_after-format.ensures at (no_rows g.C.Counter.after c.format_after-format.result mark (header ++ names) c.args.counter.now _ _ written);
     }
 
 pub returns-in-Err : goal.returns-in-Err
@@ -54,9 +70,12 @@ returns-in-Err g c =
     let f = c.in-Err.ensures in
     let d = c.args.delimiter in
     let header = fields_of c.args.first.fields in
+    let mark = c.args.first.has_mark in
     let source = g.S.ByteSource.to_come c.args.source.now in
+    let same = c.format_after-format.ensures ∙ ap (λ rest. format_after d (state_behind rest)) c.in-None.is in
+    let written = subst (λ w. Takes (g.W.ByteSink.taken c.args.sink.now) (head_text c.format_after-format.result mark (header ++ names)) w) (sym f.kept) t.written in
     record {
-      ends = λ before h. only_held header _ _ d before source _ _ _ _ _ _ _ (subst (λ rest. OfRead before source (λ bytes. IsHeader d header rest bytes)) c.in-None.is h)
-          (subst (λ w. Takes (g.W.ByteSink.taken c.args.sink.now) (record_text d (header ++ names)) w) (sym f.kept) t.written) (f.fault ∙ ap (λ n. n + 1) t.no_fault);
+      ends = λ before h. only_held header names _ _ d mark before source _ _ _ _ _ _ _ (subst (λ rest. OfRead before source (λ bytes. IsHeader d header rest mark bytes)) c.in-None.is h)
+          (rw same at written) (f.fault ∙ ap (λ n. n + 1) t.no_fault);
       counted = tt;
     }

@@ -9,7 +9,7 @@ returns-in-Ok-true-clause-ended g c is =
     let was = c.loop.invariant.read_bytes in
     let passed = rw c.in-Some.is at c.in-Ok.ensures.passes in
     let on = c.in-Ok-true.ensures.ended c.in-Ok-true.field-0-test was.0 was.2.1 in
-    (was.0 ++ c.in-Some.byte ∷ [], Passes-then _ _ _ was.0 (c.in-Some.byte ∷ []) was.1 passed, (rw c.loop.invariant.same_delimiter at on, c.in-Ok-true.ensures.feeds c.in-Ok-true.field-0-test was.0 was.2.1))
+    (was.0 ++ c.in-Some.byte ∷ [], Passes-then _ _ _ was.0 (c.in-Some.byte ∷ []) was.1 passed, rw c.loop.invariant.same_format at on)
 
 pub loop-preserved : goal.loop-preserved
 loop-preserved g c =
@@ -23,7 +23,7 @@ loop-preserved g c =
         (length-append was.0 (c.in-Some.byte ∷ []) ∙ ap (λ n. n + 1) was.2.0, on),
       );
       partial = c.in-Ok-false.ensures.partial;
-      same_delimiter = c.in-Ok-false.ensures.delimiter ∙ c.loop.invariant.same_delimiter;
+      same_format = c.in-Ok-false.ensures.format ∙ c.loop.invariant.same_format;
       same_faults = c.in-Ok.ensures.no_fault ∙ c.loop.invariant.same_faults;
     }
 
@@ -31,17 +31,17 @@ pub returns-in_default-clause-unended : goal.returns-in_default-clause-unended
 returns-in_default-clause-unended g c =
     let was = c.loop.invariant.read_bytes in
     let unended = IsFront-unended _ was.0 was.0 [] _ (sym (append-nil was.0)) (omega arith) was.2.1 in
-    (was.0, rw c.in_default.ensures.kept was.1, rw c.loop.invariant.same_delimiter at unended)
+    (was.0, rw c.in_default.ensures.kept was.1, rw c.loop.invariant.same_format at unended)
 
 pub returns-in-Err-clause-unended : goal.returns-in-Err-clause-unended
 returns-in-Err-clause-unended g c =
     let was = c.loop.invariant.read_bytes in
     let passed = rw c.in-Some.is at c.in-Ok.ensures.passes in
     let unended = IsFront-unended _ (was.0 ++ c.in-Some.byte ∷ []) was.0 (c.in-Some.byte ∷ []) _ refl (omega arith) was.2.1 in
-    (was.0 ++ c.in-Some.byte ∷ [], Passes-then _ _ _ was.0 (c.in-Some.byte ∷ []) was.1 passed, rw c.loop.invariant.same_delimiter at unended)
+    (was.0 ++ c.in-Some.byte ∷ [], Passes-then _ _ _ was.0 (c.in-Some.byte ∷ []) was.1 passed, rw c.loop.invariant.same_format at unended)
 
 pub returns-clause-unended : goal.returns-clause-unended
 returns-clause-unended g c =
     let was = c.loop.invariant.read_bytes in
     let unended = IsFront-unended _ was.0 was.0 [] _ (sym (append-nil was.0)) (omega arith) was.2.1 in
-    (was.0, was.1, rw c.loop.invariant.same_delimiter at unended)
+    (was.0, was.1, rw c.loop.invariant.same_format at unended)

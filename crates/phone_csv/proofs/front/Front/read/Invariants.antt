@@ -9,6 +9,6 @@ invariant-loop g l = record {
   read_bytes : OfRead (g.S.ByteSource.to_come l.initial.source) (g.S.ByteSource.to_come l.source) (λ bytes.
       (length bytes ≡ l.counter) × IsFront l.self.mark bytes l.self.cutter);
   partial : partial_of l.self.cutter.fields ≡ [];
-  same_delimiter : l.self.cutter.delimiter ≡ l.initial.self.cutter.delimiter;
+  same_format : l.self.cutter.format ≡ l.initial.self.cutter.format;
   same_faults : g.S.ByteSource.faults l.source ≡ g.S.ByteSource.faults l.initial.source;
 }

@@ -10,10 +10,10 @@ invariant-loop-byte g l = record {
       Stands (g.A.Answers.gives l.answers) start bytes l.initial.self.cutter l.initial.self.answers.items before (g.W.ByteSink.taken l.initial.sink) →
       Stands (g.A.Answers.gives l.answers) start (bytes ++ take l.byte-index l.block) l.self.cutter l.self.answers.items before (g.W.ByteSink.taken l.sink);
   counted : (first : g.row.C.Denot) (before : Option (List ℕ)) →
-      HoldsCounted g.C.Counter.after l.initial.self.cutter.delimiter first l.initial.counter l.initial.self.answers.items before (g.W.ByteSink.taken l.initial.sink) →
-      HoldsCounted g.C.Counter.after l.initial.self.cutter.delimiter first l.counter l.self.answers.items before (g.W.ByteSink.taken l.sink);
+      HoldsCounted g.C.Counter.after l.initial.self.cutter.format first l.initial.counter l.initial.self.answers.items before (g.W.ByteSink.taken l.initial.sink) →
+      HoldsCounted g.C.Counter.after l.initial.self.cutter.format first l.counter l.self.answers.items before (g.W.ByteSink.taken l.sink);
   partial : partial_of l.self.cutter.fields ≡ [];
-  same_delimiter : l.self.cutter.delimiter ≡ l.initial.self.cutter.delimiter;
+  same_format : l.self.cutter.format ≡ l.initial.self.cutter.format;
   same_faults : g.W.ByteSink.faults l.sink ≡ g.W.ByteSink.faults l.initial.sink;
   short : vec_len l.self.answers < 8192;
 }
