@@ -1,8 +1,3 @@
-pub mod Calls
-pub mod Commands
-pub mod Delimiters
-pub mod Names
-pub mod Options
-pub mod Parts
 pub mod Runs
+pub mod ShortLines
 pub mod Statuses

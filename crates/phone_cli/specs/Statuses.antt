@@ -1,9 +1,9 @@
 -- The statuses that the program ends with.
 use Rattle.std.specs.Prelude.{◌≡◌, ℕ, ◌≤◌, List}
-use Rattle.phone_cli.specs.Calls.{IsCall, IsNoCall}
-use Rattle.phone_cli.specs.declared.command.Call.{Call}
-use Rattle.phone_cli.specs.declared.parts.WordError.{WordError}
-use Rattle.phone_cli.specs.declared.parts.WordError.TheVariants as error
+use Rattle.phone_words.specs.Calls.{IsCall, IsNoCall}
+use Rattle.phone_words.specs.declared.call.Call.{Call}
+use Rattle.phone_words.specs.declared.parts.WordError.{WordError}
+use Rattle.phone_words.specs.declared.parts.WordError.TheVariants as error
 
 -- the status for words that are no call: 1 where there was no memory for them
 abbrev pub status_of_words : WordError → ℕ
@@ -15,6 +15,8 @@ status_of_words error.WithoutRegions = 2
 status_of_words error.NoColumn = 2
 status_of_words (error.Delimiter word) = 2
 status_of_words (error.Skipped word) = 2
+status_of_words (error.Rules word) = 2
+status_of_words (error.LibraryAlone mode) = 2
 status_of_words error.Memory = 1
 
 -- what the program does by its words, and its status: where they are no call, it reads and writes

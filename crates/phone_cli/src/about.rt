@@ -1,5 +1,6 @@
 //! What the program says of itself, and of what words it knows.
 use crate::usage::{HELP, NAME};
+use phone_choice::Rules;
 use phone_device::{ByteSink, Fault, write_all};
 use phone_values::country::{ALL, Id};
 use std::alloc::AllocGlobal;
@@ -40,13 +41,24 @@ fn table_version<R: Files + AllocGlobal>(rt: &R, path: &str) -> Option<String> {
     fs::read_to_string(rt, beside.as_str()).ok()
 }
 
-/// Writes which program this is, and the version of the table, where that is known.
+/// By whose rules numbers are read, in a line.
+fn rules_line(rules: Rules) -> &'static str {
+    match rules {
+        Rules::Library => "rules: those of libphonenumber (--rules library)\n",
+        Rules::Crate => "rules: those of the Rust crate phonenumber (--rules crate)\n",
+    }
+}
+
+/// Writes which program this is, by whose rules it reads, and the version of the table, where that
+/// is known.
 pub(crate) fn write_version<R: Files + AllocGlobal, W: ByteSink>(
     rt: &R,
     path: Option<&str>,
+    rules: Rules,
     output: &mut W,
 ) -> Result<(), Fault> {
     write_all(output, NAME.as_bytes())?;
+    write_all(output, rules_line(rules).as_bytes())?;
     let version = match path {
         Some(path) => table_version(rt, path),
         None => None,

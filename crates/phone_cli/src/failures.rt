@@ -1,14 +1,14 @@
 //! What is told of a failure, by file and cause.
 ghost use Rattle.std.specs.Prelude.{◌≡◌, ◌≤◌};
 
-use crate::command::{Call, Command};
 use crate::inputs::{Failure, is_standard};
 use crate::jobs::JobError;
 use crate::say::{say, say_columns};
 use itoa::Buffer;
-use phone_csv::RunError;
+use phone_csv::{FirstError, RunError};
 use phone_device::ByteSink;
 use phone_table::{Column, TableError};
+use phone_words::{Call, Command};
 use phonenumber::metadata::LoadMetadata;
 use std::alloc::Global;
 
@@ -73,8 +73,20 @@ fn say_table<E: ByteSink>(call: &Call<'_>, error: &TableError, errors: &mut E) -
             let more = ": the record has another count of fields than the header";
             say(errors, &["line ", buffer.format(line), more], 1)
         }
+        TableError::Rows(RunError::Quote(line)) => say_quote(call, *line, errors),
+        TableError::Header(FirstError::Quote(line)) => say_quote(call, *line, errors),
         _ => say(errors, &["there is no header"], 2),
     }
+}
+
+/// Tells on which line a quote begins that is never closed, and gives the status.
+fn say_quote<E: ByteSink>(call: &Call<'_>, line: u64, errors: &mut E) -> u8
+    ensures { result ≡ 1 }
+{
+    let mut buffer = Buffer::new();
+    let line = buffer.format(line.saturating_add(call.skipped));
+    let more = ": the quote that begins there is never closed";
+    say(errors, &["line ", line, more], 1)
 }
 
 /// The name of a column that was asked for.

@@ -1,14 +1,15 @@
 //! What a call does with an input: the report, a table, or lines that are taken one by one.
 use crate::firsts::FirstRecords;
 use crate::lines::take_lines;
+use crate::reader::Reader;
+use crate::shorts::Shorts;
 use crate::takers::{Finder, Firsts, Objects};
+use crate::typist::Typist;
 use phone_csv::FirstError;
 use phone_device::{ByteSink, ByteSource};
 use phone_lines::RunError;
-use phone_table::{Asked, TableError, write_table};
-use phonenumber::country::Id;
+use phone_table::{Asked, Counts, TableError, write_table};
 use phonenumber::metadata::Database;
-use phonenumber::report;
 use std::alloc::Global;
 
 /// Why an input was not answered whole.
@@ -49,19 +50,21 @@ fn ended(end: Result<(), RunError>) -> Result<(), JobError> {
 /// The report on lines.
 #[derive(Drop)]
 pub(crate) struct Report<'d> {
-    pub database: &'d Database,
-    pub hint: Option<Id>,
+    /// What reads the lines.
+    pub reader: Reader<'d>,
 }
 
 impl<'d, 'f> Job<'f> for Report<'d> {
     fn answer<S: ByteSource, W: ByteSink>(
         &mut self,
-        _alloc: Global,
+        alloc: Global,
         _name: &'f str,
         source: &mut S,
         sink: &mut W,
     ) -> Result<(), JobError> {
-        ended(report::run(self.database, self.hint, source, sink))
+        let reader = self.reader;
+        let (database, hint) = (reader.database, reader.hint);
+        ended(phone_report::run(alloc, reader.rules, database, hint, source, sink))
     }
 }
 
@@ -104,6 +107,30 @@ impl<'f> Job<'f> for Firsts {
     }
 }
 
+impl<'d, 'f> Job<'f> for Typist<'d> {
+    fn answer<S: ByteSource, W: ByteSink>(
+        &mut self,
+        alloc: Global,
+        _name: &'f str,
+        source: &mut S,
+        sink: &mut W,
+    ) -> Result<(), JobError> {
+        ended(take_lines(alloc, self, source, sink))
+    }
+}
+
+impl<'d, 'f> Job<'f> for Shorts<'d> {
+    fn answer<S: ByteSource, W: ByteSink>(
+        &mut self,
+        alloc: Global,
+        _name: &'f str,
+        source: &mut S,
+        sink: &mut W,
+    ) -> Result<(), JobError> {
+        ended(take_lines(alloc, self, source, sink))
+    }
+}
+
 /// A table of customers.
 #[derive(Drop)]
 pub(crate) struct Customers<'d, 'w> {
@@ -113,6 +140,8 @@ pub(crate) struct Customers<'d, 'w> {
     pub is_unique: bool,
     /// How many records were left out.
     pub left_out: u64,
+    /// How many records there were, and how many of them gave what.
+    pub counts: Counts,
 }
 
 /// Why a table was not answered whole, as a job's error.
@@ -130,12 +159,15 @@ fn table_error(error: TableError) -> JobError {
 impl<'d, 'w> Customers<'d, 'w> {
     /// Writes the table to a sink.
     fn write<S: ByteSource, W: ByteSink>(
-        &self,
+        &mut self,
         source: &mut S,
         sink: &mut W,
     ) -> Result<(), JobError> {
         match write_table(self.database, self.asked, source, sink) {
-            Ok(_) => Ok(()),
+            Ok(counts) => {
+                self.counts = counts;
+                Ok(())
+            }
             Err(error) => Err(table_error(error)),
         }
     }

@@ -2,9 +2,12 @@
 ghost use Rattle.std.specs.Prelude.{◌≡◌};
 ghost use Rattle.phone_cli.specs.Statuses.{status_of_words};
 
-use crate::parts::{Mode, TableOption, WordError};
+use crate::jobs::Customers;
+use crate::takers::Firsts;
 use csv::ByteRecord;
+use itoa::Buffer;
 use phone_device::{ByteSink, Fault, write_all};
+use phone_words::{Mode, TableOption, WordError};
 
 /// Writes the program's name, these texts and a line feed.
 fn write_line<E: ByteSink>(errors: &mut E, texts: &[&str]) -> Result<(), Fault> {
@@ -31,6 +34,8 @@ fn mode_name(mode: Mode) -> &'static str {
         Mode::Json => "--json",
         Mode::Find => "--find",
         Mode::Unique => "--unique",
+        Mode::Typed => "--typed",
+        Mode::Short => "--short",
     }
 }
 
@@ -40,6 +45,7 @@ fn table_option_name(option: TableOption) -> &'static str {
         TableOption::RegionColumn => "--region-column",
         TableOption::Delimiter => "--delimiter",
         TableOption::ElseHint => "--else-hint",
+        TableOption::MarkBad => "--mark-bad-records",
     }
 }
 
@@ -68,6 +74,20 @@ pub(crate) fn say_word_error<E: ByteSink>(errors: &mut E, error: WordError<'_>) 
         WordError::NoColumn => say(errors, &["a column has a name"], 2),
         WordError::Delimiter(word) => say(errors, &[word, DELIMITER], 2),
         WordError::Skipped(word) => say(errors, &[word, " is no count of lines"], 2),
+        WordError::Rules(word) => {
+            say(
+                errors,
+                &[word, " names no rules: there are library and crate"],
+                2,
+            )
+        }
+        WordError::LibraryAlone(mode) => {
+            say(
+                errors,
+                &[mode_name(mode), " knows libphonenumber's rules alone"],
+                2,
+            )
+        }
         WordError::Memory => say(errors, &["out of memory"], 1),
     }
 }
@@ -98,4 +118,52 @@ pub(crate) fn say_columns<E: ByteSink>(errors: &mut E, name: &str, header: &Byte
 {
     let _written = write_columns(errors, name, header);
     2
+}
+
+/// Tells how many lines gave what, and gives the status.
+pub(crate) fn say_firsts<E: ByteSink>(job: &Firsts, errors: &mut E) -> u8
+    ensures { result ≡ 0 }
+{
+    let (mut added, mut present, mut refused) = (Buffer::new(), Buffer::new(), Buffer::new());
+    say(
+        errors,
+        &[
+            "new: ",
+            added.format(job.added),
+            ", repeated: ",
+            present.format(job.present),
+            ", refused: ",
+            refused.format(job.refused),
+        ],
+        0,
+    )
+}
+
+/// Writes a count after its name.
+fn write_count<E: ByteSink>(errors: &mut E, name: &str, count: u64) -> Result<(), Fault> {
+    let mut buffer = Buffer::new();
+    write_all(errors, name.as_bytes())?;
+    write_all(errors, buffer.format(count).as_bytes())
+}
+
+/// Writes how many records a table has, and how many of them gave what.
+fn write_records<E: ByteSink>(job: &Customers<'_, '_>, errors: &mut E) -> Result<(), Fault> {
+    write_count(errors, "phone: records: ", job.counts.records)?;
+    write_count(errors, ", unknown region: ", job.counts.unknown_region)?;
+    write_count(errors, ", empty: ", job.counts.empty)?;
+    write_count(errors, ", wrong count of fields: ", job.counts.wrong_count)?;
+    write_count(errors, ", no number: ", job.counts.no_number)?;
+    write_count(errors, ", not valid: ", job.counts.invalid)?;
+    if job.is_unique {
+        write_count(errors, ", repeated: ", job.left_out)?;
+    }
+    write_all(errors, "\n".as_bytes())
+}
+
+/// Tells how many records a table has, and how many of them gave what, and gives the status.
+pub(crate) fn say_records<E: ByteSink>(job: &Customers<'_, '_>, errors: &mut E) -> u8
+    ensures { result ≡ 0 }
+{
+    let _written = write_records(job, errors);
+    0
 }

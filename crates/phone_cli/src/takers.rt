@@ -1,26 +1,25 @@
 //! What lines are answered by commands that count them or keep numbers.
 use crate::lines::LineTaker;
+use crate::reader::Reader;
 use phone_book::{Book, BookError, Place};
 use phone_choice::Rules;
 use phone_find::{Found, find_numbers};
+use phone_table::finds::{Spot, found_object};
 use phone_table::objects::object_line;
-use phonenumber::PhoneNumber;
 use phonenumber::country::Id;
-use phonenumber::metadata::Database;
+use phonenumber::{FormatError, PhoneNumber};
 use std::alloc::{AllocError, Global};
 
 /// Puts a text at the end of bytes. Refused only for memory.
-fn push_text(bytes: &mut Vec<u8>, text: &str) -> Result<(), AllocError> {
+pub(crate) fn push_text(bytes: &mut Vec<u8>, text: &str) -> Result<(), AllocError> {
     bytes.extend_from_slice(text.as_bytes())
 }
 
 /// A JSON object for each line.
 #[derive(Drop)]
 pub(crate) struct Objects<'d> {
-    /// The database that reads, prints and tells.
-    pub database: &'d Database,
-    /// The region under which lines are read.
-    pub hint: Option<Id>,
+    /// What reads the lines.
+    pub reader: Reader<'d>,
     /// The number of the next line.
     pub place: u64,
 }
@@ -32,27 +31,31 @@ impl<'d> LineTaker for Objects<'d> {
         line: &[u8],
         answers: &mut Vec<u8>,
     ) -> Result<(), AllocError> {
-        let object = object_line(
-            alloc,
-            Rules::Crate,
-            self.database,
-            self.hint,
-            self.place,
-            line,
-        )?;
+        let reader = self.reader;
+        let (database, hint) = (reader.database, reader.hint);
+        let object = object_line(alloc, reader.rules, database, hint, self.place, line)?;
         self.place = self.place.saturating_add(1);
         push_text(answers, object.as_str())?;
         push_text(answers, "\n")
     }
 }
 
+/// How a number is told that was found in a text.
+#[derive(Clone, Copy, PartialEq, Eq, Debug)]
+pub(crate) enum FoundForm {
+    /// As fields that are parted by tabs.
+    Fields,
+    /// As a JSON object.
+    Object,
+}
+
 /// The valid numbers that stand in each line.
 #[derive(Drop)]
 pub(crate) struct Finder<'d, 'f> {
-    /// The database that reads and tells.
-    pub database: &'d Database,
-    /// The region under which numbers are read.
-    pub hint: Option<Id>,
+    /// What reads the numbers.
+    pub reader: Reader<'d>,
+    /// How each is told.
+    pub form: FoundForm,
     /// The number of the next line.
     pub place: u64,
     /// The number of the first line of each input.
@@ -64,11 +67,11 @@ pub(crate) struct Finder<'d, 'f> {
 }
 
 impl<'d, 'f> Finder<'d, 'f> {
-    /// Puts the line of one number at the end of the answers.
-    fn push_found(
+    /// Puts the fields of one number at the end of the answers.
+    fn push_fields(
         &self,
         alloc: Global,
-        column: usize,
+        column: u64,
         number: &PhoneNumber,
         piece: &str,
         answers: &mut Vec<u8>,
@@ -82,7 +85,34 @@ impl<'d, 'f> Finder<'d, 'f> {
         push_text(answers, told.as_str())
     }
 
-    /// Puts the lines of all numbers that were found in a text at the end of the answers.
+    /// Puts the object of one number at the end of the answers.
+    fn push_object(
+        &self,
+        alloc: Global,
+        column: u64,
+        number: &PhoneNumber,
+        piece: &str,
+        answers: &mut Vec<u8>,
+    ) -> Result<(), AllocError> {
+        let reader = self.reader;
+        let line = self.place;
+        let spot = Spot {
+            line,
+            column,
+            piece,
+        };
+        match found_object(alloc, reader.rules, reader.database, spot, number) {
+            Ok(object) => {
+                push_text(answers, object.as_str())?;
+                push_text(answers, "\n")
+            }
+            // of a number that was read the code is listed
+            Err(FormatError::UnknownCode) => Ok(()),
+            Err(FormatError::Memory) => Err(AllocError),
+        }
+    }
+
+    /// Puts what is told of all numbers that were found in a text at the end of the answers.
     fn push_all(
         &self,
         alloc: Global,
@@ -91,12 +121,16 @@ impl<'d, 'f> Finder<'d, 'f> {
         answers: &mut Vec<u8>,
     ) -> Result<(), AllocError> {
         let mut from = 0;
-        let mut column = 1usize;
+        let mut column = 1u64;
         for found in all {
             let before = text.get(from..found.start).unwrap_or("");
             let piece = text.get(found.start..found.end).unwrap_or("");
-            column = column.saturating_add(before.chars().count());
-            self.push_found(alloc, column, &found.number, piece, answers)?;
+            let number = &found.number;
+            column = column.saturating_add(before.chars().count() as u64);
+            match self.form {
+                FoundForm::Fields => self.push_fields(alloc, column, number, piece, answers)?,
+                FoundForm::Object => self.push_object(alloc, column, number, piece, answers)?,
+            }
             from = found.start;
         }
         Ok(())
@@ -110,8 +144,9 @@ impl<'d, 'f> LineTaker for Finder<'d, 'f> {
         line: &[u8],
         answers: &mut Vec<u8>,
     ) -> Result<(), AllocError> {
+        let reader = self.reader;
         let text = String::from_utf8_lossy(alloc, line)?;
-        let all = find_numbers(Rules::Crate, self.database, self.hint, text.as_str())?;
+        let all = find_numbers(reader.rules, reader.database, reader.hint, text.as_str())?;
         self.push_all(alloc, text.as_str(), all.as_slice(), answers)?;
         self.place = self.place.saturating_add(1);
         Ok(())
@@ -123,6 +158,8 @@ impl<'d, 'f> LineTaker for Finder<'d, 'f> {
 pub(crate) struct Firsts {
     /// The numbers so far.
     pub book: Book,
+    /// By whose rules lines are read.
+    pub rules: Rules,
     /// The region under which lines are read.
     pub hint: Option<Id>,
     /// How many lines had a new number.
@@ -162,7 +199,7 @@ impl LineTaker for Firsts {
             self.refused = self.refused.saturating_add(1);
             return Ok(());
         };
-        match self.book.add(self.hint, text) {
+        match self.book.add_by(self.rules, self.hint, text) {
             Ok(Place::Added(place)) => self.push_added(alloc, place, text, answers),
             Ok(Place::Present(_)) => {
                 self.present = self.present.saturating_add(1);

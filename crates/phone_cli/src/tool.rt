@@ -1,21 +1,23 @@
 //! The program over its words, files and devices.
 ghost use Rattle.std.specs.Prelude.{◌≡◌, ◌≤◌};
-ghost use Rattle.phone_cli.specs.Parts.{texts_of};
+ghost use Rattle.phone_words.specs.Parts.{texts_of};
 ghost use Rattle.phone_cli.specs.Statuses.{Acts};
 
 use crate::about::{write_help, write_regions, write_version};
-use crate::command::{Call, Command, Table, call_of};
 use crate::failures::{say_failure, say_refusal};
 use crate::inputs::{hint_and_files, on_inputs, say_missing};
 use crate::jobs::{Customers, Job, Report};
 use crate::outlet::Outlet;
-use crate::say::{say, say_word_error};
-use crate::takers::{Finder, Firsts, Objects};
-use itoa::Buffer;
+use crate::reader::Reader;
+use crate::say::{say, say_firsts, say_records, say_word_error};
+use crate::shorts::Shorts;
+use crate::takers::{Finder, Firsts, FoundForm, Objects};
+use crate::typist::Typist;
 use phone_book::Book;
-use phone_choice::Rules;
 use phone_device::{ByteSink, ByteSource, Std};
-use phone_table::Asked;
+use phone_table::{Asked, Counts};
+use phone_typed::Typing;
+use phone_words::{Call, Command, Table, call_of};
 use phonenumber::country::Id;
 use phonenumber::metadata::Database;
 use std::alloc::AllocGlobal;
@@ -24,7 +26,8 @@ use std::fs::{self, Files};
 /// The program on its words, which come after its own name, as `call_of` reads them: it reads the
 /// files that are named, one after the other, or the input, and writes to the output or the file
 /// that is named for it. It gives the status to end with, and for each but 0 writes a line to
-/// `errors`, unless what read the output is gone; that this fails changes no status.
+/// `errors`, unless what read the output is gone; that this fails changes no status. After a table
+/// and after `--unique` a line there counts what was read.
 ///
 /// Status 0: all was written. 1: an input, the output or memory failed, or a record of a table has
 /// another count of fields than the header; what is in front is written. 2: the words are no call,
@@ -59,7 +62,7 @@ fn on_call<R: Files + AllocGlobal, S: ByteSource, W: Outlet, E: ByteSink>(
     let about = match call.command {
         Command::Help => write_help(output),
         Command::Regions => write_regions(output),
-        Command::Version => write_version(rt, call.database, output),
+        Command::Version => write_version(rt, call.database, call.rules, output),
         _ => return on_files(rt, call, input, output, errors),
     };
     match about {
@@ -96,11 +99,11 @@ fn on_files<R: Files + AllocGlobal, S: ByteSource, W: Outlet, E: ByteSink>(
     if let Some(status) = say_missing(rt, hint, files, errors) {
         return status;
     }
-    if let (Command::Table(_), [_, _, ..]) = (call.command, files) {
-        return say(errors, &["--csv reads one file at a time"], 2);
+    if let Some(words) = misfit(call.command, hint, files) {
+        return say(errors, &[words], 2);
     }
-    let Some(path) = call.database else {
-        return say(errors, &["no database: --database FILE names one"], 2);
+    let Some(path) = database_of(call) else {
+        return say(errors, &[no_database(call.command)], 2);
     };
     let reading = Reading {
         call,
@@ -111,6 +114,34 @@ fn on_files<R: Files + AllocGlobal, S: ByteSource, W: Outlet, E: ByteSink>(
     match call.output {
         None => on_reading(rt, reading, input, output, errors),
         Some(name) => to_file(rt, reading, name, input, errors),
+    }
+}
+
+/// Why a command doesn't go with the region and the files that are named; none where it does.
+fn misfit(command: Command<'_>, hint: Option<Id>, files: &[&str]) -> Option<&'static str> {
+    match (command, hint, files) {
+        (Command::Table(_), _, [_, _, ..]) => Some("--csv reads one file at a time"),
+        (Command::FoundObjects, _, [_, _, ..]) => {
+            Some("--find with --json reads one file at a time")
+        }
+        (Command::Short, None, _) => Some("--short wants the region in which numbers are dialled"),
+        _ => None,
+    }
+}
+
+/// The file of the database that a call reads by.
+fn database_of<'w>(call: &Call<'w>) -> Option<&'w str> {
+    match call.command {
+        Command::Short => call.short_database,
+        _ => call.database,
+    }
+}
+
+/// What is told where no database is named.
+fn no_database(command: Command<'_>) -> &'static str {
+    match command {
+        Command::Short => "no database of short numbers: --short-database FILE names one",
+        _ => "no database: --database FILE names one",
     }
 }
 
@@ -160,12 +191,51 @@ fn on_database<R: Files + AllocGlobal, S: ByteSource, W: Outlet, E: ByteSink>(
 ) -> u8
     ensures { result ≤ 3 }
 {
+    match (reading.call.command, reading.hint) {
+        (Command::Unique, _) => firsts(rt, reading, database, input, output, errors),
+        (Command::Short, Some(region)) => {
+            shorts(rt, reading, &database, region, input, output, errors)
+        }
+        _ => {
+            let reader = reader_of(reading, &database);
+            by_reader(rt, reading, reader, input, output, errors)
+        }
+    }
+}
+
+/// What reads the numbers of a call.
+fn reader_of<'d>(reading: Reading<'_, '_>, database: &'d Database) -> Reader<'d>
+    ensures rules { result.rules ≡ reading.entry.call.now.rules }
+    ensures hint { result.hint ≡ reading.entry.hint }
+    ensures database { result.database.now ≡ database.now }
+{
+    let Reading { call, hint, .. } = reading;
+    Reader {
+        database,
+        rules: call.rules,
+        hint,
+    }
+}
+
+/// The program where a reader reads the numbers.
+fn by_reader<R: Files + AllocGlobal, S: ByteSource, W: Outlet, E: ByteSink>(
+    rt: &R,
+    reading: Reading<'_, '_>,
+    reader: Reader<'_>,
+    input: &mut S,
+    output: &mut W,
+    errors: &mut E,
+) -> u8
+    ensures { result ≤ 3 }
+{
     match reading.call.command {
-        Command::Unique => firsts(rt, reading, database, input, output, errors),
-        Command::Objects => objects(rt, reading, &database, input, output, errors),
-        Command::Find => finds(rt, reading, &database, input, output, errors),
-        Command::Table(table) => customers(rt, reading, table, &database, input, output, errors),
-        _ => reports(rt, reading, &database, input, output, errors),
+        Command::Objects => objects(rt, reading, reader, input, output, errors),
+        Command::Find | Command::FoundObjects => {
+            finds(rt, reading, reader, input, output, errors)
+        }
+        Command::Typed => typed(rt, reading, reader, input, output, errors),
+        Command::Table(table) => customers(rt, reading, table, reader, input, output, errors),
+        _ => reports(rt, reading, reader, input, output, errors),
     }
 }
 
@@ -192,15 +262,14 @@ fn run<'w, R: Files + AllocGlobal, S: ByteSource, W: Outlet, E: ByteSink, J: Job
 fn reports<R: Files + AllocGlobal, S: ByteSource, W: Outlet, E: ByteSink>(
     rt: &R,
     reading: Reading<'_, '_>,
-    database: &Database,
+    reader: Reader<'_>,
     input: &mut S,
     output: &mut W,
     errors: &mut E,
 ) -> u8
     ensures { result ≤ 3 }
 {
-    let hint = reading.hint;
-    let mut job = Report { database, hint };
+    let mut job = Report { reader };
     run(rt, reading, &mut job, input, output, errors)
 }
 
@@ -208,26 +277,31 @@ fn reports<R: Files + AllocGlobal, S: ByteSource, W: Outlet, E: ByteSink>(
 fn objects<R: Files + AllocGlobal, S: ByteSource, W: Outlet, E: ByteSink>(
     rt: &R,
     reading: Reading<'_, '_>,
-    database: &Database,
+    reader: Reader<'_>,
     input: &mut S,
     output: &mut W,
     errors: &mut E,
 ) -> u8
     ensures { result ≤ 3 }
 {
-    let mut job = Objects {
-        database,
-        hint: reading.hint,
-        place: reading.call.skipped.saturating_add(1),
-    };
+    let place = reading.call.skipped.saturating_add(1);
+    let mut job = Objects { reader, place };
     run(rt, reading, &mut job, input, output, errors)
+}
+
+/// How a command tells the numbers that it finds.
+fn found_form(command: Command<'_>) -> FoundForm {
+    match command {
+        Command::FoundObjects => FoundForm::Object,
+        _ => FoundForm::Fields,
+    }
 }
 
 /// The numbers that stand in the inputs.
 fn finds<'w, R: Files + AllocGlobal, S: ByteSource, W: Outlet, E: ByteSink>(
     rt: &R,
     reading: Reading<'_, 'w>,
-    database: &Database,
+    reader: Reader<'_>,
     input: &mut S,
     output: &mut W,
     errors: &mut E,
@@ -236,13 +310,46 @@ fn finds<'w, R: Files + AllocGlobal, S: ByteSource, W: Outlet, E: ByteSink>(
 {
     let first = reading.call.skipped.saturating_add(1);
     let mut job = Finder {
-        database,
-        hint: reading.hint,
+        reader,
+        form: found_form(reading.call.command),
         first,
         place: first,
         name: "-",
         is_named: reading.files.len() > 1,
     };
+    run(rt, reading, &mut job, input, output, errors)
+}
+
+/// What is shown after each key of each line.
+fn typed<R: Files + AllocGlobal, S: ByteSource, W: Outlet, E: ByteSink>(
+    rt: &R,
+    reading: Reading<'_, '_>,
+    reader: Reader<'_>,
+    input: &mut S,
+    output: &mut W,
+    errors: &mut E,
+) -> u8
+    ensures { result ≤ 3 }
+{
+    let mut job = Typist {
+        field: Typing::new(reader.database, reader.hint),
+    };
+    run(rt, reading, &mut job, input, output, errors)
+}
+
+/// What is known of each line as a short number of a region.
+fn shorts<R: Files + AllocGlobal, S: ByteSource, W: Outlet, E: ByteSink>(
+    rt: &R,
+    reading: Reading<'_, '_>,
+    database: &Database,
+    region: Id,
+    input: &mut S,
+    output: &mut W,
+    errors: &mut E,
+) -> u8
+    ensures { result ≤ 3 }
+{
+    let mut job = Shorts { database, region };
     run(rt, reading, &mut job, input, output, errors)
 }
 
@@ -266,6 +373,7 @@ fn firsts<R: Files + AllocGlobal, S: ByteSource, W: Outlet, E: ByteSink>(
     };
     let mut job = Firsts {
         book,
+        rules: reading.call.rules,
         hint: reading.hint,
         added: 0,
         present: 0,
@@ -273,59 +381,50 @@ fn firsts<R: Files + AllocGlobal, S: ByteSource, W: Outlet, E: ByteSink>(
     };
     let status = run(rt, reading, &mut job, input, output, errors);
     if status == 0 {
-        say_counts(&job, errors);
+        return say_firsts(&job, errors);
     }
     status
 }
 
-/// A table of customers; then how many records were left out, where some could be.
+/// A table of customers; then its counts are told.
 fn customers<'w, R: Files + AllocGlobal, S: ByteSource, W: Outlet, E: ByteSink>(
     rt: &R,
     reading: Reading<'_, 'w>,
     table: Table<'w>,
-    database: &Database,
+    reader: Reader<'_>,
     input: &mut S,
     output: &mut W,
     errors: &mut E,
 ) -> u8
     ensures { result ≤ 3 }
 {
-    let asked = Asked {
-        rules: Rules::Crate,
-        number: table.column,
-        region: table.region_column,
-        delimiter: table.delimiter,
-        hint: reading.hint,
-        else_hint: table.else_hint,
-        mark_bad: false,
-    };
     let mut job = Customers {
-        database,
-        asked,
+        database: reader.database,
+        asked: asked(table, reader),
         is_unique: table.is_unique,
         left_out: 0,
+        counts: Counts::new(),
     };
     let status = run(rt, reading, &mut job, input, output, errors);
-    if status == 0 && table.is_unique {
-        let mut left_out = Buffer::new();
-        return say(errors, &["repeated: ", left_out.format(job.left_out)], 0);
+    if status == 0 {
+        return say_records(&job, errors);
     }
     status
 }
 
-/// Tells how many lines gave what.
-fn say_counts<E: ByteSink>(job: &Firsts, errors: &mut E) {
-    let (mut added, mut present, mut refused) = (Buffer::new(), Buffer::new(), Buffer::new());
-    let _status = say(
-        errors,
-        &[
-            "new: ",
-            added.format(job.added),
-            ", repeated: ",
-            present.format(job.present),
-            ", refused: ",
-            refused.format(job.refused),
-        ],
-        0,
-    );
+/// What is asked of a table that this reads.
+fn asked<'w>(table: Table<'w>, reader: Reader<'_>) -> Asked<'w>
+    ensures rules { result.rules ≡ reader.entry.rules }
+    ensures hint { result.hint ≡ reader.entry.hint }
+    ensures mark_bad { result.mark_bad ≡ table.entry.mark_bad }
+{
+    Asked {
+        rules: reader.rules,
+        number: table.column,
+        region: table.region_column,
+        delimiter: table.delimiter,
+        hint: reader.hint,
+        else_hint: table.else_hint,
+        mark_bad: table.mark_bad,
+    }
 }

@@ -13,12 +13,18 @@ the other, where - is standard input; without a file it is standard input.
 usage: ./phone [REGION] [FILE..]
        ./phone --unique [REGION] [FILE..]
        ./phone --json [REGION] [FILE..]
-       ./phone --find [REGION] [FILE..]
-       ./phone --csv COLUMN [--region-column COLUMN [--else-hint]] [-d D] [--unique] [REGION] [FILE]
+       ./phone --find [--json] [REGION] [FILE..]
+       ./phone --csv COLUMN [--region-column COLUMN [--else-hint]] [-d D] [--mark-bad-records]
+               [--unique] [REGION] [FILE]
+       ./phone --typed [REGION] [FILE..]
+       ./phone --short REGION [FILE..]
        ./phone --regions | --version | --help
        ./phone --prove
 
-with each:  --database FILE   the database, a JSON text, in place of the table of the world
+with each:  --rules RULES     library (the default): numbers are read and described as
+                              libphonenumber does; crate: as the Rust crate phonenumber does
+            --database FILE   the database, a JSON text, in place of the table of the world
+            --short-database FILE   that of short numbers
             -o, --output FILE what is written goes there
             --jobs N          N parts of the input are read side by side (not with --unique)
             --skipped N       lines are counted as if N stood before them (of a table: after its
@@ -26,8 +32,9 @@ with each:  --database FILE   the database, a JSON text, in place of the table o
             --                the words after it are a region and files
 
 REGION is where the numbers were dialled, by its id in capital or small letters, as NZ; --regions
-lists the ids. The table of the world comes with the repository, data/world.json; --version tells
-its version. An option's value is the next word, or follows it: --csv=phone, -d';'.
+lists the ids. The table of the world comes with the repository, data/world.json, made from
+libphonenumber's; --version tells its version. An option's value is the next word, or follows it:
+--csv=phone, -d';'.
 
 A report line, its fields parted by tabs: ok, the E.164, international, national and RFC 3966 text,
 how the calling code was found, the kind of number, its region or -, valid or invalid; or error, a
@@ -43,9 +50,20 @@ after its own: e164, international, national, type, region, validity, refusal. C
 the column of the numbers, in the file's first record. Where --region-column names one too, a record
 is read under the region whose id stands there, or under REGION where nothing does; where anything
 else does, its number is refused as of an unknown region, unless --else-hint is given: then it is
-read under REGION too. D is one ASCII character, or tab.
+read under REGION too. D is one ASCII character, or tab. A record with more or fewer fields than the
+first ends the run, unless --mark-bad-records is given: then it is given back as it is, and refused.
+How many records there were, and how many had an unknown region, no number or one that isn't valid,
+is told on standard error.
 --find finds the valid numbers in running text, and writes for each its line, its column, its E.164
 text and the piece of the text, parted by tabs; the file's name before them where several are named.
+With --json it writes an object for each: line, column, text, the fields that --csv gives but the
+refusal, and extension.
+--typed takes each line as the keys of a number that is typed, and writes what is shown after each
+key, parted by |.
+--short takes each line as a number that is dialled within REGION, and writes yes or no, parted by
+tabs: whether its count of digits is possible; whether it is a short number; what it costs; whether
+only some carriers connect it; whether it is an emergency number; whether it reaches emergency
+services.
 --prove proves and builds, once, the two programs; until then each run tries its program without
 proof, which takes minutes.
 

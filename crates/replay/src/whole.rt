@@ -8,7 +8,7 @@ use std::alloc::AllocGlobal;
 use std::fs::{self, Files};
 
 /// The tables, by their files.
-const TABLES: [&str; 25] = [
+const TABLES: [&str; 26] = [
     "calls.tsv",
     "report.tsv",
     "json.tsv",
@@ -34,6 +34,7 @@ const TABLES: [&str; 25] = [
     "short.tsv",
     "typed.tsv",
     "prefixes.tsv",
+    "report-lines.tsv",
 ];
 
 /// Prints each line whose answer is another one here, then the counts. Gives whether all lines

@@ -1,0 +1,54 @@
+//! What is known of short numbers.
+ghost use Rattle.std.specs.Prelude.{◌≡◌, IfOk, string_bytes};
+ghost use Rattle.phone_cli.specs.ShortLines.{short_fields, yes_or_no};
+
+use crate::lines::LineTaker;
+use crate::takers::push_text;
+use phone_short::{ShortFacts, short_facts};
+use phonenumber::country::Id;
+use phonenumber::metadata::Database;
+use std::alloc::{AllocError, Global};
+
+/// Six answers on each line, as a short number that is dialled in a region.
+#[derive(Drop)]
+pub(crate) struct Shorts<'d> {
+    /// The database of short numbers.
+    pub database: &'d Database,
+    /// The region.
+    pub region: Id,
+}
+
+impl<'d> LineTaker for Shorts<'d> {
+    fn take(
+        &mut self,
+        alloc: Global,
+        line: &[u8],
+        answers: &mut Vec<u8>,
+    ) -> Result<(), AllocError> {
+        let text = String::from_utf8_lossy(alloc, line)?;
+        let facts = short_facts(self.database, self.region, text.as_str())?;
+        let fields = short_fields(alloc, facts)?;
+        push_text(answers, fields.as_str())?;
+        push_text(answers, "\n")
+    }
+}
+
+/// The six answers on a short number, parted by tabs: whether its count of digits is possible,
+/// whether it is valid, its cost, whether only some carriers connect it, whether it is an emergency
+/// number, and whether it reaches emergency services. Refused only for memory.
+fn short_fields(alloc: Global, facts: ShortFacts) -> Result<String, AllocError>
+    ensures { IfOk result (λ t. string_bytes t ≡ short_fields facts) }
+{
+    let (possible, valid) = (yes_or_no(facts.is_possible), yes_or_no(facts.is_valid));
+    let (cost, carrier) = (facts.cost.as_str(), yes_or_no(facts.is_carrier_specific));
+    let emergency = yes_or_no(facts.is_emergency);
+    let reaches = yes_or_no(facts.reaches_emergency);
+    format!(in alloc; "{possible}\t{valid}\t{cost}\t{carrier}\t{emergency}\t{reaches}")
+}
+
+/// The word `yes` or `no`.
+fn yes_or_no(holds: bool) -> &'static str
+    ensures { result.now ≡ yes_or_no holds }
+{
+    if holds { "yes" } else { "no" }
+}

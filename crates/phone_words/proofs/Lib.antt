@@ -1,0 +1,3 @@
+pub mod ModeLemmas
+pub mod NameLemmas
+pub mod PartLemmas

@@ -1,0 +1,7 @@
+pub mod Calls
+pub mod Commands
+pub mod Delimiters
+pub mod Names
+pub mod Options
+pub mod Parts
+pub mod RuleNames
