@@ -26,6 +26,12 @@ void __wrap_free(void *p) { blocks -= p != NULL, __real_free(p); }
 
 static const char SMALL[] = "[{\"id\": \"001\", \"country_code\": 999,"
     "\"general\": {\"national_number\": \"[1-9]\\\\d\\\\d\", \"possible_length\": [3]}}]";
+/* Short numbers of one region, and a table of prefixes. */
+static const char SHORT[] = "[{\"id\": \"NZ\", \"country_code\": 64,"
+    "\"general\": {\"national_number\": \"1\\\\d\\\\d\", \"possible_length\": [3]},"
+    "\"emergency\": {\"national_number\": \"111\", \"possible_length\": [3]},"
+    "\"short_code\": {\"national_number\": \"1\\\\d\\\\d\", \"possible_length\": [3]}}]";
+static const char PREFIXES[] = "64\tNew Zealand\r\n643\tSouth Island\n1\t";
 static uint8_t out[4096];
 static size_t wrote;
 static phone_number number;
@@ -44,12 +50,26 @@ static uint32_t parse(phone_handle *h, const char *hint, const void *text, size_
     memset(&number, 0x55, sizeof number);
     return phone_parse(h, phone_text(hint, strlen(hint)), strlen(hint), phone_text(text, len), len, &number, out, room, &wrote);
 }
-/* The calls, by a number, each on the same text. */
-enum { CALLS = 8 };
+static uint32_t parse_by(phone_handle *h, uint32_t rules, const char *hint, const char *text) {
+    fill();
+    memset(&number, 0x55, sizeof number);
+    return phone_parse_by(h, rules, phone_text(hint, strlen(hint)), strlen(hint), phone_text(text, strlen(text)), strlen(text),
+                          &number, out, sizeof out, &wrote);
+}
+static uint32_t shown(phone_handle *h, const char *hint, const void *keys, size_t len, size_t room) {
+    fill();
+    return phone_typing_shown(h, phone_text(hint, strlen(hint)), strlen(hint), phone_text(keys, len), len, out, room, &wrote);
+}
+static uint32_t caret(phone_handle *h, const char *keys, size_t n, size_t *told) {
+    return phone_typing_caret(h, phone_text("", 0), 0, phone_text(keys, strlen(keys)), strlen(keys), n, told);
+}
+/* The calls, by a number, each on the same text; those up to ROOMS write to a buffer. */
+enum { ROOMS = 11, CALLS = 16 };
 static uint32_t call(int which, phone_handle *h, const phone_number *n, const uint8_t *bytes, size_t len, size_t room) {
     const char *text = "+64 3 331 6005 ext. 12";
     uint32_t status, kind = 99;
     uint8_t flag = 99;
+    size_t place = 99;
     fill();
     switch (which) {
     case 0: return report(h, "NZ", text, strlen(text), room);
@@ -58,12 +78,20 @@ static uint32_t call(int which, phone_handle *h, const phone_number *n, const ui
     case 3: return phone_format(h, n, bytes, len, PHONE_RFC3966, out, room, &wrote);
     case 4: return phone_region(h, n, out, room, &wrote);
     case 5: return phone_key(n, out, room, &wrote);
-    case 6: return status = phone_kind(h, n, &kind), kind == (status ? 99 : PHONE_FIXED_LINE) ? status : 98;
+    case 6: return phone_report_by(h, PHONE_LIBRARY, B("NZ"), (const uint8_t *)text, strlen(text), out, room, &wrote);
+    case 7: return phone_parse_by(h, PHONE_LIBRARY, B("NZ"), (const uint8_t *)text, strlen(text), &number, out, room, &wrote);
+    case 8: return phone_format_by(h, PHONE_LIBRARY, n, bytes, len, PHONE_NATIONAL, out, room, &wrote);
+    case 9: return phone_region_by(h, PHONE_LIBRARY, n, out, room, &wrote);
+    case 10: return shown(h, "NZ", "033316005", 9, room);
+    case 11: return status = phone_kind(h, n, &kind), kind == (status ? 99 : PHONE_FIXED_LINE) ? status : 98;
+    case 12: return status = phone_kind_by(h, PHONE_LIBRARY, n, &kind), kind == (status ? 99 : PHONE_FIXED_LINE) ? status : 98;
+    case 13: return status = phone_is_valid_by(h, PHONE_LIBRARY, n, &flag), flag == (status ? 99 : 1) ? status : 98;
+    case 14: return status = caret(h, "+6433316005", 4, &place), place == (status ? 99 : 5) ? status : 98;
     default: return status = phone_is_valid(h, n, &flag), flag == (status ? 99 : 1) ? status : 98;
     }
 }
 static int every_room(phone_handle *h, const phone_number *n, const uint8_t *bytes, size_t bytes_len) {
-    for (int which = 0; which < 6; which++) {
+    for (int which = 0; which < ROOMS; which++) {
         uint8_t whole[4096];
         size_t len, room;
         CHECK(200 + which, call(which, h, n, bytes, bytes_len, sizeof out) == PHONE_OK && is_untouched(wrote));
@@ -149,10 +177,120 @@ static int small(void) {
     CHECK(34, blocks == 0);
     return 0;
 }
+static int by_rules(void) {
+    phone_handle h = PHONE_CLOSED;
+    uint32_t kind = 9;
+    uint8_t flag = 9;
+    CHECK(600, parse_by(&h, 2, "", "1") == PHONE_NO_RULES && wrote == 0 && is_untouched(0) && number.zeros == 0x55);
+    CHECK(601, parse_by(&h, PHONE_LIBRARY, "", "1") == PHONE_IS_CLOSED);
+    CHECK(602, phone_open(B(SMALL), &h) == PHONE_OK);
+    CHECK(603, parse_by(&h, UINT32_MAX, "xx", "\xff") == PHONE_NO_RULES && h.at);
+    CHECK(604, parse_by(&h, PHONE_LIBRARY, "xx", "\xff") == PHONE_NO_REGION);
+    CHECK(605, parse_by(&h, PHONE_CRATE, "", "\xff") == PHONE_NOT_UTF8 && number.zeros == 0x55);
+    CHECK(606, parse_by(&h, PHONE_LIBRARY, "", "call me") == PHONE_NO_NUMBER);
+    CHECK(607, parse_by(&h, PHONE_LIBRARY, "", "+999 234 ext. 567") == PHONE_OK && number.value == 234 && wrote == 3);
+    CHECK(608, phone_kind_by(&h, 2, &number, &kind) == PHONE_NO_RULES && kind == 9);
+    CHECK(609, phone_is_valid_by(&h, 2, &number, &flag) == PHONE_NO_RULES && flag == 9);
+    fill();
+    CHECK(610, phone_region_by(&h, 2, &number, out, 9, &wrote) == PHONE_NO_RULES && wrote == 0 && is_untouched(0));
+    CHECK(611, phone_format_by(&h, 2, &number, B("567"), 9, out, 9, &wrote) == PHONE_NO_RULES && wrote == 0 && is_untouched(0));
+    CHECK(612, phone_format_by(&h, PHONE_LIBRARY, &number, B("567"), 9, out, 9, &wrote) == PHONE_NO_MODE);
+    CHECK(613, phone_report_by(&h, 2, B("NZ"), B("1"), out, 9, &wrote) == PHONE_NO_RULES && wrote == 0 && is_untouched(0));
+    /* The carrier is printed by the rules of the crate alone, and looked at by both. */
+    number.carrier.is_there = 1, number.carrier.start = 9, number.carrier.len = 1;
+    CHECK(614, phone_format_by(&h, PHONE_LIBRARY, &number, B("567"), 2, out, 99, &wrote) == PHONE_BAD_NUMBER);
+    phone_close(&h);
+    CHECK(615, blocks == 0);
+    return 0;
+}
+static int typing(void) {
+    phone_handle h = PHONE_CLOSED;
+    size_t place = 9;
+    static char many[10000];
+    CHECK(700, shown(&h, "", "1", 1, 9) == PHONE_IS_CLOSED && wrote == 0 && is_untouched(0));
+    CHECK(701, caret(&h, "1", 1, &place) == PHONE_IS_CLOSED && place == 9);
+    CHECK(702, phone_open(B(SMALL), &h) == PHONE_OK);
+    CHECK(703, shown(&h, "xx", "1", 1, 9) == PHONE_NO_REGION && shown(&h, "", "\xff", 1, 9) == PHONE_NOT_UTF8 && wrote == 0);
+    CHECK(704, shown(&h, "", NULL, 0, 0) == PHONE_OK && wrote == 0);
+    CHECK(705, shown(&h, "", "+999 1", 6, sizeof out) == PHONE_OK && wrote == 6 && !memcmp(out, "+999 1", 6) && is_untouched(6));
+    CHECK(706, shown(&h, "", "a\0+9", 4, 2) == PHONE_OK && wrote == 2 && !memcmp(out, "+9", 2));
+    CHECK(707, caret(&h, "+9991", SIZE_MAX, &place) == PHONE_OK && place == 6);
+    CHECK(708, caret(&h, "+9991", 0, &place) == PHONE_OK && place == 0);
+    CHECK(709, caret(&h, "+9991", 4, &place) == PHONE_OK && place == 4);
+    CHECK(710, caret(&h, "+9991", 5, &place) == PHONE_OK && place == 6);
+    memset(many, '7', sizeof many);
+    CHECK(711, shown(&h, "", many, sizeof many, sizeof out) == PHONE_TOO_SMALL && wrote >= sizeof many && is_untouched(0));
+    phone_close(&h);
+    CHECK(712, blocks == 0);
+    return 0;
+}
+static int shorts(void) {
+    phone_handle h = PHONE_CLOSED;
+    phone_short_facts facts = {9, 9, 9, 9, 9, 9};
+    CHECK(800, phone_short(&h, B("NZ"), B("111"), &facts) == PHONE_IS_CLOSED && facts.cost == 9);
+    CHECK(801, phone_open(B(SHORT), &h) == PHONE_OK);
+    CHECK(802, phone_short(&h, B("xx"), B("111"), &facts) == PHONE_NO_REGION && facts.cost == 9);
+    CHECK(803, phone_short(&h, phone_text(NULL, 0), 0, B("111"), &facts) == PHONE_NO_REGION && facts.cost == 9);
+    CHECK(804, phone_short(&h, B("NZ"), B("\xff"), &facts) == PHONE_NOT_UTF8 && facts.cost == 9);
+    CHECK(805, phone_short(&h, B("NZ"), B("111"), &facts) == PHONE_OK && facts.cost == PHONE_COST_TOLL_FREE && facts.is_possible == 1
+        && facts.is_valid == 1 && facts.is_carrier_specific == 0 && facts.is_emergency == 1 && facts.reaches_emergency == 1);
+    CHECK(806, phone_short(&h, B("NZ"), B("1112"), &facts) == PHONE_OK && facts.cost == PHONE_COST_UNKNOWN && facts.is_possible == 0
+        && facts.is_valid == 0 && facts.is_emergency == 0 && facts.reaches_emergency == 1);
+    CHECK(807, phone_short(&h, B("US"), B("911"), &facts) == PHONE_OK && facts.is_possible == 0 && facts.reaches_emergency == 0);
+    for (long k = 0;; k++) {
+        requests = 0, refuse_at = k, facts.cost = 9;
+        uint32_t status = phone_short(&h, B("NZ"), B("111"), &facts);
+        refuse_at = -1;
+        CHECK(808, status == PHONE_OK ? facts.cost == PHONE_COST_TOLL_FREE : requests > k && status == PHONE_MEMORY && facts.cost == 9);
+        if (requests <= k) break;
+    }
+    phone_close(&h);
+    CHECK(809, blocks == 0);
+    return 0;
+}
+static uint32_t longest(phone_prefixes *p, const char *digits, size_t room, size_t *prefix) {
+    fill();
+    return phone_prefixes_longest(p, phone_text(digits, strlen(digits)), strlen(digits), out, room, &wrote, prefix);
+}
+static int prefixes(void) {
+    phone_prefixes p = PHONE_CLOSED;
+    size_t line = 9, prefix = 9;
+    phone_prefixes_close(&p);
+    CHECK(900, longest(&p, "64", 9, &prefix) == PHONE_IS_CLOSED && wrote == 0 && is_untouched(0) && prefix == 9);
+    CHECK(901, phone_prefixes_open(B("1\ta\n\n"), &p, &line) == PHONE_LINE_EMPTY && line == 2 && !p.at);
+    CHECK(902, phone_prefixes_open(B("1 a"), &p, &line) == PHONE_LINE_NO_TAB && line == 1 && !p.at);
+    CHECK(903, phone_prefixes_open(B("1\ta\n1234567890123456\ta"), &p, &line) == PHONE_LINE_NO_PREFIX && line == 2);
+    CHECK(904, phone_prefixes_open(B("1\t\xff"), &p, &line) == PHONE_LINE_NOT_UTF8 && line == 1);
+    CHECK(905, phone_prefixes_open(B("1\ta\n2\tb\n1\tc"), &p, &line) == PHONE_LINE_TWICE && line == 3 && !p.at);
+    CHECK(906, phone_prefixes_open(phone_text(NULL, 0), 0, &p, &line) == PHONE_OK && line == 0 && p.at);
+    CHECK(907, longest(&p, "64", 9, &prefix) == PHONE_NO_PREFIX && wrote == 0 && is_untouched(0) && prefix == 9);
+    CHECK(908, phone_prefixes_open(B(PREFIXES), &p, &line) == PHONE_OK && line == 0 && p.at);
+    CHECK(909, longest(&p, "6433316005", sizeof out, &prefix) == PHONE_OK && wrote == 12 && prefix == 3
+        && !memcmp(out, "South Island", 12) && is_untouched(12));
+    CHECK(910, longest(&p, "6421", sizeof out, &prefix) == PHONE_OK && wrote == 11 && prefix == 2 && !memcmp(out, "New Zealand", 11));
+    CHECK(911, longest(&p, "12", sizeof out, &prefix) == PHONE_OK && wrote == 0 && prefix == 1 && is_untouched(0));
+    prefix = 9;
+    CHECK(912, longest(&p, "643", 11, &prefix) == PHONE_TOO_SMALL && wrote == 12 && is_untouched(0) && prefix == 9);
+    CHECK(913, longest(&p, "6", sizeof out, &prefix) == PHONE_NO_PREFIX && longest(&p, "", 0, &prefix) == PHONE_NO_PREFIX);
+    CHECK(914, longest(&p, "\xff", sizeof out, &prefix) == PHONE_NOT_UTF8 && wrote == 0 && prefix == 9);
+    phone_prefixes_close(&p);
+    phone_prefixes_close(&p);
+    CHECK(915, !p.at && blocks == 0);
+    for (long k = 0;; k++) { /* opening it, each request refused in turn */
+        requests = 0, refuse_at = k;
+        uint32_t status = phone_prefixes_open(B(PREFIXES), &p, &line);
+        refuse_at = -1;
+        CHECK(916, line == 0 && (status == PHONE_OK ? p.at != NULL : requests > k && status == PHONE_MEMORY && !p.at && blocks == 0));
+        if (requests <= k) break;
+    }
+    phone_prefixes_close(&p);
+    CHECK(917, blocks == 0);
+    return 0;
+}
 int main(int argc, char **argv) {
     long rounds = argc > 2 ? atol(argv[2]) : 100, most = 0;
-    int wrong = small();
-    if (wrong) return wrong;
+    int wrong;
+    if ((wrong = small()) || (wrong = by_rules()) || (wrong = typing()) || (wrong = shorts()) || (wrong = prefixes())) return wrong;
     CHECK(100, phone_version() == PHONE_VERSION);
     fill();
     CHECK(104, phone_table_version(out, sizeof out, &wrote) == PHONE_OK && wrote == 21

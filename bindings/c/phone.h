@@ -1,9 +1,9 @@
-/* Phone numbers, read and printed as crates/phone_c proves it. Written by hand: nothing compares it
- * with crates/phone_c/src/lib.rt.
+/* Phone numbers, read and printed as crates/phone_c proves it. Written by hand: the names, arguments
+ * and numbers are compared with crates/phone_c by bindings/declarations.py.
  *
  * What a caller owes, and nothing checks:
  *   - A handle begins as PHONE_CLOSED, and only these calls write it. It is not copied: two copies
- *     would own one database.
+ *     would own one database. So with a table of prefixes.
  *   - One call at a time on a handle, on the thread that opened it; not from a signal handler, nor in
  *     the forked child of a process with threads. Each thread that reads has a handle of its own; the
  *     table of the world takes some 57 MB for each.
@@ -22,9 +22,21 @@
 extern "C" {
 #endif
 
-/* A handle, or nothing open where `at` is null. `at` is neither read nor written by the caller. */
+/* A handle, or nothing open where `at` is null. `at` is neither read nor written by the caller.
+ * PHONE_CLOSED begins one: phone_handle world = PHONE_CLOSED; phone_closed() is the same as a value. */
 typedef struct { void *at; } phone_handle;
-#define PHONE_CLOSED ((phone_handle){0})
+#define PHONE_CLOSED {0}
+static inline phone_handle phone_closed(void) {
+    phone_handle handle = PHONE_CLOSED;
+    return handle;
+}
+
+/* The same of a table of prefixes. */
+typedef struct { void *at; } phone_prefixes;
+static inline phone_prefixes phone_prefixes_closed(void) {
+    phone_prefixes prefixes = PHONE_CLOSED;
+    return prefixes;
+}
 
 /* What a call answers. 1 to 6 are the numbers of the errors: of a text that is no number
  * (phone_parse), or of a text that is no database (phone_open). */
@@ -32,7 +44,7 @@ enum {
     PHONE_OK = 0,
     PHONE_NO_NUMBER = 1,             /* phone_parse: it is no phone number */
     PHONE_INVALID_COUNTRY_CODE = 2,  /* phone_parse: no calling code is known for it */
-    PHONE_TOO_SHORT_AFTER_IDD = 3,   /* phone_parse: never answered; the original's number for it */
+    PHONE_TOO_SHORT_AFTER_IDD = 3,   /* phone_parse_by: too few digits behind an international prefix */
     PHONE_TOO_SHORT_NSN = 4,         /* phone_parse: too few digits for a national number */
     PHONE_TOO_LONG = 5,              /* phone_parse: too many */
     PHONE_MALFORMED_INTEGER = 6,     /* phone_parse: digits that are no number, as zeros alone */
@@ -49,8 +61,20 @@ enum {
     PHONE_UNKNOWN_CODE = 20,         /* no territory of the database has the number's calling code */
     PHONE_BAD_NUMBER = 21,           /* the plain numbers and bytes are no phone number */
     PHONE_NO_MODE = 22,              /* the mode is none of the four */
-    PHONE_NO_REFUSAL = 23            /* no refusal of a text has the number */
+    PHONE_NO_REFUSAL = 23,           /* no refusal of a text has the number */
+    PHONE_NO_RULES = 24,             /* the rules are neither of the two */
+    PHONE_LINE_EMPTY = 25,           /* phone_prefixes_open: the line is empty */
+    PHONE_LINE_NO_TAB = 26,          /* phone_prefixes_open: no tab stands in the line */
+    PHONE_LINE_NO_PREFIX = 27,       /* phone_prefixes_open: before the tab stand not 1 to 15 digits */
+    PHONE_LINE_NOT_UTF8 = 28,        /* phone_prefixes_open: what stands after the tab is not UTF-8 */
+    PHONE_LINE_TWICE = 29,           /* phone_prefixes_open: an earlier line has the prefix */
+    PHONE_NO_PREFIX = 30             /* phone_prefixes_longest: no prefix begins the digits */
 };
+
+/* By whose rules a text is read and a number described: those of libphonenumber, or those of the Rust
+ * crate phonenumber 0.3.10. The calls that end in _by take them; each call beside one of these is the
+ * same by the rules of the crate. */
+enum { PHONE_LIBRARY = 0, PHONE_CRATE = 1 };
 
 /* Where a text stands that may be absent, in bytes beside the number. */
 typedef struct {
@@ -79,6 +103,20 @@ enum {
     PHONE_SHARED_COST, PHONE_PERSONAL_NUMBER, PHONE_VOIP, PHONE_PAGER, PHONE_UAN, PHONE_EMERGENCY,
     PHONE_VOICEMAIL, PHONE_SHORT_CODE, PHONE_STANDARD_RATE, PHONE_CARRIER, PHONE_NO_INTERNATIONAL,
     PHONE_UNKNOWN
+};
+
+/* What is known of a text as a short number of a region. Each but the cost is 1, else 0. */
+typedef struct {
+    uint32_t cost;               /* what a call costs: PHONE_COST_TOLL_FREE .. */
+    uint8_t is_possible;         /* the count of its digits is possible */
+    uint8_t is_valid;            /* it is a short number of the region */
+    uint8_t is_carrier_specific; /* only some carriers connect it */
+    uint8_t is_emergency;        /* it is an emergency number */
+    uint8_t reaches_emergency;   /* it reaches emergency services */
+} phone_short_facts;
+enum {
+    PHONE_COST_TOLL_FREE = 0, PHONE_COST_STANDARD_RATE = 1, PHONE_COST_PREMIUM_RATE = 2,
+    PHONE_COST_UNKNOWN = 3
 };
 
 /* A text of length 0 may be null for the caller, but not for a call. */
@@ -135,6 +173,73 @@ uint32_t phone_region(phone_handle *handle, const phone_number *number, uint8_t 
 /* Tells whether a number is valid: 1, else 0. Its statuses are those of phone_kind. */
 uint32_t phone_is_valid(phone_handle *handle, const phone_number *number, uint8_t *told);
 
+/* The six calls above by rules: PHONE_LIBRARY or PHONE_CRATE. PHONE_NO_RULES exactly where the rules
+ * are above 1, before all else; each other status as the call above has it. By the rules of
+ * libphonenumber a number is printed without its carrier's code; phone_format_by looks at the
+ * number's texts all the same. */
+uint32_t phone_report_by(phone_handle *handle, uint32_t rules, const uint8_t *hint, size_t hint_len,
+                         const uint8_t *line, size_t line_len, uint8_t *out, size_t out_len,
+                         size_t *wrote);
+uint32_t phone_parse_by(phone_handle *handle, uint32_t rules, const uint8_t *hint, size_t hint_len,
+                        const uint8_t *text, size_t text_len, phone_number *number, uint8_t *out,
+                        size_t out_len, size_t *wrote);
+uint32_t phone_format_by(phone_handle *handle, uint32_t rules, const phone_number *number,
+                         const uint8_t *bytes, size_t bytes_len, uint32_t mode, uint8_t *out,
+                         size_t out_len, size_t *wrote);
+uint32_t phone_kind_by(phone_handle *handle, uint32_t rules, const phone_number *number,
+                       uint32_t *told);
+uint32_t phone_region_by(phone_handle *handle, uint32_t rules, const phone_number *number, uint8_t *out,
+                         size_t out_len, size_t *wrote);
+uint32_t phone_is_valid_by(phone_handle *handle, uint32_t rules, const phone_number *number,
+                           uint8_t *told);
+
+/* Writes what is shown of a number while it is typed, by libphonenumber's layouts, to the front of
+ * `out`, and its length to `wrote`: of the keys of all that was typed so far. `keys` is a text in
+ * UTF-8, whose keys are its digits of any script and a plus sign before all of them; its other
+ * characters are no keys and change nothing. What is shown is these keys, the digits as 0 to 9, with
+ * spaces, round brackets, hyphens and full stops between them. The hint is the region that digits
+ * without a plus sign are dialled in, as phone_report takes it. A handle holds nothing of what is
+ * typed: each call is given all of it. PHONE_IS_CLOSED, PHONE_NO_REGION, PHONE_TOO_SMALL and
+ * PHONE_MEMORY as phone_report has them; else PHONE_NOT_UTF8 exactly where the keys aren't UTF-8. */
+uint32_t phone_typing_shown(phone_handle *handle, const uint8_t *hint, size_t hint_len,
+                            const uint8_t *keys, size_t keys_len, uint8_t *out, size_t out_len,
+                            size_t *wrote);
+
+/* Tells after how many characters of what phone_typing_shown shows of these keys the n-th key stands,
+ * counted from 1: where the caret stands after it. 0 for no key, all characters from the last key on.
+ * Each character that is shown is one byte. Its statuses are those of phone_typing_shown, but for
+ * PHONE_TOO_SMALL. For each but PHONE_OK `told` is as it was. */
+uint32_t phone_typing_caret(phone_handle *handle, const uint8_t *hint, size_t hint_len,
+                            const uint8_t *keys, size_t keys_len, size_t n, size_t *told);
+
+/* Tells what is known of a text as a short number of a region, under a handle that was opened on a
+ * table of short numbers (data/short.json is one); `region` is the region's id, as "NZ".
+ * PHONE_IS_CLOSED exactly where nothing is open, else PHONE_NO_REGION exactly where the region is no
+ * id, else PHONE_NOT_UTF8 exactly where the text isn't UTF-8; PHONE_MEMORY. For each but PHONE_OK
+ * `facts` is as it was. */
+uint32_t phone_short(phone_handle *handle, const uint8_t *region, size_t region_len,
+                     const uint8_t *text, size_t text_len, phone_short_facts *facts);
+
+/* Opens the table of prefixes that a text is: each line a prefix of 1 to 15 digits, a tab, and a text
+ * in UTF-8; a carriage return at a line's end is dropped. What was open there is closed first.
+ * PHONE_OK: it is open. PHONE_LINE_EMPTY .. PHONE_LINE_TWICE by the first line that is no entry:
+ * `line` is its number, counted from 1, and for all other statuses 0. PHONE_MEMORY. For each but
+ * PHONE_OK the table is closed. */
+uint32_t phone_prefixes_open(const uint8_t *text, size_t text_len, phone_prefixes *prefixes,
+                             size_t *line);
+
+/* Closes a table of prefixes and frees it; nothing where it is closed. */
+void phone_prefixes_close(phone_prefixes *prefixes);
+
+/* Writes the text of the longest prefix that begins these digits, such as those of phone_key after the
+ * plus sign, to the front of `out`, its length to `wrote`, and the length of the prefix to
+ * `prefix_len`. PHONE_IS_CLOSED exactly where nothing is open, else PHONE_NOT_UTF8 exactly where the
+ * digits aren't UTF-8, else PHONE_NO_PREFIX exactly where no prefix begins them; PHONE_TOO_SMALL as
+ * phone_report has it. It takes no memory. For each but PHONE_OK `out` and `prefix_len` are as they
+ * were, and for each but PHONE_OK and PHONE_TOO_SMALL `wrote` is 0. */
+uint32_t phone_prefixes_longest(phone_prefixes *prefixes, const uint8_t *digits, size_t digits_len,
+                                uint8_t *out, size_t out_len, size_t *wrote, size_t *prefix_len);
+
 /* Writes the E.164 text of a number, by which tables are keyed. It needs no database. Equal texts mean
  * equal calling code and national number where no calling code of the database begins another, as in
  * the table of the world. PHONE_BAD_NUMBER as phone_kind has it, PHONE_TOO_SMALL, PHONE_MEMORY. */
@@ -152,7 +257,7 @@ uint32_t phone_refusal_words(uint32_t number, uint8_t *out, size_t out_len, size
 
 /* The version of these calls: PHONE_VERSION where the library fits this header. */
 uint32_t phone_version(void);
-#define PHONE_VERSION 1u
+#define PHONE_VERSION 2u
 
 /* Writes the version of the table that this library was released with, as "libphonenumber 9.0.35", to
  * the front of `out`, and its length to `wrote`; a caller may open another table. It needs no database

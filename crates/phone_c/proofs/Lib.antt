@@ -1,3 +1,9 @@
 pub mod Behind
+pub mod BehindTable
+pub mod CaretPlaces
+pub mod Kept
+pub mod LongestFound
 pub mod OneAnswers
+pub mod OneShown
 pub mod Places
+pub mod Statuses

@@ -6,4 +6,8 @@ pub mod Numbers
 pub mod Openings
 pub mod Owned
 pub mod Parses
+pub mod PrefixTables
+pub mod Rules
+pub mod ShortNumbers
 pub mod TextReports
+pub mod Typing

@@ -7,6 +7,8 @@ use Rattle.std.specs.declared.alloc.Global.{Global}
 use Rattle.std.specs.contracts.impls.GlobalAllocator.TheImpl.{ghosts}
 use Rattle.std_alloc.specs.Box.Ownership.{box_owns}
 use Rattle.phone_meta.specs.contracts.database.Database.{the_row}
+use Rattle.phone_prefixes.specs.Tables.{Entry}
+use Rattle.phone_prefixes.specs.contracts.prefixes.Prefixes as prefixes
 use Rattle.phone_records.specs.declared.loader.Metadata.{Metadata}
 
 -- the heap of the C library: every `Global` is this one, and holds nothing
@@ -20,3 +22,11 @@ boxed_at p records = box_owns (ghosts.dealloc_token c_heap) the_row p records
 -- nothing at null, else the boxed database at p
 abbrev pub handle_owns : Ptr → List Metadata → Fml
 handle_owns p records = if_non_null p (boxed_at p records)
+
+-- at p lies the table of prefixes of these entries, with the right to free its block
+abbrev pub boxed_table_at : Ptr → List Entry → Fml
+boxed_table_at p entries = box_owns (ghosts.dealloc_token c_heap) prefixes.the_row p entries
+
+-- nothing at null, else the boxed table at p
+abbrev pub table_owns : Ptr → List Entry → Fml
+table_owns p entries = if_non_null p (boxed_table_at p entries)

@@ -1,15 +1,18 @@
 //! What a database tells of a number that is given as plain numbers.
 ghost use Rattle.std.specs.Prelude.{◌≡◌, ◌⊎◌, ◌↔◌, if◌then◌else◌, IfOk};
+ghost use Rattle.phone_choice.specs.Facts.{kind_by, region_by};
 ghost use Rattle.phone_print.specs.Texts.{e164_text};
 ghost use Rattle.std.specs.Prelude.{string_bytes};
-ghost use Rattle.phone_c.specs.Answers.{IsKey, IsKind, IsRegion, IsValidity, kind_number};
+ghost use Rattle.phone_c.specs.Answers.{IsKey, IsKindBy, IsRegionBy, IsValidityBy, kind_number};
 ghost use Rattle.phone_c.specs.Buffers.{IsTooLongA, IsWrittenA};
 ghost use Rattle.phone_c.specs.Numbers.{AreNone};
 
 use crate::buffer::give;
 use crate::number::{Number, bare};
 use crate::status::{BAD_NUMBER, MEMORY, OK, TOO_SMALL};
+use phone_choice::{Rules, is_valid_by};
 use phone_meta::Database;
+use phone_values::country::Id;
 use phonenumber::{PhoneNumber, Type};
 use std::alloc::{AllocError, Global};
 
@@ -38,9 +41,33 @@ fn kind_number(kind: Type) -> u32
     }
 }
 
-/// The kind of a number.
-pub(crate) fn kind(database: &Database, number: &Number, kind: &mut u32) -> u32
-    ensures told { result ≡ OK → IsKind database.now number.now kind.new }
+/// The kind of a number by rules.
+fn kind_by(rules: Rules, database: &Database, number: &PhoneNumber) -> Result<Type, AllocError>
+    ensures { IfOk result (λ kind. kind ≡ kind_by rules database.now number.now) }
+{
+    match rules {
+        Rules::Library => phone_library::number_type(database, number),
+        Rules::Crate => number.number_type(database),
+    }
+}
+
+/// The region of a number by rules.
+fn region_by(
+    rules: Rules,
+    database: &Database,
+    number: &PhoneNumber,
+) -> Result<Option<Id>, AllocError>
+    ensures { IfOk result (λ id. id ≡ region_by rules database.now number.now) }
+{
+    match rules {
+        Rules::Library => phone_library::region(database, number),
+        Rules::Crate => number.country().id(database),
+    }
+}
+
+/// The kind of a number by rules, by the kind's number.
+pub(crate) fn kind(rules: Rules, database: &Database, number: &Number, kind: &mut u32) -> u32
+    ensures told { result ≡ OK → IsKindBy rules database.now number.now kind.new }
     ensures bad { (result ≡ BAD_NUMBER) ↔ AreNone number.now }
     ensures other { ¬ (result ≡ OK) → ¬ (result ≡ BAD_NUMBER) → result ≡ MEMORY }
     ensures untouched { ¬ (result ≡ OK) → kind.new ≡ kind.old }
@@ -48,7 +75,7 @@ pub(crate) fn kind(database: &Database, number: &Number, kind: &mut u32) -> u32
     let Some(number) = bare(number) else {
         return BAD_NUMBER;
     };
-    match number.number_type(database) {
+    match kind_by(rules, database, &number) {
         Ok(told) => {
             *kind = kind_number(told);
             OK
@@ -57,9 +84,9 @@ pub(crate) fn kind(database: &Database, number: &Number, kind: &mut u32) -> u32
     }
 }
 
-/// Whether a number is valid: 1, else 0.
-pub(crate) fn validity(database: &Database, number: &Number, valid: &mut u8) -> u32
-    ensures told { result ≡ OK → IsValidity database.now number.now valid.new }
+/// Whether a number is valid by rules: 1, else 0.
+pub(crate) fn validity(rules: Rules, database: &Database, number: &Number, valid: &mut u8) -> u32
+    ensures told { result ≡ OK → IsValidityBy rules database.now number.now valid.new }
     ensures bad { (result ≡ BAD_NUMBER) ↔ AreNone number.now }
     ensures other { ¬ (result ≡ OK) → ¬ (result ≡ BAD_NUMBER) → result ≡ MEMORY }
     ensures untouched { ¬ (result ≡ OK) → valid.new ≡ valid.old }
@@ -67,7 +94,7 @@ pub(crate) fn validity(database: &Database, number: &Number, valid: &mut u8) -> 
     let Some(number) = bare(number) else {
         return BAD_NUMBER;
     };
-    match number.is_valid_with(database) {
+    match is_valid_by(rules, database, &number) {
         Ok(told) => {
             *valid = if told { 1 } else { 0 };
             OK
@@ -76,12 +103,18 @@ pub(crate) fn validity(database: &Database, number: &Number, valid: &mut u8) -> 
     }
 }
 
-/// The id of a number's region, in a buffer; no byte where it has none.
-pub(crate) fn region(database: &Database, number: &Number, out: &mut [u8], wrote: &mut usize) -> u32
+/// The id of a number's region by rules, in a buffer; no byte where it has none.
+pub(crate) fn region(
+    rules: Rules,
+    database: &Database,
+    number: &Number,
+    out: &mut [u8],
+    wrote: &mut usize,
+) -> u32
     ensures written { result ≡ OK →
-        IsWrittenA (IsRegion database.now number.now) out.old out.new wrote.new }
+        IsWrittenA (IsRegionBy rules database.now number.now) out.old out.new wrote.new }
     ensures too_small { result ≡ TOO_SMALL →
-        IsTooLongA (IsRegion database.now number.now) out.old out.new wrote.new }
+        IsTooLongA (IsRegionBy rules database.now number.now) out.old out.new wrote.new }
     ensures bad { (result ≡ BAD_NUMBER) ↔ AreNone number.now }
     ensures other { ¬ (result ≡ OK) → ¬ (result ≡ TOO_SMALL) → ¬ (result ≡ BAD_NUMBER) →
         result ≡ MEMORY }
@@ -92,7 +125,7 @@ pub(crate) fn region(database: &Database, number: &Number, out: &mut [u8], wrote
     let Some(number) = bare(number) else {
         return BAD_NUMBER;
     };
-    match number.country().id(database) {
+    match region_by(rules, database, &number) {
         Ok(Some(id)) => give(id.as_str().as_bytes(), out, wrote),
         Ok(None) => give(b"", out, wrote),
         Err(_) => MEMORY,

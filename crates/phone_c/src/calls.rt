@@ -16,6 +16,7 @@ use crate::print::print;
 use crate::status::{
     BAD_NUMBER, CLOSED, MEMORY, NO_MODE, NO_REGION, NOT_UTF8, OK, TOO_SMALL, UNKNOWN_CODE,
 };
+use phone_choice::Rules;
 use std::alloc::Global;
 
 /// Reads a text as a phone number, under the hint that `phone_report` takes, as `parse_with` reads
@@ -56,7 +57,7 @@ pub extern "C" fn phone_parse(
     let Some(database) = take(alloc, handle) else {
         return CLOSED;
     };
-    let status = parse(&*database, hint, text, number, out, wrote);
+    let status = parse(Rules::Crate, &*database, hint, text, number, out, wrote);
     put(alloc, handle, database);
     status
 }
@@ -101,7 +102,16 @@ pub extern "C" fn phone_format(
     let Some(database) = take(alloc, handle) else {
         return CLOSED;
     };
-    let status = print(alloc, &*database, number, bytes, mode, out, wrote);
+    let status = print(
+        alloc,
+        Rules::Crate,
+        &*database,
+        number,
+        bytes,
+        mode,
+        out,
+        wrote,
+    );
     put(alloc, handle, database);
     status
 }
@@ -131,7 +141,7 @@ pub extern "C" fn phone_kind(
     let Some(database) = take(alloc, handle) else {
         return CLOSED;
     };
-    let status = kind(&*database, number, told);
+    let status = kind(Rules::Crate, &*database, number, told);
     put(alloc, handle, database);
     status
 }
@@ -165,7 +175,7 @@ pub extern "C" fn phone_region(
     let Some(database) = take(alloc, handle) else {
         return CLOSED;
     };
-    let status = region(&*database, number, out, wrote);
+    let status = region(Rules::Crate, &*database, number, out, wrote);
     put(alloc, handle, database);
     status
 }
@@ -190,7 +200,7 @@ pub extern "C" fn phone_is_valid(
     let Some(database) = take(alloc, handle) else {
         return CLOSED;
     };
-    let status = validity(&*database, number, told);
+    let status = validity(Rules::Crate, &*database, number, told);
     put(alloc, handle, database);
     status
 }

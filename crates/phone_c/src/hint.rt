@@ -21,7 +21,7 @@ pub(crate) fn hint_of(bytes: &[u8]) -> Option<Option<Id>>
 }
 
 /// The region whose id bytes are.
-fn id_of(bytes: &[u8]) -> Option<Id>
+pub(crate) fn id_of(bytes: &[u8]) -> Option<Id>
     ensures { result ≡ id_of bytes.now }
 {
     find_id(&ALL, bytes)

@@ -17,6 +17,7 @@ ghost use Rattle.phone_c.specs.TextReports.{IsReportOf};
 
 mod asked;
 mod buffer;
+mod by_rules;
 mod calls;
 mod handle;
 mod hint;
@@ -24,11 +25,16 @@ pub mod laws;
 pub mod number;
 mod opening;
 mod parse;
+mod prefixes;
 mod print;
 mod raw_box;
 mod refusal;
 mod report;
+mod rules;
+pub mod short;
 pub mod status;
+mod table;
+mod typing;
 
 use buffer::give;
 use handle::{Handle, put, take};
@@ -160,7 +166,7 @@ pub extern "C" fn phone_version() -> u32
 }
 
 /// The version of these calls.
-pub const VERSION: u32 = 1;
+pub const VERSION: u32 = 2;
 
 /// Writes the version of the table of the world that this library was released with: whose numbers
 /// it has, and which release of them. A caller may open another table.

@@ -3,14 +3,15 @@ ghost use Rattle.std.specs.Prelude.{◌≡◌, ◌⊎◌, ◌↔◌, None, IsUtf
 ghost use Rattle.phone_c.specs.Buffers.{IsTooLong, IsWritten};
 ghost use Rattle.phone_c.specs.Hints.{hint_of};
 ghost use Rattle.phone_c.specs.Numbers.{IsNumber, texts_of};
-ghost use Rattle.phone_c.specs.Parses.{IsParsed, IsParsedTooLong, IsRefusedAs};
+ghost use Rattle.phone_c.specs.Parses.{IsParsedBy, IsParsedTooLongBy, IsRefusedAsBy};
 
 use crate::buffer::give_two;
 use crate::hint::hint_of;
 use crate::number::{Number, carrier_of, extension_of, number_of, or_empty, part_of};
 use crate::status::{MEMORY, NO_REGION, NOT_UTF8, OK, TOO_SMALL};
+use phone_choice::{Rules, parse_by};
 use phone_meta::Database;
-use phonenumber::{PhoneNumber, parse_with};
+use phonenumber::PhoneNumber;
 
 /// The plain numbers of a number, its texts at the front of a buffer, and their length; only the
 /// length where the buffer is too short.
@@ -33,8 +34,9 @@ fn write_number(read: &PhoneNumber, number: &mut Number, out: &mut [u8], wrote: 
     status
 }
 
-/// Reads a text under a database and a hint into plain numbers and a buffer.
+/// Reads a text by rules, under a database and a hint, into plain numbers and a buffer.
 pub(crate) fn parse(
+    rules: Rules,
     database: &Database,
     hint: &[u8],
     text: &[u8],
@@ -43,15 +45,15 @@ pub(crate) fn parse(
     wrote: &mut usize,
 ) -> u32
     ensures read { result ≡ OK →
-        IsParsed database.now hint.now text.now number.new out.old out.new wrote.new }
+        IsParsedBy rules database.now hint.now text.now number.new out.old out.new wrote.new }
     ensures too_small { result ≡ TOO_SMALL →
-        IsParsedTooLong database.now hint.now text.now out.old out.new wrote.new }
+        IsParsedTooLongBy rules database.now hint.now text.now out.old out.new wrote.new }
     ensures no_region { (result ≡ NO_REGION) ↔ (hint_of hint.now ≡ None) }
     ensures not_utf8 { (result ≡ NOT_UTF8) ↔
         (¬ (hint_of hint.now ≡ None) × ¬ (IsUtf8 text.now)) }
     ensures refused { ¬ (result ≡ OK) → ¬ (result ≡ TOO_SMALL) → ¬ (result ≡ NO_REGION) →
         ¬ (result ≡ NOT_UTF8) →
-        (result ≡ MEMORY) ⊎ IsRefusedAs database.now hint.now text.now result }
+        (result ≡ MEMORY) ⊎ IsRefusedAsBy rules database.now hint.now text.now result }
     ensures untouched { ¬ (result ≡ OK) → out.new ≡ out.old }
     ensures kept { ¬ (result ≡ OK) → number.new ≡ number.old }
     ensures no_length { ¬ (result ≡ OK) → ¬ (result ≡ TOO_SMALL) → wrote.new ≡ 0 }
@@ -63,7 +65,7 @@ pub(crate) fn parse(
     let Ok(text) = std::str::from_utf8(text) else {
         return NOT_UTF8;
     };
-    match parse_with(database, hint, text) {
+    match parse_by(rules, database, hint, text) {
         Ok(read) => write_number(&read, number, out, wrote),
         Err(error) => u32::from(error.number()),
     }

@@ -2,13 +2,16 @@
 ghost use Rattle.std.specs.Prelude.{◌≡◌, ◌↔◌, ◌<◌, Some, None, Err, IfOk, IfSome, IfNone};
 ghost use Rattle.std.specs.Prelude.{string_bytes};
 ghost use Rattle.phonenumber.specs.Printed.{printed};
-ghost use Rattle.phone_c.specs.Answers.{IsPrinted, IsUnprinted, mode_number};
+ghost use Rattle.phone_choice.specs.Facts.{printed_as};
+ghost use Rattle.phone_c.specs.Answers.{IsPrintedBy, IsUnprintedBy, mode_number};
 ghost use Rattle.phone_c.specs.Buffers.{IsTooLongA, IsWrittenA};
 ghost use Rattle.phone_c.specs.Numbers.{AreNoNumber};
 
 use crate::buffer::give;
 use crate::number::{Number, to_phone_number};
 use crate::status::{BAD_NUMBER, MEMORY, NO_MODE, OK, TOO_SMALL, UNKNOWN_CODE};
+use phone_choice::Rules;
+use phone_library::without_carrier;
 use phone_meta::Database;
 use phonenumber::{FormatError, Mode, PhoneNumber, format_with};
 use std::alloc::Global;
@@ -42,9 +45,47 @@ fn text_in(
     format_with(database, number).mode(mode).to_text(alloc)
 }
 
-/// The text of a number in a mode, in a buffer.
+/// The text of a number in a mode, by rules.
+fn text_by(
+    alloc: Global,
+    rules: Rules,
+    database: &Database,
+    number: &PhoneNumber,
+    mode: Mode,
+) -> Result<String, FormatError>
+    ensures text { IfOk result (λ t.
+        printed database.now mode None (printed_as rules number.now) ≡ Some (string_bytes t)) }
+    ensures unknown { result ≡ Err FormatError.UnknownCode →
+        printed database.now mode None (printed_as rules number.now) ≡ None }
+{
+    match rules {
+        Rules::Library => text_without_carrier(alloc, database, number, mode),
+        Rules::Crate => text_in(alloc, database, number, mode),
+    }
+}
+
+/// The text of a number without its carrier, in a mode.
+fn text_without_carrier(
+    alloc: Global,
+    database: &Database,
+    number: &PhoneNumber,
+    mode: Mode,
+) -> Result<String, FormatError>
+    ensures text { IfOk result (λ t. printed database.now mode None
+        (printed_as Rules.Library number.now) ≡ Some (string_bytes t)) }
+    ensures unknown { result ≡ Err FormatError.UnknownCode →
+        printed database.now mode None (printed_as Rules.Library number.now) ≡ None }
+{
+    match without_carrier(number) {
+        Ok(number) => text_in(alloc, database, &number, mode),
+        Err(_) => Err(FormatError::Memory),
+    }
+}
+
+/// The text of a number in a mode, by rules, in a buffer.
 pub(crate) fn print(
     alloc: Global,
+    rules: Rules,
     database: &Database,
     number: &Number,
     bytes: &[u8],
@@ -53,14 +94,16 @@ pub(crate) fn print(
     wrote: &mut usize,
 ) -> u32
     ensures written { result ≡ OK →
-        IsWrittenA (IsPrinted database.now number.now bytes.now mode) out.old out.new wrote.new }
+        IsWrittenA (IsPrintedBy rules database.now number.now bytes.now mode)
+        out.old out.new wrote.new }
     ensures too_small { result ≡ TOO_SMALL →
-        IsTooLongA (IsPrinted database.now number.now bytes.now mode) out.old out.new wrote.new }
+        IsTooLongA (IsPrintedBy rules database.now number.now bytes.now mode)
+        out.old out.new wrote.new }
     ensures no_mode { (result ≡ NO_MODE) ↔ (3 < mode) }
     ensures bad { (result ≡ BAD_NUMBER) ↔
         (¬ (3 < mode) × AreNoNumber number.now bytes.now) }
     ensures unknown { result ≡ UNKNOWN_CODE →
-        IsUnprinted database.now number.now bytes.now mode }
+        IsUnprintedBy rules database.now number.now bytes.now mode }
     ensures other { ¬ (result ≡ OK) → ¬ (result ≡ TOO_SMALL) → ¬ (result ≡ NO_MODE) →
         ¬ (result ≡ BAD_NUMBER) → ¬ (result ≡ UNKNOWN_CODE) → result ≡ MEMORY }
     ensures untouched { ¬ (result ≡ OK) → out.new ≡ out.old }
@@ -74,7 +117,7 @@ pub(crate) fn print(
         Ok(number) => number,
         Err(status) => return status,
     };
-    match text_in(alloc, database, &number, mode) {
+    match text_by(alloc, rules, database, &number, mode) {
         Ok(text) => give(text.as_bytes(), out, wrote),
         Err(FormatError::UnknownCode) => UNKNOWN_CODE,
         Err(FormatError::Memory) => MEMORY,

@@ -30,3 +30,24 @@ pub const NO_MODE: u32 = 22;
 
 /// No refusal of a text has the number.
 pub const NO_REFUSAL: u32 = 23;
+
+/// The rules are neither of the two.
+pub const NO_RULES: u32 = 24;
+
+/// Of a table of prefixes: the line is empty.
+pub const LINE_EMPTY: u32 = 25;
+
+/// No tab stands in the line.
+pub const LINE_NO_TAB: u32 = 26;
+
+/// What stands before the line's first tab isn't 1 to 15 digits.
+pub const LINE_NO_PREFIX: u32 = 27;
+
+/// What stands after it isn't UTF-8.
+pub const LINE_NOT_UTF8: u32 = 28;
+
+/// An earlier line has the prefix.
+pub const LINE_TWICE: u32 = 29;
+
+/// No prefix of the table begins the digits.
+pub const NO_PREFIX: u32 = 30;

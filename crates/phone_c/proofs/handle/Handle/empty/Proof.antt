@@ -1,4 +1,4 @@
--- `closed`: a null pointer, which owns nothing.
+-- `empty`: a null pointer, which owns nothing.
 use Rattle.std.proofs.Common.{◌≡◌, [], ◌∷◌, refl, lit<}
 use mir.Val.{Val}
 use base.Logic.{SProp, emp}
@@ -21,8 +21,8 @@ use Rattle.phone_c.specs.contracts.handle.Handle.empty.Key.{name as #self}
 use Rattle.phone_c.proofs.handle.Handle.empty.Statement.{statement}
 use Rattle.phone_c.proofs.handle.Handle.empty.Code as code
 
-pub closed_spec : {M : Type 1} → statement M
-closed_spec 𝓤 𝓛 𝓜 𝓡 wired =
+pub empty_spec : {M : Type 1} → statement M
+empty_spec 𝓤 𝓛 𝓜 𝓡 wired =
     let H = 𝓛.H in let 𝓣 = tables 𝓤 H 𝓜 𝓡 𝓡.env in let c = clauses 𝓛 𝓜.mem 𝓡.returns in let fn = code.function in
     proved_at 𝓛 En tt c 𝓜 𝓡 tt #self fn (code.unfolded 𝓤 H 𝓜 𝓡 wired) (λ z are.
     let κs = z.0.0 in let Post : Val → SProp 𝓤 = (walk_of 𝓛 En tt c).post z in

@@ -1,4 +1,4 @@
--- `into_loose`: at null there is nothing; else the pointer moves, and with it what it owns.
+-- `into_raw`: at null there is nothing; else the pointer moves, and with it what it owns.
 use Rattle.std.proofs.Common.{◌≡◌, List, [], ◌∷◌, ◌++◌, refl, sym, ap, ◌∙◌, subst, lit<}
 use mir.Val.{Val, vcons, vnil}
 use base.Logic.{SProp, ent, emp, id⊢}
@@ -35,8 +35,8 @@ use Rattle.phone_c.specs.contracts.handle.Handle.into_raw.Key.{name as #self}
 use Rattle.phone_c.proofs.handle.Handle.into_raw.Statement.{statement}
 use Rattle.phone_c.proofs.handle.Handle.into_raw.Code as code
 
-pub into_loose_spec : {M : Type 1} → statement M
-into_loose_spec 𝓤 𝓛 𝓜 𝓡 wired =
+pub into_raw_spec : {M : Type 1} → statement M
+into_raw_spec 𝓤 𝓛 𝓜 𝓡 wired =
     let H = 𝓛.H in let 𝓣 = tables 𝓤 H 𝓜 𝓡 𝓡.env in let c = clauses 𝓛 𝓜.mem 𝓡.returns in let fn = code.function in
     let Heap : RattleType = E.al.row in let To : RattleType = loose.the_row E.row Heap E.al.g in
     let hs : Stays En.signature.params En.kept = (stay_dropped (plain (λ _. handle.the_row)) yes, (stay_dropped (plain (λ _. Heap)) yes, tt)) in

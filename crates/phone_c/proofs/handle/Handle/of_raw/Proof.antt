@@ -1,4 +1,4 @@
--- `of_loose`: the pointer moves, and with it what it owns.
+-- `of_raw`: the pointer moves, and with it what it owns.
 use Rattle.std.proofs.Common.{◌≡◌, List, [], ◌∷◌, ◌++◌, refl, sym, subst}
 use mir.Val.{Val}
 use base.Logic.{SProp, ent, emp, id⊢}
@@ -26,8 +26,8 @@ use Rattle.phone_c.specs.contracts.handle.Handle.of_raw.Key.{name as #self}
 use Rattle.phone_c.proofs.handle.Handle.of_raw.Statement.{statement}
 use Rattle.phone_c.proofs.handle.Handle.of_raw.Code as code
 
-pub of_loose_spec : {M : Type 1} → statement M
-of_loose_spec 𝓤 𝓛 𝓜 𝓡 wired =
+pub of_raw_spec : {M : Type 1} → statement M
+of_raw_spec 𝓤 𝓛 𝓜 𝓡 wired =
     let H = 𝓛.H in let 𝓣 = tables 𝓤 H 𝓜 𝓡 𝓡.env in let c = clauses 𝓛 𝓜.mem 𝓡.returns in let fn = code.function in
     let From : RattleType = loose.the_row E.row E.al.row E.al.g in let hs : Stays En.signature.params En.kept = (stay_dropped (plain (λ _. From)) yes, tt) in
     proved_at 𝓛 En hs c 𝓜 𝓡 (Goes-dropped 𝓛 0 (plain (λ _. From)) yes (λ κs x f. refl), tt) #self fn (code.unfolded 𝓤 H 𝓜 𝓡 wired) (λ z are.

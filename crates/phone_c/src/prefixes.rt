@@ -1,0 +1,202 @@
+//! The calls of tables of prefixes.
+ghost use Rattle.std.specs.Prelude.{◌≡◌, ◌⊎◌, ◌↔◌, IfErr, IfOk, IsUtf8, length};
+ghost use Rattle.phone_prefixes.specs.Refusals.{Refuses};
+ghost use Rattle.phone_prefixes.specs.Tables.{IsTable, NoneBegins};
+ghost use Rattle.phone_prefixes.specs.declared.fault.PrefixesError as error;
+ghost use Rattle.phone_c.specs.Buffers.{IsTooLong, IsTooLongA, IsWritten, IsWrittenA};
+ghost use Rattle.phone_c.specs.PrefixTables.{fault_number, IsLineRefusedAs, IsTableClosed};
+ghost use Rattle.phone_c.specs.PrefixTables.{IsTableKept, IsTableOpenedBy, IsTextFor};
+ghost use Rattle.phone_c.specs.PrefixTables.{IsTextOfLongest};
+
+use crate::buffer::give;
+use crate::status::{
+    CLOSED, LINE_EMPTY, LINE_NO_PREFIX, LINE_NO_TAB, LINE_NOT_UTF8, LINE_TWICE, MEMORY, NO_PREFIX,
+    NOT_UTF8, OK, TOO_SMALL,
+};
+use crate::table::{Table, put_table, take_table};
+use phone_prefixes::{LineFault, Prefixes, PrefixesError};
+use std::alloc::Global;
+
+/// What is wrong with a line, by its number.
+fn fault_number(what: LineFault) -> u32
+    ensures { result ≡ fault_number what }
+{
+    match what {
+        LineFault::Empty => LINE_EMPTY,
+        LineFault::NoTab => LINE_NO_TAB,
+        LineFault::NoPrefix => LINE_NO_PREFIX,
+        LineFault::NotUtf8 => LINE_NOT_UTF8,
+        LineFault::PrefixTwice => LINE_TWICE,
+    }
+}
+
+/// The table that a text is. Refused as `Prefixes::of` refuses it.
+fn read_table(alloc: Global, text: &[u8]) -> Result<Prefixes, PrefixesError>
+    ensures table { IfOk result (IsTable text.now) }
+    ensures refused { IfErr result (Refuses text.now) }
+{
+    match Vec::from_slice(alloc, text) {
+        Ok(bytes) => Prefixes::of(alloc, bytes),
+        Err(_) => Err(PrefixesError::Memory),
+    }
+}
+
+/// The table that a text is, in a box; or the status of the refusal, and the number of the line, 0
+/// where none is refused.
+fn open_table(alloc: Global, text: &[u8]) -> Result<Box<Prefixes>, (u32, usize)>
+    ensures opened { IfOk result (λ b. IsTable text.now b.value) }
+    ensures refused { IfErr result (λ e. ((e.0 ≡ MEMORY) × (e.1 ≡ 0)) ⊎
+        IsLineRefusedAs text.now e.1 e.0) }
+{
+    match read_table(alloc, text) {
+        Ok(prefixes) => match Box::new(alloc, prefixes) {
+            Ok(prefixes) => Ok(prefixes),
+            Err(_) => Err((MEMORY, 0)),
+        },
+        Err(PrefixesError::Line(line, what)) => Err((fault_number(what), line)),
+        Err(_) => Err((MEMORY, 0)),
+    }
+}
+
+/// Opens the table of prefixes that a text is, as `Prefixes::of` reads it: lines of a prefix of 1
+/// to 15 digits, a tab, and a text in UTF-8. What the handle had open is closed first, whatever
+/// comes of the text.
+///
+/// `OK`: the table is open. `LINE_EMPTY`, `LINE_NO_TAB`, `LINE_NO_PREFIX`, `LINE_NOT_UTF8` and
+/// `LINE_TWICE` only where a line is no entry's: `line` is the number of the first, counted from 1,
+/// and is 0 for all other statuses. `MEMORY`: memory was refused. For each but `OK` the handle is
+/// closed.
+#[unsafe(no_mangle)]
+pub extern "C" fn phone_prefixes_open(
+    alloc: Global,
+    text: &[u8],
+    table: &mut Table,
+    line: &mut usize,
+) -> u32
+    ensures opened { result ≡ OK → IsTableOpenedBy text.now table.new }
+    ensures refused { ¬ (result ≡ OK) → (result ≡ MEMORY) ⊎
+        IsLineRefusedAs text.now line.new result }
+    ensures no_line { (result ≡ OK) ⊎ (result ≡ MEMORY) → line.new ≡ 0 }
+    ensures closed { ¬ (result ≡ OK) → IsTableClosed table.new }
+{
+    *line = 0;
+    if let Some(old) = take_table(alloc, table) {
+        drop(old);
+    }
+    match open_table(alloc, text) {
+        Ok(prefixes) => {
+            put_table(alloc, table, prefixes);
+            OK
+        }
+        Err((status, at)) => {
+            *line = at;
+            status
+        }
+    }
+}
+
+/// Closes a table of prefixes, and frees it; nothing where it is closed already.
+#[unsafe(no_mangle)]
+pub extern "C" fn phone_prefixes_close(alloc: Global, table: &mut Table)
+    ensures { IsTableClosed table.new }
+{
+    if let Some(old) = take_table(alloc, table) {
+        drop(old);
+    }
+}
+
+/// Writes the text of an entry to the front of a buffer, its length, and that of the prefix; only the
+/// length of the text where the buffer is too short.
+fn give_entry(
+    prefix: &str,
+    text: &str,
+    out: &mut [u8],
+    wrote: &mut usize,
+    prefix_len: &mut usize,
+) -> u32
+    ensures written { result ≡ OK → IsWritten text.now out.old out.new wrote.new }
+    ensures prefix { result ≡ OK → prefix_len.new ≡ length prefix.now }
+    ensures too_small { result ≡ TOO_SMALL → IsTooLong text.now out.old out.new wrote.new }
+    ensures status { (result ≡ OK) ⊎ (result ≡ TOO_SMALL) }
+    ensures no_prefix { ¬ (result ≡ OK) → prefix_len.new ≡ prefix_len.old }
+{
+    let status = give(text.as_bytes(), out, wrote);
+    if status == OK {
+        *prefix_len = prefix.len();
+    }
+    status
+}
+
+/// Looks up digits in a table.
+fn longest(
+    prefixes: &Prefixes,
+    digits: &[u8],
+    out: &mut [u8],
+    wrote: &mut usize,
+    prefix_len: &mut usize,
+) -> u32
+    ensures written { result ≡ OK → IsWrittenA (λ text. IsTextOfLongest prefixes.now digits.now text
+        prefix_len.new) out.old out.new wrote.new }
+    ensures too_small { result ≡ TOO_SMALL →
+        IsTooLongA (IsTextFor prefixes.now digits.now) out.old out.new wrote.new }
+    ensures not_utf8 { (result ≡ NOT_UTF8) ↔ ¬ (IsUtf8 digits.now) }
+    ensures none { ¬ (result ≡ NOT_UTF8) →
+        (result ≡ NO_PREFIX) ↔ NoneBegins prefixes.now digits.now }
+    ensures status { ¬ (result ≡ OK) → ¬ (result ≡ TOO_SMALL) → ¬ (result ≡ NOT_UTF8) →
+        result ≡ NO_PREFIX }
+    ensures untouched { ¬ (result ≡ OK) → out.new ≡ out.old }
+    ensures no_prefix { ¬ (result ≡ OK) → prefix_len.new ≡ prefix_len.old }
+    ensures no_length { ¬ (result ≡ OK) → ¬ (result ≡ TOO_SMALL) → wrote.new ≡ 0 }
+{
+    *wrote = 0;
+    let Ok(digits) = std::str::from_utf8(digits) else {
+        return NOT_UTF8;
+    };
+    match prefixes.longest(digits) {
+        Some((prefix, text)) => give_entry(prefix, text, out, wrote, prefix_len),
+        None => NO_PREFIX,
+    }
+}
+
+/// Looks up digits, as those of an E.164 text, in a table of prefixes: writes the text of the
+/// longest prefix that begins them. It takes no memory.
+///
+/// `OK`: the text stands at the front of `out`, which is else as it was, `wrote` is its length, and
+/// `prefix_len` that of the prefix. `TOO_SMALL` only where `out` is shorter than the text: then
+/// `wrote` is the length that it needs. `CLOSED` exactly where the handle is closed, else
+/// `NOT_UTF8` exactly where the digits aren't UTF-8, else `NO_PREFIX` exactly where no prefix
+/// begins them. For each but `OK` `out` and `prefix_len` are as they were, and for each but `OK`
+/// and `TOO_SMALL` `wrote` is 0. The handle stays as it was.
+#[unsafe(no_mangle)]
+pub extern "C" fn phone_prefixes_longest(
+    alloc: Global,
+    table: &mut Table,
+    digits: &[u8],
+    out: &mut [u8],
+    wrote: &mut usize,
+    prefix_len: &mut usize,
+) -> u32
+    ensures written { result ≡ OK → IsWrittenA (λ text. IsTextOfLongest table.old.entries
+        digits.now text prefix_len.new) out.old out.new wrote.new }
+    ensures too_small { result ≡ TOO_SMALL →
+        IsTooLongA (IsTextFor table.old.entries digits.now) out.old out.new wrote.new }
+    ensures closed { (result ≡ CLOSED) ↔ IsTableClosed table.old }
+    ensures not_utf8 { (result ≡ NOT_UTF8) ↔
+        (¬ (IsTableClosed table.old) × ¬ (IsUtf8 digits.now)) }
+    ensures none { ¬ (result ≡ CLOSED) → ¬ (result ≡ NOT_UTF8) →
+        (result ≡ NO_PREFIX) ↔ NoneBegins table.old.entries digits.now }
+    ensures status { ¬ (result ≡ OK) → ¬ (result ≡ TOO_SMALL) → ¬ (result ≡ CLOSED) →
+        ¬ (result ≡ NOT_UTF8) → result ≡ NO_PREFIX }
+    ensures untouched { ¬ (result ≡ OK) → out.new ≡ out.old }
+    ensures no_prefix { ¬ (result ≡ OK) → prefix_len.new ≡ prefix_len.old }
+    ensures no_length { ¬ (result ≡ OK) → ¬ (result ≡ TOO_SMALL) → wrote.new ≡ 0 }
+    ensures kept { IsTableKept table.old table.new }
+{
+    *wrote = 0;
+    let Some(prefixes) = take_table(alloc, table) else {
+        return CLOSED;
+    };
+    let status = longest(&*prefixes, digits, out, wrote, prefix_len);
+    put_table(alloc, table, prefixes);
+    status
+}
