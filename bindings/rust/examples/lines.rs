@@ -1,6 +1,7 @@
-//! The report on lines with their hints: lines TABLE [ROUNDS] <LINES. A line is a region, `-` for none, a tab, and the text.
-//! ROUNDS times over the lines are timed after the report is written: ns a line on standard error.
-use phonenumber_proved::{Database, WORLD_PATH};
+//! The report on lines with their hints: lines TABLE [ROUNDS [RULES]] <LINES. A line is a region, `-` for none, a tab, and the
+//! text. RULES is `library`, or `crate`, as without it. ROUNDS times over the lines are timed after the report is written: ns a
+//! line on standard error.
+use phonenumber_proved::{Database, Rules, WORLD_PATH};
 use std::io::{Read, Write};
 use std::time::Instant;
 
@@ -8,6 +9,11 @@ fn main() -> Result<(), Box<dyn std::error::Error>> {
     let words: Vec<String> = std::env::args().collect();
     let world = Database::load(words.get(1).map_or(WORLD_PATH, String::as_str))?;
     let rounds: u32 = words.get(2).map_or(Ok(0), |word| word.parse())?;
+    let world = world.by(match words.get(3).map(String::as_str) {
+        Some("library") => Rules::Library,
+        Some("crate") | None => Rules::Crate,
+        Some(_) => return Err("the rules are library or crate".into()),
+    });
     let mut text = Vec::new();
     std::io::stdin().read_to_end(&mut text)?;
     let mut lines = Vec::new();

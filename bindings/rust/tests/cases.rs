@@ -1,6 +1,11 @@
-//! What users of the crate `phonenumber` count on, as tables: readings, kinds, regions, printed texts, validity, and texts that
-//! made readers panic.
-use phonenumber_proved::{Database, Mode, Source, TABLE_VERSION, Type, WORLD, is_viable};
+//! What users of the crate `phonenumber` count on, as tables, by the rules of that crate: readings, kinds, regions,
+//! printed texts, validity, and texts that made readers panic. Then what is by libphonenumber's rules, and what
+//! belongs to neither.
+use phonenumber_proved::{
+    Cost, Database, Error, LineFault, Mode, PhoneNumber, Prefixes, Rules, SHORT, ShortNumbers, Source, TABLE_VERSION,
+    Type, WORLD, is_viable,
+};
+use std::collections::{BTreeSet, HashSet};
 
 fn world() -> Database {
     Database::from_json(WORLD).expect("the table of the world is read")
@@ -28,6 +33,7 @@ const ONE_NUMBER: [(&str, &str, Source); 15] = [
 #[test]
 fn one_number_is_written_in_many_ways() {
     let world = world();
+    let world = world.by(Rules::Crate);
     for (hint, text, source) in ONE_NUMBER {
         let number = world.parse(Some(hint), text).unwrap_or_else(|e| panic!("{text}: {e}"));
         assert_eq!((number.code(), number.national_value(), number.national_zeros()), (64, 33316005, 0), "{text}");
@@ -45,6 +51,7 @@ const READ: [(Option<&str>, &str, u16, u64, Source); 3] = [
 #[test]
 fn numbers_are_read() {
     let world = world();
+    let world = world.by(Rules::Crate);
     for (hint, text, code, value, source) in READ {
         let number = world.parse(hint, text).unwrap_or_else(|e| panic!("{text}: {e}"));
         assert_eq!((number.code(), number.national_value(), number.source()), (code, value, source), "{text}");
@@ -73,9 +80,11 @@ const KINDS: [(&str, Option<&str>, Type); 14] = [
 fn regions_and_kinds_are_told() {
     let world = world();
     for (text, region, kind) in KINDS {
-        let number = world.parse(None, text).unwrap();
-        assert_eq!(number.region().unwrap().as_deref(), region, "{text}");
-        assert_eq!(number.number_type().unwrap(), kind, "{text}");
+        for world in [world.by(Rules::Library), world.by(Rules::Crate)] {
+            let number = world.parse(None, text).unwrap();
+            assert_eq!(world.region(&number).unwrap().as_deref(), region, "{text}");
+            assert_eq!(world.number_type(&number).unwrap(), kind, "{text}");
+        }
     }
 }
 
@@ -89,7 +98,7 @@ fn printed_numbers_are_read_back() {
             if mode == Mode::National && region.is_none() {
                 continue;
             }
-            let printed = number.format().mode(mode).to_string();
+            let printed = world.format(&number).mode(mode).to_string();
             let again = world.parse(hint, &printed).unwrap_or_else(|e| panic!("{printed}: {e}"));
             assert_eq!((again.code(), again.national_value()), (number.code(), number.national_value()), "{printed}");
         }
@@ -112,12 +121,12 @@ fn numbers_are_printed() {
     let world = world();
     for (hint, text, national, international) in PRINTED {
         let number = world.parse(Some(hint), text).unwrap();
-        assert_eq!(number.format().mode(Mode::National).to_string(), national);
-        assert_eq!(number.format().mode(Mode::International).to_string(), international);
+        assert_eq!(world.format(&number).mode(Mode::National).to_string(), national);
+        assert_eq!(world.format(&number).mode(Mode::International).to_string(), international);
     }
     let number = world.parse(Some("FR"), "+330631966543").unwrap();
-    assert_eq!(number.format().to_string(), "+33631966543");
-    assert_eq!(number.format().mode(Mode::Rfc3966).to_string(), "tel:+33-6-31-96-65-43");
+    assert_eq!(world.format(&number).to_string(), "+33631966543");
+    assert_eq!(world.format(&number).mode(Mode::Rfc3966).to_string(), "tel:+33-6-31-96-65-43");
 }
 
 /// Text, whether it is valid.
@@ -145,7 +154,8 @@ const VALID: [(&str, bool); 17] = [
 fn validity_is_told() {
     let world = world();
     for (text, is_valid) in VALID {
-        assert_eq!(world.parse(None, text).unwrap().is_valid().unwrap(), is_valid, "{text}");
+        let number = world.parse(None, text).unwrap();
+        assert_eq!(world.is_valid(&number).unwrap(), is_valid, "{text}");
     }
 }
 
@@ -179,8 +189,10 @@ const HOSTILE: [&str; 15] = [
 fn hostile_texts_are_refused() {
     let world = world();
     for text in HOSTILE {
-        assert!(world.parse(None, text).is_err(), "{text}");
-        assert!(world.parse(Some("US"), text).is_err(), "{text}");
+        for world in [world.by(Rules::Library), world.by(Rules::Crate)] {
+            assert!(world.parse(None, text).is_err(), "{text}");
+            assert!(world.parse(Some("US"), text).is_err(), "{text}");
+        }
     }
 }
 
@@ -208,5 +220,222 @@ fn each_thread_has_a_table_of_its_own() {
         .collect();
     for thread in threads {
         thread.join().unwrap();
+    }
+}
+
+/// Hint, text, E.164 text by libphonenumber's rules, E.164 text by the crate's, whether that one is valid.
+const BY_RULES: [(&str, &str, &str, &str, bool); 4] = [
+    ("US", "+44 (0)20 7946 0018", "+442079460018", "+4402079460018", false),
+    ("US", "+49 176 12345678", "+4917612345678", "+497612345678", true),
+    ("NZ", "03-331 6005", "+6433316005", "+6433316005", true),
+    ("GB", "020 7946 0018", "+442079460018", "+442079460018", true),
+];
+
+#[test]
+fn the_rules_are_the_callers_and_libphonenumbers_by_default() {
+    let world = world();
+    for (hint, text, by_library, by_crate, is_valid) in BY_RULES {
+        let number = world.parse(Some(hint), text).unwrap();
+        assert_eq!((number.to_string().as_str(), world.is_valid(&number).unwrap()), (by_library, true), "{text}");
+        assert_eq!(world.by(Rules::default()).parse(Some(hint), text).unwrap(), number, "{text}");
+        assert!(world.report(Some(hint), text).unwrap().starts_with(&format!("ok\t{by_library}\t")), "{text}");
+        let port = world.by(Rules::Crate);
+        let number = port.parse(Some(hint), text).unwrap();
+        assert_eq!((number.to_string().as_str(), port.is_valid(&number).unwrap()), (by_crate, is_valid), "{text}");
+        assert!(port.report(Some(hint), text).unwrap().starts_with(&format!("ok\t{by_crate}\t")), "{text}");
+    }
+}
+
+#[test]
+fn a_carrier_is_printed_by_the_crates_rules_alone() {
+    let world = world();
+    for (rules, national) in
+        [(Rules::Library, "(11) 2345-6789 ext. 7"), (Rules::Crate, "0 31 (11) 2345-6789 ext. 7")]
+    {
+        let number = world.by(rules).parse(Some("BR"), "0 31 11 2345 6789 ext. 7").unwrap();
+        assert_eq!((number.extension(), number.carrier()), (Some("7"), Some("31")));
+        assert_eq!(world.by(rules).format(&number).mode(Mode::National).to_string(), national);
+    }
+}
+
+/// Error, words.
+const WORDS: [(Error, &str); 12] = [
+    (Error::NoNumber, "not a number"),
+    (Error::InvalidCountryCode, "invalid country code"),
+    (Error::TooShortAfterIdd, "the number is too short after IDD"),
+    (Error::TooShortNsn, "the number is too short after the country code"),
+    (Error::TooLong, "the number is too long"),
+    (Error::MalformedInteger, "malformed integer part in phone number"),
+    (Error::Memory, "out of memory"),
+    (Error::UnknownCode, "unknown calling code"),
+    (Error::Database(3), "malformed JSON"),
+    (Error::Line(2, LineFault::NoTab), "line 2: the line has no tab"),
+    (Error::NoRegion, "unknown region"),
+    (Error::Other(99), "status 99 of the library"),
+];
+
+#[test]
+fn each_error_has_words() {
+    for (error, words) in WORDS {
+        assert_eq!(error.to_string(), words);
+    }
+}
+
+/// Numbers in their order.
+const ORDERED: [&str; 6] = [
+    "+1 650 253 0000",
+    "+39 02 3661 8300",
+    "+44 20 7946 0018",
+    "+64 21 387 835",
+    "+64 3 331 6005",
+    "+64 3 331 6005 ext. 12",
+];
+
+#[test]
+fn numbers_are_keys_of_tables() {
+    let world = world();
+    let numbers: Vec<PhoneNumber> = ORDERED.iter().map(|text| world.parse(None, text).unwrap()).collect();
+    drop(world);
+    let hashed: HashSet<PhoneNumber> = numbers.iter().chain(&numbers).cloned().collect();
+    let sorted: BTreeSet<PhoneNumber> = hashed.into_iter().collect();
+    assert_eq!(Vec::from_iter(sorted), numbers);
+    assert_eq!(format!("{:>14}|{:?}", numbers[4], numbers[4]), "   +6433316005|PhoneNumber(+6433316005)");
+    let sent = std::thread::spawn(move || numbers.iter().map(PhoneNumber::to_string).collect::<Vec<_>>());
+    assert_eq!(sent.join().unwrap()[4], "+6433316005");
+}
+
+#[test]
+fn a_number_of_another_database_is_printed_by_e164() {
+    let (world, none) = (world(), Database::from_json("[]").unwrap());
+    let number = world.parse(None, "+64 3 331 6005").unwrap();
+    let printer = none.format(&number).mode(Mode::National);
+    assert_eq!((printer.to_text(), printer.to_string().as_str()), (Err(Error::UnknownCode), "+6433316005"));
+    assert_eq!(none.region(&number), Ok(None));
+}
+
+/// What a row of a table in crates/replay/data says between its tabs, after the call's name, with its escapes undone.
+fn rows<'t>(table: &'t str, call: &'t str) -> impl Iterator<Item = Vec<Vec<u8>>> + 't {
+    let rows = table.lines().map(|line| line.split('\t').collect::<Vec<_>>());
+    rows.filter(move |row| row[0] == call).map(|row| row[1..].iter().map(|field| plain(field)).collect())
+}
+
+fn plain(field: &str) -> Vec<u8> {
+    let (mut out, mut rest) = (Vec::new(), field);
+    while let Some((front, after)) = rest.split_once('\\') {
+        out.extend(front.bytes());
+        let digits = match after.as_bytes()[0] {
+            b'x' => 2,
+            b'u' => 4,
+            b'U' => 8,
+            _ => 0,
+        };
+        let code = u32::from_str_radix(&after[1..1 + digits], 16);
+        match after.as_bytes()[0] {
+            b't' => out.push(b'\t'),
+            b'n' => out.push(b'\n'),
+            b'x' => out.push(code.unwrap() as u8),
+            b'u' | b'U' => out.extend(char::from_u32(code.unwrap()).unwrap().to_string().bytes()),
+            other => out.push(other),
+        }
+        rest = &after[1 + digits..];
+    }
+    out.extend(rest.bytes());
+    out
+}
+
+fn text(field: &[u8]) -> &str {
+    std::str::from_utf8(field).unwrap()
+}
+
+const TYPED: &str = include_str!("../../../crates/replay/data/typed.tsv");
+const SHORT_ROWS: &str = include_str!("../../../crates/replay/data/short.tsv");
+const PREFIXES: &str = include_str!("../../../crates/replay/data/prefixes.tsv");
+
+#[test]
+fn keys_are_shown_as_they_are_typed() {
+    let (world, mut count) = (world(), 0);
+    for row in rows(TYPED, "typed").filter(|row| row[0] == b"world/world") {
+        let (hint, keys, shown) = (Some(text(&row[1])).filter(|&hint| hint != "-"), text(&row[2]), text(&row[3]));
+        let mut field = world.typing(hint).unwrap();
+        let mut texts = Vec::new();
+        for key in keys.chars() {
+            field.push(key).unwrap();
+            texts.push(field.shown().to_owned());
+        }
+        assert_eq!(texts.join("|"), shown, "{hint:?} {keys}");
+        assert_eq!(world.typed(hint, keys).unwrap(), field.shown(), "{hint:?} {keys}");
+        for n in 0..=field.keys().len() {
+            let at = field.caret(n).unwrap();
+            let before = field.shown()[..at].chars().filter(|c| c.is_ascii_digit() || *c == '+').collect::<String>();
+            assert_eq!(before, field.keys()[..n], "{hint:?} {keys} {n}");
+        }
+        if texts.len() > 1 && field.keys().len() == keys.len() {
+            field.back().unwrap();
+            assert_eq!(field.shown(), texts[texts.len() - 2], "{hint:?} {keys}");
+        }
+        count += 1;
+    }
+    assert!(count > 1000, "{count} lines");
+}
+
+#[test]
+fn short_numbers_are_told() {
+    let (table, mut count) = (ShortNumbers::from_json(SHORT).unwrap(), 0);
+    for row in rows(SHORT_ROWS, "short").filter(|row| row[0] == b"world/short") {
+        let facts = table.short(text(&row[1]), text(&row[2])).unwrap();
+        let cost = match facts.cost {
+            Cost::TollFree => "TOLL_FREE",
+            Cost::StandardRate => "STANDARD_RATE",
+            Cost::PremiumRate => "PREMIUM_RATE",
+            Cost::Unknown => "UNKNOWN_COST",
+        };
+        let said = |is: bool| if is { "yes" } else { "no" };
+        let told = [
+            said(facts.is_possible),
+            said(facts.is_valid),
+            cost,
+            said(facts.is_carrier_specific),
+            said(facts.is_emergency),
+            said(facts.reaches_emergency),
+        ];
+        assert_eq!(told.join("\t"), text(&row[3]), "{} {}", text(&row[1]), text(&row[2]));
+        count += 1;
+    }
+    assert!(count > 2000, "{count} lines");
+}
+
+#[test]
+fn the_longest_prefix_is_found() {
+    let mut count = 0;
+    for row in rows(PREFIXES, "prefix") {
+        let told = Prefixes::of(&row[0]).and_then(|table| {
+            let found = table.longest(text(&row[1]))?;
+            Ok(found.map_or("none".to_owned(), |(prefix, text)| format!("{prefix}: {text}")))
+        });
+        let told = told.unwrap_or_else(|error| format!("!{error}"));
+        assert_eq!(told, text(&row[2]), "{}", text(&row[3]));
+        count += 1;
+    }
+    assert!(count > 20, "{count} lines");
+}
+
+#[test]
+fn a_text_may_be_longer_than_the_first_buffer() {
+    let zones = Prefixes::of(include_str!("../../../data/timezones.tsv")).unwrap();
+    let (prefix, text) = zones.longest("18002345678").unwrap().unwrap();
+    assert!(prefix == "1" && text.len() > 512 && text.ends_with("&Pacific/Saipan"), "{text}");
+    assert_eq!(zones.longest("12015550123"), Ok(Some(("1201", "America/New_York".to_owned()))));
+    assert_eq!(zones.longest("0"), Ok(None));
+}
+
+#[test]
+fn what_is_no_region_is_refused() {
+    let (world, table) = (world(), ShortNumbers::from_json(SHORT).unwrap());
+    for region in ["", "nz", "XX", "001", "NZ ", "N\0", "\u{1F4A9}"] {
+        assert_eq!(world.parse(Some(region), "1").unwrap_err(), Error::NoRegion, "{region:?}");
+        assert_eq!(world.report(Some(region), "1").unwrap_err(), Error::NoRegion, "{region:?}");
+        assert_eq!(world.typed(Some(region), "1").unwrap_err(), Error::NoRegion, "{region:?}");
+        assert_eq!(world.typing(Some(region)).unwrap_err(), Error::NoRegion, "{region:?}");
+        assert_eq!(table.short(region, "1").unwrap_err(), Error::NoRegion, "{region:?}");
     }
 }

@@ -1,0 +1,169 @@
+#!/usr/bin/env python3
+"""Compares the declarations of the calls: crates/phone_c, c/phone.h, Rust's sys/src/lib.rs and Python's _calls.py.
+
+usage: bindings/declarations.py
+
+Compared are each call's arguments and answer, each struct's fields in their order, and the numbers that have a name. No library
+is needed. Each difference is a line, and the status is then 1; else the last line is `declarations: ok`.
+"""
+import ctypes
+import enum
+import os
+import re
+import sys
+from pathlib import Path
+
+BINDINGS = Path(__file__).resolve().parent
+CRATES = BINDINGS.parent / "crates"
+# The names of a struct in the four places, each by its name in phone.h.
+STRUCTS = {
+    "Handle": "handle", "Table": "prefixes", "Prefixes": "prefixes", "PrefixesHandle": "prefixes", "Part": "part", "Number": "number",
+    "PlainFacts": "short_facts", "ShortFacts": "short_facts", "Facts": "short_facts",
+}
+C_TYPES = {"uint8_t": "u8", "uint16_t": "u16", "uint32_t": "u32", "uint64_t": "u64", "size_t": "usize", "void": "u8"}
+differences = []
+
+
+def named(name):
+    return STRUCTS.get(name, name)
+
+
+def of_c(text):
+    """A type of phone.h: `const u8*` of `const uint8_t *text`."""
+    const, name, star = re.fullmatch(r"(const )?(\w+) (\*?)\w+", " ".join(text.split())).groups()
+    return (const or "") + C_TYPES.get(name, name.removeprefix("phone_")) + star
+
+
+def header():
+    text = re.sub(r"/\*.*?\*/", "", (BINDINGS / "c" / "phone.h").read_text(), flags=re.DOTALL)
+    calls = {}
+    for answer, name, args in re.findall(r"^(uint32_t|void) phone_(\w+)\(([^)]*)\);", text, re.MULTILINE):
+        calls[name] = ([] if args == "void" else [of_c(it) for it in args.split(",")], answer != "void")
+    structs = {}
+    for fields, name in re.findall(r"typedef struct \{([^}]*)\} phone_(\w+);", text):
+        structs[name] = [(re.search(r"(\w+)\s*$", it)[1], of_c(it)) for it in fields.split(";") if it.strip()]
+    numbers, at = {}, 0
+    for name, number in re.findall(r"PHONE_(\w+)(?: = (\d+))?(?=[,\s}])", "".join(re.findall(r"enum \{(.*?)\};", text, re.DOTALL))):
+        at = int(number) if number else at + 1
+        numbers[name] = at
+    numbers["VERSION"] = int(re.search(r"PHONE_VERSION (\d+)u", text)[1])
+    return calls, structs, numbers
+
+
+def of_rust(text):
+    """Types of Rust or Rattle: a slice is a pointer and a length."""
+    text = text.strip()
+    if text in ("&[u8]", "&mut [u8]"):
+        return ["u8*" if "mut" in text else "const u8*", "usize"]
+    sign, name = re.fullmatch(r"(&mut |&|\*mut |\*const )?(\w+)", text).groups()
+    const = "const " if sign in ("&", "*const ") else ""
+    return [const + named(name) + ("*" if sign else "")]
+
+
+def rust_calls(text, head):
+    calls = {}
+    for name, args, answer in re.findall(head + r" fn phone_(\w+)\(([^)]*)\)( -> u32)?", text):
+        given = [it.split(":")[1].strip() for it in args.split(",") if it.strip()]
+        types = [kind for it in given if it not in ("Global", "alloc::Global") for kind in of_rust(it)]
+        calls[name] = (types, bool(answer))
+    return calls
+
+
+def rust_structs(text):
+    structs = {}
+    for name, fields in re.findall(r"#\[repr\(C\)\](?:\s*#\[[^\n]*\])*\s*pub(?:\(crate\))? struct (\w+) \{(.*?)\n\}", text, re.DOTALL):
+        found = re.findall(r"^ *pub(?:\(crate\))? (\w+): ([^,\n]+),$", fields, re.MULTILINE)
+        structs[named(name)] = [(field, *of_rust(kind)) for field, kind in found]
+    return structs
+
+
+def crate_numbers(text):
+    """The statuses and the version of the crate."""
+    front = {"CLOSED": "IS_CLOSED"}
+    return {front.get(name, name): int(it) for name, it in re.findall(r"pub const (\w+): u32 = (\d+);", text)}
+
+
+def python():
+    """The declarations of Python, read over a library that has every call."""
+    class Call:
+        def __call__(self):
+            return header()[2]["VERSION"]
+
+    class Library:
+        def __init__(self, path):
+            pass
+
+        def __getattr__(self, name):
+            setattr(self, name, Call())
+            return getattr(self, name)
+
+    ctypes.CDLL, os.environ["PHONE_LIBRARY"] = Library, "none"
+    sys.path.insert(0, str(BINDINGS / "python"))
+    import phonenumber_proved
+    from phonenumber_proved import _calls
+
+    kinds = {ctypes.c_uint8: "u8", ctypes.c_uint16: "u16", ctypes.c_uint32: "u32", ctypes.c_uint64: "u64", ctypes.c_char_p: "u8*"}
+    kinds[ctypes.c_void_p] = "u8*"
+    structs = [it for it in vars(_calls).values() if isinstance(it, type) and issubclass(it, ctypes.Structure)]
+    kinds.update({it: named(it.__name__) for it in structs})
+    kinds.update({ctypes.POINTER(it): name + "*" for it, name in list(kinds.items()) if "*" not in name})
+    calls = {}
+    for name, call in vars(_calls.lib).items():
+        calls[name.removeprefix("phone_")] = ([kinds[it] for it in call.argtypes], call.restype is not None)
+    fields = {named(it.__name__): [(name, kinds[kind]) for name, kind in it._fields_] for it in structs}
+    numbers = {name: it for name, it in vars(_calls).items() if name.isupper() and isinstance(it, int)}
+    for it in vars(phonenumber_proved).values():
+        if isinstance(it, type) and issubclass(it, enum.IntEnum):
+            front = "COST_" if it.__name__ == "Cost" else ""
+            numbers.update({front + member.name: member.value for member in it})
+    return calls, fields, numbers
+
+
+def rust_numbers():
+    """The numbers of Rust's declarations, and the places of the variants of Rust's enums."""
+    text = (BINDINGS / "rust" / "sys" / "src" / "lib.rs").read_text()
+    numbers = {name: int(it) for name, it in re.findall(r"const (\w+): u32 = (\d+);", text)}
+    for file, name in (("number", "Mode"), ("number", "Source"), ("number", "Type"), ("database", "Rules"), ("short", "Cost")):
+        body = re.search(r"pub enum " + name + r" \{(.*?)\n\}", (BINDINGS / "rust" / "src" / f"{file}.rs").read_text(), re.DOTALL)[1]
+        for place, variant in enumerate(re.findall(r"^ +([A-Z]\w*),$", body, re.MULTILINE)):
+            snake = re.sub(r"(?<=[a-z])(?=[A-Z])", "_", variant).upper()
+            numbers[("COST_" if name == "Cost" else "") + snake] = place
+    return numbers
+
+
+def compare(where, what, told, wanted, whole=False):
+    for name in sorted(set(told) | (set(wanted) if whole else set())):
+        if told.get(name) != wanted.get(name):
+            differences.append(f"{where}: {what} {name}: {told.get(name)}, in phone.h {wanted.get(name)}")
+
+
+def without_const(calls):
+    """What ctypes can say: it has no const, and one type for size_t and uint64_t."""
+    def plain(kind):
+        return kind.replace("const ", "").replace("usize", "u64")
+    return {name: ([plain(it) for it in types], answer) for name, (types, answer) in calls.items()}
+
+
+def main():
+    calls, structs, numbers = header()
+    crate = "".join(file.read_text() for file in sorted(CRATES.glob("phone_c*/src/*.rt")))
+    ffi = (BINDINGS / "rust" / "sys" / "src" / "lib.rs").read_text()
+    compare("crates/phone_c", "call", rust_calls(crate, 'extern "C"'), calls, whole=True)
+    compare("crates/phone_c", "struct", rust_structs(crate), structs)
+    compare("crates/phone_c", "number", crate_numbers(crate), numbers)
+    compare("sys/src/lib.rs", "call", rust_calls(ffi, "pub"), calls)
+    compare("sys/src/lib.rs", "struct", rust_structs(ffi), structs, whole=True)
+    compare("Rust", "number", rust_numbers(), numbers)
+    python_calls, python_structs, python_numbers = python()
+    compare("_calls.py", "call", python_calls, without_const(calls))
+    wide = {name: [(field, kind.replace("usize", "u64")) for field, kind in fields] for name, fields in structs.items()}
+    compare("_calls.py", "struct", python_structs, wide, whole=True)
+    compare("Python", "number", python_numbers, numbers)
+    for it in differences:
+        print(it)
+    print(f"declarations: {len(differences)} differ" if differences else "declarations: ok")
+    return 1 if differences else 0
+
+
+if __name__ == "__main__":
+    sys.exit(main())

@@ -1,0 +1,314 @@
+"""What users of the Python package count on, as tables: cases.py [FOLDER].
+
+FOLDER is crates/replay/data, whose rows are replayed. The last line is `python: ok`; else a line tells each case that isn't so.
+"""
+
+import copy
+import doctest
+import pickle
+import re
+import sys
+import threading
+from pathlib import Path
+
+import phonenumber_proved
+from phonenumber_proved import (
+    TABLE, BadPrefixes, Database, Error, Kind, Mode, Prefixes, Rules, ShortNumbers, Source, is_viable,
+)
+
+REPLAY = Path(__file__).resolve().parents[2] / "crates" / "replay" / "data"
+failed = []
+
+
+def check(case, told, wanted):
+    if told != wanted:
+        failed.append(case)
+        print(f"{case}: {told!r}, not {wanted!r}")
+
+
+def refused(call, *args, **more):
+    """The class and the words of what a call raises."""
+    try:
+        return call(*args, **more)
+    except Exception as error:
+        return type(error).__name__, str(error)
+
+
+# Hint, text, E.164 text and validity by libphonenumber's rules, then by the crate's.
+BY_RULES = [
+    ("US", "+44 (0)20 7946 0018", "+442079460018", True, "+4402079460018", False),
+    ("US", "+49 176 12345678", "+4917612345678", True, "+497612345678", True),
+    ("NZ", "03-331 6005", "+6433316005", True, "+6433316005", True),
+    ("GB", "020 7946 0018", "+442079460018", True, "+442079460018", True),
+]
+
+
+def rules_are_the_callers(world):
+    for hint, text, by_library, is_valid, by_crate, is_valid_by_crate in BY_RULES:
+        number, port = world.parse(text, hint), world.parse(text, hint, rules=Rules.CRATE)
+        check(text, (number.e164, number.is_valid, number.rules), (by_library, is_valid, Rules.LIBRARY))
+        check(text, (port.e164, port.is_valid, port.rules), (by_crate, is_valid_by_crate, Rules.CRATE))
+        check(text, world.report(text, hint).split("\t")[1], by_library)
+        check(text, world.report(text, hint, Rules.CRATE).split("\t")[1], by_crate)
+        check(text, (number.by(Rules.CRATE) == number, number.by(Rules.CRATE).rules), (True, Rules.CRATE))
+    check("rules", refused(world.parse, "1", None, 2), ("ValueError", "2 is not a valid Rules"))
+
+
+# Text, kind, region, national text, international text.
+TOLD = [
+    ("+64 3 331 6005", Kind.FIXED_LINE, "NZ", "03 331 6005", "+64 3 331 6005"),
+    ("+44 7912345678", Kind.MOBILE, "GB", "07912 345678", "+44 7912 345678"),
+    ("+1 6502530000", Kind.FIXED_LINE_OR_MOBILE, "US", "(650) 253-0000", "+1 650-253-0000"),
+    ("+80012340000", Kind.TOLL_FREE, None, "1234 0000", "+800 1234 0000"),
+]
+
+
+def numbers_are_told(world):
+    for text, kind, region, national, international in TOLD:
+        number = world.parse(text)
+        told = (number.kind, number.region, number.format(Mode.NATIONAL), number.format(Mode.INTERNATIONAL))
+        check(text, told, (kind, region, national, international))
+        check(text, (number.source, number.format(), str(number)), (Source.PLUS, number.e164, number.e164))
+    for rules, national in (Rules.LIBRARY, "(11) 2345-6789 ext. 7"), (Rules.CRATE, "0 31 (11) 2345-6789 ext. 7"):
+        number = world.parse("0 31 11 2345 6789 ext. 7", "BR", rules)
+        check("carrier", (number.extension, number.carrier, number.format(Mode.NATIONAL)), ("7", "31", national))
+        again = pickle.loads(pickle.dumps(number)).on(world)
+        check("carrier", (again == number, again.format(Mode.NATIONAL)), (True, national))
+    number = world.parse("03-331 6005 ext. 12", "NZ")
+    check("fields", (number.code, number.national, number.extension, number.carrier), (64, "33316005", "12", None))
+    with Database("[]") as none:
+        check("another database", refused(number.on(none).format), ("UnknownCode", "unknown calling code"))
+
+
+# In their order.
+ORDERED = ["+1 650 253 0000", "+39 02 3661 8300", "+64 21 387 835", "+64 3 331 6005", "+64 3 331 6005 ext. 12"]
+
+
+def numbers_are_keys_of_tables(world):
+    numbers = [world.parse(text) for text in ORDERED]
+    check("order", sorted(reversed(numbers)), numbers)
+    check("set", len(set(numbers + [world.parse(text) for text in ORDERED])), len(ORDERED))
+    check("other", (numbers[0] == "+16502530000", numbers[0] != numbers[1]), (False, True))
+    check("other order", refused(lambda: numbers[0] < 1)[0], "TypeError")
+    for number in numbers:
+        check("copy", (copy.copy(number) is number, copy.deepcopy([number])[0] is number), (True, True))
+        for protocol in range(pickle.HIGHEST_PROTOCOL + 1):
+            again = pickle.loads(pickle.dumps(number.by(Rules.CRATE), protocol))
+            check("pickle", (again, hash(again), again.rules, again.e164), (number, hash(number), Rules.CRATE, number.e164))
+            check("pickle", (again.extension, again.on(world).region), (number.extension, number.by(Rules.CRATE).region))
+        check("alone", refused(lambda: again.region)[0], "Closed")
+    check("database", refused(copy.copy, world), ("TypeError", "a Database is neither copied nor pickled"))
+    check("database", refused(copy.deepcopy, world)[0], "TypeError")
+    check("database", refused(pickle.dumps, world)[0], "TypeError")
+
+
+def errors_are_values(world):
+    told = []
+    for call in (
+        lambda: world.parse("call me"), lambda: world.parse("03-331 6005"), lambda: world.parse("1", "nz"), lambda: Database("["),
+        lambda: Prefixes("1\ta\nx\tb"), lambda: world.parse("+64 3 331 6005").on(closed()).region,
+    ):
+        try:
+            call()
+            check("raised", None, call)
+        except Error as error:
+            told.append(error)
+            for again in (pickle.loads(pickle.dumps(error)), copy.deepcopy(error), copy.copy(error)):
+                check(error, (again == error, hash(again), type(again), str(again)), (True, hash(error), type(error), str(error)))
+                check(error, vars(again), vars(error))
+    check("order", sorted(told) == sorted(reversed(told)) and len(set(told)) == len(told), True)
+    check("words", [type(it).__name__ + ": " + str(it) for it in told], [
+        "NoNumber: not a number", "NoNumber: invalid country code", "UnknownRegion: no region's id: 'nz'", "BadDatabase: malformed JSON",
+        "BadPrefixes: line 2: the prefix isn't 1 to 15 digits", "Closed: closed",
+    ])
+    check("line", told[4].line, 2)
+
+
+def closed():
+    database = Database("[]")
+    database.close()
+    database.close()
+    return database
+
+
+# Texts that have no UTF-8, or regions that are none.
+LONE = ["\ud800", "+64 3 331 6005\udfff", "\udc80", "\ud83d", "\udca9\ud83d"]
+NO_REGION = ["", "nz", "XX", "001", "NZ ", "N\0", "\ud800", "\U0001f4a9"]
+
+
+def lone_surrogates_are_refused(world, table):
+    not_utf8 = ("NoNumber", "not UTF-8")
+    for text in LONE:
+        for case in (text, text.encode("utf-8", "surrogatepass")):
+            check(ascii(case), refused(world.parse, case, "NZ"), not_utf8)
+            check(ascii(case), refused(world.typed, case, "NZ"), not_utf8)
+            check(ascii(case), refused(world.caret, case, 1, "NZ"), not_utf8)
+            check(ascii(case), refused(table.short, "NZ", case), not_utf8)
+            check(ascii(case), world.report(case, "NZ"), "error\t0\tnot UTF-8")
+            check(ascii(case), is_viable(case), False)
+            check(ascii(case), refused(Database, case), ("BadDatabase", "not UTF-8"))
+        with Prefixes("1\ta") as prefixes:
+            check(ascii(text), refused(prefixes.longest, text), not_utf8)
+        check(ascii(text), refused(Prefixes, "1\t" + text), ("BadPrefixes", "line 1: the text isn't UTF-8"))
+    field = world.typing("NZ")
+    field.push("033")
+    check("field", (refused(field.push, "\ud800"), field.shown, field.keys), (not_utf8, "033", "033"))
+
+
+def what_is_no_region_is_refused(world, table):
+    for region in NO_REGION:
+        words = ("UnknownRegion", f"no region's id: {region!a}")
+        for call in (world.parse, world.report, world.typed):
+            check(call, refused(call, "03-331 6005", region), words)
+        check(ascii(region), refused(world.typing, region), words)
+        check(ascii(region), refused(table.short, region, "111"), words)
+
+
+def texts_are_str_or_bytes(world, table):
+    for text in (None, 5, ["03-331 6005"]):
+        check(text, refused(world.parse, text), ("TypeError", f"a text is str or bytes, not {type(text).__name__}"))
+    check("NUL", refused(world.parse, "+64 3 331\0 6005").__class__, tuple)
+    for text in (b"+64 3 331 6005", bytearray(b"+64 3 331 6005"), memoryview(b"+64 3 331 6005")):
+        check("bytes", world.parse(text).e164, "+6433316005")
+    check("caret", [world.caret("+64", n, "NZ") for n in (0, 1, 3, 4, 1 << 80)], [0, 1, 3, 4, 4])
+    check("caret", refused(world.caret, "+64", -1), ("ValueError", "keys are counted from 1"))
+    check("long", refused(world.parse, "+64" + "3" * 100_000), ("NoNumber", "the number is too long"))
+
+
+def one_thread_has_a_database(world):
+    told = []
+    other = threading.Thread(target=lambda: told.append(refused(world.parse, "03-331 6005", "NZ")))
+    other.start()
+    other.join()
+    check("thread", told, [("RuntimeError", "it is used on the thread that made it")])
+    check("closed", refused(closed().parse, "03-331 6005", "NZ"), ("Closed", "closed"))
+
+
+def plain(field):
+    """A field of a row with its escapes undone, in bytes."""
+    def of(found):
+        sign = found[1].decode()
+        if sign[0] in "uU":
+            return chr(int(sign[1:], 16)).encode()
+        if sign[0] == "x":
+            return bytes([int(sign[1:], 16)])
+        return {"t": b"\t", "n": b"\n"}.get(sign, sign.encode())
+    return re.sub(rb"\\(x..|u.{4}|U.{8}|.)", of, field)
+
+
+def rows(folder, file, call):
+    for line in (folder / file).read_bytes().split(b"\n"):
+        fields = line.split(b"\t")
+        if fields[0] == call.encode():
+            yield [plain(field) for field in fields[1:]]
+
+
+def typed_rows(world, folder):
+    count = 0
+    for base, hint, keys, wanted, *_ in rows(folder, "typed.tsv", "typed"):
+        if base != b"world/world":
+            continue
+        hint, keys = None if hint == b"-" else hint.decode(), keys.decode()
+        field = world.typing(hint)
+        shown = [field.push(key) for key in keys]
+        check(keys, "|".join(shown), wanted.decode())
+        places = [field.caret(n) for n in range(len(field.keys) + 2)]
+        check(keys, [re.sub(r"[^+0-9]", "", field.shown[:at]) for at in places], [field.keys[:n] for n in range(len(places))])
+        whole = world.typing(hint)
+        check(keys, (whole.push(keys), whole.keys), (field.shown, field.keys))
+        if len(field.keys) == len(keys) > 1:
+            check(keys, field.back(), shown[-2])
+        field.clear()
+        check(keys, (field.shown, field.keys, field.back()), ("", "", ""))
+        count += 1
+    return count
+
+
+def library_rows(world, folder):
+    """Reports and numbers by libphonenumber's rules."""
+    count = 0
+    for base, hint, text, wanted, *_ in rows(folder, "library.tsv", "library"):
+        hint, text, wanted = None if hint == b"-" else hint.decode(), text.decode(), wanted.decode().split("\t")
+        check((hint, text), world.report(text, hint).split("\t"), wanted[:9])
+        if wanted[0] == "error":
+            check((hint, text), refused(world.parse, text, hint)[0], "NoNumber")
+        else:
+            number = world.parse(text, hint)
+            told = [number.e164, number.format(Mode.NATIONAL), number.kind.name.replace("_", "").lower(), number.region or "-"]
+            told += ["valid" if number.is_valid else "invalid", number.extension or "-", number.carrier or "-", number.national]
+            check((hint, text), told, [wanted[1], wanted[3], wanted[6].lower(), *wanted[7:]])
+        count += 1
+    return count
+
+
+def short_rows(table, folder):
+    count = 0
+    for base, region, text, wanted, *_ in rows(folder, "short.tsv", "short"):
+        if base != b"world/short":
+            continue
+        facts = table.short(region.decode(), text.decode())
+        cost = {"UNKNOWN": "UNKNOWN_COST"}.get(facts.cost.name, facts.cost.name)
+        said = [cost if it is facts.cost else "yes" if it else "no" for it in facts]
+        check((region, text), "\t".join(said), wanted.decode())
+        count += 1
+    return count
+
+
+def prefix_rows(folder):
+    count = 0
+    for table, digits, wanted, _ in rows(folder, "prefixes.tsv", "prefix"):
+        try:
+            with Prefixes(table) as prefixes:
+                found = prefixes.longest(digits)
+            told = "none" if found is None else ": ".join(found)
+        except BadPrefixes as error:
+            told = "!" + str(error)
+        check((table, digits), told, wanted.decode())
+        count += 1
+    return count
+
+
+def long_texts():
+    """A text that is longer than the first buffer, and one that isn't."""
+    with Prefixes.load(Path(TABLE).with_name("timezones.tsv")) as zones:
+        prefix, text = zones.longest("18002345678")
+        check("zones", (prefix, len(text) > 512, text.rpartition("&")[2]), ("1", True, "Pacific/Saipan"))
+        check("zone", zones.longest("12015550123"), ("1201", "America/New_York"))
+        check("none", zones.longest("0"), None)
+
+
+def docstrings():
+    """The examples of the package and of each public name."""
+    finder, runner = doctest.DocTestFinder(), doctest.DocTestRunner()
+    names = vars(phonenumber_proved)
+    for name in ["", *phonenumber_proved.__all__]:
+        it = names[name] if name else phonenumber_proved
+        if name and not callable(it):
+            continue
+        for test in finder.find(it, name or "phonenumber_proved", module=None if not name else False, globs=dict(names)):
+            if name or test.name == "phonenumber_proved":
+                runner.run(test)
+    check("docstrings", runner.failures, 0)
+    return runner.tries
+
+
+def main(words):
+    folder = Path(words[0]) if words else REPLAY
+    with Database.load() as world, ShortNumbers.load() as table:
+        for case in (rules_are_the_callers, numbers_are_told, numbers_are_keys_of_tables, errors_are_values, one_thread_has_a_database):
+            case(world)
+        for case in (lone_surrogates_are_refused, what_is_no_region_is_refused, texts_are_str_or_bytes):
+            case(world, table)
+        long_texts()
+        count = [typed_rows(world, folder), short_rows(table, folder), prefix_rows(folder), docstrings()]
+        count.append(library_rows(world, folder))
+    check("rows", all(it > least for it, least in zip(count, (1000, 2000, 20, 20, 10_000))), True)
+    check("py.typed", Path(phonenumber_proved.__file__).with_name("py.typed").exists(), True)
+    check("version", re.fullmatch(r"\d+\.\d+\.\d+", phonenumber_proved.__version__) is not None, True)
+    print(f"rows: {count[0]} typed, {count[1]} short, {count[2]} of prefixes, {count[4]} read; {count[3]} examples")
+    print(f"python: {len(failed)} failed" if failed else "python: ok")
+    return 1 if failed else 0
+
+
+if __name__ == "__main__":
+    sys.exit(main(sys.argv[1:]))

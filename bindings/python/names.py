@@ -1,0 +1,170 @@
+"""What users of the package `phonenumbers` count on, as tables, under its names: names.py.
+
+The last line is `names: ok`; else a line tells each case that isn't so.
+"""
+
+import contextlib
+import copy
+import doctest
+import io
+import pickle
+import re
+import sys
+import threading
+from pathlib import Path
+
+from phonenumber_proved import Database
+from phonenumber_proved import phonenumbers as names
+from phonenumber_proved.phonenumbers import NumberParseException as Refused
+from phonenumber_proved.phonenumbers import PhoneNumber, PhoneNumberFormat, PhoneNumberType, ValidationResult
+
+# Text, region, the fields that are set, and the text in each format.
+READ = [
+    ("020 8366 1177", "GB", {"country_code": 44, "national_number": 2083661177},
+     ("+442083661177", "+44 20 8366 1177", "020 8366 1177", "tel:+44-20-8366-1177")),
+    ("+39 02 3661 8300", None, {"country_code": 39, "national_number": 236618300, "italian_leading_zero": True},
+     ("+390236618300", "+39 02 3661 8300", "02 3661 8300", "tel:+39-02-3661-8300")),
+    ("+39 00 3661 8300", "ZZ",
+     {"country_code": 39, "national_number": 36618300, "italian_leading_zero": True, "number_of_leading_zeros": 2},
+     ("+390036618300", "+39 0036618300", "0036618300", "tel:+39-0036618300")),
+    ("03 331 6005 ext 3456", "NZ", {"country_code": 64, "national_number": 33316005, "extension": "3456"},
+     ("+6433316005", "+64 3 331 6005 ext. 3456", "03 331 6005 ext. 3456", "tel:+64-3-331-6005;ext=3456")),
+]
+
+# Text, region, what is kept of it: how the calling code was found, and a carrier.
+KEPT = [
+    ("+64 3 331 6005", None, 1, None), ("00 64 3 331 6005", "NZ", 5, None), ("64 3 331 6005", "NZ", 10, None),
+    ("03 331 6005", "NZ", 20, None), ("0 15 11 2345 6789", "BR", 20, "15"),
+]
+
+# Number, kind, region, validity, whether it is possible.
+TOLD = [
+    ((64, 33316005), PhoneNumberType.FIXED_LINE, "NZ", True, ValidationResult.IS_POSSIBLE),
+    ((1, 6502530000), PhoneNumberType.FIXED_LINE_OR_MOBILE, "US", True, ValidationResult.IS_POSSIBLE),
+    ((1, 2423651234), PhoneNumberType.FIXED_LINE, "BS", True, ValidationResult.IS_POSSIBLE),
+    ((800, 12345678), PhoneNumberType.TOLL_FREE, "001", True, ValidationResult.IS_POSSIBLE),
+    ((1, 2530000), PhoneNumberType.UNKNOWN, None, False, ValidationResult.IS_POSSIBLE_LOCAL_ONLY),
+    ((1, 253), PhoneNumberType.UNKNOWN, None, False, ValidationResult.TOO_SHORT),
+    ((1, 65025300000), PhoneNumberType.UNKNOWN, None, False, ValidationResult.TOO_LONG),
+    ((999, 1234567), PhoneNumberType.UNKNOWN, None, False, ValidationResult.INVALID_COUNTRY_CODE),
+    ((1 << 20, 1 << 60), PhoneNumberType.UNKNOWN, None, False, ValidationResult.INVALID_COUNTRY_CODE),
+]
+
+# Text, region, why it is no number.
+REFUSED = [
+    ("call me", "NZ", Refused.NOT_A_NUMBER), (None, "NZ", Refused.NOT_A_NUMBER), ("\ud800 12345", "NZ", Refused.NOT_A_NUMBER),
+    ("03 331 6005", None, Refused.INVALID_COUNTRY_CODE), ("03 331 6005", "ZZ", Refused.INVALID_COUNTRY_CODE),
+    ("+999 1234567", None, Refused.INVALID_COUNTRY_CODE), ("+49 0", "DE", Refused.TOO_SHORT_NSN),
+    ("1" * 20, "DE", Refused.TOO_LONG), ("1" * 300, "DE", Refused.TOO_LONG),
+]
+
+# Text, region: whether it reaches emergency services, whether it is an emergency number.
+EMERGENCIES = [("911", "US", True, True), ("9116", "US", True, False), ("133", "CL", True, True), ("112", "ZZ", False, False)]
+
+failed = []
+
+
+def check(case, told, wanted):
+    if told != wanted:
+        failed.append(case)
+        print(f"{case}: {told!r}, not {wanted!r}")
+
+
+def why(text, region):
+    """Why a text is no number."""
+    try:
+        return names.parse(text, region)
+    except Refused as error:
+        check(text, str(pickle.loads(pickle.dumps(error))), str(error))
+        return error.error_type
+
+
+def numbers_are_read():
+    for text, region, fields, texts in READ:
+        number = names.parse(text, region)
+        check(text, number, PhoneNumber(**fields))
+        check(text, tuple(names.format_number(number, it) for it in range(4)), texts)
+    for text, region, source, carrier in KEPT:
+        number = names.parse(text, region, keep_raw_input=True)
+        told = number.raw_input, number.country_code_source, number.preferred_domestic_carrier_code
+        check(text, told, (text, source, carrier))
+    for text, region, reason in REFUSED:
+        check(text, why(text, region), reason)
+
+
+def numbers_are_told():
+    for (code, value), kind, region, is_valid, reason in TOLD:
+        number = PhoneNumber(code, value)
+        told = names.number_type(number), names.region_code_for_number(number), names.is_valid_number(number)
+        check(number, told, (kind, region, is_valid))
+        check(number, names.is_possible_number_with_reason(number), reason)
+        check(number, names.is_possible_number(number), reason in (0, 4))
+    check("code", names.format_number(PhoneNumber(999, 12), PhoneNumberFormat.NATIONAL), "12")
+    check("code", names.format_number(PhoneNumber(999, 12), PhoneNumberFormat.E164), "+99912")
+    bahamas = PhoneNumber(1, 2423651234)
+    check("region", [names.is_valid_number_for_region(bahamas, it) for it in ("BS", "US", "NZ", None)], [True, False, False, False])
+    check("codes", (names.country_code_for_region("NZ"), names.region_code_for_country_code(1)), (64, "US"))
+    check("kind", PhoneNumberType.to_string(PhoneNumberType.VOIP), "VOIP")
+
+
+def short_numbers_are_told():
+    for text, region, reaches, is_one in EMERGENCIES:
+        told = names.connects_to_emergency_number(text, region), names.is_emergency_number(text, region)
+        check(text, told, (reaches, is_one))
+    check("111", names.is_valid_short_number_for_region(PhoneNumber(64, 111), "NZ"), True)
+    check("111", names.is_valid_short_number_for_region(PhoneNumber(64, 111), "US"), False)
+
+
+def numbers_are_data():
+    number = PhoneNumber(64, 33316005)
+    frozen = names.FrozenPhoneNumber(number)
+    check("same", (frozen == number, copy.deepcopy(number) == number, len({frozen, copy.copy(frozen)})), (True, True, 1))
+    check("pickled", pickle.loads(pickle.dumps(frozen)) == frozen, True)
+    number.merge_from(PhoneNumber(extension="12"))
+    check("merged", (number.extension, number.country_code, frozen == number), ("12", 64, False))
+    for change in (frozen.clear, lambda: setattr(frozen, "country_code", 1), lambda: delattr(frozen, "country_code")):
+        try:
+            check("frozen", change(), "a refusal")
+        except TypeError:
+            pass
+
+
+def threads_free_what_they_open():
+    freed, free = [], Database._free
+
+    def count(handle):
+        freed.append(threading.get_ident())
+        free(handle)
+
+    Database._free = staticmethod(count)
+    threads = [threading.Thread(target=names.parse, args=("+64 3 331 6005",)) for _ in range(3)]
+    for it in threads:
+        it.start()
+    for it in threads:
+        it.join()
+    del Database._free
+    check("threads", (len(freed), threading.get_ident() in freed), (3, False))
+
+
+def readme():
+    """The examples of README.md print what stands behind their lines."""
+    text = Path(__file__).with_name("README.md").read_text(encoding="utf-8")
+    for block in re.findall(r"```python\n(.*?)```", text, re.DOTALL):
+        printed = io.StringIO()
+        with contextlib.redirect_stdout(printed):
+            exec(block, {})
+        check(block, printed.getvalue().splitlines(), re.findall(r"  # (.*)", block))
+
+
+def main():
+    for case in (numbers_are_read, numbers_are_told, short_numbers_are_told, numbers_are_data, threads_free_what_they_open, readme):
+        case()
+    missing = [name for name in names.__all__ if not hasattr(names, name)]
+    check("names", missing, [])
+    check("docstrings", doctest.testmod(names).failed, 0)
+    print(f"names: {len(failed)} failed" if failed else "names: ok")
+    return 1 if failed else 0
+
+
+if __name__ == "__main__":
+    sys.exit(main())

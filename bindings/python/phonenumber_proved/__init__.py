@@ -1,0 +1,71 @@
+"""Phone numbers, read and printed as crates/phone_c proves it. Over one shared library, by ctypes.
+
+    >>> from phonenumber_proved import Database, Kind, Mode
+    >>> with Database.load() as world:
+    ...     number = world.parse("03-331 6005 ext. 12", hint="NZ")
+    ...     print(number.e164, number.format(Mode.INTERNATIONAL))
+    ...     print(number.kind.name, number.region, number.is_valid, number.extension)
+    +6433316005 +64 3 331 6005 ext. 12
+    FIXED_LINE NZ True 12
+    >>> with Database.load() as world:
+    ...     world.parse("call me")
+    Traceback (most recent call last):
+    ...
+    phonenumber_proved.NoNumber: not a number
+    >>> is_viable("call me"), is_viable("03-331 6005")
+    (False, True)
+
+A `Database` is used on the thread that made it, by one call at a time; so are `ShortNumbers` and
+`Prefixes`. Each database has a table of its own; that of the world takes some 57 MB. `close`, or
+`with`, frees it. A text is `str` or UTF-8 in `bytes`; a lone surrogate, or bytes that aren't UTF-8,
+are refused. PHONE_LIBRARY names the shared library, else `libphone.so` beside these files is taken,
+and else the one that `make` leaves in bindings/c/out. PHONE_TABLE names another table of the world.
+The module `phonenumber_proved.phonenumbers` has the names of the package `phonenumbers`.
+"""
+
+from ._calls import is_viable
+from .database import Database, Typing
+from .errors import (
+    BadDatabase, BadPrefixes, Closed, Error, NoNumber, UnknownCode, UnknownRegion,
+)
+from .number import Kind, Mode, PhoneNumber, Rules, Source
+from .prefixes import Prefixes
+from .short import Cost, ShortFacts, ShortNumbers
+from .tables import CARRIERS_TABLE, SHORT_TABLE, TABLE, TABLE_VERSION, TIME_ZONES_TABLE
+
+__version__ = "0.2.0"
+
+__all__ = [
+    "BadDatabase",
+    "BadPrefixes",
+    "CARRIERS_TABLE",
+    "Closed",
+    "Cost",
+    "Database",
+    "Error",
+    "Kind",
+    "Mode",
+    "NoNumber",
+    "PhoneNumber",
+    "Prefixes",
+    "Rules",
+    "SHORT_TABLE",
+    "ShortFacts",
+    "ShortNumbers",
+    "Source",
+    "TABLE",
+    "TABLE_VERSION",
+    "TIME_ZONES_TABLE",
+    "Typing",
+    "UnknownCode",
+    "UnknownRegion",
+    "__version__",
+    "is_viable",
+]
+
+# The place of a public name is this package, whatever file it stands in.
+for _name in __all__:
+    _it = globals()[_name]
+    if getattr(_it, "__module__", "").startswith(__name__ + "."):
+        _it.__module__ = __name__
+del _name, _it

@@ -1,0 +1,197 @@
+"""The data of `phonenumbers`: a number whose fields a program sets, constants, and an error."""
+
+from __future__ import annotations
+
+from typing import Any, Optional, Tuple
+
+
+class _Names:
+    """Constants that have numbers."""
+
+    @classmethod
+    def to_string(cls, value: int) -> str:
+        """The name of a number."""
+        names = [name for name, it in vars(cls).items() if name.isupper() and it == value]
+        return names[0] if names else f"INVALID ({value})"
+
+    @classmethod
+    def values(cls) -> Tuple[int, ...]:
+        """All of the numbers."""
+        return tuple(it for name, it in vars(cls).items() if name.isupper())
+
+
+class PhoneNumberFormat(_Names):
+    """How a number is printed."""
+
+    E164 = 0
+    INTERNATIONAL = 1
+    NATIONAL = 2
+    RFC3966 = 3
+
+
+class PhoneNumberType(_Names):
+    """The kind of a number."""
+
+    FIXED_LINE = 0
+    MOBILE = 1
+    FIXED_LINE_OR_MOBILE = 2
+    TOLL_FREE = 3
+    PREMIUM_RATE = 4
+    SHARED_COST = 5
+    VOIP = 6
+    PERSONAL_NUMBER = 7
+    PAGER = 8
+    UAN = 9
+    VOICEMAIL = 10
+    UNKNOWN = 99
+
+
+class CountryCodeSource(_Names):
+    """How a calling code was found."""
+
+    UNSPECIFIED = 0
+    FROM_NUMBER_WITH_PLUS_SIGN = 1
+    FROM_NUMBER_WITH_IDD = 5
+    FROM_NUMBER_WITHOUT_PLUS_SIGN = 10
+    FROM_DEFAULT_COUNTRY = 20
+
+
+class ValidationResult(_Names):
+    """Whether the count of a number's digits is possible."""
+
+    IS_POSSIBLE = 0
+    INVALID_COUNTRY_CODE = 1
+    TOO_SHORT = 2
+    TOO_LONG = 3
+    IS_POSSIBLE_LOCAL_ONLY = 4
+    INVALID_LENGTH = 5
+
+
+class ShortNumberCost(_Names):
+    """What a call of a short number costs."""
+
+    TOLL_FREE = 0
+    STANDARD_RATE = 1
+    PREMIUM_RATE = 2
+    UNKNOWN_COST = 3
+
+
+class NumberParseException(Exception):
+    """A text is no phone number; `error_type` says why."""
+
+    INVALID_COUNTRY_CODE = 0
+    NOT_A_NUMBER = 1
+    TOO_SHORT_AFTER_IDD = 2
+    TOO_SHORT_NSN = 3
+    TOO_LONG = 4
+
+    def __init__(self, error_type: int, msg: str) -> None:
+        super().__init__(msg)
+        self.error_type, self._msg = error_type, msg
+
+    def __reduce__(self) -> Tuple[Any, ...]:
+        return type(self), (self.error_type, self._msg)
+
+    def __str__(self) -> str:
+        return f"({self.error_type}) {self._msg}"
+
+
+#: The fields of a number, each with its words.
+_FIELDS = {
+    "country_code": "Country Code",
+    "national_number": "National Number",
+    "italian_leading_zero": "Leading Zero(s)",
+    "number_of_leading_zeros": "Number of leading zeros",
+    "extension": "Extension",
+    "country_code_source": "Country Code Source",
+    "preferred_domestic_carrier_code": "Preferred Domestic Carrier Code",
+}
+
+
+class PhoneNumber:
+    """A phone number: fields that a program sets at will. A field that isn't set is `None`.
+
+    `national_number` has no leading zeros: `italian_leading_zero` says that there are any, and
+    `number_of_leading_zeros` how many where it isn't one.
+    """
+
+    def __init__(
+        self,
+        country_code: Optional[int] = None,
+        national_number: Optional[int] = None,
+        extension: Optional[str] = None,
+        italian_leading_zero: Optional[bool] = None,
+        number_of_leading_zeros: Optional[int] = None,
+        raw_input: Optional[str] = None,
+        country_code_source: int = CountryCodeSource.UNSPECIFIED,
+        preferred_domestic_carrier_code: Optional[str] = None,
+    ) -> None:
+        self.country_code = None if country_code is None else int(country_code)
+        self.national_number = None if national_number is None else int(national_number)
+        self.extension = extension
+        self.italian_leading_zero = italian_leading_zero
+        self.number_of_leading_zeros = number_of_leading_zeros
+        self.raw_input = raw_input
+        self.country_code_source = country_code_source or CountryCodeSource.UNSPECIFIED
+        self.preferred_domestic_carrier_code = preferred_domestic_carrier_code
+
+    def clear(self) -> None:
+        """Takes all fields away."""
+        PhoneNumber.__init__(self)
+
+    def merge_from(self, other: "PhoneNumber") -> None:
+        """Takes over the fields that the other has."""
+        unset = vars(PhoneNumber())
+        for name, value in vars(other).items():
+            if value != unset[name]:
+                setattr(self, name, value)
+
+    def _key(self) -> Tuple[Any, ...]:
+        """What is compared: an absent truth is a false one."""
+        fields = dict(vars(self), italian_leading_zero=bool(self.italian_leading_zero))
+        return tuple(fields.values())
+
+    def __eq__(self, other: object) -> bool:
+        return isinstance(other, PhoneNumber) and self._key() == other._key()
+
+    __hash__ = None  # type: ignore[assignment]
+
+    def __str__(self) -> str:
+        unset, told = vars(PhoneNumber()), vars(self)
+        always = ("country_code", "national_number")
+        return " ".join(
+            f"{words}: {told[name]}"
+            for name, words in _FIELDS.items()
+            if name in always or told[name] != unset[name]
+        )
+
+    def __repr__(self) -> str:
+        told = vars(self)
+        fields = ", ".join(f"{name}={it!r}" for name, it in told.items() if name != "raw_input")
+        return f"{type(self).__name__}({fields})"
+
+
+class FrozenPhoneNumber(PhoneNumber):
+    """A phone number that never changes, and may be a key."""
+
+    def __init__(self, *args: Any, **kwargs: Any) -> None:
+        is_copied = len(args) == 1 and not kwargs and isinstance(args[0], PhoneNumber)
+        plain = args[0] if is_copied else PhoneNumber(*args, **kwargs)
+        self.__dict__.update(vars(plain))
+
+    def __setattr__(self, name: str, value: object) -> None:
+        raise TypeError("a FrozenPhoneNumber doesn't change")
+
+    def __delattr__(self, name: str) -> None:
+        raise TypeError("a FrozenPhoneNumber doesn't change")
+
+    def clear(self) -> None:
+        """Is refused."""
+        raise TypeError("a FrozenPhoneNumber doesn't change")
+
+    def merge_from(self, other: PhoneNumber) -> None:
+        """Is refused."""
+        raise TypeError("a FrozenPhoneNumber doesn't change")
+
+    def __hash__(self) -> int:  # type: ignore[override]
+        return hash(self._key())

@@ -1,0 +1,73 @@
+"""The databases of a thread, and what the table of the world says of regions and codes."""
+
+from __future__ import annotations
+
+import functools
+import json
+import threading
+from pathlib import Path
+from typing import Any, Dict, List, Optional, Tuple
+
+from .database import Database
+from .short import ShortNumbers
+from .tables import TABLE
+
+#: The region of a code that is no region's, as 800, and that of no code.
+NO_REGION, UNKNOWN = "001", "ZZ"
+
+_here = threading.local()
+
+
+def world() -> Database:
+    """The table of the world, opened once on each thread that asks it."""
+    if not hasattr(_here, "world"):
+        _here.world = Database.load()
+    return _here.world  # type: ignore[no-any-return]
+
+
+def short_numbers() -> ShortNumbers:
+    """The table of short numbers, opened once on each thread that asks it."""
+    if not hasattr(_here, "short"):
+        _here.short = ShortNumbers.load()
+    return _here.short  # type: ignore[no-any-return]
+
+
+@functools.lru_cache(maxsize=None)
+def records() -> Dict[Tuple[int, str], Dict[str, Any]]:
+    """The records of the table, by calling code and region."""
+    table = json.loads(Path(TABLE).read_bytes())
+    return {(it["country_code"], it["id"]): it for it in table}
+
+
+@functools.lru_cache(maxsize=None)
+def regions_by_code() -> Dict[int, Tuple[str, ...]]:
+    """The regions of each code, the main one first."""
+    found: Dict[int, List[str]] = {}
+    for (code, region), it in records().items():
+        of_code = found.setdefault(code, [])
+        of_code.insert(0 if it.get("main_country_for_code") else len(of_code), region)
+    return {code: tuple(found[code]) for code in sorted(found)}
+
+
+@functools.lru_cache(maxsize=None)
+def code_by_region() -> Dict[str, int]:
+    """The calling code of each region."""
+    return {region: code for code, region in records() if region != NO_REGION}
+
+
+def main_record(code: Optional[int]) -> Optional[Dict[str, Any]]:
+    """The record of a code's main region; none where the table has no such code."""
+    regions = regions_by_code().get(code or 0)
+    return records()[code or 0, regions[0]] if regions else None
+
+
+def alone(code: int, region: str) -> Optional[Database]:
+    """The database that one record of the table is; none where there is no such record."""
+    record = records().get((code, region))
+    if record is None:
+        return None
+    if not hasattr(_here, "alone"):
+        _here.alone = {}
+    if (code, region) not in _here.alone:
+        _here.alone[code, region] = Database(json.dumps([record]))
+    return _here.alone[code, region]  # type: ignore[no-any-return]

@@ -1,0 +1,222 @@
+"""A phone number, and what is told of it."""
+
+from __future__ import annotations
+
+import ctypes
+import enum
+import functools
+from typing import TYPE_CHECKING, Any, Optional, Tuple
+
+from ._calls import IS_CLOSED, OK, Number, Part, lib, written
+from .errors import Closed, refuse
+
+if TYPE_CHECKING:
+    from .database import Database
+
+
+class Rules(enum.IntEnum):
+    """By whose rules a text is read and a number described."""
+
+    LIBRARY = 0
+    """Those of libphonenumber."""
+    CRATE = 1
+    """Those of the Rust crate `phonenumber` 0.3.10."""
+
+
+class Mode(enum.IntEnum):
+    """How a number is printed."""
+
+    E164 = 0
+    INTERNATIONAL = 1
+    NATIONAL = 2
+    RFC3966 = 3
+
+
+class Source(enum.IntEnum):
+    """How a calling code was found."""
+
+    PLUS = 0
+    IDD = 1
+    NUMBER = 2
+    DEFAULT = 3
+
+
+class Kind(enum.IntEnum):
+    """The kind of a number."""
+
+    FIXED_LINE = 0
+    MOBILE = 1
+    FIXED_LINE_OR_MOBILE = 2
+    TOLL_FREE = 3
+    PREMIUM_RATE = 4
+    SHARED_COST = 5
+    PERSONAL_NUMBER = 6
+    VOIP = 7
+    PAGER = 8
+    UAN = 9
+    EMERGENCY = 10
+    VOICEMAIL = 11
+    SHORT_CODE = 12
+    STANDARD_RATE = 13
+    CARRIER = 14
+    NO_INTERNATIONAL = 15
+    UNKNOWN = 16
+
+
+@functools.total_ordering
+class PhoneNumber:
+    """A phone number that a database read. It never changes, and asks its database.
+
+    Kind, region, validity and printed texts are told by the rules by which it was read; `by` gives
+    the same number under the others. Numbers are equal where calling code, national number,
+    extension, carrier and source are, whatever the database and the rules; in this order they are
+    ordered, the national number by its value and then by its leading zeros. A number is copied as
+    itself, and pickled without its database: `on` gives it one.
+    """
+
+    __slots__ = ("_number", "_texts", "_rules", "_database")
+
+    def __init__(
+        self, number: Number, texts: bytes, rules: Rules, database: "Optional[Database]"
+    ) -> None:
+        """What a database makes of a text by `parse`."""
+        self._number, self._texts = number, texts
+        self._rules, self._database = rules, database
+
+    @property
+    def code(self) -> int:
+        """The calling code, as 64 for New Zealand."""
+        return int(self._number.code)
+
+    @property
+    def source(self) -> Source:
+        """How the calling code was found."""
+        return Source(self._number.source)
+
+    @property
+    def national(self) -> str:
+        """The digits of the national number, with its leading zeros."""
+        return "0" * int(self._number.zeros) + str(self._number.value)
+
+    @property
+    def extension(self) -> Optional[str]:
+        """What is dialled once the call is answered; it may be empty."""
+        return self._part(self._number.extension)
+
+    @property
+    def carrier(self) -> Optional[str]:
+        """The carrier's selection code, where one was dialled."""
+        return self._part(self._number.carrier)
+
+    @property
+    def rules(self) -> Rules:
+        """The rules by which it is described."""
+        return self._rules
+
+    def by(self, rules: Rules) -> "PhoneNumber":
+        """The same number, described by these rules."""
+        return PhoneNumber(self._number, self._texts, Rules(rules), self._database)
+
+    def on(self, database: "Database") -> "PhoneNumber":
+        """The same number, described by this database."""
+        return PhoneNumber(self._number, self._texts, self._rules, database)
+
+    def format(self, mode: Mode = Mode.E164) -> str:
+        """The text in a mode; `UnknownCode` where the database lists no territory of the code."""
+        number, texts, printed = ctypes.byref(self._number), self._texts, int(Mode(mode))
+        handle, rules = self._borrowed(), self._rules
+        return written(
+            lambda *out: lib.phone_format_by(
+                handle, rules, number, texts, len(texts), printed, *out
+            )
+        ).decode()
+
+    @property
+    def e164(self) -> str:
+        """The E.164 text, whatever the code: a key for tables. It needs no database."""
+        return written(lambda *out: lib.phone_key(ctypes.byref(self._number), *out)).decode()
+
+    @property
+    def kind(self) -> Kind:
+        """The kind of the number."""
+        told = ctypes.c_uint32()
+        number, answer = ctypes.byref(self._number), ctypes.byref(told)
+        status = lib.phone_kind_by(self._borrowed(), self._rules, number, answer)
+        return Kind(told.value) if status == OK else refuse(status)
+
+    @property
+    def region(self) -> Optional[str]:
+        """The id of the number's region, as `NZ`; `None` where it has none."""
+        number, handle, rules = ctypes.byref(self._number), self._borrowed(), self._rules
+        region = written(lambda *out: lib.phone_region_by(handle, rules, number, *out), 8)
+        return region.decode() or None
+
+    @property
+    def is_valid(self) -> bool:
+        """Whether such numbers are given out."""
+        told = ctypes.c_uint8()
+        number, answer = ctypes.byref(self._number), ctypes.byref(told)
+        status = lib.phone_is_valid_by(self._borrowed(), self._rules, number, answer)
+        return told.value == 1 if status == OK else refuse(status)
+
+    def _borrowed(self) -> Any:
+        if self._database is None:
+            raise Closed(IS_CLOSED, "the number has no database: on(database) gives it one")
+        return self._database._borrowed()
+
+    def _part(self, part: Part) -> Optional[str]:
+        if not part.is_there:
+            return None
+        return self._texts[part.start : part.start + part.len].decode()
+
+    def _key(self) -> Tuple[Any, ...]:
+        """What is compared: an absent text stands before all others."""
+        it, extension, carrier = self._number, self.extension, self.carrier
+        texts = (extension is not None, extension or "", carrier is not None, carrier or "")
+        return (it.code, it.value, it.zeros, *texts, it.source)
+
+    def __eq__(self, other: object) -> bool:
+        if not isinstance(other, PhoneNumber):
+            return NotImplemented
+        return self._key() == other._key()
+
+    def __lt__(self, other: object) -> bool:
+        if not isinstance(other, PhoneNumber):
+            return NotImplemented
+        return self._key() < other._key()
+
+    def __hash__(self) -> int:
+        return hash(self._key())
+
+    def __copy__(self) -> "PhoneNumber":
+        return self
+
+    def __deepcopy__(self, seen: object) -> "PhoneNumber":
+        return self
+
+    def __reduce__(self) -> Tuple[object, ...]:
+        it = self._number
+        told = (it.value, it.code, it.source, it.zeros, self.extension, self.carrier)
+        return (_again, (*told, int(self._rules)))
+
+    def __str__(self) -> str:
+        return self.e164
+
+    def __repr__(self) -> str:
+        return f"<PhoneNumber {self.e164}>"
+
+
+def _part_of(text: Optional[str], start: int) -> Part:
+    """Where a text stands that begins at a place."""
+    return Part(start, len((text or "").encode()), text is not None)
+
+
+def _again(
+    value: int, code: int, source: int, zeros: int, extension: Optional[str],
+    carrier: Optional[str], rules: int,
+) -> PhoneNumber:
+    """A number that was pickled."""
+    texts = (extension or "").encode() + (carrier or "").encode()
+    first = _part_of(extension, 0)
+    number = Number(value, first, _part_of(carrier, first.len), code, source, zeros)
+    return PhoneNumber(number, texts, Rules(rules), None)

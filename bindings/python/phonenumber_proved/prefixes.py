@@ -1,0 +1,56 @@
+"""Tables of prefixes, as of time zones and carriers."""
+
+from __future__ import annotations
+
+import ctypes
+from typing import Any, Optional, Tuple
+
+from ._calls import MEMORY, NO_PREFIX, OK, PrefixesHandle, Text, bytes_of, lib, written
+from .errors import LINE_WORDS, BadPrefixes
+from .held import Held
+
+
+class Prefixes(Held):
+    """A table of prefixes: each line a prefix of 1 to 15 digits, a tab, and a text in UTF-8.
+
+    >>> from phonenumber_proved import BadPrefixes, Prefixes
+    >>> with Prefixes("64\\tNew Zealand\\n643\\tSouth Island\\n") as table:
+    ...     table.longest("6433316005"), table.longest("6493316005"), table.longest("1")
+    (('643', 'South Island'), ('64', 'New Zealand'), None)
+    >>> Prefixes("64\\tNew Zealand\\n+1\\tNorth America\\n")
+    Traceback (most recent call last):
+    ...
+    phonenumber_proved.BadPrefixes: line 2: the prefix isn't 1 to 15 digits
+    """
+
+    _free = lib.phone_prefixes_close
+
+    def __init__(self, text: Text) -> None:
+        """Opens the table that a text is; `BadPrefixes` by the first line that is no entry."""
+        data, handle, line = bytes_of(text), PrefixesHandle(), ctypes.c_size_t()
+        at = ctypes.byref(line)
+        status = lib.phone_prefixes_open(data, len(data), ctypes.byref(handle), at)
+        if status == MEMORY:
+            raise MemoryError
+        if status != OK:
+            words = LINE_WORDS.get(status, f"status {status}")
+            raise BadPrefixes(status, f"line {line.value}: {words}", line.value)
+        self._hold(handle)
+
+    def longest(self, digits: Text) -> Optional[Tuple[str, str]]:
+        """Prefix and text of the entry whose prefix is the longest that begins these digits.
+
+        The digits are those of an E.164 number without its plus sign: `number.e164[1:]`. `None`
+        exactly where no prefix begins them.
+        """
+        data, handle, prefix_len = bytes_of(digits), self._borrowed(), ctypes.c_size_t()
+
+        def call(*out: Any) -> int:
+            at = ctypes.byref(prefix_len)
+            status: int = lib.phone_prefixes_longest(handle, data, len(data), *out, at)
+            return OK if status == NO_PREFIX else status
+
+        text = written(call)
+        if prefix_len.value == 0:
+            return None
+        return data[: prefix_len.value].decode(), text.decode()

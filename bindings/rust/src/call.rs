@@ -1,0 +1,38 @@
+//! How texts go to the calls and come back.
+use crate::error::Error;
+use crate::ffi;
+
+/// What a call writes into a buffer, which is made longer where it is too short.
+pub(crate) fn bytes_of(room: usize, mut call: impl FnMut(*mut u8, usize, *mut usize) -> u32) -> Result<Vec<u8>, Error> {
+    let mut out = vec![0u8; room];
+    loop {
+        let mut wrote = 0;
+        match call(out.as_mut_ptr(), out.len(), &mut wrote) {
+            ffi::OK => {
+                out.truncate(wrote);
+                return Ok(out);
+            }
+            ffi::TOO_SMALL => out = vec![0u8; wrote],
+            status => return Err(Error::of(status)),
+        }
+    }
+}
+
+/// The same as a text.
+pub(crate) fn text_of(room: usize, call: impl FnMut(*mut u8, usize, *mut usize) -> u32) -> Result<String, Error> {
+    String::from_utf8(bytes_of(room, call)?).map_err(|_| Error::NotUtf8)
+}
+
+/// Nothing where a status is `OK`, else the error.
+pub(crate) fn check(status: u32) -> Result<(), Error> {
+    if status == ffi::OK { Ok(()) } else { Err(Error::of(status)) }
+}
+
+/// The bytes of a hint. The empty text is no region's id, though for the calls it stands for no hint.
+pub(crate) fn hint_of(hint: Option<&str>) -> Result<&[u8], Error> {
+    match hint {
+        Some("") => Err(Error::NoRegion),
+        Some(id) => Ok(id.as_bytes()),
+        None => Ok(b""),
+    }
+}

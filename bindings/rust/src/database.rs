@@ -1,0 +1,260 @@
+//! A database, and whose rules it is asked by.
+use crate::call::{bytes_of, check, hint_of, text_of};
+use crate::error::Error;
+use crate::ffi;
+use crate::number::{Mode, PhoneNumber, TYPES, Type};
+use crate::records::Records;
+use crate::typing::Typing;
+use std::fmt;
+use std::path::Path;
+
+/// By whose rules a text is read and a number described.
+#[derive(Clone, Copy, Debug, Default, PartialEq, Eq, Hash, PartialOrd, Ord)]
+pub enum Rules {
+    /// By those of libphonenumber.
+    #[default]
+    Library,
+    /// By those of the crate `phonenumber` 0.3.10.
+    Crate,
+}
+
+/// A database. It is neither `Send` nor `Sync`: a handle is used on the thread that opened it.
+///
+/// A hint is the id of the region in which a text was written, as `NZ`; `Error::NoRegion` where it is
+/// none. What has no rules of its own is by libphonenumber's.
+///
+/// ```compile_fail
+/// fn sent<T: Send>() {}
+/// sent::<phonenumber_proved::Database>();
+/// ```
+pub struct Database {
+    records: Records,
+}
+
+impl fmt::Debug for Database {
+    fn fmt(&self, f: &mut fmt::Formatter<'_>) -> fmt::Result {
+        f.debug_struct("Database").finish_non_exhaustive()
+    }
+}
+
+impl Database {
+    /// The database that a JSON text is.
+    ///
+    /// ```
+    /// use phonenumber_proved::{Database, Error};
+    /// assert_eq!(Database::from_json("[").unwrap_err(), Error::Database(3));
+    /// assert_eq!(Database::from_json(b"\xff").unwrap_err(), Error::NotUtf8);
+    /// ```
+    pub fn from_json(text: impl AsRef<[u8]>) -> Result<Database, Error> {
+        Ok(Database { records: Records::open(text.as_ref())? })
+    }
+
+    /// The database that a file is.
+    ///
+    /// ```
+    /// use phonenumber_proved::{Database, Error, WORLD_PATH};
+    /// assert!(Database::load(WORLD_PATH).is_ok());
+    /// assert_eq!(Database::load("no such file").unwrap_err(), Error::Io(std::io::ErrorKind::NotFound));
+    /// ```
+    pub fn load(path: impl AsRef<Path>) -> Result<Database, Error> {
+        Database::from_json(std::fs::read(path)?)
+    }
+
+    /// The database, asked by these rules.
+    pub fn by(&self, rules: Rules) -> By<'_> {
+        By { database: self, rules }
+    }
+
+    /// The number that a text is.
+    ///
+    /// ```
+    /// use phonenumber_proved::{Database, Error, WORLD};
+    /// let world = Database::from_json(WORLD)?;
+    /// assert_eq!(world.parse(None, "call me").unwrap_err(), Error::NoNumber);
+    /// assert_eq!(world.parse(Some("nz"), "03-331 6005").unwrap_err(), Error::NoRegion);
+    /// # Ok::<(), Error>(())
+    /// ```
+    pub fn parse(&self, hint: Option<&str>, text: impl AsRef<str>) -> Result<PhoneNumber, Error> {
+        self.by(Rules::Library).parse(hint, text)
+    }
+
+    /// The report line of a line, without a line feed.
+    pub fn report(&self, hint: Option<&str>, line: impl AsRef<[u8]>) -> Result<String, Error> {
+        self.by(Rules::Library).report(hint, line)
+    }
+
+    /// The kind of a number.
+    pub fn number_type(&self, number: &PhoneNumber) -> Result<Type, Error> {
+        self.by(Rules::Library).number_type(number)
+    }
+
+    /// The id of a number's region, as `NZ`.
+    pub fn region(&self, number: &PhoneNumber) -> Result<Option<String>, Error> {
+        self.by(Rules::Library).region(number)
+    }
+
+    /// Whether such numbers are given out.
+    pub fn is_valid(&self, number: &PhoneNumber) -> Result<bool, Error> {
+        self.by(Rules::Library).is_valid(number)
+    }
+
+    /// The printer of a number, by E.164 until `mode` asks for another.
+    pub fn format<'a>(&'a self, number: &'a PhoneNumber) -> Formatter<'a> {
+        self.by(Rules::Library).format(number)
+    }
+
+    /// What is shown of a number while it is typed, once these keys are: digits of any script, and a plus
+    /// sign before all of them. All else in the text is dropped. The hint is the region that digits
+    /// without a plus sign are dialled in.
+    ///
+    /// ```
+    /// use phonenumber_proved::{Database, WORLD};
+    /// let world = Database::from_json(WORLD)?;
+    /// assert_eq!(world.typed(Some("NZ"), "0333160")?, "03 331 60");
+    /// assert_eq!(world.typed(None, "+643331")?, "+64 3 331");
+    /// # Ok::<(), phonenumber_proved::Error>(())
+    /// ```
+    pub fn typed(&self, hint: Option<&str>, keys: impl AsRef<str>) -> Result<String, Error> {
+        let (hint, keys) = (hint_of(hint)?, keys.as_ref());
+        text_of(64, |out, len, wrote| {
+            // SAFETY: as in `By::parse`.
+            self.records.with(|handle| unsafe {
+                ffi::phone_typing_shown(handle, hint.as_ptr(), hint.len(), keys.as_ptr(), keys.len(), out, len, wrote)
+            })
+        })
+    }
+
+    /// After how many characters of what `typed` shows of these keys the n-th key stands, counted from 1:
+    /// 0 for no key, all characters from the last key on.
+    pub fn caret(&self, hint: Option<&str>, keys: impl AsRef<str>, n: usize) -> Result<usize, Error> {
+        let (hint, keys, mut told) = (hint_of(hint)?, keys.as_ref(), 0);
+        // SAFETY: as in `By::parse`.
+        check(self.records.with(|handle| unsafe {
+            ffi::phone_typing_caret(handle, hint.as_ptr(), hint.len(), keys.as_ptr(), keys.len(), n, &mut told)
+        }))?;
+        Ok(told)
+    }
+
+    /// A field in which nothing is typed yet.
+    pub fn typing(&self, hint: Option<&str>) -> Result<Typing<'_>, Error> {
+        Typing::new(self, hint)
+    }
+}
+
+/// A database that is asked by rules of one's choice: [`Database::by`] gives it.
+#[derive(Clone, Copy, Debug)]
+pub struct By<'d> {
+    database: &'d Database,
+    rules: Rules,
+}
+
+impl<'d> By<'d> {
+    /// The rules.
+    pub fn rules(&self) -> Rules {
+        self.rules
+    }
+
+    /// The number that a text is. The hint is the id of the region in which it was written.
+    pub fn parse(&self, hint: Option<&str>, text: impl AsRef<str>) -> Result<PhoneNumber, Error> {
+        let (hint, text) = (hint_of(hint)?, text.as_ref());
+        let (mut number, rules) = (ffi::Number::default(), self.rules as u32);
+        let texts = bytes_of(64, |out, len, wrote| {
+            let (at, hint_len) = (text.as_ptr(), hint.len());
+            // SAFETY: the handle is open, and lent to the call alone; the slices are valid, apart and initialized.
+            self.database.records.with(|handle| unsafe {
+                ffi::phone_parse_by(
+                    handle, rules, hint.as_ptr(), hint_len, at, text.len(), &mut number, out, len, wrote,
+                )
+            })
+        })?;
+        Ok(PhoneNumber::of(&number, &texts))
+    }
+
+    /// The report line of a line, without a line feed.
+    pub fn report(&self, hint: Option<&str>, line: impl AsRef<[u8]>) -> Result<String, Error> {
+        let (hint, line, rules) = (hint_of(hint)?, line.as_ref(), self.rules as u32);
+        text_of(512, |out, len, wrote| {
+            let (at, hint_len) = (line.as_ptr(), hint.len());
+            // SAFETY: as in `parse`.
+            self.database.records.with(|handle| unsafe {
+                ffi::phone_report_by(handle, rules, hint.as_ptr(), hint_len, at, line.len(), out, len, wrote)
+            })
+        })
+    }
+
+    /// The kind of a number.
+    pub fn number_type(&self, number: &PhoneNumber) -> Result<Type, Error> {
+        let (number, rules, mut told) = (number.plain(), self.rules as u32, 0);
+        let records = &self.database.records;
+        // SAFETY: the handle is open, and lent to the call alone.
+        check(records.with(|handle| unsafe { ffi::phone_kind_by(handle, rules, &number, &mut told) }))?;
+        TYPES.get(told as usize).copied().ok_or(Error::Other(told))
+    }
+
+    /// The id of a number's region, as `NZ`.
+    pub fn region(&self, number: &PhoneNumber) -> Result<Option<String>, Error> {
+        let (number, rules) = (number.plain(), self.rules as u32);
+        let records = &self.database.records;
+        let id = text_of(8, |out, len, wrote| {
+            // SAFETY: as in `parse`.
+            records.with(|handle| unsafe { ffi::phone_region_by(handle, rules, &number, out, len, wrote) })
+        })?;
+        Ok(Some(id).filter(|id| !id.is_empty()))
+    }
+
+    /// Whether such numbers are given out.
+    pub fn is_valid(&self, number: &PhoneNumber) -> Result<bool, Error> {
+        let (number, rules, mut told) = (number.plain(), self.rules as u32, 0);
+        let records = &self.database.records;
+        // SAFETY: as in `number_type`.
+        check(records.with(|handle| unsafe { ffi::phone_is_valid_by(handle, rules, &number, &mut told) }))?;
+        Ok(told == 1)
+    }
+
+    /// The printer of a number, by E.164 until `mode` asks for another.
+    pub fn format<'a>(&self, number: &'a PhoneNumber) -> Formatter<'a>
+    where
+        'd: 'a,
+    {
+        Formatter { by: *self, number, mode: Mode::E164 }
+    }
+}
+
+/// The printer of a number in a mode.
+#[derive(Clone, Copy, Debug)]
+pub struct Formatter<'a> {
+    by: By<'a>,
+    number: &'a PhoneNumber,
+    mode: Mode,
+}
+
+impl Formatter<'_> {
+    /// The same printer in another mode.
+    pub fn mode(self, mode: Mode) -> Self {
+        Formatter { mode, ..self }
+    }
+
+    /// The text; `UnknownCode` where the database lists no territory of the number's code.
+    pub fn to_text(&self) -> Result<String, Error> {
+        let (number, texts) = self.number.to_ffi();
+        let (rules, mode) = (self.by.rules as u32, self.mode as u32);
+        text_of(64, |out, len, wrote| {
+            let (at, bytes) = (texts.as_ptr(), texts.len());
+            // SAFETY: as in `By::parse`.
+            self.by.database.records.with(|handle| unsafe {
+                ffi::phone_format_by(handle, rules, &number, at, bytes, mode, out, len, wrote)
+            })
+        })
+    }
+}
+
+/// The text in the mode; the E.164 text where the database lists no territory of the number's code.
+impl fmt::Display for Formatter<'_> {
+    fn fmt(&self, f: &mut fmt::Formatter<'_>) -> fmt::Result {
+        match self.to_text() {
+            Ok(text) => f.pad(&text),
+            Err(Error::UnknownCode) => self.number.fmt(f),
+            Err(_) => Err(fmt::Error),
+        }
+    }
+}

@@ -1,0 +1,84 @@
+//! Short numbers, which are dialled within a region alone.
+use crate::call::check;
+use crate::error::Error;
+use crate::ffi;
+use crate::records::Records;
+use std::fmt;
+use std::path::Path;
+
+/// What a call of a short number costs.
+#[derive(Clone, Copy, Debug, PartialEq, Eq, Hash, PartialOrd, Ord)]
+pub enum Cost {
+    TollFree,
+    StandardRate,
+    PremiumRate,
+    Unknown,
+}
+
+const COSTS: [Cost; 4] = [Cost::TollFree, Cost::StandardRate, Cost::PremiumRate, Cost::Unknown];
+
+/// What is known of a text as a short number of a region.
+#[derive(Clone, Copy, Debug, PartialEq, Eq, Hash)]
+pub struct ShortFacts {
+    /// Whether the count of its digits is possible.
+    pub is_possible: bool,
+    /// Whether it is a short number of the region.
+    pub is_valid: bool,
+    /// What a call costs.
+    pub cost: Cost,
+    /// Whether only some carriers connect it.
+    pub is_carrier_specific: bool,
+    /// Whether it is an emergency number.
+    pub is_emergency: bool,
+    /// Whether it reaches emergency services.
+    pub reaches_emergency: bool,
+}
+
+/// A table of short numbers. Like a database it stays on its thread.
+///
+/// ```
+/// use phonenumber_proved::{Cost, Error, SHORT, ShortNumbers};
+/// let table = ShortNumbers::from_json(SHORT)?;
+/// let facts = table.short("NZ", "111")?;
+/// assert!(facts.is_valid && facts.is_emergency && facts.cost == Cost::TollFree);
+/// assert_eq!(table.short("nz", "111").unwrap_err(), Error::NoRegion);
+/// # Ok::<(), Error>(())
+/// ```
+pub struct ShortNumbers {
+    records: Records,
+}
+
+impl fmt::Debug for ShortNumbers {
+    fn fmt(&self, f: &mut fmt::Formatter<'_>) -> fmt::Result {
+        f.debug_struct("ShortNumbers").finish_non_exhaustive()
+    }
+}
+
+impl ShortNumbers {
+    /// The table that a JSON text is.
+    pub fn from_json(text: impl AsRef<[u8]>) -> Result<ShortNumbers, Error> {
+        Ok(ShortNumbers { records: Records::open(text.as_ref())? })
+    }
+
+    /// The table that a file is.
+    pub fn load(path: impl AsRef<Path>) -> Result<ShortNumbers, Error> {
+        ShortNumbers::from_json(std::fs::read(path)?)
+    }
+
+    /// What is known of a text as a short number of a region, whose id is as `NZ`.
+    pub fn short(&self, region: &str, text: impl AsRef<str>) -> Result<ShortFacts, Error> {
+        let (text, mut facts) = (text.as_ref(), ffi::ShortFacts::default());
+        // SAFETY: the handle is open, and lent to the call alone; the slices are valid, apart and initialized.
+        check(self.records.with(|handle| unsafe {
+            ffi::phone_short(handle, region.as_ptr(), region.len(), text.as_ptr(), text.len(), &mut facts)
+        }))?;
+        Ok(ShortFacts {
+            is_possible: facts.is_possible == 1,
+            is_valid: facts.is_valid == 1,
+            cost: COSTS.get(facts.cost as usize).copied().ok_or(Error::Other(facts.cost))?,
+            is_carrier_specific: facts.is_carrier_specific == 1,
+            is_emergency: facts.is_emergency == 1,
+            reaches_emergency: facts.reaches_emergency == 1,
+        })
+    }
+}

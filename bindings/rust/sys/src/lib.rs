@@ -1,0 +1,152 @@
+//! The calls of `phone.h`, and the library behind them, linked. The crate `phonenumber-proved` stands over it.
+//!
+//! The header says what each call means, and what a caller owes. In the repository `bindings/declarations.py` compares it with these
+//! declarations.
+#![no_std]
+
+/// A database, or nothing open where `at` is null. It isn't copied, and these calls alone write it.
+#[repr(C)]
+pub struct Handle {
+    pub at: *mut u8,
+}
+
+/// The same of a table of prefixes.
+#[repr(C)]
+pub struct Prefixes {
+    pub at: *mut u8,
+}
+
+/// Where a text stands, in bytes beside a number.
+#[repr(C)]
+#[derive(Clone, Copy, Default)]
+pub struct Part {
+    pub start: usize,
+    pub len: usize,
+    pub is_there: u8,
+}
+
+/// A phone number, whose texts stand in bytes beside it.
+#[repr(C)]
+#[derive(Clone, Copy, Default)]
+pub struct Number {
+    pub value: u64,
+    pub extension: Part,
+    pub carrier: Part,
+    pub code: u16,
+    pub source: u8,
+    pub zeros: u8,
+}
+
+/// What is known of a text as a short number of a region: each but the cost is 1, else 0.
+#[repr(C)]
+#[derive(Clone, Copy, Default)]
+pub struct ShortFacts {
+    pub cost: u32,
+    pub is_possible: u8,
+    pub is_valid: u8,
+    pub is_carrier_specific: u8,
+    pub is_emergency: u8,
+    pub reaches_emergency: u8,
+}
+
+pub const OK: u32 = 0;
+pub const MEMORY: u32 = 7;
+pub const TOO_SMALL: u32 = 17;
+pub const NOT_UTF8: u32 = 18;
+pub const NO_REGION: u32 = 19;
+pub const UNKNOWN_CODE: u32 = 20;
+pub const NO_PREFIX: u32 = 30;
+
+unsafe extern "C" {
+    pub fn phone_open(text: *const u8, len: usize, handle: *mut Handle) -> u32;
+    pub fn phone_close(handle: *mut Handle);
+    pub fn phone_report_by(
+        handle: *mut Handle,
+        rules: u32,
+        hint: *const u8,
+        hint_len: usize,
+        line: *const u8,
+        line_len: usize,
+        out: *mut u8,
+        out_len: usize,
+        wrote: *mut usize,
+    ) -> u32;
+    pub fn phone_parse_by(
+        handle: *mut Handle,
+        rules: u32,
+        hint: *const u8,
+        hint_len: usize,
+        text: *const u8,
+        text_len: usize,
+        number: *mut Number,
+        out: *mut u8,
+        out_len: usize,
+        wrote: *mut usize,
+    ) -> u32;
+    pub fn phone_format_by(
+        handle: *mut Handle,
+        rules: u32,
+        number: *const Number,
+        bytes: *const u8,
+        bytes_len: usize,
+        mode: u32,
+        out: *mut u8,
+        out_len: usize,
+        wrote: *mut usize,
+    ) -> u32;
+    pub fn phone_kind_by(handle: *mut Handle, rules: u32, number: *const Number, told: *mut u32) -> u32;
+    pub fn phone_region_by(
+        handle: *mut Handle,
+        rules: u32,
+        number: *const Number,
+        out: *mut u8,
+        out_len: usize,
+        wrote: *mut usize,
+    ) -> u32;
+    pub fn phone_is_valid_by(handle: *mut Handle, rules: u32, number: *const Number, told: *mut u8) -> u32;
+    pub fn phone_typing_shown(
+        handle: *mut Handle,
+        hint: *const u8,
+        hint_len: usize,
+        keys: *const u8,
+        keys_len: usize,
+        out: *mut u8,
+        out_len: usize,
+        wrote: *mut usize,
+    ) -> u32;
+    pub fn phone_typing_caret(
+        handle: *mut Handle,
+        hint: *const u8,
+        hint_len: usize,
+        keys: *const u8,
+        keys_len: usize,
+        n: usize,
+        told: *mut usize,
+    ) -> u32;
+    pub fn phone_short(
+        handle: *mut Handle,
+        region: *const u8,
+        region_len: usize,
+        text: *const u8,
+        text_len: usize,
+        facts: *mut ShortFacts,
+    ) -> u32;
+    pub fn phone_prefixes_open(text: *const u8, len: usize, prefixes: *mut Prefixes, line: *mut usize) -> u32;
+    pub fn phone_prefixes_close(prefixes: *mut Prefixes);
+    pub fn phone_prefixes_longest(
+        prefixes: *mut Prefixes,
+        digits: *const u8,
+        digits_len: usize,
+        out: *mut u8,
+        out_len: usize,
+        wrote: *mut usize,
+        prefix_len: *mut usize,
+    ) -> u32;
+    pub fn phone_key(number: *const Number, out: *mut u8, out_len: usize, wrote: *mut usize) -> u32;
+    pub fn phone_is_viable(text: *const u8, len: usize, told: *mut u8) -> u32;
+    pub fn phone_refusal_words(number: u32, out: *mut u8, out_len: usize, wrote: *mut usize) -> u32;
+    pub fn phone_version() -> u32;
+}
+
+/// The version of the calls that is declared here.
+pub const VERSION: u32 = 2;
