@@ -1,0 +1,216 @@
+/* What the SQL functions of SQLite and PostgreSQL share: how a table is opened, and how a question
+ * about a text is answered. A text is read and a number described by libphonenumber's rules.
+ *
+ * The file that includes this one defines first
+ *   sql_memory(size)   memory of so many bytes, all of them zero, or NULL
+ *   sql_forget(at)     gives memory back; nothing where `at` is NULL
+ */
+#ifndef SQL_COMMON_H
+#define SQL_COMMON_H
+#include "phone.h"
+#include <errno.h>
+#include <stdio.h>
+#include <string.h>
+
+/* A text that somebody else owns, in bytes. */
+typedef struct { const char *at; size_t len; } sql_text;
+
+/* What is asked of a text. SQL_REFUSAL has words where any other has nothing, for a refusal, and
+ * nothing where it is a number; a number without a region has nothing as its region. */
+typedef enum { SQL_E164, SQL_FORMAT, SQL_TYPE, SQL_REGION, SQL_IS_VALID, SQL_REFUSAL } sql_question;
+
+/* A question. `mode` is absent where `at` is NULL; SQL_FORMAT has one, and SQL_REFUSAL has one where
+ * it asks why SQL_FORMAT has nothing. */
+typedef struct {
+    sql_question question;
+    sql_text text, region, mode;
+} sql_call;
+
+/* Bytes that a call of the library writes: in `few` while they are few. All of them are zero first. */
+typedef struct {
+    uint8_t few[256];
+    uint8_t *many;
+    size_t room, len;
+} sql_bytes;
+
+/* An answer. A text stands in `bytes` or is a constant. SQL_NO_MEMORY says nothing of the text. */
+typedef enum { SQL_NOTHING, SQL_TEXT, SQL_TRUTH, SQL_NO_MEMORY } sql_kind;
+typedef struct {
+    sql_kind kind;
+    sql_text text;
+    int truth;
+    sql_bytes bytes;
+} sql_answer;
+
+static void sql_begin(sql_bytes *bytes) {
+    memset(bytes, 0, sizeof *bytes);
+    bytes->room = sizeof bytes->few;
+}
+static uint8_t *sql_at(sql_bytes *bytes) { return bytes->many ? bytes->many : bytes->few; }
+
+/* Makes room for `len` bytes where `status` says that there was too little. 0: there is nothing to be
+ * done again, and `status` is PHONE_MEMORY where room was refused. */
+static int sql_again(sql_bytes *bytes, uint32_t *status) {
+    if (*status != PHONE_TOO_SMALL) return 0;
+    sql_forget(bytes->many);
+    bytes->many = sql_memory(bytes->len);
+    bytes->room = bytes->many ? bytes->len : sizeof bytes->few;
+    if (!bytes->many) *status = PHONE_MEMORY;
+    return bytes->many != NULL;
+}
+
+/* The mode of a name, in capital or small letters. 0: there is none. */
+static int sql_mode(sql_text name, uint32_t *mode) {
+    static const char *const NAMES[] = {"e164", "international", "national", "rfc3966"};
+    for (uint32_t each = 0; each < 4; each++) {
+        size_t same = 0, len = strlen(NAMES[each]);
+        while (same < len && same < name.len) {
+            char c = name.at[same];
+            if ((c >= 'A' && c <= 'Z' ? (char)(c + 32) : c) != NAMES[each][same]) break;
+            same++;
+        }
+        if (same == len && len == name.len) return *mode = each, 1;
+    }
+    return 0;
+}
+
+/* Reads the text of a call as a number, whose own texts go to `texts`. */
+static uint32_t sql_parse(phone_handle *world, const sql_call *call, phone_number *number, sql_bytes *texts) {
+    const uint8_t *text = phone_text(call->text.at, call->text.len);
+    const uint8_t *region = phone_text(call->region.at, call->region.len);
+    uint32_t status;
+    do status = phone_parse_by(world, PHONE_LIBRARY, region, call->region.len, text, call->text.len, number,
+                               sql_at(texts), texts->room, &texts->len);
+    while (sql_again(texts, &status));
+    return status;
+}
+
+/* Prints a number in a mode, to the bytes of the answer. */
+static uint32_t sql_print(phone_handle *world, const phone_number *number, sql_bytes *texts, uint32_t mode,
+                          sql_answer *answer) {
+    sql_bytes *out = &answer->bytes;
+    uint32_t status;
+    do status = phone_format_by(world, PHONE_LIBRARY, number, sql_at(texts), texts->len, mode, sql_at(out),
+                                out->room, &out->len);
+    while (sql_again(out, &status));
+    return status;
+}
+
+/* Tells the kind of a number, in the word that reports have for it. */
+static uint32_t sql_type(phone_handle *world, const phone_number *number, sql_text *word) {
+    static const char *const WORDS[] = {
+        "FixedLine", "Mobile", "FixedLineOrMobile", "TollFree", "PremiumRate", "SharedCost", "PersonalNumber",
+        "Voip", "Pager", "Uan", "Emergency", "Voicemail", "ShortCode", "StandardRate", "Carrier",
+        "NoInternational", "Unknown"};
+    uint32_t kind = PHONE_UNKNOWN, status = phone_kind_by(world, PHONE_LIBRARY, number, &kind);
+    word->at = WORDS[kind <= PHONE_UNKNOWN ? kind : PHONE_UNKNOWN];
+    word->len = strlen(word->at);
+    return status;
+}
+
+/* Answers what is asked of a number that was read. */
+static uint32_t sql_describe(phone_handle *world, const sql_call *call, const phone_number *number,
+                             sql_bytes *texts, uint32_t mode, sql_answer *answer) {
+    sql_bytes *out = &answer->bytes;
+    uint8_t truth = 0;
+    uint32_t status = PHONE_OK;
+    answer->kind = SQL_TEXT;
+    switch (call->question) {
+    case SQL_E164:
+        do status = phone_key(number, sql_at(out), out->room, &out->len);
+        while (sql_again(out, &status));
+        break;
+    case SQL_FORMAT:
+        status = sql_print(world, number, texts, mode, answer);
+        break;
+    case SQL_TYPE:
+        return sql_type(world, number, &answer->text);
+    case SQL_REGION:
+        do status = phone_region_by(world, PHONE_LIBRARY, number, sql_at(out), out->room, &out->len);
+        while (sql_again(out, &status));
+        if (!out->len) answer->kind = SQL_NOTHING;
+        break;
+    case SQL_IS_VALID:
+        status = phone_is_valid_by(world, PHONE_LIBRARY, number, &truth);
+        answer->kind = SQL_TRUTH;
+        answer->truth = truth != 0;
+        break;
+    case SQL_REFUSAL:
+        if (call->mode.at) status = sql_print(world, number, texts, mode, answer);
+        answer->kind = SQL_NOTHING;
+        break;
+    }
+    answer->text = (sql_text){(const char *)sql_at(out), out->len};
+    return status;
+}
+
+/* Writes the words of a status that is not PHONE_OK. */
+static void sql_words(uint32_t status, sql_answer *answer) {
+    sql_bytes *out = &answer->bytes;
+    const char *words = status == PHONE_NO_REGION      ? "unknown region"
+                        : status == PHONE_NOT_UTF8     ? "not UTF-8"
+                        : status == PHONE_NO_MODE      ? "unknown mode"
+                        : status == PHONE_UNKNOWN_CODE ? "unknown calling code"
+                                                       : "refused";
+    answer->kind = SQL_TEXT;
+    answer->text = (sql_text){words, strlen(words)};
+    if (phone_refusal_words(status, sql_at(out), out->room, &out->len) == PHONE_OK)
+        answer->text = (sql_text){(const char *)sql_at(out), out->len};
+}
+
+/* Answers a call under an open table. sql_end gives back what the answer holds. */
+static void sql_ask(phone_handle *world, const sql_call *call, sql_answer *answer) {
+    phone_number number;
+    sql_bytes texts;
+    uint32_t mode = PHONE_E164, status;
+    memset(&number, 0, sizeof number);
+    sql_begin(&texts);
+    sql_begin(&answer->bytes);
+    status = sql_parse(world, call, &number, &texts);
+    if (status == PHONE_OK && call->mode.at && !sql_mode(call->mode, &mode)) status = PHONE_NO_MODE;
+    if (status == PHONE_OK) status = sql_describe(world, call, &number, &texts, mode, answer);
+    if (status == PHONE_MEMORY) answer->kind = SQL_NO_MEMORY;
+    else if (status != PHONE_OK && call->question == SQL_REFUSAL) sql_words(status, answer);
+    else if (status != PHONE_OK) answer->kind = SQL_NOTHING;
+    sql_forget(texts.many);
+}
+static void sql_end(sql_answer *answer) { sql_forget(answer->bytes.many); }
+
+/* The bytes of a file; NULL, and why in `why`, where it can't be read. */
+static uint8_t *sql_read(const char *path, size_t *len, char *why, size_t why_len) {
+    FILE *file = fopen(path, "rb");
+    long end = file && !fseek(file, 0, SEEK_END) ? ftell(file) : -1;
+    uint8_t *text = NULL;
+    if (end >= 0 && end < 1 << 30 && !fseek(file, 0, SEEK_SET) && (text = sql_memory((size_t)end + 1)))
+        *len = fread(text, 1, (size_t)end, file);
+    if (!text || ferror(file)) {
+        snprintf(why, why_len, "the table of phone numbers %s can't be read: %s", path,
+                 errno ? strerror(errno) : "it is no file of a table");
+        sql_forget(text);
+        text = NULL;
+    }
+    if (file) fclose(file);
+    return text;
+}
+
+/* Opens the table at a path under a handle. 0: the handle is closed, and why stands in `why`. */
+static int sql_open(const char *path, phone_handle *world, char *why, size_t why_len) {
+    static const char *const FAULTS[] = {
+        "a record lacks a value", "a record has a key that it may not have", "it is no JSON",
+        "a value is of the wrong kind", "a text is no pattern"};
+    size_t len = 0;
+    uint32_t status;
+    errno = 0;
+    uint8_t *text = sql_read(path, &len, why, why_len);
+    if (!text) return phone_close(world), 0;
+    status = phone_open(text, len, world);
+    sql_forget(text);
+    if (status != PHONE_OK)
+        snprintf(why, why_len, "the table of phone numbers %s is refused: %s", path,
+                 status >= 1 && status <= 5     ? FAULTS[status - 1]
+                 : status == PHONE_NOT_UTF8     ? "it is not UTF-8"
+                 : status == PHONE_MEMORY       ? "there is no memory for it"
+                                                : "its library doesn't fit");
+    return status == PHONE_OK;
+}
+#endif
