@@ -1,5 +1,5 @@
 -- The premises of a number, by the text that it is laid out as.
-use Rattle.std.proofs.Common.{◌≡◌, ◌⊎◌, inl, inr, ◌≤◌, ◌&&◌, ℕ, Bool, true, false, true≢false, not, nat_le, nat_lt}
+use Rattle.std.proofs.Common.{◌≡◌, inl, inr, ◌≤◌, ◌&&◌, ℕ, Bool, true, false, true≢false, not, nat_le, nat_lt}
 use Rattle.std.proofs.Common.{List, [], ◌∷◌, filter, length, chars, None, Some}
 use Rattle.std.proofs.Common.{sym, ap, ◌∙◌, leb-true, ltb-true}
 use Rattle.std.proofs.lemmas.Bool.{and_parts}

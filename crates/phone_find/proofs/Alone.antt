@@ -1,7 +1,7 @@
 -- A piece that is accepted, in whose bounds each accepted one lies, is found alone.
 use Rattle.std.proofs.Common.{◌≡◌, ℕ, ◌≤◌, List, [], ◌∷◌, refl, ap, sym, subst, ◌∙◌, arith}
 use Rattle.phone_find.specs.Founds
-use Rattle.phone_find.specs.Founds.{Accepts, AreFound, IsFirst, Stands}
+use Rattle.phone_find.specs.Founds.{Accepts, AreFound, Stands}
 use Rattle.phone_find.specs.declared.search.Found.{Found}
 
 pub same_found : {N : Type 0} (f g : Found N) → g.start ≡ f.start → g.end ≡ f.end →

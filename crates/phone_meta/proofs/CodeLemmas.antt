@@ -1,17 +1,10 @@
 -- The first territory of a code, and its territories put together.
-use Rattle.std.proofs.Common.{map, option_map, ◌≡◌, ◌≢◌, ◌⊎◌, inl, inr, ℕ, ◌+◌, ◌<◌, ◌≤◌, ◌/◌, ◌%◌, ◌^◌, ◌==◌, ◌&&◌, not, nat_lt, Bool, true, false, cond, List, [], ◌∷◌, ◌++◌, length, take, filter, reverse, Option, None, Some, refl, ap, ap₂, sym, subst, ◌∙◌, arith, ltb-true, ne_eqb, length-append}
-use Rattle.std.proofs.Math.Seq.{take-append_seam}
-use Rattle.std.proofs.lemmas.Bool.{and_from, and_parts, false_from_ne_true, ltb-false}
-use Rattle.std.proofs.lemmas.Bool.Decides.{same_from_decides, nat_tests}
-use Rattle.std.proofs.lemmas.Fmt.{decimal_digit, decimal_injective, decimal_nonempty, decimal_step}
-use Rattle.std.proofs.lemmas.List.{length-take, map-append, reverse-append, take-append-le, take_all}
+use Rattle.std.proofs.Common.{map, option_map, ◌≡◌, ℕ, ◌+◌, ◌<◌, ◌&&◌, Bool, true, false, cond, List, [], ◌∷◌, ◌++◌, length, filter, reverse, Option, None, Some, refl, ap, ap₂, sym, ◌∙◌, arith}
+use Rattle.std.proofs.lemmas.List.{map-append, reverse-append}
 use Rattle.std.proofs.lemmas.List.Folds.{find-append}
-use Rattle.std.proofs.lemmas.Slice.Eq.{bytes_eq-Decides}
-use Rattle.std.specs.Bool.{Decides}
-use Rattle.std.specs.Fmt.{decimal}
 use Rattle.std.specs.List.{find, last_or}
 use Rattle.std.specs.Option.{option_or}
-use Rattle.phone_meta.specs.CodeLookUps.{begins, first_of, if_any, is_main_of, is_other_of, territories}
+use Rattle.phone_meta.specs.CodeLookUps.{first_of, if_any, is_main_of, is_other_of, territories}
 use Rattle.phone_records.specs.declared.loader.Metadata.{Metadata}
 
 pub first_of-append : {X : Type 0} (xs ys : List X) → first_of (xs ++ ys) ≡ option_or (first_of xs) (first_of ys)

@@ -1,12 +1,11 @@
 -- Places in a list.
 use Rattle.std.proofs.Common.{◌≡◌, ℕ, suc, Bool, true, false, cond, List, [], ◌∷◌, ◌++◌, length, Option, None, Some, option_map, MatchOption, refl, ap, sym, subst, ◌∙◌}
-use Rattle.std.proofs.Common.{Bor, ne_eqb, not, ◌==◌, ◌||◌, filter, map, unwrap_or, ◌+◌, ◌<◌, take, get_or, length-take-le, arith}
+use Rattle.std.proofs.Common.{Bor, ne_eqb, not, ◌==◌, ◌||◌, filter, map, ◌+◌, ◌<◌, take, get_or, length-take-le, arith}
 use Rattle.std.proofs.lemmas.List.{append-nil, append_assoc, length-map, map-append, take_more}
 use Rattle.std.proofs.lemmas.Option.{slice_get_past, slice_get-get_or}
-use Rattle.std.specs.Option.{option_or, option_copied, option_map_or}
+use Rattle.std.specs.Option.{option_or, option_copied}
 use Rattle.std.specs.Slice.{IsItemAt}
 use Rattle.std.specs.List.{cons_option, filter_map, list_any, slice_get}
-use Rattle.phone_meta.specs.CodeLookUps.{if_any}
 use Rattle.phone_meta.specs.Records.{last_where, last_place, places_where}
 
 one_more : (b : Bool) (n : ℕ) (o t : Option ℕ) → option_or (option_map suc (cond b (Some n) o)) t ≡ cond b (Some (suc n)) (option_or (option_map suc o) t)

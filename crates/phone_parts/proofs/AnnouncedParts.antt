@@ -1,6 +1,6 @@
 -- What the readers find in a printed international text whose number ends in a digit, before any
 -- announcement by a word.
-use Rattle.std.proofs.Common.{◌≡◌, ℕ, ◌≤◌, ◌==◌, Bool, true, false, not, ◌&&◌, ◌||◌, zero, suc, List, [], ◌∷◌, ◌++◌, length, drop, eqb-true, Some, None, Ok, refl, ap, sym, subst, ◌∙◌, true≢false, arith, append-nil, append_assoc}
+use Rattle.std.proofs.Common.{◌≡◌, ℕ, ◌≤◌, ◌==◌, Bool, true, false, not, ◌&&◌, ◌||◌, List, [], ◌∷◌, ◌++◌, length, eqb-true, Some, None, Ok, refl, ap, sym, subst, ◌∙◌, true≢false, arith, append-nil, append_assoc}
 use Rattle.std.proofs.lemmas.Bool.{and_parts, and_from, false_from_ne_true, not-true, or_left, or_right, or_parts}
 use Rattle.std.proofs.lemmas.List.Folds.{list_all-append}
 use Rattle.std.specs.List.{list_any, list_all}
@@ -8,7 +8,7 @@ use Rattle.ucd_category.proofs.Computing.{ucd_category}
 use Rattle.phone_chars.specs.Characters.{is_digit, is_letter, is_nd, is_number, is_one_of, is_punctuation}
 use Rattle.phone_chars.specs.Cuts.{after_front}
 use Rattle.phone_parts.specs.Announcements.{IsAnnouncement, is_space}
-use Rattle.phone_parts.specs.Cores.{IsCore, begins_second_number, is_last}
+use Rattle.phone_parts.specs.Cores.{IsCore, is_last}
 use Rattle.phone_parts.specs.Naturals
 use Rattle.phone_parts.specs.Naturals.{IsNatural}
 use Rattle.phone_parts.specs.Parts.{Parts}

@@ -1,6 +1,5 @@
 -- What is lent, and what is answered without memory, told of the number that a step began with.
-use Rattle.std.proofs.Common.{◌≡◌, ◌⊎◌, inl, inr, ⊎_elim, false, Option, None, List, ℕ, Result, Err, IfErr, IfSome, ap, ◌∙◌}
-use Rattle.std.specs.Cow.{IsBorrowedStr}
+use Rattle.std.proofs.Common.{◌≡◌, ◌⊎◌, inl, inr, ⊎_elim, Option, None, List, Err, ap, ◌∙◌}
 use Rattle.phone_values.specs.declared.country.Id.{Id}
 use Rattle.phone_values.specs.declared.error.ParseError.{ParseError}
 use Rattle.phone_records.specs.declared.loader.Metadata.{Metadata}

@@ -5,8 +5,7 @@ use Rattle.phone_values.specs.declared.error.ParseError.{ParseError}
 use Rattle.phone_chars.specs.Viable.{IsViable}
 use Rattle.phone_records.specs.declared.loader.Metadata.{Metadata}
 use Rattle.phone_read.specs.Readings
-use Rattle.phone_read.specs.Readings.{Reads, stripping_territory}
-use Rattle.phone_rules.specs.Strips.{stripped}
+use Rattle.phone_read.specs.Readings.{Reads}
 use Rattle.phone_parts.specs.Parts.{Parts}
 use Rattle.phone_parts.specs.Readers.{HasParts}
 use Rattle.phone_values.specs.declared.reading.Reading.{Reading}

@@ -7,7 +7,7 @@ use Rattle.std.specs.List.{flat_map}
 use Rattle.std.specs.Str.{bytes_eq}
 use Rattle.serde.specs.Event.{Event, Log, Logs, WritesEach, WritesOption, WritesSeq, boolean, text, unsigned, nothing, field_key, seq_begins, seq_ends, map_begins, map_ends}
 use Rattle.serde.specs.declared.name.Case.TheVariants.{AsIs}
-use Rattle.phone_records.specs.Members.{GrowsBy, Member, WritesMember, but_for, given, keys, members_written, number_written, object, sequence, text_written}
+use Rattle.phone_records.specs.Members.{GrowsBy, Member, WritesMember, given, keys, members_written, number_written, object, sequence, text_written}
 
 pub GrowsBy-one : (old new : Log) (e : Event) → Logs old new e → GrowsBy (e ∷ []) old new
 unfolding GrowsBy

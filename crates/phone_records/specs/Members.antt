@@ -62,10 +62,11 @@ format_members f =
     ) ∷
     (codes "domestic_carrier", given text_written f.domestic_carrier) ∷ []
 
--- a descriptor and a layout
+-- a descriptor
 abbrev pub descriptor_written : Descriptor → List Event
 descriptor_written d = object (descriptor_members d)
 
+-- a layout
 abbrev pub format_written : Format → List Event
 format_written f = object (format_members f)
 
@@ -140,10 +141,11 @@ abbrev pub WritesMember : {A : Type 0} → (A → Log → Log → Type 0) → Li
     Type 0
 WritesMember w key value = Then (λ old new. Logs old new (field_key key AsIs)) (w value)
 
--- defaults and a territory
+-- a territory's defaults
 abbrev pub defaults_written : Defaults → List Event
 defaults_written d = object (defaults_members d)
 
+-- a territory
 abbrev pub metadata_written : Metadata → List Event
 metadata_written m = object (metadata_members m)
 

@@ -7,7 +7,6 @@ pub mod laws;
 mod line;
 mod number;
 mod runs;
-mod words;
 
 pub use line::{Reporter, report_line};
 pub use phone_choice::Rules;

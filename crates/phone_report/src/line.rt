@@ -3,12 +3,12 @@ ghost use Rattle.std.specs.Prelude.{IfOk, string_bytes};
 ghost use Rattle.phone_report.specs.ReportLines.{IsReportLineBy};
 
 use crate::number::number_line;
-use crate::words::refusal_line;
 use phone_choice::{Rules, parse_by};
 use phone_lines::Answers;
 use phone_meta::Database;
 use phone_values::country::Id;
 use phonenumber::FormatError;
+use phonenumber::report::refusal_line;
 use std::alloc::{AllocError, Global};
 use std::marker::Model;
 
@@ -17,7 +17,7 @@ use std::marker::Model;
 /// parted by one tab.
 ///
 /// A number: `ok`, its E.164, international, national and RFC 3966 text, how its calling code was
-/// found (`plus`, `idd`, `number`, `default`), its kind, the id of its region or `-`, and `valid` or
+/// found (`plus`, `idd`, `number`, `default`), its kind, the id of its region or `-`, `valid` or
 /// `invalid`. A refusal: `error`, its number and its words. A line that isn't UTF-8: `error`, `0`,
 /// `not UTF-8`. Refused only for memory.
 pub fn report_line(

@@ -1,18 +1,17 @@
 //! The report line of a number.
-ghost use Rattle.std.specs.Prelude.{◌≡◌, [], ◌∷◌, ◌++◌, None, Some, Err};
+ghost use Rattle.std.specs.Prelude.{◌≡◌, ◌∷◌, ◌++◌, None, Some, Err};
 ghost use Rattle.std.specs.Prelude.{IfOk, OnOk, codes, string_bytes};
 ghost use Rattle.phone_choice.specs.Facts.{printed_as};
 ghost use Rattle.phone_meta.specs.CodeLookUps.{first_of, territories};
-ghost use Rattle.phone_print.specs.Tabbed.{tabbed, texts_by};
+ghost use Rattle.phone_print.specs.Tabbed.{texts_by};
 ghost use Rattle.phone_records.specs.declared.loader.Metadata.{Metadata};
 ghost use Rattle.phone_report.specs.Known.{known_words_by};
 ghost use Rattle.phone_report.specs.ReportLines.{number_line_by};
 
-use crate::words::source_word;
 use phone_choice::{Rules, facts_by};
 use phone_library::without_carrier;
 use phone_meta::Database;
-use phonenumber::report::{kind_word, region_word, validity_word};
+use phonenumber::report::{kind_word, push_words, region_word, source_word, validity_word};
 use phonenumber::{FormatError, PhoneNumber, format_with};
 use std::alloc::{AllocError, Global};
 
@@ -148,29 +147,4 @@ fn push_known(
     let region = region_word(facts.region);
     let validity = validity_word(facts.is_valid);
     push_words(line, source, kind, region, validity)
-}
-
-/// Puts four words behind a line, each after one tab. Refused only for memory.
-fn push_words(
-    line: &mut String,
-    source: &str,
-    kind: &str,
-    region: &str,
-    validity: &str,
-) -> Result<(), AllocError>
-    ensures { OnOk result (string_bytes line.new ≡ string_bytes line.old ++
-        9 ∷ tabbed (source.now ∷ kind.now ∷ region.now ∷ validity.now ∷ [])) }
-{
-    push_word(line, source)?;
-    push_word(line, kind)?;
-    push_word(line, region)?;
-    push_word(line, validity)
-}
-
-/// Puts a tab and a word behind a line. Refused only for memory.
-fn push_word(line: &mut String, word: &str) -> Result<(), AllocError>
-    ensures { OnOk result (string_bytes line.new ≡ string_bytes line.old ++ 9 ∷ word.now) }
-{
-    line.push('\t')?;
-    line.push_str(word)
 }

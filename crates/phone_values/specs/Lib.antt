@@ -1,5 +1,6 @@
 pub mod Codes
 pub mod Ids
+pub mod Kinds
 pub mod Nsn
 pub mod Numbers
 pub mod Refusals

@@ -1,4 +1,6 @@
 //! What kind of service a number reaches.
+ghost use Rattle.std.specs.Prelude.{◌≡◌};
+ghost use Rattle.phone_values.specs.Kinds.{kind_name};
 
 /// The kind of a number.
 #[derive(Clone, Copy, PartialEq, Eq, Hash, Debug)]
@@ -27,4 +29,31 @@ pub enum Type {
     NoInternational,
     /// The digits are of none of the kinds that are tried, or are no number of the territory.
     Unknown,
+}
+
+impl Type {
+    /// The kind's name: `FixedLine`, `Mobile`, ..., as its variant is called.
+    pub fn name(&self) -> &'static str
+        ensures { result.now ≡ kind_name self.now }
+    {
+        match self {
+            Type::FixedLine => "FixedLine",
+            Type::Mobile => "Mobile",
+            Type::FixedLineOrMobile => "FixedLineOrMobile",
+            Type::TollFree => "TollFree",
+            Type::PremiumRate => "PremiumRate",
+            Type::SharedCost => "SharedCost",
+            Type::PersonalNumber => "PersonalNumber",
+            Type::Voip => "Voip",
+            Type::Pager => "Pager",
+            Type::Uan => "Uan",
+            Type::Emergency => "Emergency",
+            Type::Voicemail => "Voicemail",
+            Type::ShortCode => "ShortCode",
+            Type::StandardRate => "StandardRate",
+            Type::Carrier => "Carrier",
+            Type::NoInternational => "NoInternational",
+            Type::Unknown => "Unknown",
+        }
+    }
 }

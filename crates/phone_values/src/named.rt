@@ -103,31 +103,6 @@ impl DeserializeOwned for Source {
 
 impl Described for Type {}
 
-impl Type {
-    /// The variant's name, in capitals and small letters.
-    fn name(&self) -> &'static str {
-        match self {
-            Type::FixedLine => "FixedLine",
-            Type::Mobile => "Mobile",
-            Type::FixedLineOrMobile => "FixedLineOrMobile",
-            Type::TollFree => "TollFree",
-            Type::PremiumRate => "PremiumRate",
-            Type::SharedCost => "SharedCost",
-            Type::PersonalNumber => "PersonalNumber",
-            Type::Voip => "Voip",
-            Type::Pager => "Pager",
-            Type::Uan => "Uan",
-            Type::Emergency => "Emergency",
-            Type::Voicemail => "Voicemail",
-            Type::ShortCode => "ShortCode",
-            Type::StandardRate => "StandardRate",
-            Type::Carrier => "Carrier",
-            Type::NoInternational => "NoInternational",
-            Type::Unknown => "Unknown",
-        }
-    }
-}
-
 impl Serialize for Type {
     /// Writes the variant's name in snake case.
     fn serialize<S: Serializer>(&self, out: &mut S) -> Result<(), S::Error> {

@@ -17,7 +17,6 @@ use Rattle.phone_rules.specs.Dialling.{found_in}
 use Rattle.phone_parts.specs.Cores.{IsCore, is_start}
 use Rattle.phone_read.specs.Hints.{Coded, hinted, code_by_hint}
 use Rattle.phone_parts.specs.Naturals
-use Rattle.phone_parts.specs.Naturals.{IsNatural}
 use Rattle.phone_read.specs.Numbering.{reading_of}
 use Rattle.phone_read.specs.Readings
 use Rattle.phone_parts.specs.Readers
@@ -33,7 +32,7 @@ use Rattle.phone_parts.specs.declared.natural.NoReading.TheVariants.{Error}
 use Rattle.phone_values.specs.declared.reading.Reading.{Reading}
 use Rattle.phone_parts.proofs.OneParts.{parts_same}
 use Rattle.phonenumber.specs.Thin
-use Rattle.phonenumber.specs.Thin.{IsThinDatabase, ThinReads, is_thin, thin_reading, thin_rest}
+use Rattle.phonenumber.specs.Thin.{IsThinDatabase, ThinReads, is_thin, thin_rest}
 use Rattle.phonenumber.proofs.ThinTexts.{IsThinText, thin_text, thin_natural, thin_tel, digit_unsigned}
 
 -- a text that is its own national part

@@ -5,19 +5,13 @@ use Rattle.std.specs.Fmt.{decimal}
 use Rattle.std.specs.Option.{option_map_or}
 use Rattle.std.specs.Str.{IsUtf8}
 use Rattle.phone_values.specs.Ids.{name}
+use Rattle.phone_values.specs.Kinds.{kind_name}
 use Rattle.phone_values.specs.Refusals.{refusal_number, report_words}
 use Rattle.phone_values.specs.declared.country.Id.{Id}
 use Rattle.phone_values.specs.declared.country.Source.{Source}
 use Rattle.phone_values.specs.declared.country.Source.TheVariants.{Plus, Idd, Number, Default}
 use Rattle.phone_values.specs.declared.error.ParseError.{ParseError}
 use Rattle.phone_values.specs.declared.kind.«Type».{«Type»}
-use Rattle.phone_values.specs.declared.kind.«Type».TheVariants.{FixedLine, Mobile}
-use Rattle.phone_values.specs.declared.kind.«Type».TheVariants.{FixedLineOrMobile}
-use Rattle.phone_values.specs.declared.kind.«Type».TheVariants.{TollFree, PremiumRate, SharedCost}
-use Rattle.phone_values.specs.declared.kind.«Type».TheVariants.{PersonalNumber, Voip, Pager, Uan}
-use Rattle.phone_values.specs.declared.kind.«Type».TheVariants.{Emergency, Voicemail, ShortCode}
-use Rattle.phone_values.specs.declared.kind.«Type».TheVariants.{StandardRate, Carrier}
-use Rattle.phone_values.specs.declared.kind.«Type».TheVariants.{NoInternational, Unknown}
 use Rattle.phone_values.specs.declared.mode.Mode.TheVariants.{E164, International, National}
 use Rattle.phone_values.specs.declared.mode.Mode.TheVariants.{Rfc3966}
 use Rattle.phone_meta.specs.CodeLookUps.{first_of, territories}
@@ -37,23 +31,7 @@ source_word Default = codes "default"
 
 -- a kind's name
 abbrev pub kind_word : «Type» → List ℕ
-kind_word FixedLine = codes "FixedLine"
-kind_word Mobile = codes "Mobile"
-kind_word FixedLineOrMobile = codes "FixedLineOrMobile"
-kind_word TollFree = codes "TollFree"
-kind_word PremiumRate = codes "PremiumRate"
-kind_word SharedCost = codes "SharedCost"
-kind_word PersonalNumber = codes "PersonalNumber"
-kind_word Voip = codes "Voip"
-kind_word Pager = codes "Pager"
-kind_word Uan = codes "Uan"
-kind_word Emergency = codes "Emergency"
-kind_word Voicemail = codes "Voicemail"
-kind_word ShortCode = codes "ShortCode"
-kind_word StandardRate = codes "StandardRate"
-kind_word Carrier = codes "Carrier"
-kind_word NoInternational = codes "NoInternational"
-kind_word Unknown = codes "Unknown"
+kind_word kind = kind_name kind
 
 -- a region by its id, or a hyphen
 abbrev pub region_word : Option Id → List ℕ

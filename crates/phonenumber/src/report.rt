@@ -5,9 +5,9 @@ mod runs;
 mod tool;
 mod words;
 
-pub use line::Reporter;
+pub use line::{Reporter, push_words};
 pub use phone_device::{ByteSink, ByteSource};
 pub use phone_lines::RunError;
 pub use runs::{begins_each_report, one_report_line, run, some_report, some_report_line};
 pub use tool::{database_refused, program, status_after};
-pub use words::{kind_word, region_word, validity_word};
+pub use words::{kind_word, refusal_line, region_word, source_word, validity_word};

@@ -94,8 +94,9 @@ fn push_known(
     push_words(line, source, kind, region, validity)
 }
 
-/// Puts four words behind a line, each after one tab. Refused only for memory.
-fn push_words(
+/// Puts four words behind a line, each after one tab: how a calling code was found, a kind, a
+/// region, valid or not. Refused only for memory.
+pub fn push_words(
     line: &mut String,
     source: &str,
     kind: &str,

@@ -9,7 +9,7 @@ use phone_values::{ParseError, Type};
 use std::alloc::{AllocError, Global};
 
 /// How a calling code was found, in a word.
-pub(crate) fn source_word(source: Source) -> &'static str
+pub fn source_word(source: Source) -> &'static str
     ensures { result.now ≡ source_word source }
 {
     match source {
@@ -24,25 +24,7 @@ pub(crate) fn source_word(source: Source) -> &'static str
 pub fn kind_word(kind: Type) -> &'static str
     ensures { result.now ≡ kind_word kind }
 {
-    match kind {
-        Type::FixedLine => "FixedLine",
-        Type::Mobile => "Mobile",
-        Type::FixedLineOrMobile => "FixedLineOrMobile",
-        Type::TollFree => "TollFree",
-        Type::PremiumRate => "PremiumRate",
-        Type::SharedCost => "SharedCost",
-        Type::PersonalNumber => "PersonalNumber",
-        Type::Voip => "Voip",
-        Type::Pager => "Pager",
-        Type::Uan => "Uan",
-        Type::Emergency => "Emergency",
-        Type::Voicemail => "Voicemail",
-        Type::ShortCode => "ShortCode",
-        Type::StandardRate => "StandardRate",
-        Type::Carrier => "Carrier",
-        Type::NoInternational => "NoInternational",
-        Type::Unknown => "Unknown",
-    }
+    kind.name()
 }
 
 /// A region by its id, or a hyphen.
@@ -63,7 +45,7 @@ pub fn validity_word(is_valid: bool) -> &'static str
 }
 
 /// The report line of a refusal. Refused only for memory, and where that is the refusal.
-pub(crate) fn refusal_line(alloc: Global, error: ParseError) -> Result<String, AllocError>
+pub fn refusal_line(alloc: Global, error: ParseError) -> Result<String, AllocError>
     ensures line { IfOk result (λ line. string_bytes line ≡ refusal_line error) }
     ensures memory { error ≡ refusal.Memory → IsErr result }
 {

@@ -2,7 +2,7 @@ use Rattle.std.proofs.Common.{rules, ◌∷◌, [], ◌++◌, cond, Some, codes,
 use Rattle.std.specs.Str.{bytes_eq}
 use Rattle.phone_parts.specs.Parts.{IsSlice}
 use Rattle.phone_parts.specs.Tel
-use Rattle.phone_parts.specs.Tel.{HasParameters, Parameter, value_of}
+use Rattle.phone_parts.specs.Tel.{HasParameters, Parameter}
 use Rattle.phone_parts.proofs.Slices.{slice_of_end, end_of_end}
 use Rattle.phone_parts.proofs.Tels.{value_of-push, chars_context, chars_ext}
 use Rattle.phone_parts.proofs.parameters.read_parameters.Goals as goal

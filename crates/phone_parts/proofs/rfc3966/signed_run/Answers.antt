@@ -2,7 +2,6 @@ use Rattle.std.proofs.Common.{◌≡◌, ◌∷◌, [], refl, true, false, ap, s
 use Rattle.std.specs.Str.{chars}
 use Rattle.std.specs.List.{list_all}
 use Rattle.phone_parts.specs.Tel
-use Rattle.phone_parts.specs.Tel.{is_visual}
 use Rattle.phone_parts.specs.Texts.{begins}
 use Rattle.phone_parts.proofs.Runs.{all_in_front, none_after_front, run_whole, run_begins}
 use Rattle.phone_parts.proofs.Slices.{end_of_end}

@@ -1,4 +1,4 @@
-use Rattle.std.proofs.Common.{IfOk, subst}
+use Rattle.std.proofs.Common.{subst}
 use Rattle.regex.specs.Strings.{IsReadFrom}
 use Rattle.phone_pattern.proofs.uncached.replace.Goals as goal
 

@@ -1,6 +1,5 @@
-use Rattle.std.proofs.Common.{◌∷◌, [], codes, refl, ap}
-use Rattle.serde.specs.Event.{boolean}
-use Rattle.phone_records.specs.Members.{defaults_written, descriptor_written, format_written, given, number_written, sequence, text_written}
+use Rattle.std.proofs.Common.{codes, refl, ap}
+use Rattle.phone_records.specs.Members.{descriptor_written, given}
 use Rattle.phone_records.proofs.Written.{but_for-cons}
 use Rattle.phone_records.proofs.loader.forms.read_kind.Goals as goal
 

@@ -1,6 +1,5 @@
-use Rattle.std.proofs.Common.{◌∷◌, [], codes, refl, ap}
-use Rattle.serde.specs.Event.{boolean}
-use Rattle.phone_records.specs.Members.{defaults_written, descriptor_written, format_written, given, number_written, sequence, text_written}
+use Rattle.std.proofs.Common.{codes, refl, ap}
+use Rattle.phone_records.specs.Members.{descriptor_written, format_written}
 use Rattle.phone_records.proofs.Written.{but_for-cons}
 use Rattle.phone_records.proofs.loader.forms.DefaultsRecord.read_field.Goals as goal
 
