@@ -1,5 +1,5 @@
 -- The statuses that the program ends with.
-use Rattle.std.specs.Prelude.{◌≡◌, ℕ, ◌≤◌, List}
+use Rattle.std.specs.Prelude.{ℕ, ◌≤◌, List}
 use Rattle.phone_words.specs.Calls.{IsCall, IsNoCall}
 use Rattle.phone_words.specs.declared.call.Call.{Call}
 use Rattle.phone_words.specs.declared.parts.WordError.{WordError}
@@ -13,6 +13,9 @@ status_of_words (error.Together one other) = 2
 status_of_words (error.WithoutTable option) = 2
 status_of_words error.WithoutRegions = 2
 status_of_words error.NoColumn = 2
+status_of_words error.Unnamed = 2
+status_of_words error.WithoutPrefixes = 2
+status_of_words (error.NoFile option) = 2
 status_of_words (error.Delimiter word) = 2
 status_of_words (error.Skipped word) = 2
 status_of_words (error.Rules word) = 2

@@ -87,7 +87,7 @@ pub(crate) enum Failure<'f> {
 }
 
 /// Answers the file of a name, or standard input.
-fn on_input<'f, R: Files + AllocGlobal, S: ByteSource, W: ByteSink, J: Job<'f>>(
+fn on_input<'f, R: Files + AllocGlobal, S: ByteSource, W: ByteSink, J: Job>(
     rt: &R,
     name: &'f str,
     input: &mut S,
@@ -95,10 +95,10 @@ fn on_input<'f, R: Files + AllocGlobal, S: ByteSource, W: ByteSink, J: Job<'f>>(
     job: &mut J,
 ) -> Result<(), Failure<'f>> {
     let end = if is_standard(name) {
-        job.answer(rt.alloc(), name, input, sink)
+        job.answer(rt.alloc(), input, sink)
     } else {
         match fs::open(rt, name) {
-            Ok(file) => job.answer(rt.alloc(), name, &mut Std::new(file), sink),
+            Ok(file) => job.answer(rt.alloc(), &mut Std::new(file), sink),
             Err(_) => return Err(Failure::Unopened(name)),
         }
     };
@@ -109,7 +109,7 @@ fn on_input<'f, R: Files + AllocGlobal, S: ByteSource, W: ByteSink, J: Job<'f>>(
 }
 
 /// Answers each file in its turn; standard input where there is none.
-pub(crate) fn on_inputs<'f, R: Files + AllocGlobal, S: ByteSource, W: ByteSink, J: Job<'f>>(
+pub(crate) fn on_inputs<'f, R: Files + AllocGlobal, S: ByteSource, W: ByteSink, J: Job>(
     rt: &R,
     files: &[&'f str],
     input: &mut S,

@@ -1,10 +1,7 @@
 //! What a call does with an input: the report, a table, or lines that are taken one by one.
 use crate::firsts::FirstRecords;
-use crate::lines::take_lines;
+use crate::lines::{LineTaker, take_lines};
 use crate::reader::Reader;
-use crate::shorts::Shorts;
-use crate::takers::{Finder, Firsts, Objects};
-use crate::typist::Typist;
 use phone_csv::FirstError;
 use phone_device::{ByteSink, ByteSource};
 use phone_lines::RunError;
@@ -26,12 +23,11 @@ pub(crate) enum JobError {
 }
 
 /// What is done with each input.
-pub(crate) trait Job<'f> {
-    /// Answers an input of this name to its end.
+pub(crate) trait Job {
+    /// Answers an input to its end.
     fn answer<S: ByteSource, W: ByteSink>(
         &mut self,
         alloc: Global,
-        name: &'f str,
         source: &mut S,
         sink: &mut W,
     ) -> Result<(), JobError>;
@@ -54,11 +50,10 @@ pub(crate) struct Report<'d> {
     pub reader: Reader<'d>,
 }
 
-impl<'d, 'f> Job<'f> for Report<'d> {
+impl<'d> Job for Report<'d> {
     fn answer<S: ByteSource, W: ByteSink>(
         &mut self,
         alloc: Global,
-        _name: &'f str,
         source: &mut S,
         sink: &mut W,
     ) -> Result<(), JobError> {
@@ -68,66 +63,21 @@ impl<'d, 'f> Job<'f> for Report<'d> {
     }
 }
 
-impl<'d, 'f> Job<'f> for Objects<'d> {
-    fn answer<S: ByteSource, W: ByteSink>(
-        &mut self,
-        alloc: Global,
-        _name: &'f str,
-        source: &mut S,
-        sink: &mut W,
-    ) -> Result<(), JobError> {
-        ended(take_lines(alloc, self, source, sink))
-    }
+/// What takes each line in its turn.
+#[derive(Drop)]
+pub(crate) struct ByLines<'t, T> {
+    /// What takes the lines.
+    pub taker: &'t mut T,
 }
 
-impl<'d, 'f> Job<'f> for Finder<'d, 'f> {
-    /// Lines are counted anew in each input.
+impl<'t, T: LineTaker> Job for ByLines<'t, T> {
     fn answer<S: ByteSource, W: ByteSink>(
         &mut self,
         alloc: Global,
-        name: &'f str,
         source: &mut S,
         sink: &mut W,
     ) -> Result<(), JobError> {
-        self.place = self.first;
-        self.name = name;
-        ended(take_lines(alloc, self, source, sink))
-    }
-}
-
-impl<'f> Job<'f> for Firsts {
-    fn answer<S: ByteSource, W: ByteSink>(
-        &mut self,
-        alloc: Global,
-        _name: &'f str,
-        source: &mut S,
-        sink: &mut W,
-    ) -> Result<(), JobError> {
-        ended(take_lines(alloc, self, source, sink))
-    }
-}
-
-impl<'d, 'f> Job<'f> for Typist<'d> {
-    fn answer<S: ByteSource, W: ByteSink>(
-        &mut self,
-        alloc: Global,
-        _name: &'f str,
-        source: &mut S,
-        sink: &mut W,
-    ) -> Result<(), JobError> {
-        ended(take_lines(alloc, self, source, sink))
-    }
-}
-
-impl<'d, 'f> Job<'f> for Shorts<'d> {
-    fn answer<S: ByteSource, W: ByteSink>(
-        &mut self,
-        alloc: Global,
-        _name: &'f str,
-        source: &mut S,
-        sink: &mut W,
-    ) -> Result<(), JobError> {
-        ended(take_lines(alloc, self, source, sink))
+        ended(take_lines(alloc, self.taker, source, sink))
     }
 }
 
@@ -173,11 +123,10 @@ impl<'d, 'w> Customers<'d, 'w> {
     }
 }
 
-impl<'d, 'w, 'f> Job<'f> for Customers<'d, 'w> {
+impl<'d, 'w> Job for Customers<'d, 'w> {
     fn answer<S: ByteSource, W: ByteSink>(
         &mut self,
         alloc: Global,
-        _name: &'f str,
         source: &mut S,
         sink: &mut W,
     ) -> Result<(), JobError> {

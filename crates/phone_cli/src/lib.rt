@@ -4,7 +4,9 @@
 
 mod about;
 mod failures;
+mod finder;
 mod firsts;
+mod further;
 mod inputs;
 mod jobs;
 mod lines;

@@ -10,6 +10,12 @@ use std::alloc::{AllocError, Global};
 
 /// What takes lines.
 pub(crate) trait LineTaker {
+    /// Begins an input, and puts what stands in front of its answers at their end. Refused only for
+    /// memory.
+    fn begin(&mut self, _alloc: Global, _answers: &mut Vec<u8>) -> Result<(), AllocError> {
+        Ok(())
+    }
+
     /// Puts what a line is answered at the end of the answers: any number of lines, each with its
     /// line feed. The line is without its end. Refused only for memory.
     fn take(&mut self, alloc: Global, line: &[u8], answers: &mut Vec<u8>) -> Result<(), AllocError>;
@@ -130,9 +136,10 @@ fn take_blocks<T: LineTaker, S: ByteSource, W: ByteSink>(
 }
 
 /// Takes each line of a source in its turn, and writes what each is answered to a sink, which is
-/// flushed at the end. The source is cut at each line feed; what stands after the last one is a
-/// line where it has a byte; one carriage return at a line's end is dropped. What is held in memory
-/// are a block, the longest line and its answer, and what the taker keeps.
+/// flushed at the end. What the taker puts in front of an input's answers is written first. The
+/// source is cut at each line feed; what stands after the last one is a line where it has a byte;
+/// one carriage return at a line's end is dropped. What is held in memory are a block, the longest
+/// line and its answer, and what the taker keeps.
 ///
 /// Refused by `Input` where the source failed, by `Output` where the sink failed or took no byte of
 /// some, and by `Memory`. The answers to the lines in front are written but where the sink failed.
@@ -152,6 +159,9 @@ pub(crate) fn take_lines<T: LineTaker, S: ByteSource, W: ByteSink>(
     let mut held = Held {
         line: Vec::new(alloc),
         answers: Vec::new(alloc),
+    };
+    let Ok(()) = taker.begin(alloc, &mut held.answers) else {
+        return Err(RunError::Memory);
     };
     let end = take_blocks(alloc, taker, source, sink, &mut held);
     if let Err(RunError::Output) = end {

@@ -3,8 +3,8 @@ use phone_choice::Rules;
 use phonenumber::country::Id;
 use phonenumber::metadata::Database;
 
-/// A database that reads, prints and tells, by whose rules, and the region under which numbers are
-/// read.
+/// A database that reads, prints and tells, by whose rules, the region under which numbers are
+/// read, and a database of short numbers.
 #[derive(Clone, Copy)]
 pub(crate) struct Reader<'d> {
     /// The database.
@@ -13,4 +13,7 @@ pub(crate) struct Reader<'d> {
     pub rules: Rules,
     /// The region.
     pub hint: Option<Id>,
+    /// The database that tells which lines are short numbers of the region, where they are asked
+    /// for.
+    pub short: Option<&'d Database>,
 }

@@ -46,48 +46,64 @@ fn table_option_name(option: TableOption) -> &'static str {
         TableOption::Delimiter => "--delimiter",
         TableOption::ElseHint => "--else-hint",
         TableOption::MarkBad => "--mark-bad-records",
+        TableOption::Prefixes => "--prefixes",
+        TableOption::As => "--as",
+        TableOption::TimeZone => "--time-zone",
+        TableOption::Carrier => "--carrier",
+        TableOption::FirstCarrier => "--first-carrier",
+        TableOption::Area => "--area",
     }
 }
 
-/// What a byte between fields may be.
+/// The option that names the file of a column.
+fn file_option(option: TableOption) -> &'static str {
+    match option {
+        TableOption::TimeZone => "--time-zones FILE names it",
+        TableOption::Carrier | TableOption::FirstCarrier => "--carriers FILE names it",
+        _ => "--areas FILE names it",
+    }
+}
+
+/// What is told behind a word that is no option.
+const OPTIONS: &str = "; --help lists those that there are";
+
+/// What is told behind an option that goes with a table alone.
+const TABLE: &str = " goes with --csv COLUMN";
+
+/// What is told behind a byte that may not stand between fields.
 const DELIMITER: &str =
     " is no delimiter: one ASCII character but a quote and a line end, or the word tab";
+
+/// What is told behind a word that names no rules.
+const RULES: &str = " names no rules: there are library and crate";
+
+/// What is told behind a mode that goes with libphonenumber's rules alone.
+const LIBRARY: &str = " knows libphonenumber's rules alone";
 
 /// Tells why words are no call, and gives the status.
 pub(crate) fn say_word_error<E: ByteSink>(errors: &mut E, error: WordError<'_>) -> u8
     ensures { result ≡ status_of_words error.entry }
 {
     match error {
-        WordError::Unknown(word) => {
-            let more = "; --help lists those that there are";
-            say(errors, &["there is no option ", word, more], 2)
-        }
+        WordError::Unknown(word) => say(errors, &["there is no option ", word, OPTIONS], 2),
         WordError::NoValue(word) => say(errors, &[word, " wants a word after it"], 2),
         WordError::Together(one, other) => {
             let (one, other) = (mode_name(one), mode_name(other));
             say(errors, &[one, " and ", other, " don't go together"], 2)
         }
-        WordError::WithoutTable(option) => {
-            say(errors, &[table_option_name(option), " goes with --csv"], 2)
-        }
+        WordError::WithoutTable(option) => say(errors, &[table_option_name(option), TABLE], 2),
         WordError::WithoutRegions => say(errors, &["--else-hint goes with --region-column"], 2),
         WordError::NoColumn => say(errors, &["a column has a name"], 2),
+        WordError::Unnamed => say(errors, &["--prefixes goes with --as NAME"], 2),
+        WordError::WithoutPrefixes => say(errors, &["--as goes with --prefixes FILE"], 2),
+        WordError::NoFile(option) => {
+            let (name, file) = (table_option_name(option), file_option(option));
+            say(errors, &[name, " wants a file: ", file], 2)
+        }
         WordError::Delimiter(word) => say(errors, &[word, DELIMITER], 2),
         WordError::Skipped(word) => say(errors, &[word, " is no count of lines"], 2),
-        WordError::Rules(word) => {
-            say(
-                errors,
-                &[word, " names no rules: there are library and crate"],
-                2,
-            )
-        }
-        WordError::LibraryAlone(mode) => {
-            say(
-                errors,
-                &[mode_name(mode), " knows libphonenumber's rules alone"],
-                2,
-            )
-        }
+        WordError::Rules(word) => say(errors, &[word, RULES], 2),
+        WordError::LibraryAlone(mode) => say(errors, &[mode_name(mode), LIBRARY], 2),
         WordError::Memory => say(errors, &["out of memory"], 1),
     }
 }

@@ -3,11 +3,8 @@ use crate::lines::LineTaker;
 use crate::reader::Reader;
 use phone_book::{Book, BookError, Place};
 use phone_choice::Rules;
-use phone_find::{Found, find_numbers};
-use phone_table::finds::{Spot, found_object};
 use phone_table::objects::object_line;
 use phonenumber::country::Id;
-use phonenumber::{FormatError, PhoneNumber};
 use std::alloc::{AllocError, Global};
 
 /// Puts a text at the end of bytes. Refused only for memory.
@@ -32,124 +29,12 @@ impl<'d> LineTaker for Objects<'d> {
         answers: &mut Vec<u8>,
     ) -> Result<(), AllocError> {
         let reader = self.reader;
-        let (database, hint) = (reader.database, reader.hint);
-        let object = object_line(alloc, reader.rules, database, hint, self.place, line)?;
+        let (database, short, hint) = (reader.database, reader.short, reader.hint);
+        let place = self.place;
+        let object = object_line(alloc, reader.rules, database, short, hint, place, line)?;
         self.place = self.place.saturating_add(1);
         push_text(answers, object.as_str())?;
         push_text(answers, "\n")
-    }
-}
-
-/// How a number is told that was found in a text.
-#[derive(Clone, Copy, PartialEq, Eq, Debug)]
-pub(crate) enum FoundForm {
-    /// As fields that are parted by tabs.
-    Fields,
-    /// As a JSON object.
-    Object,
-}
-
-/// The valid numbers that stand in each line.
-#[derive(Drop)]
-pub(crate) struct Finder<'d, 'f> {
-    /// What reads the numbers.
-    pub reader: Reader<'d>,
-    /// How each is told.
-    pub form: FoundForm,
-    /// The number of the next line.
-    pub place: u64,
-    /// The number of the first line of each input.
-    pub first: u64,
-    /// The name of the input.
-    pub name: &'f str,
-    /// Whether it is told.
-    pub is_named: bool,
-}
-
-impl<'d, 'f> Finder<'d, 'f> {
-    /// Puts the fields of one number at the end of the answers.
-    fn push_fields(
-        &self,
-        alloc: Global,
-        column: u64,
-        number: &PhoneNumber,
-        piece: &str,
-        answers: &mut Vec<u8>,
-    ) -> Result<(), AllocError> {
-        if self.is_named {
-            push_text(answers, self.name)?;
-            push_text(answers, "\t")?;
-        }
-        let place = self.place;
-        let told = format!(in alloc; "{place}\t{column}\t{number}\t{piece}\n")?;
-        push_text(answers, told.as_str())
-    }
-
-    /// Puts the object of one number at the end of the answers.
-    fn push_object(
-        &self,
-        alloc: Global,
-        column: u64,
-        number: &PhoneNumber,
-        piece: &str,
-        answers: &mut Vec<u8>,
-    ) -> Result<(), AllocError> {
-        let reader = self.reader;
-        let line = self.place;
-        let spot = Spot {
-            line,
-            column,
-            piece,
-        };
-        match found_object(alloc, reader.rules, reader.database, spot, number) {
-            Ok(object) => {
-                push_text(answers, object.as_str())?;
-                push_text(answers, "\n")
-            }
-            // of a number that was read the code is listed
-            Err(FormatError::UnknownCode) => Ok(()),
-            Err(FormatError::Memory) => Err(AllocError),
-        }
-    }
-
-    /// Puts what is told of all numbers that were found in a text at the end of the answers.
-    fn push_all(
-        &self,
-        alloc: Global,
-        text: &str,
-        all: &[Found<PhoneNumber>],
-        answers: &mut Vec<u8>,
-    ) -> Result<(), AllocError> {
-        let mut from = 0;
-        let mut column = 1u64;
-        for found in all {
-            let before = text.get(from..found.start).unwrap_or("");
-            let piece = text.get(found.start..found.end).unwrap_or("");
-            let number = &found.number;
-            column = column.saturating_add(before.chars().count() as u64);
-            match self.form {
-                FoundForm::Fields => self.push_fields(alloc, column, number, piece, answers)?,
-                FoundForm::Object => self.push_object(alloc, column, number, piece, answers)?,
-            }
-            from = found.start;
-        }
-        Ok(())
-    }
-}
-
-impl<'d, 'f> LineTaker for Finder<'d, 'f> {
-    fn take(
-        &mut self,
-        alloc: Global,
-        line: &[u8],
-        answers: &mut Vec<u8>,
-    ) -> Result<(), AllocError> {
-        let reader = self.reader;
-        let text = String::from_utf8_lossy(alloc, line)?;
-        let all = find_numbers(reader.rules, reader.database, reader.hint, text.as_str())?;
-        self.push_all(alloc, text.as_str(), all.as_slice(), answers)?;
-        self.place = self.place.saturating_add(1);
-        Ok(())
     }
 }
 

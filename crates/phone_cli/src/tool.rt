@@ -5,19 +5,23 @@ ghost use Rattle.phone_cli.specs.Statuses.{Acts};
 
 use crate::about::{write_help, write_regions, write_version};
 use crate::failures::{say_failure, say_refusal};
+use crate::finder::{Finder, FoundForm};
+use crate::further::{Loaded, say_no_columns};
 use crate::inputs::{hint_and_files, on_inputs, say_missing};
-use crate::jobs::{Customers, Job, Report};
+use crate::jobs::{ByLines, Customers, Job, Report};
+use crate::lines::LineTaker;
 use crate::outlet::Outlet;
 use crate::reader::Reader;
 use crate::say::{say, say_firsts, say_records, say_word_error};
 use crate::shorts::Shorts;
-use crate::takers::{Finder, Firsts, FoundForm, Objects};
+use crate::takers::{Firsts, Objects};
 use crate::typist::Typist;
 use phone_book::Book;
+use phone_choice::Rules;
 use phone_device::{ByteSink, ByteSource, Std};
-use phone_table::{Asked, Counts};
+use phone_table::{Asked, Counts, Extra};
 use phone_typed::Typing;
-use phone_words::{Call, Command, Table, call_of};
+use phone_words::{Call, Command, Further, Table, call_of};
 use phonenumber::country::Id;
 use phonenumber::metadata::Database;
 use std::alloc::AllocGlobal;
@@ -31,8 +35,8 @@ use std::fs::{self, Files};
 ///
 /// Status 0: all was written. 1: an input, the output or memory failed, or a record of a table has
 /// another count of fields than the header; what is in front is written. 2: the words are no call,
-/// a file isn't there, or a table lacks a header or a column; then nothing is written. 3: the
-/// database was refused.
+/// a file isn't there, or a table lacks a header or a column; then nothing is written. 3: a
+/// database or a table of prefixes was refused; then nothing is written.
 pub fn program<R: Files + AllocGlobal, S: ByteSource, W: Outlet, E: ByteSink>(
     rt: &R,
     words: &[&str],
@@ -145,6 +149,36 @@ fn no_database(command: Command<'_>) -> &'static str {
     }
 }
 
+/// Whether a file is this one.
+fn is_named(file: Option<&str>, name: &str) -> bool {
+    match file {
+        Some(file) => file == name,
+        None => false,
+    }
+}
+
+/// Whether further columns are told by the file of a name.
+fn is_of_columns(further: Further<'_>, name: &str) -> bool {
+    let own = match further.prefixes {
+        Some(column) => Some(column.file),
+        None => None,
+    };
+    is_named(own, name)
+        || is_named(further.time_zones, name)
+        || is_named(further.carriers, name)
+        || is_named(further.first_carriers, name)
+        || is_named(further.areas, name)
+}
+
+/// Whether the file of a name is read, so that it can't be written as well.
+fn is_read(reading: Reading<'_, '_>, name: &str) -> bool {
+    let is_input = reading.files.iter().any(|file| *file == name);
+    match reading.call.command {
+        Command::Table(table) => is_input || is_of_columns(table.further, name),
+        _ => is_input,
+    }
+}
+
 /// The program where a file is written.
 fn to_file<R: Files + AllocGlobal, S: ByteSource, E: ByteSink>(
     rt: &R,
@@ -155,7 +189,7 @@ fn to_file<R: Files + AllocGlobal, S: ByteSource, E: ByteSink>(
 ) -> u8
     ensures { result ≤ 3 }
 {
-    if reading.files.iter().any(|file| *file == name) {
+    if is_read(reading, name) {
         return say(errors, &[name, " is read, so it can't be written"], 2);
     }
     match fs::create(rt, name) {
@@ -194,17 +228,56 @@ fn on_database<R: Files + AllocGlobal, S: ByteSource, W: Outlet, E: ByteSink>(
     match (reading.call.command, reading.hint) {
         (Command::Unique, _) => firsts(rt, reading, database, input, output, errors),
         (Command::Short, Some(region)) => {
-            shorts(rt, reading, &database, region, input, output, errors)
+            let database = &database;
+            let mut taker = Shorts { database, region };
+            run_lines(rt, reading, &mut taker, input, output, errors)
         }
-        _ => {
-            let reader = reader_of(reading, &database);
+        _ => with_shorts(rt, reading, &database, input, output, errors),
+    }
+}
+
+/// The file of the database that tells which numbers of a call are short numbers: for objects and
+/// tables, by libphonenumber's rules.
+fn shorts_of<'w>(reading: Reading<'_, 'w>) -> Option<&'w str> {
+    match reading.call.rules {
+        Rules::Library => match reading.call.command {
+            Command::Objects | Command::Table(_) => reading.call.short_database,
+            _ => None,
+        },
+        Rules::Crate => None,
+    }
+}
+
+/// The program where that database is loaded too.
+fn with_shorts<R: Files + AllocGlobal, S: ByteSource, W: Outlet, E: ByteSink>(
+    rt: &R,
+    reading: Reading<'_, '_>,
+    database: &Database,
+    input: &mut S,
+    output: &mut W,
+    errors: &mut E,
+) -> u8
+    ensures { result ≤ 3 }
+{
+    let Some(path) = shorts_of(reading) else {
+        let reader = reader_of(reading, database, None);
+        return by_reader(rt, reading, reader, input, output, errors);
+    };
+    match Database::load(rt, path) {
+        Ok(short) => {
+            let reader = reader_of(reading, database, Some(&short));
             by_reader(rt, reading, reader, input, output, errors)
         }
+        Err(refusal) => say_refusal(rt.alloc(), path, &refusal, errors),
     }
 }
 
 /// What reads the numbers of a call.
-fn reader_of<'d>(reading: Reading<'_, '_>, database: &'d Database) -> Reader<'d>
+fn reader_of<'d>(
+    reading: Reading<'_, '_>,
+    database: &'d Database,
+    short: Option<&'d Database>,
+) -> Reader<'d>
     ensures rules { result.rules ≡ reading.entry.call.now.rules }
     ensures hint { result.hint ≡ reading.entry.hint }
     ensures database { result.database.now ≡ database.now }
@@ -214,6 +287,7 @@ fn reader_of<'d>(reading: Reading<'_, '_>, database: &'d Database) -> Reader<'d>
         database,
         rules: call.rules,
         hint,
+        short,
     }
 }
 
@@ -229,20 +303,27 @@ fn by_reader<R: Files + AllocGlobal, S: ByteSource, W: Outlet, E: ByteSink>(
     ensures { result ≤ 3 }
 {
     match reading.call.command {
-        Command::Objects => objects(rt, reading, reader, input, output, errors),
-        Command::Find | Command::FoundObjects => {
-            finds(rt, reading, reader, input, output, errors)
+        Command::Objects => {
+            let mut taker = objects_of(reading, reader);
+            run_lines(rt, reading, &mut taker, input, output, errors)
         }
-        Command::Typed => typed(rt, reading, reader, input, output, errors),
+        Command::Find | Command::FoundObjects | Command::FoundRecords => {
+            let mut taker = finder_of(reading, reader);
+            run_lines(rt, reading, &mut taker, input, output, errors)
+        }
+        Command::Typed => {
+            let mut taker = typist_of(reader);
+            run_lines(rt, reading, &mut taker, input, output, errors)
+        }
         Command::Table(table) => customers(rt, reading, table, reader, input, output, errors),
-        _ => reports(rt, reading, reader, input, output, errors),
+        _ => run(rt, reading, &mut Report { reader }, input, output, errors),
     }
 }
 
 /// Answers the inputs, and tells of what failed.
-fn run<'w, R: Files + AllocGlobal, S: ByteSource, W: Outlet, E: ByteSink, J: Job<'w>>(
+fn run<R: Files + AllocGlobal, S: ByteSource, W: Outlet, E: ByteSink, J: Job>(
     rt: &R,
-    reading: Reading<'_, 'w>,
+    reading: Reading<'_, '_>,
     job: &mut J,
     input: &mut S,
     output: &mut W,
@@ -258,99 +339,54 @@ fn run<'w, R: Files + AllocGlobal, S: ByteSource, W: Outlet, E: ByteSink, J: Job
     }
 }
 
-/// The report on lines.
-fn reports<R: Files + AllocGlobal, S: ByteSource, W: Outlet, E: ByteSink>(
+/// Answers the lines of the inputs, and tells of what failed.
+fn run_lines<R: Files + AllocGlobal, S: ByteSource, W: Outlet, E: ByteSink, T: LineTaker>(
     rt: &R,
     reading: Reading<'_, '_>,
-    reader: Reader<'_>,
+    taker: &mut T,
     input: &mut S,
     output: &mut W,
     errors: &mut E,
 ) -> u8
     ensures { result ≤ 3 }
 {
-    let mut job = Report { reader };
+    let mut job = ByLines { taker };
     run(rt, reading, &mut job, input, output, errors)
 }
 
-/// An object for each line.
-fn objects<R: Files + AllocGlobal, S: ByteSource, W: Outlet, E: ByteSink>(
-    rt: &R,
-    reading: Reading<'_, '_>,
-    reader: Reader<'_>,
-    input: &mut S,
-    output: &mut W,
-    errors: &mut E,
-) -> u8
-    ensures { result ≤ 3 }
-{
+/// What answers each line by an object.
+fn objects_of<'d>(reading: Reading<'_, '_>, reader: Reader<'d>) -> Objects<'d> {
     let place = reading.call.skipped.saturating_add(1);
-    let mut job = Objects { reader, place };
-    run(rt, reading, &mut job, input, output, errors)
+    Objects { reader, place }
 }
 
 /// How a command tells the numbers that it finds.
 fn found_form(command: Command<'_>) -> FoundForm {
     match command {
         Command::FoundObjects => FoundForm::Object,
+        Command::FoundRecords => FoundForm::Record,
         _ => FoundForm::Fields,
     }
 }
 
-/// The numbers that stand in the inputs.
-fn finds<'w, R: Files + AllocGlobal, S: ByteSource, W: Outlet, E: ByteSink>(
-    rt: &R,
-    reading: Reading<'_, 'w>,
-    reader: Reader<'_>,
-    input: &mut S,
-    output: &mut W,
-    errors: &mut E,
-) -> u8
-    ensures { result ≤ 3 }
-{
+/// What finds the numbers that stand in the inputs.
+fn finder_of<'d, 'l>(reading: Reading<'l, 'l>, reader: Reader<'d>) -> Finder<'d, 'l> {
     let first = reading.call.skipped.saturating_add(1);
-    let mut job = Finder {
+    Finder {
         reader,
         form: found_form(reading.call.command),
         first,
         place: first,
-        name: "-",
-        is_named: reading.files.len() > 1,
-    };
-    run(rt, reading, &mut job, input, output, errors)
+        names: reading.files,
+        begun: 0,
+    }
 }
 
-/// What is shown after each key of each line.
-fn typed<R: Files + AllocGlobal, S: ByteSource, W: Outlet, E: ByteSink>(
-    rt: &R,
-    reading: Reading<'_, '_>,
-    reader: Reader<'_>,
-    input: &mut S,
-    output: &mut W,
-    errors: &mut E,
-) -> u8
-    ensures { result ≤ 3 }
-{
-    let mut job = Typist {
+/// What shows each line as it is typed.
+fn typist_of<'d>(reader: Reader<'d>) -> Typist<'d> {
+    Typist {
         field: Typing::new(reader.database, reader.hint),
-    };
-    run(rt, reading, &mut job, input, output, errors)
-}
-
-/// What is known of each line as a short number of a region.
-fn shorts<R: Files + AllocGlobal, S: ByteSource, W: Outlet, E: ByteSink>(
-    rt: &R,
-    reading: Reading<'_, '_>,
-    database: &Database,
-    region: Id,
-    input: &mut S,
-    output: &mut W,
-    errors: &mut E,
-) -> u8
-    ensures { result ≤ 3 }
-{
-    let mut job = Shorts { database, region };
-    run(rt, reading, &mut job, input, output, errors)
+    }
 }
 
 /// The first line of each number; then their counts are told.
@@ -364,14 +400,11 @@ fn firsts<R: Files + AllocGlobal, S: ByteSource, W: Outlet, E: ByteSink>(
 ) -> u8
     ensures { result ≤ 3 }
 {
-    let book = match Book::new(database) {
-        Ok(book) => book,
-        Err(_) => {
-            let more = " can't tell numbers apart: a calling code begins another";
-            return say(errors, &["the database ", reading.path, more], 3);
-        }
+    let Ok(book) = Book::new(database) else {
+        let more = " can't tell numbers apart: a calling code begins another";
+        return say(errors, &["the database ", reading.path, more], 3);
     };
-    let mut job = Firsts {
+    let mut taker = Firsts {
         book,
         rules: reading.call.rules,
         hint: reading.hint,
@@ -379,18 +412,17 @@ fn firsts<R: Files + AllocGlobal, S: ByteSource, W: Outlet, E: ByteSink>(
         present: 0,
         refused: 0,
     };
-    let status = run(rt, reading, &mut job, input, output, errors);
-    if status == 0 {
-        return say_firsts(&job, errors);
+    match run_lines(rt, reading, &mut taker, input, output, errors) {
+        0 => say_firsts(&taker, errors),
+        status => status,
     }
-    status
 }
 
-/// A table of customers; then its counts are told.
-fn customers<'w, R: Files + AllocGlobal, S: ByteSource, W: Outlet, E: ByteSink>(
+/// A table of customers, with further columns where they are asked for.
+fn customers<R: Files + AllocGlobal, S: ByteSource, W: Outlet, E: ByteSink>(
     rt: &R,
-    reading: Reading<'_, 'w>,
-    table: Table<'w>,
+    reading: Reading<'_, '_>,
+    table: Table<'_>,
     reader: Reader<'_>,
     input: &mut S,
     output: &mut W,
@@ -398,22 +430,42 @@ fn customers<'w, R: Files + AllocGlobal, S: ByteSource, W: Outlet, E: ByteSink>(
 ) -> u8
     ensures { result ≤ 3 }
 {
+    let loaded = match Loaded::new(rt, table.further) {
+        Ok(loaded) => loaded,
+        Err(why) => return say_no_columns(rt.alloc(), why, errors),
+    };
+    let Ok(extra) = loaded.extra(rt.alloc()) else {
+        return say(errors, &["out of memory"], 1);
+    };
     let mut job = Customers {
         database: reader.database,
-        asked: asked(table, reader),
+        asked: asked(table, reader, extra.as_slice()),
         is_unique: table.is_unique,
         left_out: 0,
         counts: Counts::new(),
     };
-    let status = run(rt, reading, &mut job, input, output, errors);
-    if status == 0 {
-        return say_records(&job, errors);
-    }
-    status
+    run_table(rt, reading, &mut job, input, output, errors)
 }
 
-/// What is asked of a table that this reads.
-fn asked<'w>(table: Table<'w>, reader: Reader<'_>) -> Asked<'w>
+/// Answers a table, and tells what failed, or else its counts.
+fn run_table<R: Files + AllocGlobal, S: ByteSource, W: Outlet, E: ByteSink>(
+    rt: &R,
+    reading: Reading<'_, '_>,
+    job: &mut Customers<'_, '_>,
+    input: &mut S,
+    output: &mut W,
+    errors: &mut E,
+) -> u8
+    ensures { result ≤ 3 }
+{
+    match run(rt, reading, job, input, output, errors) {
+        0 => say_records(job, errors),
+        status => status,
+    }
+}
+
+/// What is asked of a table that this reads, with these further columns.
+fn asked<'t>(table: Table<'t>, reader: Reader<'t>, extra: &'t [Extra<'t>]) -> Asked<'t>
     ensures rules { result.rules ≡ reader.entry.rules }
     ensures hint { result.hint ≡ reader.entry.hint }
     ensures mark_bad { result.mark_bad ≡ table.entry.mark_bad }
@@ -426,5 +478,7 @@ fn asked<'w>(table: Table<'w>, reader: Reader<'_>) -> Asked<'w>
         hint: reader.hint,
         else_hint: table.else_hint,
         mark_bad: table.mark_bad,
+        extra,
+        short: reader.short,
     }
 }

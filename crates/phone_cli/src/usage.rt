@@ -13,9 +13,10 @@ the other, where - is standard input; without a file it is standard input.
 usage: ./phone [REGION] [FILE..]
        ./phone --unique [REGION] [FILE..]
        ./phone --json [REGION] [FILE..]
-       ./phone --find [--json] [REGION] [FILE..]
+       ./phone --find [--json | --csv] [REGION] [FILE..]
        ./phone --csv COLUMN [--region-column COLUMN [--else-hint]] [-d D] [--mark-bad-records]
-               [--unique] [REGION] [FILE]
+               [--prefixes FILE --as NAME] [--time-zone] [--carrier] [--first-carrier]
+               [--areas FILE --area] [--unique] [REGION] [FILE]
        ./phone --typed [REGION] [FILE..]
        ./phone --short REGION [FILE..]
        ./phone --regions | --version | --help
@@ -25,6 +26,7 @@ with each:  --rules RULES     library (the default): numbers are read and descri
                               libphonenumber does; crate: as the Rust crate phonenumber does
             --database FILE   the database, a JSON text, in place of the table of the world
             --short-database FILE   that of short numbers
+            --time-zones FILE, --carriers FILE   the tables of time zones and carriers
             -o, --output FILE what is written goes there
             --jobs N          N parts of the input are read side by side (not with --unique)
             --skipped N       lines are counted as if N stood before them (of a table: after its
@@ -54,19 +56,31 @@ read under REGION too. D is one ASCII character, or tab. A record with more or f
 first ends the run, unless --mark-bad-records is given: then it is given back as it is, and refused.
 How many records there were, and how many had an unknown region, no number or one that isn't valid,
 is told on standard error.
+A short number of the region under which it is read has, with --json and with --csv, the type
+Emergency or ShortNumber, by libphonenumber's rules: an emergency number always, another one where
+no valid number is read.
+Further columns of --csv stand before the seven, each told by the longest prefix of a table that
+begins the digits of the E.164 text: --prefixes gives the text in the file of that name, in a column
+of the name NAME; --time-zone the time zones; --carrier the carrier, where numbers can't be taken
+along to another one; --first-carrier that which the number was first assigned to; --area the area,
+by the file that --areas names. A field is empty where there is no number or no such prefix. Each
+line of a table is a prefix of 1 to 15 digits, a tab and a text, or both as CSV; where another line
+or a prefix twice is there, the table is refused before anything is written.
 --find finds the valid numbers in running text, and writes for each its line, its column, its E.164
 text and the piece of the text, parted by tabs; the file's name before them where several are named.
 With --json it writes an object for each: line, column, text, the fields that --csv gives but the
-refusal, and extension.
+refusal, and extension. With --csv, which takes no COLUMN here, it writes a record for each, under a
+line of headings: line, column, e164, type, region, extension, text; before them the file, where
+several are named.
 --typed takes each line as the keys of a number that is typed, and writes what is shown after each
 key, parted by |.
 --short takes each line as a number that is dialled within REGION, and writes yes or no, parted by
 tabs: whether its count of digits is possible; whether it is a short number; what it costs; whether
 only some carriers connect it; whether it is an emergency number; whether it reaches emergency
 services.
---prove proves and builds, once, the two programs; until then each run tries its program without
-proof, which takes minutes.
+--prove proves and builds, once, the two programs; until then the first run compiles its program
+without proof, which takes minutes, and keeps it.
 
 Statuses: 0 all was written, 1 input, output, memory or a record of a table failed, 2 wrong words,
-3 the database was refused.
+3 a database or a table of prefixes was refused.
 ";

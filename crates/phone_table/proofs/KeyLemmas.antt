@@ -1,5 +1,5 @@
 -- The first field of what stands behind a record's own fields.
-use Rattle.std.proofs.Common.{◌≡◌, ◌+◌, ◌-◌, ℕ, List, [], ◌∷◌, ◌++◌, length, get_or, refl, sym, ap, arith, ◌∙◌, length-append}
+use Rattle.std.proofs.Common.{◌≡◌, ◌+◌, ℕ, [], ◌∷◌, ◌++◌, length, get_or, refl, ap, arith, ◌∙◌, length-append}
 use Rattle.csv.specs.Records.{field_at}
 use Rattle.phone_csv.specs.Formats.{Record}
 use Rattle.phone_table.specs.Regions.{field_in}

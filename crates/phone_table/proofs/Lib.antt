@@ -3,8 +3,10 @@ pub mod RecordLemmas
 pub mod AnswerLemmas
 pub mod TableLemmas
 pub mod EndLemmas
+pub mod ExtraLemmas
 pub mod RunLemmas
 pub mod ObjectLemmas
 pub mod RegionLemmas
 pub mod CountLemmas
 pub mod KeyLemmas
+pub mod ShortLemmas

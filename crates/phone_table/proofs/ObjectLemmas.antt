@@ -9,12 +9,12 @@ use Rattle.phone_choice.specs.declared.rules.Rules.{Rules}
 use Rattle.phone_table.specs.Objects.{IsObject}
 use Rattle.phone_table.specs.Objects.IsObject.{no_text, of_text}
 
-pub no_float : (rules : Rules) (db : List Metadata) (hint : Option Id) (place : ℕ) (line : List ℕ) (d : Data) →
-    IsObject rules db hint place line d → has_float d ≡ false
-no_float rules db hint place line _ (no_text fields h a) = refl
-no_float rules db hint place line _ (of_text fields h a) = refl
+pub no_float : (rules : Rules) (db : List Metadata) (short : Option (List Metadata)) (hint : Option Id) (place : ℕ) (line : List ℕ) (d : Data) →
+    IsObject rules db short hint place line d → has_float d ≡ false
+no_float rules db short hint place line _ (no_text n fields h a) = refl
+no_float rules db short hint place line _ (of_text n fields h a) = refl
 
-pub shallow : (rules : Rules) (db : List Metadata) (hint : Option Id) (place : ℕ) (line : List ℕ) (d : Data) →
-    IsObject rules db hint place line d → depth d ≤ max_depth
-shallow rules db hint place line _ (no_text fields h a) = omega arith
-shallow rules db hint place line _ (of_text fields h a) = omega arith
+pub shallow : (rules : Rules) (db : List Metadata) (short : Option (List Metadata)) (hint : Option Id) (place : ℕ) (line : List ℕ) (d : Data) →
+    IsObject rules db short hint place line d → depth d ≤ max_depth
+shallow rules db short hint place line _ (no_text n fields h a) = omega arith
+shallow rules db short hint place line _ (of_text n fields h a) = omega arith

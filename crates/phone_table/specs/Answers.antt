@@ -1,22 +1,25 @@
--- What a record of a table is answered: seven fields behind its own.
-use Rattle.std.specs.Prelude.{◌≡◌, ◌⊎◌, ◌==◌, ℕ, Bool, true, false, List, [], ◌∷◌, codes}
-use Rattle.std.specs.Prelude.{chars, length}
-use Rattle.std.specs.Prelude.{Option, Some, None, Ok, Err}
+-- What a record of a table is answered: what the columns that are asked for tell, and seven fields.
+use Rattle.std.specs.Prelude.{◌≡◌, ◌⊎◌, ◌==◌, ℕ, Bool, true, false, List, [], ◌∷◌, ◌++◌, codes}
+use Rattle.std.specs.Prelude.{chars, length, Option, Some, None, Ok, Err, option_map}
+use Rattle.std.specs.Option.{option_map_or}
 use Rattle.std.specs.Str.{IsUtf8, trim}
 use Rattle.phone_values.specs.Refusals.{report_words}
 use Rattle.phone_values.specs.declared.country.Id.{Id}
 use Rattle.phone_values.specs.declared.error.ParseError.{ParseError}
 use Rattle.phone_values.specs.declared.mode.Mode.TheVariants.{E164, International, National}
+use Rattle.phone_values.specs.declared.reading.Reading.{Reading}
 use Rattle.phone_csv.specs.Formats.{Record}
 use Rattle.phone_meta.specs.CodeLookUps.{first_of, territories}
 use Rattle.phone_records.specs.declared.loader.Metadata.{Metadata}
-use Rattle.phone_values.specs.declared.reading.Reading.{Reading}
+use Rattle.phone_short.specs.declared.kind.ShortKind.TheVariants.{Emergency, ShortNumber}
 use Rattle.phonenumber.specs.Reports.{kind_word, region_word, validity_word}
 use Rattle.phone_print.specs.Texts.{text_by}
 use Rattle.phone_choice.specs.Facts.{is_valid_by, kind_by, printed_as, region_by}
 use Rattle.phone_choice.specs.Readings.{ReadsBy}
 use Rattle.phone_choice.specs.declared.rules.Rules.{Rules}
+use Rattle.phone_table.specs.Extras.{AreTold}
 use Rattle.phone_table.specs.Regions.{RecordNames, field_in, hint_under}
+use Rattle.phone_table.specs.Shorts.{short_answer, short_in}
 use Rattle.phone_table.specs.declared.header.Columns.{Columns}
 use Rattle.phone_table.specs.declared.region.Named.{Named}
 use Rattle.phone_table.specs.declared.run.Asked.{Asked}
@@ -36,33 +39,68 @@ refused_answer words = [] ∷ [] ∷ [] ∷ [] ∷ [] ∷ [] ∷ words ∷ []
 abbrev pub is_blank : List ℕ → Bool
 is_blank field = length (trim field) == 0
 
--- what the field of a number is answered: bytes that are no text, nothing but white space, a
--- refusal, or a number
-pub data IsFieldAnswer (rules : Rules) (db : List Metadata) (hint : Option Id) (field : List ℕ) :
-    Record → Type 0 where
-  no_text : ¬ (IsUtf8 field) →
-      IsFieldAnswer rules db hint field (refused_answer (codes "not UTF-8"))
-  blank : IsUtf8 field → is_blank field ≡ true →
-      IsFieldAnswer rules db hint field (refused_answer (codes "empty"))
-  refused : (e : ParseError) → IsUtf8 field → is_blank field ≡ false →
-      ReadsBy rules db hint (chars field) (Err e) →
-      IsFieldAnswer rules db hint field (refused_answer (report_words e))
-  read : (n : Reading) (m : Metadata) → IsUtf8 field → is_blank field ≡ false →
-      ReadsBy rules db hint (chars field) (Ok n) →
+-- what a text is answered: nothing but white space, a refusal, or a number, which is that
+pub data IsReply (rules : Rules) (db : List Metadata) (hint : Option Id) (text : List ℕ) :
+    Option Reading → Record → Type 0 where
+  blank : is_blank text ≡ true → IsReply rules db hint text None (refused_answer (codes "empty"))
+  refused : (e : ParseError) → is_blank text ≡ false →
+      ReadsBy rules db hint (chars text) (Err e) →
+      IsReply rules db hint text None (refused_answer (report_words e))
+  read : (n : Reading) (m : Metadata) → is_blank text ≡ false →
+      ReadsBy rules db hint (chars text) (Ok n) →
       first_of (territories n.code.value db) ≡ Some m →
-      IsFieldAnswer rules db hint field (number_answer rules db m n)
+      IsReply rules db hint text (Some n) (number_answer rules db m n)
+
+-- a number was read that is valid
+abbrev pub is_valid_number : Rules → List Metadata → Option Reading → Bool
+is_valid_number rules db number = option_map_or (λ n. is_valid_by rules db n) number false
+
+-- what a text is answered that may be a short number of the hint's region: an emergency number
+-- always as one, another short number where no valid number is read; else as it is read
+pub data IsTextAnswer (rules : Rules) (db : List Metadata) (short : Option (List Metadata))
+    (hint : Option Id) (text : List ℕ) : Option Reading → Record → Type 0 where
+  emergency : (region : Id) → short_in short hint text ≡ Some (region, Emergency) →
+      IsTextAnswer rules db short hint text None (short_answer region Emergency)
+  short_number : (region : Id) (number : Option Reading) (reply : Record) →
+      short_in short hint text ≡ Some (region, ShortNumber) →
+      IsReply rules db hint text number reply → is_valid_number rules db number ≡ false →
+      IsTextAnswer rules db short hint text None (short_answer region ShortNumber)
+  valid_number : (region : Id) (number : Option Reading) (reply : Record) →
+      short_in short hint text ≡ Some (region, ShortNumber) →
+      IsReply rules db hint text number reply → is_valid_number rules db number ≡ true →
+      IsTextAnswer rules db short hint text number reply
+  no_short_number : (number : Option Reading) (reply : Record) →
+      short_in short hint text ≡ None → IsReply rules db hint text number reply →
+      IsTextAnswer rules db short hint text number reply
+
+-- what the field of a number is answered: as its text is; words of its own where its bytes are none
+pub data IsFieldAnswer (rules : Rules) (db : List Metadata) (short : Option (List Metadata))
+    (hint : Option Id) (field : List ℕ) : Option Reading → Record → Type 0 where
+  no_text : ¬ (IsUtf8 field) →
+      IsFieldAnswer rules db short hint field None (refused_answer (codes "not UTF-8"))
+  of_text : (number : Option Reading) (answer : Record) → IsUtf8 field →
+      IsTextAnswer rules db short hint field number answer →
+      IsFieldAnswer rules db short hint field number answer
 
 -- what the field of a number is answered under a hint; words of its own where there is none
-abbrev pub IsAnswerUnder : Rules → List Metadata → Option (Option Id) → List ℕ → Record → Type 0
-IsAnswerUnder rules db None field answer = answer ≡ refused_answer (codes "unknown region")
-IsAnswerUnder rules db (Some hint) field answer = IsFieldAnswer rules db hint field answer
+abbrev pub IsAnswerUnder : Rules → List Metadata → Option (List Metadata) → Option (Option Id) →
+    List ℕ → Option Reading → Record → Type 0
+IsAnswerUnder rules db short None field number answer =
+    (number ≡ None) × (answer ≡ refused_answer (codes "unknown region"))
+IsAnswerUnder rules db short (Some hint) field number answer =
+    IsFieldAnswer rules db short hint field number answer
+
+-- the database of short numbers that is asked for
+abbrev pub short_of : Asked → Option (List Metadata)
+short_of asked = option_map (λ d. d.now) asked.short
 
 -- what a record's number is answered, by the region that the record names
-abbrev pub IsNumberAnswer : List Metadata → Columns → Asked → Record → Record → Type 0
-IsNumberAnswer db columns asked fields answer = (region : Named) ×
+abbrev pub IsNumberAnswer : List Metadata → Columns → Asked → Record → Option Reading → Record →
+    Type 0
+IsNumberAnswer db columns asked fields number answer = (region : Named) ×
     RecordNames columns.region fields region ×
-    IsAnswerUnder asked.rules db (hint_under asked.else_hint asked.hint region)
-    (field_in fields columns.number) answer
+    IsAnswerUnder asked.rules db (short_of asked) (hint_under asked.else_hint asked.hint region)
+    (field_in fields columns.number) number answer
 
 -- a record has as many fields as the header
 abbrev pub IsOfWidth : Columns → Record → Type 0
@@ -73,11 +111,20 @@ abbrev pub IsMarked : Columns → Asked → Record → Record → Type 0
 IsMarked columns asked fields answer = (asked.mark_bad ≡ true) × ¬ (IsOfWidth columns fields) ×
     (answer ≡ refused_answer (codes "wrong count of fields"))
 
--- what a record is answered: as its number is, or so marked
+-- the seven fields that a record is answered, and the number that was read: as its number is, or
+-- so marked
+abbrev pub IsSevenAnswer : List Metadata → Columns → Asked → Record → Option Reading → Record →
+    Type 0
+IsSevenAnswer db columns asked fields number answer =
+    (IsOfWidth columns fields × IsNumberAnswer db columns asked fields number answer) ⊎
+    ((number ≡ None) × IsMarked columns asked fields answer)
+
+-- what a record is answered: what the columns that are asked for tell of the number that was read,
+-- and the seven fields
 abbrev pub IsAnswer : List Metadata → Columns → Asked → Record → Record → Type 0
-IsAnswer db columns asked fields answer =
-    (IsOfWidth columns fields × IsNumberAnswer db columns asked fields answer) ⊎
-    IsMarked columns asked fields answer
+IsAnswer db columns asked fields answer = (number : Option Reading) × (told : Record) ×
+    (seven : Record) × IsSevenAnswer db columns asked fields number seven ×
+    AreTold asked.rules db number asked.extra.now told × (answer ≡ told ++ seven)
 
 -- a record with another count of fields isn't answered, where such aren't marked
 abbrev pub IsOfOtherWidth : Columns → Asked → Record → Type 0

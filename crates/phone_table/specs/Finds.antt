@@ -1,5 +1,6 @@
 -- What is told of a number that was found in a text.
-use Rattle.std.specs.Prelude.{◌≡◌, ℕ, List, [], codes, Some, unwrap_or}
+use Rattle.std.specs.Prelude.{◌≡◌, ℕ, List, [], ◌∷◌, codes, get_or, Some, unwrap_or}
+use Rattle.std.specs.Fmt.{decimal}
 use Rattle.serde_json.specs.Data.{Data, string, number, unsigned, object, member, no_members}
 use Rattle.serde_json.specs.Written.{compact_text}
 use Rattle.phone_choice.specs.declared.rules.Rules.{Rules}
@@ -32,3 +33,20 @@ IsFoundObject rules db spot n text = (m : Metadata) ×
     (first_of (territories n.code.value db) ≡ Some m) ×
     (text ≡ compact_text (object_of_found spot (unwrap_or n.extension [])
     (number_answer rules db m n)))
+
+-- the record of a number that was found: its line and column, its E.164 text, kind and region, its
+-- extension, and the piece of the text
+abbrev pub found_record : Spot → List ℕ → Record → Record
+found_record spot extension fields = decimal spot.line ∷ decimal spot.column ∷
+    get_or fields 0 [] ∷ get_or fields 3 [] ∷ get_or fields 4 [] ∷ extension ∷ spot.piece.now ∷ []
+
+-- the names of its columns
+abbrev pub found_names : Record
+found_names = codes "line" ∷ codes "column" ∷ codes "e164" ∷ codes "type" ∷
+    codes "region" ∷ codes "extension" ∷ codes "text" ∷ []
+
+-- these fields are that record, the number's answer being by the first territory of its code
+abbrev pub IsFoundRecord : Rules → List Metadata → Spot → Reading → Record → Type 0
+IsFoundRecord rules db spot n fields = (m : Metadata) ×
+    (first_of (territories n.code.value db) ≡ Some m) ×
+    (fields ≡ found_record spot (unwrap_or n.extension []) (number_answer rules db m n))

@@ -1,10 +1,12 @@
 pub mod Answers
 pub mod Counts
 pub mod Ends
+pub mod Extras
 pub mod Finds
 pub mod Headers
 pub mod Objects
 pub mod Regions
 pub mod Runs
+pub mod Shorts
 pub mod Spelled
 pub mod Tables

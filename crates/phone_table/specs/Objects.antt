@@ -3,6 +3,7 @@ use Rattle.std.specs.Prelude.{ℕ, List, [], ◌∷◌, Option, codes, get_or}
 use Rattle.std.specs.Str.{IsUtf8}
 use Rattle.serde_json.specs.Data.{Data, null, string, number, unsigned, object, member, no_members}
 use Rattle.phone_values.specs.declared.country.Id.{Id}
+use Rattle.phone_values.specs.declared.reading.Reading.{Reading}
 use Rattle.phone_csv.specs.Formats.{Record}
 use Rattle.phone_records.specs.declared.loader.Metadata.{Metadata}
 use Rattle.phone_choice.specs.declared.rules.Rules.{Rules}
@@ -33,9 +34,11 @@ object_of line text fields = object (
     member (codes "validity") (field fields 5) no_members)))))))))
 
 -- what a line is answered: its object, whose text is null where the line is none
-pub data IsObject (rules : Rules) (db : List Metadata) (hint : Option Id) (place : ℕ)
-    (line : List ℕ) : Data → Type 0 where
-  no_text : (fields : Record) → ¬ (IsUtf8 line) → IsFieldAnswer rules db hint line fields →
-      IsObject rules db hint place line (object_of place null fields)
-  of_text : (fields : Record) → IsUtf8 line → IsFieldAnswer rules db hint line fields →
-      IsObject rules db hint place line (object_of place (string line) fields)
+pub data IsObject (rules : Rules) (db : List Metadata) (short : Option (List Metadata))
+    (hint : Option Id) (place : ℕ) (line : List ℕ) : Data → Type 0 where
+  no_text : (number : Option Reading) (fields : Record) → ¬ (IsUtf8 line) →
+      IsFieldAnswer rules db short hint line number fields →
+      IsObject rules db short hint place line (object_of place null fields)
+  of_text : (number : Option Reading) (fields : Record) → IsUtf8 line →
+      IsFieldAnswer rules db short hint line number fields →
+      IsObject rules db short hint place line (object_of place (string line) fields)

@@ -16,7 +16,8 @@ use Rattle.phone_records.specs.declared.loader.Metadata.{Metadata}
 use Rattle.phone_table.specs.Answers.{IsAnswer, IsOfOtherWidth}
 use Rattle.phone_table.specs.Counts.{TakesRows, counts_after, no_counts}
 use Rattle.phone_table.specs.Ends.{Ends, IsUntouched, SourceFails}
-use Rattle.phone_table.specs.Headers.{column_of, columns_of, names, region_column}
+use Rattle.phone_table.specs.Extras.{added_names}
+use Rattle.phone_table.specs.Headers.{column_of, columns_of, region_column}
 use Rattle.phone_table.specs.Tables.{IsHeaderAlone}
 use Rattle.phone_table.specs.declared.counts.Counts.{Counts}
 use Rattle.phone_table.specs.declared.header.Column.{Column}
@@ -26,6 +27,10 @@ use Rattle.phone_table.specs.declared.run.Asked.{Asked}
 use Rattle.phone_table.specs.declared.run.TableError.{TableError}
 use Rattle.phone_table.specs.declared.run.TableError.TheVariants.{Delimiter, Header}
 use Rattle.phone_table.specs.declared.run.TableError.TheVariants.{NoColumn, Rows}
+
+-- the names that are put behind a header
+abbrev pub names_in : Asked → Record
+names_in asked = added_names asked.extra.now
 
 -- the columns of a header that are asked for
 abbrev pub columns_in : Asked → Record → Option Columns
@@ -73,12 +78,12 @@ pub data RunEnds (db : List Metadata) (asked : Asked) (before after : Devices) :
       IsUntouched before after → RunEnds db asked before after (Err (NoColumn column header))
   whole : (header : Record) (columns : Columns) → is_delimiter asked.delimiter ≡ true →
       columns_in asked header ≡ Some columns →
-      Ends header names (IsAnswer db columns asked) (IsOfOtherWidth columns asked)
+      Ends header (names_in asked) (IsAnswer db columns asked) (IsOfOtherWidth columns asked)
       asked.delimiter before after (Ok tt) → (counts : Counts) → (after_header : State) →
       (has_mark : Bool) → TakesRows counts_after (format_after asked.delimiter after_header)
-      has_mark (header ++ names) no_counts counts before.taken after.taken →
+      has_mark (header ++ names_in asked) no_counts counts before.taken after.taken →
       RunEnds db asked before after (Ok counts)
   broken_off : (header : Record) (columns : Columns) (e : RunError) →
       is_delimiter asked.delimiter ≡ true → columns_in asked header ≡ Some columns →
-      Ends header names (IsAnswer db columns asked) (IsOfOtherWidth columns asked)
+      Ends header (names_in asked) (IsAnswer db columns asked) (IsOfOtherWidth columns asked)
       asked.delimiter before after (Err e) → RunEnds db asked before after (Err (Rows e))

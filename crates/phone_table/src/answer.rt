@@ -1,45 +1,136 @@
 //! What the field of a number is answered.
-ghost use Rattle.std.specs.Prelude.{◌≡◌, ◌++◌, ◌∷◌, [], Err, Some, None, IfOk, OnOk, string_bytes};
+ghost use Rattle.std.specs.Prelude.{◌≡◌, ◌++◌, [], Err, Some, None, IfOk, OnOk, option_map};
 ghost use Rattle.csv.specs.Records.{fields_of, partial_of};
 ghost use Rattle.phone_meta.specs.CodeLookUps.{first_of, territories};
-ghost use Rattle.phonenumber.specs.Reports.{kind_word, region_word, validity_word};
 ghost use Rattle.phone_records.specs.declared.loader.Metadata as loader;
-ghost use Rattle.phone_table.specs.Answers.{IsFieldAnswer, is_blank, number_answer};
-ghost use Rattle.phone_table.specs.Spelled.{spelled};
+ghost use Rattle.phone_table.specs.Answers.{IsFieldAnswer, IsReply, IsTextAnswer, is_blank};
+ghost use Rattle.phone_table.specs.Answers.{number_answer};
+ghost use Rattle.phone_table.specs.Objects.{spelled_by};
+ghost use Rattle.phone_table.specs.Shorts.{short_in};
+ghost use Rattle.phone_table.specs.Spelled.{IsKnown, IsKnownIn, is_valid_in, number_in, spelled};
+ghost use Rattle.phone_table.specs.Spelled.{spelled_known};
 
 use crate::names::push_three;
+use crate::objects::{Fields, parts_of};
 use crate::words::refusal_words;
 use csv::ByteRecord;
 use phone_choice::{Rules, facts_by, parse_by, texts_by};
+use phone_short::{ShortKind, short_kind};
 use phonenumber::country::Id;
 use phonenumber::metadata::Database;
-use phonenumber::report::{kind_word, region_word, validity_word};
-use phonenumber::{Facts, FormatError, ParseError, PhoneNumber, Texts};
+use phonenumber::{Facts, FormatError, PhoneNumber, Texts};
 use std::alloc::{AllocError, Global};
+
+/// What is known of a number that was read.
+#[derive(Drop)]
+pub struct Known {
+    /// Its texts.
+    pub texts: Texts,
+    /// Its region, its kind, and whether it is valid.
+    pub facts: Facts,
+}
 
 /// What the field of a number is answered.
 #[derive(Drop)]
 pub enum Answer {
-    /// The texts of the number that was read, and what is known of it.
-    Number(Texts, Facts),
+    /// The number that was read, and what is known of it.
+    Number(PhoneNumber, Known),
+    /// A short number of this region.
+    Short(Id, ShortKind),
     /// The words of a refusal.
     Refused(&'static str),
 }
 
 /// What a field is answered, its number read and described by these rules. A field that is empty,
-/// or white space alone, is refused as `empty`. Refused only for memory.
+/// or white space alone, is refused as `empty`. Where there is a database of short numbers and a
+/// hint, an emergency number of the hint's region is always answered as one, and another short
+/// number of it as one where no valid number is read. Refused only for memory.
 pub fn answer_to(
     alloc: Global,
     rules: Rules,
     database: &Database,
+    short: Option<&Database>,
     hint: Option<Id>,
     field: &[u8],
 ) -> Result<Answer, AllocError>
-    ensures { IfOk result (λ a. IsFieldAnswer rules database.now hint field.now (spelled a)) }
+    ensures answer { IfOk result (λ a. IsFieldAnswer rules database.now
+        (option_map (λ d. d.now) short.entry) hint field.now (number_in a) (spelled a)) }
+    ensures known { IfOk result (λ a. IsKnownIn rules database.now a) }
 {
-    let Ok(text) = std::str::from_utf8(field) else {
-        return Ok(Answer::Refused("not UTF-8"));
+    match std::str::from_utf8(field) {
+        Ok(text) => answer_to_text(alloc, rules, database, short, hint, text),
+        Err(_) => Ok(Answer::Refused("not UTF-8")),
+    }
+}
+
+/// What a text is answered. Refused only for memory.
+fn answer_to_text(
+    alloc: Global,
+    rules: Rules,
+    database: &Database,
+    short: Option<&Database>,
+    hint: Option<Id>,
+    text: &str,
+) -> Result<Answer, AllocError>
+    ensures answer { IfOk result (λ a. IsTextAnswer rules database.now
+        (option_map (λ d. d.now) short.entry) hint text.now (number_in a) (spelled a)) }
+    ensures known { IfOk result (λ a. IsKnownIn rules database.now a) }
+{
+    match short_in(short, hint, text)? {
+        Some((region, ShortKind::Emergency)) => Ok(Answer::Short(region, ShortKind::Emergency)),
+        Some((region, ShortKind::ShortNumber)) => {
+            let reply = reply_to(alloc, rules, database, hint, text)?;
+            if is_valid(&reply) {
+                Ok(reply)
+            } else {
+                Ok(Answer::Short(region, ShortKind::ShortNumber))
+            }
+        }
+        None => reply_to(alloc, rules, database, hint, text),
+    }
+}
+
+/// The region of a hint, and what kind of short number a text is there, by a database of these;
+/// none without a database or a hint. Refused only for memory.
+fn short_in(
+    short: Option<&Database>,
+    hint: Option<Id>,
+    text: &str,
+) -> Result<Option<(Id, ShortKind)>, AllocError>
+    ensures { IfOk result (λ found.
+        found ≡ short_in (option_map (λ d. d.now) short.entry) hint text.now) }
+{
+    let (Some(database), Some(region)) = (short, hint) else {
+        return Ok(None);
     };
+    match short_kind(database, region, text)? {
+        Some(kind) => Ok(Some((region, kind))),
+        None => Ok(None),
+    }
+}
+
+/// Whether an answer is of a number that is valid.
+fn is_valid(answer: &Answer) -> bool
+    ensures { result ≡ is_valid_in answer.now }
+{
+    match answer {
+        Answer::Number(_, known) => known.facts.is_valid,
+        Answer::Short(_, _) | Answer::Refused(_) => false,
+    }
+}
+
+/// How a text is answered as a number. Refused only for memory.
+fn reply_to(
+    alloc: Global,
+    rules: Rules,
+    database: &Database,
+    hint: Option<Id>,
+    text: &str,
+) -> Result<Answer, AllocError>
+    ensures reply { IfOk result (λ a. IsReply rules database.now hint text.now (number_in a)
+        (spelled a)) }
+    ensures known { IfOk result (λ a. IsKnownIn rules database.now a) }
+{
     if is_blank(text) {
         return Ok(Answer::Refused("empty"));
     }
@@ -47,8 +138,8 @@ pub fn answer_to(
         Ok(number) => number,
         Err(error) => return Ok(Answer::Refused(refusal_words(error)?)),
     };
-    match number_answer(alloc, rules, database, &number) {
-        Ok(answer) => Ok(answer),
+    match known_of(alloc, rules, database, &number) {
+        Ok(known) => Ok(Answer::Number(number, known)),
         Err(FormatError::Memory) => Err(AllocError),
         Err(FormatError::UnknownCode) => unreachable!(),
     }
@@ -61,23 +152,24 @@ fn is_blank(text: &str) -> bool
     text.trim().is_empty()
 }
 
-/// The answer of a number. Refused by `UnknownCode` where no territory has its code, and by
+/// What is known of a number. Refused by `UnknownCode` where no territory has its code, and by
 /// `Memory`.
-pub(crate) fn number_answer(
+pub(crate) fn known_of(
     alloc: Global,
     rules: Rules,
     database: &Database,
     number: &PhoneNumber,
-) -> Result<Answer, FormatError>
-    ensures answer { IfOk result (λ a. (m : loader.Metadata) ×
+) -> Result<Known, FormatError>
+    ensures spelled { IfOk result (λ k. (m : loader.Metadata) ×
         (first_of (territories number.now.code.value database.now) ≡ Some m) ×
-        (spelled a ≡ number_answer rules database.now m number.now)) }
+        (spelled_known k ≡ number_answer rules database.now m number.now)) }
+    ensures known { IfOk result (λ k. IsKnown rules database.now number.now k) }
     ensures unknown { result ≡ Err FormatError.UnknownCode →
         first_of (territories number.now.code.value database.now) ≡ None }
 {
     let texts = texts_by(alloc, rules, database, number)?;
     match facts_by(rules, database, number) {
-        Ok(facts) => Ok(Answer::Number(texts, facts)),
+        Ok(facts) => Ok(Known { texts, facts }),
         Err(_) => Err(FormatError::Memory),
     }
 }
@@ -87,41 +179,15 @@ pub(crate) fn push_answer(fields: &mut ByteRecord, answer: &Answer) -> Result<()
     requires { partial_of fields.old ≡ [] }
     ensures { OnOk result (fields_of fields.new ≡ fields_of fields.old ++ spelled answer.now) }
 {
-    match answer {
-        Answer::Number(texts, facts) => {
-            push_texts(fields, texts)?;
-            push_known(fields, *facts)
-        }
-        Answer::Refused(words) => {
-            push_three(fields, "", "", "")?;
-            push_three(fields, "", "", "")?;
-            fields.push_field(words.as_bytes())
-        }
-    }
+    push_parts(fields, parts_of(answer))
 }
 
-/// Puts the texts in three modes behind the fields of a record.
-fn push_texts(fields: &mut ByteRecord, texts: &Texts) -> Result<(), AllocError>
+/// Puts seven fields behind those of a record. Refused only for memory.
+fn push_parts(fields: &mut ByteRecord, parts: Fields<'_>) -> Result<(), AllocError>
     requires { partial_of fields.old ≡ [] }
-    ensures fields { OnOk result (fields_of fields.new ≡ fields_of fields.old ++
-        string_bytes texts.now.e164 ∷ string_bytes texts.now.international ∷
-        string_bytes texts.now.national ∷ []) }
-    ensures partial { OnOk result (partial_of fields.new ≡ []) }
+    ensures { OnOk result (fields_of fields.new ≡ fields_of fields.old ++ spelled_by parts.entry) }
 {
-    let e164 = texts.e164.as_str();
-    let international = texts.international.as_str();
-    push_three(fields, e164, international, texts.national.as_str())
-}
-
-/// Puts what is known of a number behind the fields of a record, and an empty field.
-fn push_known(fields: &mut ByteRecord, facts: Facts) -> Result<(), AllocError>
-    requires { partial_of fields.old ≡ [] }
-    ensures { OnOk result (fields_of fields.new ≡ fields_of fields.old ++
-        kind_word facts.kind ∷ region_word facts.region ∷ validity_word facts.is_valid ∷
-        [] ∷ []) }
-{
-    let kind = kind_word(facts.kind);
-    let region = region_word(facts.region);
-    push_three(fields, kind, region, validity_word(facts.is_valid))?;
-    fields.push_field("".as_bytes())
+    push_three(fields, parts.e164, parts.international, parts.national)?;
+    push_three(fields, parts.kind, parts.region, parts.validity)?;
+    fields.push_field(parts.refusal.as_bytes())
 }

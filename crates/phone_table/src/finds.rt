@@ -1,12 +1,20 @@
-//! What is told of a number that was found in a text, as a JSON object.
-ghost use Rattle.std.specs.Prelude.{◌≡◌, [], IfOk, string_bytes, unwrap_or};
+//! What is told of a number that was found in a text, as a JSON object and as a record of a table.
+ghost use Rattle.std.specs.Prelude.{◌≡◌, ◌++◌, [], Err, IfOk, None, OnOk, string_bytes};
+ghost use Rattle.std.specs.Prelude.{unwrap_or};
+ghost use Rattle.csv.specs.Records as records;
+ghost use Rattle.phone_csv.specs.Formats.{Record};
+ghost use Rattle.phone_meta.specs.CodeLookUps.{first_of, territories};
 ghost use Rattle.serde_json.specs.Written.{compact_text};
 ghost use Rattle.serde_json.specs.View.{view};
-ghost use Rattle.phone_table.specs.Finds.{IsFoundObject, object_of_found};
+ghost use Rattle.phone_table.specs.Finds.{IsFoundObject, IsFoundRecord, found_names};
+ghost use Rattle.phone_table.specs.Finds.{found_record, object_of_found};
 ghost use Rattle.phone_table.specs.Objects.{spelled_by};
 
-use crate::answer::number_answer;
-use crate::objects::{Fields, fields_of};
+use crate::answer::known_of;
+use crate::names::push_three;
+use crate::objects::{Fields, parts_of_known};
+use csv::ByteRecord;
+use itoa::Buffer;
 use phone_choice::Rules;
 use phonenumber::metadata::Database;
 use phonenumber::{FormatError, PhoneNumber};
@@ -36,14 +44,73 @@ pub fn found_object(
     spot: Spot<'_>,
     number: &PhoneNumber,
 ) -> Result<String, FormatError>
-    ensures { IfOk result (λ s.
+    ensures object { IfOk result (λ s.
         IsFoundObject rules database.now spot.entry number.now (string_bytes s)) }
+    ensures unknown { result ≡ Err FormatError.UnknownCode →
+        first_of (territories number.now.code.value database.now) ≡ None }
 {
-    let answer = number_answer(alloc, rules, database, number)?;
-    match text_of_found(alloc, spot, extension_of(number), fields_of(&answer)) {
+    let known = known_of(alloc, rules, database, number)?;
+    match text_of_found(alloc, spot, extension_of(number), parts_of_known(&known)) {
         Ok(text) => Ok(text),
         Err(_) => Err(FormatError::Memory),
     }
+}
+
+/// Puts what is told of a number that was found behind the fields of a record: its line and column,
+/// its E.164 text, kind and region as a table has them, its extension, which is empty where it has
+/// none, and the piece of the text. `UnknownCode` where the database lists no territory of the
+/// code; `Memory` where memory was refused.
+pub fn push_found(
+    alloc: Global,
+    rules: Rules,
+    database: &Database,
+    spot: Spot<'_>,
+    number: &PhoneNumber,
+    row: &mut ByteRecord,
+) -> Result<(), FormatError>
+    requires { records.partial_of row.old ≡ [] }
+    ensures fields { OnOk result ((fields : Record) ×
+        IsFoundRecord rules database.now spot.entry number.now fields ×
+        (records.fields_of row.new ≡ records.fields_of row.old ++ fields)) }
+    ensures unknown { result ≡ Err FormatError.UnknownCode →
+        first_of (territories number.now.code.value database.now) ≡ None }
+{
+    let known = known_of(alloc, rules, database, number)?;
+    match push_spot(row, spot, extension_of(number), parts_of_known(&known)) {
+        Ok(()) => Ok(()),
+        Err(_) => Err(FormatError::Memory),
+    }
+}
+
+/// Puts these fields behind those of a record. Refused only for memory.
+fn push_spot(
+    row: &mut ByteRecord,
+    spot: Spot<'_>,
+    extension: &str,
+    fields: Fields<'_>,
+) -> Result<(), AllocError>
+    requires { records.partial_of row.old ≡ [] }
+    ensures { OnOk result (records.fields_of row.new ≡ records.fields_of row.old ++
+        found_record spot.entry extension.now (spelled_by fields.entry)) }
+{
+    let mut line = Buffer::new();
+    let mut column = Buffer::new();
+    let place = line.format(spot.line);
+    push_three(row, place, column.format(spot.column), fields.e164)?;
+    push_three(row, fields.kind, fields.region, extension)?;
+    row.push_field(spot.piece.as_bytes())
+}
+
+/// Puts the names of the columns of such records behind the fields of a header: `line`, `column`,
+/// `e164`, `type`, `region`, `extension` and `text`. Refused only for memory.
+pub fn push_found_names(header: &mut ByteRecord) -> Result<(), AllocError>
+    requires { records.partial_of header.old ≡ [] }
+    ensures { OnOk result (records.fields_of header.new ≡
+        records.fields_of header.old ++ found_names) }
+{
+    push_three(header, "line", "column", "e164")?;
+    push_three(header, "type", "region", "extension")?;
+    header.push_field("text".as_bytes())
 }
 
 /// The text of a number's extension; empty where it has none.

@@ -4,9 +4,11 @@
 
 mod answer;
 mod counts;
+mod extra;
 pub mod finds;
 mod header;
 mod key;
+pub mod laws;
 mod names;
 pub mod objects;
 mod region;
@@ -15,11 +17,13 @@ mod run;
 mod table;
 mod words;
 
-pub use answer::{Answer, answer_to};
+pub use answer::{Answer, Known, answer_to};
 pub use counts::Counts;
+pub use extra::{Extra, Told};
 pub use header::{Column, Columns, column_of, columns_of};
 pub use key::{ANSWER_WIDTH, e164_of};
 pub use phone_csv::{ByteSink, ByteSource, FirstError, RunError};
+pub use phone_maps::Owner;
 pub use region::id_in;
 pub use run::{Asked, TableError, write_table};
 pub use table::Table;

@@ -4,10 +4,12 @@ ghost use Rattle.std.specs.Prelude.{if◌then◌else◌};
 ghost use Rattle.csv.specs.Records.{fields_of, partial_of};
 ghost use Rattle.phone_csv.specs.Firsts.{byte_order_mark};
 ghost use Rattle.phone_device.specs.Passing.{Takes, TakesFront};
+ghost use Rattle.phone_table.specs.Extras.{added_names, headings};
 ghost use Rattle.phone_table.specs.Headers.{names};
 ghost use Rattle.phone_table.specs.Tables.{head_text};
 ghost use Rattle.phone_table.specs.declared.names.HeaderError.TheVariants as error;
 
+use crate::extra::Extra;
 use csv::ByteRecord;
 use phone_csv::{Format, add_record};
 use phone_device::{ByteSink, write_all};
@@ -49,6 +51,19 @@ fn push_names(header: &mut ByteRecord) -> Result<(), AllocError>
     header.push_field("refusal".as_bytes())
 }
 
+/// Puts the headings of columns behind a header. Refused only for memory.
+fn push_headings(header: &mut ByteRecord, extra: &[Extra<'_>]) -> Result<(), AllocError>
+    requires { partial_of header.old ≡ [] }
+    ensures fields { OnOk result (fields_of header.new ≡
+        fields_of header.old ++ headings extra.now) }
+    ensures partial { OnOk result (partial_of header.new ≡ []) }
+{
+    'columns: for column in extra {
+        header.push_field(column.heading.as_bytes())?;
+    }
+    Ok(())
+}
+
 /// The UTF-8 byte-order mark, where there is one, as a text's beginning. Refused only for memory.
 fn mark_text(alloc: Global, has_mark: bool) -> Result<Vec<u8>, AllocError>
     ensures { IfOk result (λ text. text.items ≡ (if has_mark then byte_order_mark else [])) }
@@ -67,12 +82,14 @@ fn header_text(
     format: Format,
     has_mark: bool,
     header: ByteRecord,
+    extra: &[Extra<'_>],
 ) -> Result<Vec<u8>, AllocError>
     requires { partial_of header ≡ [] }
     ensures { IfOk result (λ text. text.items ≡
-        head_text format has_mark (fields_of header ++ names)) }
+        head_text format has_mark (fields_of header ++ added_names extra.now)) }
 {
     let mut header = header;
+    push_headings(&mut header, extra)?;
     push_names(&mut header)?;
     let mut text = mark_text(alloc, has_mark)?;
     add_record(alloc, format, &header, &mut text)?;
@@ -87,13 +104,16 @@ pub(crate) fn write_header<W: ByteSink>(
     format: Format,
     has_mark: bool,
     header: ByteRecord,
+    extra: &[Extra<'_>],
     sink: &mut W,
 ) -> Result<(), HeaderError>
     requires { partial_of header ≡ [] }
     ensures written { OnOk result (Takes (W.taken sink.old)
-        (head_text format has_mark (fields_of header ++ names)) (W.taken sink.new)) }
+        (head_text format has_mark (fields_of header ++ added_names extra.now))
+        (W.taken sink.new)) }
     ensures beginning { result ≡ Err error.Output → TakesFront (W.taken sink.old)
-        (head_text format has_mark (fields_of header ++ names)) (W.taken sink.new) }
+        (head_text format has_mark (fields_of header ++ added_names extra.now))
+        (W.taken sink.new) }
     ensures nothing { result ≡ Err error.Memory → W.taken sink.new ≡ W.taken sink.old }
     ensures nothing_held { result ≡ Err error.Memory →
         W.unflushed sink.new ≡ W.unflushed sink.old }
@@ -102,7 +122,7 @@ pub(crate) fn write_header<W: ByteSink>(
     ensures no_fault_without_memory { result ≡ Err error.Memory →
         W.faults sink.new ≡ W.faults sink.old }
 {
-    let Ok(text) = header_text(alloc, format, has_mark, header) else {
+    let Ok(text) = header_text(alloc, format, has_mark, header, extra) else {
         return Err(HeaderError::Memory);
     };
     match write_all(sink, text.as_slice()) {

@@ -1,14 +1,14 @@
 //! What a line is answered, as a JSON object.
-ghost use Rattle.std.specs.Prelude.{◌≡◌, ℕ, Some, IfOk, string_bytes};
+ghost use Rattle.std.specs.Prelude.{◌≡◌, ◌∷◌, ℕ, [], Some, IfOk, option_map, string_bytes};
 ghost use Rattle.std.specs.Str.{IsUtf8};
 ghost use Rattle.serde_json.specs.Data.{Data, null, string};
 ghost use Rattle.serde_json.specs.Read.{read};
 ghost use Rattle.serde_json.specs.View.{view};
 ghost use Rattle.serde_json.specs.Written.{compact_text};
-ghost use Rattle.phone_table.specs.Spelled.{spelled};
+ghost use Rattle.phone_table.specs.Spelled.{spelled, spelled_known};
 ghost use Rattle.phone_table.specs.Objects.{IsObject, object_of, spelled_by};
 
-use crate::answer::{Answer, answer_to};
+use crate::answer::{Answer, Known, answer_to};
 use phone_choice::Rules;
 use phonenumber::country::Id;
 use phonenumber::metadata::Database;
@@ -32,21 +32,27 @@ pub(crate) struct Fields<'a> {
 /// which the caller counts, its text, and the fields that a table's answer has (`e164`,
 /// `international`, `national`, `type`, `region`, `validity`, `refusal`), each a text. A field that
 /// there is none for is empty, but a region that is none is a hyphen, as in a table. The text is
-/// null where the line isn't UTF-8. The line is without its end. Refused only for memory.
+/// null where the line isn't UTF-8. The line is without its end. Where there is a database of short
+/// numbers and a hint, an emergency number of the hint's region always has the type `Emergency`,
+/// and another short number of it the type `ShortNumber` where no valid number is read; each has
+/// the hint's region, is `valid`, and has no other field. Refused only for memory.
 pub fn object_line(
     alloc: Global,
     rules: Rules,
     database: &Database,
+    short: Option<&Database>,
     hint: Option<Id>,
     place: u64,
     line: &[u8],
 ) -> Result<String, AllocError>
     ensures text { IfOk result (λ s. (d : Data) ×
-        IsObject rules database.now hint place line.now d × (string_bytes s ≡ compact_text d)) }
+        IsObject rules database.now (option_map (λ d. d.now) short.entry) hint place line.now d ×
+        (string_bytes s ≡ compact_text d)) }
     ensures read_back { IfOk result (λ s. (d : Data) ×
-        IsObject rules database.now hint place line.now d × (read (string_bytes s) ≡ Some d)) }
+        IsObject rules database.now (option_map (λ d. d.now) short.entry) hint place line.now d ×
+        (read (string_bytes s) ≡ Some d)) }
 {
-    let object = object(alloc, rules, database, hint, place, line)?;
+    let object = object(alloc, rules, database, short, hint, place, line)?;
     object.to_string(alloc)
 }
 
@@ -55,43 +61,68 @@ fn object(
     alloc: Global,
     rules: Rules,
     database: &Database,
+    short: Option<&Database>,
     hint: Option<Id>,
     place: u64,
     line: &[u8],
 ) -> Result<Value, AllocError>
-    ensures { IfOk result (λ v. IsObject rules database.now hint place line.now (view v)) }
+    ensures { IfOk result (λ v. IsObject rules database.now (option_map (λ d. d.now) short.entry)
+        hint place line.now (view v)) }
 {
-    let answer = answer_to(alloc, rules, database, hint, line)?;
-    let fields = fields_of(&answer);
+    let answer = answer_to(alloc, rules, database, short, hint, line)?;
+    let fields = parts_of(&answer);
     match std::str::from_utf8(line) {
         Ok(text) => object_of_text(alloc, place, text, fields),
         Err(_) => object_without_text(alloc, place, fields),
     }
 }
 
+/// Fields without texts of a number.
+fn without_texts<'a>(
+    kind: &'a str,
+    region: &'a str,
+    validity: &'a str,
+    refusal: &'a str,
+) -> Fields<'a>
+    ensures { spelled_by result ≡
+        [] ∷ [] ∷ [] ∷ kind.now ∷ region.now ∷ validity.now ∷ refusal.now ∷ [] }
+{
+    Fields {
+        e164: "",
+        international: "",
+        national: "",
+        kind,
+        region,
+        validity,
+        refusal,
+    }
+}
+
+/// What is known of a number, as fields.
+pub(crate) fn parts_of_known(known: &Known) -> Fields<'_>
+    ensures { spelled_by result ≡ spelled_known known.now }
+{
+    Fields {
+        e164: known.texts.e164.as_str(),
+        international: known.texts.international.as_str(),
+        national: known.texts.national.as_str(),
+        kind: kind_word(known.facts.kind),
+        region: region_word(known.facts.region),
+        validity: validity_word(known.facts.is_valid),
+        refusal: "",
+    }
+}
+
 /// The fields of an answer, as a table has them.
-pub(crate) fn fields_of(answer: &Answer) -> Fields<'_>
+pub(crate) fn parts_of(answer: &Answer) -> Fields<'_>
     ensures { spelled_by result ≡ spelled answer.now }
 {
     match answer {
-        Answer::Number(texts, known) => Fields {
-            e164: texts.e164.as_str(),
-            international: texts.international.as_str(),
-            national: texts.national.as_str(),
-            kind: kind_word(known.kind),
-            region: region_word(known.region),
-            validity: validity_word(known.is_valid),
-            refusal: "",
-        },
-        Answer::Refused(words) => Fields {
-            e164: "",
-            international: "",
-            national: "",
-            kind: "",
-            region: "",
-            validity: "",
-            refusal: *words,
-        },
+        Answer::Number(_, known) => parts_of_known(known),
+        Answer::Short(region, kind) => {
+            without_texts(kind.as_str(), region.as_str(), "valid", "")
+        }
+        Answer::Refused(words) => without_texts("", "", "", *words),
     }
 }
 

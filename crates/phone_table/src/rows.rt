@@ -7,9 +7,10 @@ ghost use Rattle.phone_device.specs.Passing.{IsAtEnd};
 ghost use Rattle.phone_lines.specs.Ends.{seen};
 ghost use Rattle.phone_table.specs.Counts.{TakesRows};
 ghost use Rattle.phone_table.specs.Ends.{Ends};
-ghost use Rattle.phone_table.specs.Headers.{names};
+ghost use Rattle.phone_table.specs.Extras.{added_names};
 ghost use Rattle.phone_table.specs.Tables.{IsHeader};
 
+use crate::extra::Extra;
 use crate::names::{HeaderError, write_header};
 use phone_csv::{Answers, Counter, First, RunError, answer_records, format_after};
 use phone_device::{ByteSink, ByteSource};
@@ -25,6 +26,7 @@ pub(crate) fn write_rows<A: Answers, C: Counter, S: ByteSource, W: ByteSink>(
     counter: &mut C,
     delimiter: u8,
     first: First,
+    extra: &[Extra<'_>],
     source: &mut S,
     sink: &mut W,
 ) -> Result<(), RunError>
@@ -32,7 +34,8 @@ pub(crate) fn write_rows<A: Answers, C: Counter, S: ByteSource, W: ByteSink>(
     requires end { IsNone first.rest → IsAtEnd (S.to_come source.old) }
     ensures ends { (before : Option (List ℕ)) → OfRead before (S.to_come source.old) (λ bytes.
         IsHeader delimiter (fields_of first.fields) first.rest first.has_mark bytes) →
-        Ends (fields_of first.fields) names (A.gives answers.now) (A.refuses answers.now) delimiter
+        Ends (fields_of first.fields) (added_names extra.now)
+        (A.gives answers.now) (A.refuses answers.now) delimiter
         (seen before (S.faults source.old) (W.taken sink.old)
         (W.faults sink.old) (W.unflushed sink.old))
         (seen (S.to_come source.new) (S.faults source.new) (W.taken sink.new)
@@ -40,7 +43,7 @@ pub(crate) fn write_rows<A: Answers, C: Counter, S: ByteSource, W: ByteSink>(
         result }
     ensures counted { OnOk result (TakesRows C.after
         (format_after delimiter (state_behind first.rest)) first.has_mark
-        (fields_of first.fields ++ names) counter.old counter.new
+        (fields_of first.fields ++ added_names extra.now) counter.old counter.new
         (W.taken sink.old) (W.taken sink.new)) }
 {
     let First {
@@ -49,7 +52,7 @@ pub(crate) fn write_rows<A: Answers, C: Counter, S: ByteSource, W: ByteSink>(
         has_mark,
     } = first;
     let format = format_after(delimiter, rest);
-    match write_header(alloc, format, has_mark, fields, sink) {
+    match write_header(alloc, format, has_mark, fields, extra, sink) {
         Ok(()) => {}
         Err(HeaderError::Output) => return Err(RunError::Output),
         Err(HeaderError::Memory) => return Err(RunError::Memory),

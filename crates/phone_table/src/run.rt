@@ -3,6 +3,7 @@ ghost use Rattle.phone_lines.specs.Ends.{seen};
 ghost use Rattle.phone_table.specs.Runs.{RunEnds};
 
 use crate::counts::Counts;
+use crate::extra::Extra;
 use crate::header::{Column, columns_of};
 use crate::rows::write_rows;
 use crate::table::Table;
@@ -31,6 +32,10 @@ pub struct Asked<'a> {
     /// Whether a record with another count of fields than the header is given back with a refusal,
     /// and doesn't end the run.
     pub mark_bad: bool,
+    /// The columns that stand between the header's own and the seven.
+    pub extra: &'a [Extra<'a>],
+    /// The database of short numbers, where the kinds of these are told.
+    pub short: Option<&'a Database>,
 }
 
 /// Why a table was not answered whole.
@@ -46,18 +51,24 @@ pub enum TableError {
     Rows(RunError),
 }
 
-/// Gives a table back: its header with seven names behind its own, `e164`, `international`,
-/// `national`, `type`, `region`, `validity` and `refusal`, and then its records in their order,
-/// unchanged, each with its answer behind its fields. The first record is the header. Where a UTF-8
-/// byte-order mark stands in front of it, that is no part of its first name, and the output begins
-/// with one too. Each record is ended by a carriage return and a line feed where a carriage return
-/// ended the header, else by a line feed. The answer to a number is its texts in three modes, its
-/// kind, the id of its region or `-`, `valid` or `invalid`, and an empty field; that to a refusal
-/// are six empty fields and its words; that to bytes that aren't UTF-8 the same, with `not UTF-8`;
-/// and that to a field that is empty, or white space alone, with `empty`. Numbers are read and
-/// described by the rules that are asked for. What is read and written is CSV as the kit's `csv`
-/// has it, with this delimiter. Nothing in memory grows with the number of records. It gives how
-/// many records there were, and how many of them were answered otherwise than by a valid number.
+/// Gives a table back: its header with names behind its own, those of the columns that are asked
+/// for and then `e164`, `international`, `national`, `type`, `region`, `validity` and `refusal`;
+/// and its records in their order, unchanged, each with its answer behind its fields. The first
+/// record is the header. Where a UTF-8 byte-order mark stands in front of it, that is no part of
+/// its first name, and the output begins with one too. Each record is ended by a carriage return
+/// and a line feed where a carriage return ended the header, else by a line feed. What is read and
+/// written is CSV as the kit's `csv` has it, with this delimiter. Nothing in memory grows with the
+/// number of records. It gives how many records there were, and how many of them were answered
+/// otherwise than by a valid number.
+///
+/// The answer to a number, which is read and described by the rules that are asked for: what each
+/// column that is asked for tells of it, empty where its table has nothing; its texts in three
+/// modes, its kind, the id of its region or `-`, `valid` or `invalid`, and an empty field. That to
+/// a refusal has its words in the last field alone: to bytes that aren't UTF-8 `not UTF-8`, to a
+/// field that is empty, or white space alone, `empty`. Where there is a database of short numbers,
+/// that to an emergency number of the region under which the record is read has `Emergency` for the
+/// kind, that region, `valid`, and nothing else; and that to another short number `ShortNumber`,
+/// where no valid number is read.
 ///
 /// A record is read under the region whose id stands in its column of regions, in capital or small
 /// letters, with or without white space around; under the hint where that field is empty. Where the
@@ -108,6 +119,7 @@ pub fn write_table<S: ByteSource, W: ByteSink>(
         &mut counts,
         asked.delimiter,
         first,
+        asked.extra,
         source,
         sink,
     ) {

@@ -1,12 +1,16 @@
 //! What answers the records of a table.
-ghost use Rattle.std.specs.Prelude.{◌≡◌, Err, IfErr, IfOk, codes, true, false};
-ghost use Rattle.csv.specs.Records.{fields_of};
-ghost use Rattle.phone_table.specs.Answers.{IsAnswer, IsNumberAnswer, IsOfOtherWidth};
+ghost use Rattle.std.specs.Prelude.{◌≡◌, ◌++◌, [], true, false, codes};
+ghost use Rattle.std.specs.Prelude.{Err, IfErr, IfOk, None, OnOk};
+ghost use Rattle.csv.specs.Records.{fields_of, partial_of};
+ghost use Rattle.phone_csv.specs.Formats.{Record};
+ghost use Rattle.phone_table.specs.Answers.{IsNumberAnswer, IsOfOtherWidth, IsSevenAnswer};
 ghost use Rattle.phone_table.specs.Answers.{refused_answer};
+ghost use Rattle.phone_table.specs.Extras.{AreTold};
 ghost use Rattle.phone_table.specs.Regions.{RecordNames, field_in};
-ghost use Rattle.phone_table.specs.Spelled.{spelled};
+ghost use Rattle.phone_table.specs.Spelled.{IsKnownIn, number_in, spelled};
 
 use crate::answer::{Answer, answer_to, push_answer};
+use crate::extra::push_told;
 use crate::header::Columns;
 use crate::region::{Named, hint_under, region_named};
 use crate::run::Asked;
@@ -40,21 +44,30 @@ impl<'d> Table<'d> {
 
     /// The answer to a record. Refused only for memory.
     fn answer_to_record(&self, alloc: Global, fields: &ByteRecord) -> Result<Answer, AllocError>
-        ensures { IfOk result (λ a. IsNumberAnswer self.now.database.now self.now.columns
-            self.now.asked (fields_of fields.now) (spelled a)) }
+        ensures answer { IfOk result (λ a. IsNumberAnswer self.now.database.now self.now.columns
+            self.now.asked (fields_of fields.now) (number_in a) (spelled a)) }
+        ensures known { IfOk result (λ a. IsKnownIn self.now.asked.rules self.now.database.now a) }
     {
         let named = self.region_of(fields);
         let Some(hint) = hint_under(self.asked.else_hint, self.asked.hint, named) else {
             return Ok(Answer::Refused("unknown region"));
         };
         let field = field_in(fields, self.columns.number);
-        answer_to(alloc, self.asked.rules, self.database, hint, field)
+        answer_to(
+            alloc,
+            self.asked.rules,
+            self.database,
+            self.asked.short,
+            hint,
+            field,
+        )
     }
 
     /// The answer to a record, whatever the count of its fields; or why it isn't answered.
     fn answer_or_refusal(&self, alloc: Global, fields: &ByteRecord) -> Result<Answer, Refusal>
-        ensures given { IfOk result (λ a. IsAnswer self.now.database.now self.now.columns
-            self.now.asked (fields_of fields.now) (spelled a)) }
+        ensures answer { IfOk result (λ a. IsSevenAnswer self.now.database.now self.now.columns
+            self.now.asked (fields_of fields.now) (number_in a) (spelled a)) }
+        ensures known { IfOk result (λ a. IsKnownIn self.now.asked.rules self.now.database.now a) }
         ensures refused { result ≡ Err Refusal.Record →
             IsOfOtherWidth self.now.columns self.now.asked (fields_of fields.now) }
     {
@@ -69,8 +82,10 @@ impl<'d> Table<'d> {
 
     /// The answer to a record with another count of fields than the header, where such are marked.
     fn marked(&self) -> Result<Answer, Refusal>
-        ensures given { IfOk result (λ a. (self.now.asked.mark_bad ≡ true) ×
+        ensures marked { IfOk result (λ a. (self.now.asked.mark_bad ≡ true) ×
             (spelled a ≡ refused_answer (codes "wrong count of fields"))) }
+        ensures no_number { IfOk result (λ a. number_in a ≡ None) }
+        ensures known { IfOk result (λ a. IsKnownIn self.now.asked.rules self.now.database.now a) }
         ensures refused { IfErr result (λ e. (self.now.asked.mark_bad ≡ false) ×
             (e ≡ Refusal.Record)) }
     {
@@ -79,6 +94,20 @@ impl<'d> Table<'d> {
         } else {
             Err(Refusal::Record)
         }
+    }
+
+    /// Puts what the columns that are asked for tell, and the seven fields of an answer, behind
+    /// those of a record. Refused only for memory.
+    fn push_row(&self, fields: &mut ByteRecord, answer: &Answer) -> Result<(), AllocError>
+        requires partial { partial_of fields.old ≡ [] }
+        requires known { IsKnownIn self.now.asked.rules self.now.database.now answer.now }
+        ensures { OnOk result ((told : Record) × AreTold self.now.asked.rules self.now.database.now
+            (number_in answer.now) self.now.asked.extra.now told ×
+            (fields_of fields.new ≡ fields_of fields.old ++ (told ++ spelled answer.now))) }
+    {
+        let Asked { rules, extra, .. } = self.asked;
+        push_told(fields, rules, self.database, extra, answer)?;
+        push_answer(fields, answer)
     }
 }
 
@@ -100,14 +129,15 @@ impl<'d> Answers for Table<'d> {
 
     ghost refuses = { λ t fields. IsOfOtherWidth t.columns t.asked fields };
 
-    /// Puts the seven fields of the answer behind those of a record. A record with another count of
-    /// fields than the table has columns isn't answered, unless such are marked.
+    /// Puts what the columns that are asked for tell, and the seven fields of the answer, behind
+    /// those of a record. A record with another count of fields than the table has columns isn't
+    /// answered, unless such are marked.
     fn answer(&self, alloc: Global, fields: &mut ByteRecord) -> Result<(), Refusal> {
         let answer = match self.answer_or_refusal(alloc, fields) {
             Ok(answer) => answer,
             Err(refusal) => return Err(refusal),
         };
-        match push_answer(fields, &answer) {
+        match self.push_row(fields, &answer) {
             Ok(()) => Ok(()),
             Err(_) => Err(Refusal::Memory),
         }

@@ -1,5 +1,5 @@
 -- Options and their values in one word.
-use Rattle.std.proofs.Common.{◌≡◌, ◌≢◌, ◌==◌, ◌<◌, ℕ, Bool, List, [], ◌∷◌, ◌++◌, ◌∙◌, codes, length, get_or, sym, ap, refl, arith, false, suc}
+use Rattle.std.proofs.Common.{◌≡◌, ◌≢◌, ◌==◌, ◌<◌, ℕ, List, [], ◌∷◌, ◌++◌, ◌∙◌, codes, length, get_or, sym, ap, refl, arith, false, suc}
 use Rattle.std.proofs.Common.{Option, Some, None, IfSome, IsNone, option_map, ne_eqb}
 use Rattle.std.specs.Borrow.{Bor}
 use Rattle.std.proofs.lemmas.Str.Pattern.{IsSplitOnceResult, split_parts}

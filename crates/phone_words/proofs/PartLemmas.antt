@@ -1,6 +1,6 @@
 -- Parts at the end of parts.
 use Rattle.std.proofs.Common.{◌≡◌, ◌==◌, ◌≤◌, ◌<◌, ◌+◌, ℕ, List, [], ◌∷◌, ◌++◌, ◌∙◌, append-nil, append_assoc, sym, subst, ap, refl, arith}
-use Rattle.std.proofs.Common.{Option, zero, suc, map, Some, true, false, codes, length, take, drop, get_or, true≢false}
+use Rattle.std.proofs.Common.{zero, suc, Some, true, false, codes, length, take, drop, get_or, true≢false}
 use Rattle.std.specs.Borrow.{Bor}
 use Rattle.std.specs.List.{list_any}
 use Rattle.std.proofs.lemmas.List.{drop-drop, drop-map, length-drop, map-append, take-map, take_all}

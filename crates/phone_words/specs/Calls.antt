@@ -4,6 +4,7 @@ use Rattle.std.specs.Borrow.{Bor}
 use Rattle.std.specs.Str.Parse.{IsNumeral, digits_value, without_leading_plus}
 use Rattle.phone_choice.specs.declared.rules.Rules.TheVariants.{Crate}
 use Rattle.phone_words.specs.Commands.{IsAsked, IsCommand, IsNoCommand, is_alone}
+use Rattle.phone_words.specs.Meant.{meant}
 use Rattle.phone_words.specs.Options.{Given, operands_in, options_in, text_in}
 use Rattle.phone_words.specs.Parts.{AreParts, AreRefused, IsMarked, Said, texts_of}
 use Rattle.phone_words.specs.RuleNames.{rules_in, rules_named}
@@ -28,13 +29,13 @@ pub record IsCallIn (parts : List Said) (after : List (List ℕ)) (c : Call) : T
   pub skipped : IsCount (options_in parts).skipped c.skipped
   pub operands : texts_of c.operands.items ≡ operands_in parts ++ after
 
--- these words are this call: those in front of the mark are its parts
+-- these words are this call: those in front of the mark, as they are meant, are its parts
 pub record IsCall (words : List (List ℕ)) (c : Call) : Type 0 where
   pub front : List (List ℕ)
   pub after : List (List ℕ)
   pub parts : List Said
   pub marked : IsMarked words front after
-  pub are_parts : AreParts front parts
+  pub are_parts : AreParts (meant front) parts
   pub call : IsCallIn parts after c
 
 -- options name no rules, or those of the crate where a mode knows libphonenumber's alone
@@ -54,7 +55,7 @@ pub data IsNoCallIn (parts : List Said) : WordError → Type 0 where
 -- words are no call, for this reason: one of those in front of the mark is refused, or together
 -- they ask for nothing that there is
 pub data IsNoCall (words : List (List ℕ)) (e : WordError) : Type 0 where
-  refused : (front after : List (List ℕ)) → IsMarked words front after → AreRefused front e →
-      IsNoCall words e
+  refused : (front after : List (List ℕ)) → IsMarked words front after →
+      AreRefused (meant front) e → IsNoCall words e
   nothing : (front after : List (List ℕ)) (parts : List Said) → IsMarked words front after →
-      AreParts front parts → IsNoCallIn parts e → IsNoCall words e
+      AreParts (meant front) parts → IsNoCallIn parts e → IsNoCall words e

@@ -13,12 +13,17 @@ abbrev pub flag_named : List ℕ → Option Flag
 flag_named name =
     if bytes_eq name (codes "--json") then Some flag.Json else
     if bytes_eq name (codes "--find") then Some flag.Find else
+    if bytes_eq name (codes "--find-csv") then Some flag.FindRecords else
     if bytes_eq name (codes "--unique") then Some flag.Unique else
     if bytes_eq name (codes "--find-duplicates") then Some flag.Unique else
     if bytes_eq name (codes "--typed") then Some flag.Typed else
     if bytes_eq name (codes "--short") then Some flag.Short else
     if bytes_eq name (codes "--else-hint") then Some flag.ElseHint else
     if bytes_eq name (codes "--mark-bad-records") then Some flag.MarkBad else
+    if bytes_eq name (codes "--time-zone") then Some flag.TimeZone else
+    if bytes_eq name (codes "--carrier") then Some flag.Carrier else
+    if bytes_eq name (codes "--first-carrier") then Some flag.FirstCarrier else
+    if bytes_eq name (codes "--area") then Some flag.Area else
     if bytes_eq name (codes "--regions") then Some flag.Regions else
     if bytes_eq name (codes "--version") then Some flag.Version else
     if bytes_eq name (codes "-V") then Some flag.Version else
@@ -34,6 +39,11 @@ long_key_named name =
     if bytes_eq name (codes "--rules") then Some key.Rules else
     if bytes_eq name (codes "--database") then Some key.Database else
     if bytes_eq name (codes "--short-database") then Some key.ShortDatabase else
+    if bytes_eq name (codes "--prefixes") then Some key.Prefixes else
+    if bytes_eq name (codes "--as") then Some key.As else
+    if bytes_eq name (codes "--time-zones") then Some key.TimeZones else
+    if bytes_eq name (codes "--carriers") then Some key.Carriers else
+    if bytes_eq name (codes "--areas") then Some key.Areas else
     if bytes_eq name (codes "--output") then Some key.Output else
     if bytes_eq name (codes "--skipped") then Some key.Skipped else None
 

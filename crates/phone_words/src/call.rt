@@ -8,6 +8,7 @@ ghost use Rattle.phone_words.specs.RuleNames.{rules_in};
 ghost use Rattle.phone_words.specs.declared.parts.WordError.TheVariants as error;
 
 use crate::command::{Command, command_of};
+use crate::meant::meant;
 use crate::options::{Options, operands_of, options_of};
 use crate::parts::{Mode, Part, WordError, parts_of};
 use crate::rules::rules_named;
@@ -36,17 +37,19 @@ pub struct Call<'w> {
 /// The call that words are, which come after the program's own name.
 ///
 /// An option is a word of its name, or of its name, an equals sign and its value (`--csv=phone`,
-/// `-d;`); else its value is the next word. Options and operands may stand in any order; a later
-/// value of an option counts before an earlier one; after the word `--` all words are operands, and
-/// so is the word `-`. Numbers are read by libphonenumber's rules, unless others are named. Refused
-/// by the first word that is no option though it begins with a hyphen, or an option without its
-/// value; then by options that don't go together, or a value that is none; and by `Memory`.
+/// `-d;`); else its value is the next word. Where one of the words is `--find`, the word `--csv`
+/// takes no value. Options and operands may stand in any order; a later value of an option counts
+/// before an earlier one; after the word `--` all words are operands, and so is the word `-`.
+/// Numbers are read by libphonenumber's rules, unless others are named. Refused by the first word
+/// that is no option though it begins with a hyphen, or an option without its value; then by
+/// options that don't go together, or a value that is none; and by `Memory`.
 pub fn call_of<'w>(alloc: Global, words: &[&'w str]) -> Result<Call<'w>, WordError<'w>>
     ensures call { IfOk result (λ c. IsCall (texts_of words.now) c) }
     ensures refused { IfErr result (λ e. (e ≡ error.Memory) ⊎ IsNoCall (texts_of words.now) e) }
 {
     let (front, back) = cut_at_mark(words);
-    match parts_of(alloc, front) {
+    let front = meant(alloc, front)?;
+    match parts_of(alloc, front.as_slice()) {
         Ok(parts) => call_in(alloc, parts.as_slice(), back),
         Err(error) => Err(error),
     }

@@ -1,12 +1,12 @@
 //! What options ask for.
-ghost use Rattle.std.specs.Prelude.{◌≡◌, ◌++◌, [], IfErr, IfOk, None, Some, false, true};
+ghost use Rattle.std.specs.Prelude.{◌≡◌, ◌++◌, ◌∷◌, [], IfErr, IfOk, None, Some, false, true};
 ghost use Rattle.phone_words.specs.Commands.{AreLines, IsAsked, IsCommand, IsNoCommand, IsRun};
-ghost use Rattle.phone_words.specs.Commands.{IsTable, delimiter_in, is_alone, text_modes};
-ghost use Rattle.phone_words.specs.Options.{Given, options_said, text_in};
+ghost use Rattle.phone_words.specs.Commands.{AsksNoFurther, is_alone, modes, text_modes};
+ghost use Rattle.phone_words.specs.Options.{options_said, text_in};
 
-use crate::delimiter::delimiter_of;
 use crate::options::Options;
 use crate::parts::{Mode, TableOption, WordError};
+use crate::table::{Table, table_of};
 
 /// What is asked for.
 #[derive(Clone, Copy)]
@@ -27,29 +27,14 @@ pub enum Command<'w> {
     Find,
     /// A JSON object for each of them.
     FoundObjects,
+    /// A record of a table for each of them.
+    FoundRecords,
     /// What is shown after each key of a number that is typed, a line for each line.
     Typed,
     /// What is known of each line as a short number.
     Short,
     /// A table of customers with what is known of their numbers.
     Table(Table<'w>),
-}
-
-/// What is asked of a table.
-#[derive(Clone, Copy)]
-pub struct Table<'w> {
-    /// The name of the column of the numbers.
-    pub column: &'w str,
-    /// The name of the column of the regions, where there is one.
-    pub region_column: Option<&'w str>,
-    /// Whether a record that names no region that there is is read under the region given.
-    pub else_hint: bool,
-    /// The byte between fields.
-    pub delimiter: u8,
-    /// Whether the first record of each number is kept alone.
-    pub is_unique: bool,
-    /// Whether a record with a wrong count of fields is given back as such.
-    pub mark_bad: bool,
 }
 
 /// The command that options ask for.
@@ -95,6 +80,7 @@ fn line_mode_of<'w>(options: &Options<'w>) -> Result<Command<'w>, WordError<'w>>
     ensures command { IfOk result (λ c. IsCommand (options_said options.now) c) }
     ensures refused { IfErr result (λ e. IsNoCommand (options_said options.now) e) }
 {
+    no_further_option(options)?;
     no_table_option(options)?;
     match (options.typed, options.short) {
         (true, true) => Err(WordError::Together(Mode::Typed, Mode::Short)),
@@ -110,10 +96,46 @@ fn line_mode_of<'w>(options: &Options<'w>) -> Result<Command<'w>, WordError<'w>>
     }
 }
 
-/// Refuses options of a table, where there is none.
+/// Refuses options of further columns, where there is no table.
+fn no_further_option<'w>(options: &Options<'w>) -> Result<(), WordError<'w>>
+    requires no_table { options.now.csv ≡ None }
+    ensures none { IfOk result (λ _. AsksNoFurther (options_said options.now)) }
+    ensures refused { IfErr result (λ e. IsNoCommand (options_said options.now) e) }
+{
+    match (options.prefixes, options.name) {
+        (Some(_), _) => Err(WordError::WithoutTable(TableOption::Prefixes)),
+        (None, Some(_)) => Err(WordError::WithoutTable(TableOption::As)),
+        (None, None) => no_told_column(options),
+    }
+}
+
+/// Refuses options of columns that the tables of the repository tell, where there is no table.
+fn no_told_column<'w>(options: &Options<'w>) -> Result<(), WordError<'w>>
+    requires no_table { options.now.csv ≡ None }
+    requires no_prefixes { options.now.prefixes ≡ None }
+    requires no_name { options.now.name ≡ None }
+    ensures none { IfOk result (λ _. AsksNoFurther (options_said options.now)) }
+    ensures refused { IfErr result (λ e. IsNoCommand (options_said options.now) e) }
+{
+    match (
+        options.time_zone,
+        options.carrier,
+        options.first_carrier,
+        options.area,
+    ) {
+        (true, _, _, _) => Err(WordError::WithoutTable(TableOption::TimeZone)),
+        (false, true, _, _) => Err(WordError::WithoutTable(TableOption::Carrier)),
+        (false, false, true, _) => Err(WordError::WithoutTable(TableOption::FirstCarrier)),
+        (false, false, false, true) => Err(WordError::WithoutTable(TableOption::Area)),
+        (false, false, false, false) => Ok(()),
+    }
+}
+
+/// Refuses other options of a table, where there is none.
 fn no_table_option<'w>(options: &Options<'w>) -> Result<(), WordError<'w>>
     requires run { IsRun (options_said options.now) }
     requires no_table { options.now.csv ≡ None }
+    requires no_further { AsksNoFurther (options_said options.now) }
     ensures lines { IfOk result (λ _. AreLines (options_said options.now)) }
     ensures refused { IfErr result (λ e. IsNoCommand (options_said options.now) e) }
 {
@@ -157,51 +179,36 @@ fn text_mode_of<'w>(options: &Options<'w>) -> Result<Command<'w>, WordError<'w>>
     match (options.json, options.find, options.unique) {
         (true, _, true) => Err(WordError::Together(Mode::Json, Mode::Unique)),
         (false, true, true) => Err(WordError::Together(Mode::Find, Mode::Unique)),
-        (true, true, false) => Ok(Command::FoundObjects),
+        (true, true, false) => objects_of(options),
         (true, false, false) => Ok(Command::Objects),
-        (false, true, false) => Ok(Command::Find),
+        (false, true, false) => Ok(find_of(options)),
         (false, false, true) => Ok(Command::Unique),
         (false, false, false) => Ok(Command::Report),
     }
 }
 
-/// What options ask of a table with this column.
-fn table_of<'w>(options: &Options<'w>, column: &'w str) -> Result<Table<'w>, WordError<'w>>
-    requires { text_in options.now.csv ≡ Some column.now }
-    ensures table { IfOk result (λ t. IsTable (options_said options.now) t) }
+/// The objects of the numbers in a text, where they are not to be records as well.
+fn objects_of<'w>(options: &Options<'w>) -> Result<Command<'w>, WordError<'w>>
+    requires lines { AreLines (options_said options.now) }
+    requires asked { modes (options_said options.now) ≡ Mode.Json ∷ Mode.Find ∷ [] }
+    requires json { options.now.json ≡ true }
+    ensures command { IfOk result (λ c. IsCommand (options_said options.now) c) }
     ensures refused { IfErr result (λ e. IsNoCommand (options_said options.now) e) }
 {
-    if column.is_empty() {
-        return Err(WordError::NoColumn);
+    if options.find_records {
+        return Err(WordError::Together(Mode::Csv, Mode::Json));
     }
-    if let (true, None) = (options.else_hint, options.region_column) {
-        return Err(WordError::WithoutRegions);
-    }
-    let delimiter = match delimiter_in(options.delimiter) {
-        Ok(byte) => byte,
-        Err(error) => return Err(error),
-    };
-    Ok(Table {
-        column,
-        region_column: options.region_column,
-        else_hint: options.else_hint,
-        delimiter,
-        is_unique: options.unique,
-        mark_bad: options.mark_bad,
-    })
+    Ok(Command::FoundObjects)
 }
 
-/// The byte that a word names as one between fields; a comma where there is no word.
-fn delimiter_in<'w>(word: Option<&'w str>) -> Result<u8, WordError<'w>>
-    ensures byte { IfOk result (λ byte. delimiter_in (text_in word.entry) ≡ Some byte) }
-    ensures refused { IfErr result (λ e. (o : Given) → o.delimiter ≡ text_in word.entry →
-        IsNoCommand o e) }
+/// The numbers in a text, as fields or as records.
+fn find_of<'w>(options: &Options<'w>) -> Command<'w>
+    requires lines { AreLines (options_said options.now) }
+    requires asked { modes (options_said options.now) ≡ Mode.Find ∷ [] }
+    ensures { IsCommand (options_said options.now) result }
 {
-    match word {
-        None => Ok(b','),
-        Some(word) => match delimiter_of(word) {
-            Some(byte) => Ok(byte),
-            None => Err(WordError::Delimiter(word)),
-        },
+    if options.find_records {
+        return Command::FoundRecords;
     }
+    Command::Find
 }

@@ -5,11 +5,14 @@
 mod call;
 mod command;
 mod delimiter;
+mod meant;
 mod names;
 mod options;
 mod parts;
 mod rules;
+mod table;
 
 pub use call::{Call, call_of};
-pub use command::{Command, Table};
+pub use command::Command;
 pub use parts::{Mode, TableOption, WordError};
+pub use table::{Further, PrefixColumn, Table};

@@ -16,15 +16,25 @@ pub struct Options<'w> {
     pub rules: Option<&'w str>,
     pub database: Option<&'w str>,
     pub short_database: Option<&'w str>,
+    pub prefixes: Option<&'w str>,
+    pub name: Option<&'w str>,
+    pub time_zones: Option<&'w str>,
+    pub carriers: Option<&'w str>,
+    pub areas: Option<&'w str>,
     pub output: Option<&'w str>,
     pub skipped: Option<&'w str>,
     pub json: bool,
     pub find: bool,
+    pub find_records: bool,
     pub unique: bool,
     pub typed: bool,
     pub short: bool,
     pub else_hint: bool,
     pub mark_bad: bool,
+    pub time_zone: bool,
+    pub carrier: bool,
+    pub first_carrier: bool,
+    pub area: bool,
     pub regions: bool,
     pub version: bool,
     pub help: bool,
@@ -38,15 +48,25 @@ const NONE: Options<'static> = Options {
     rules: None,
     database: None,
     short_database: None,
+    prefixes: None,
+    name: None,
+    time_zones: None,
+    carriers: None,
+    areas: None,
     output: None,
     skipped: None,
     json: false,
     find: false,
+    find_records: false,
     unique: false,
     typed: false,
     short: false,
     else_hint: false,
     mark_bad: false,
+    time_zone: false,
+    carrier: false,
+    first_carrier: false,
+    area: false,
     regions: false,
     version: false,
     help: false,
@@ -56,89 +76,52 @@ const NONE: Options<'static> = Options {
 fn with_flag<'w>(options: Options<'w>, flag: Flag) -> Options<'w>
     ensures { options_said result ≡ with_flag (options_said options.entry) flag }
 {
+    let mut options = options;
     match flag {
-        Flag::Json => Options {
-            json: true,
-            ..options
-        },
-        Flag::Find => Options {
-            find: true,
-            ..options
-        },
-        Flag::Unique => Options {
-            unique: true,
-            ..options
-        },
-        Flag::Typed => Options {
-            typed: true,
-            ..options
-        },
-        Flag::Short => Options {
-            short: true,
-            ..options
-        },
-        Flag::ElseHint => Options {
-            else_hint: true,
-            ..options
-        },
-        Flag::MarkBad => Options {
-            mark_bad: true,
-            ..options
-        },
-        Flag::Regions => Options {
-            regions: true,
-            ..options
-        },
-        Flag::Version => Options {
-            version: true,
-            ..options
-        },
-        Flag::Help => Options {
-            help: true,
-            ..options
-        },
+        Flag::Json => options.json = true,
+        Flag::Find => options.find = true,
+        Flag::FindRecords => {
+            options.find = true;
+            options.find_records = true;
+        }
+        Flag::Unique => options.unique = true,
+        Flag::Typed => options.typed = true,
+        Flag::Short => options.short = true,
+        Flag::ElseHint => options.else_hint = true,
+        Flag::MarkBad => options.mark_bad = true,
+        Flag::TimeZone => options.time_zone = true,
+        Flag::Carrier => options.carrier = true,
+        Flag::FirstCarrier => options.first_carrier = true,
+        Flag::Area => options.area = true,
+        Flag::Regions => options.regions = true,
+        Flag::Version => options.version = true,
+        Flag::Help => options.help = true,
     }
+    options
 }
 
 /// Options after one with its value.
 fn with_value<'w>(options: Options<'w>, key: Key, value: &'w str) -> Options<'w>
     ensures { options_said result ≡ with_value (options_said options.entry) key value.now }
 {
+    let mut options = options;
     let value = Some(value);
     match key {
-        Key::Csv => Options {
-            csv: value,
-            ..options
-        },
-        Key::RegionColumn => Options {
-            region_column: value,
-            ..options
-        },
-        Key::Delimiter => Options {
-            delimiter: value,
-            ..options
-        },
-        Key::Rules => Options {
-            rules: value,
-            ..options
-        },
-        Key::Database => Options {
-            database: value,
-            ..options
-        },
-        Key::ShortDatabase => Options {
-            short_database: value,
-            ..options
-        },
-        Key::Output => Options {
-            output: value,
-            ..options
-        },
-        Key::Skipped => Options {
-            skipped: value,
-            ..options
-        },
+        Key::Csv => options.csv = value,
+        Key::RegionColumn => options.region_column = value,
+        Key::Delimiter => options.delimiter = value,
+        Key::Rules => options.rules = value,
+        Key::Database => options.database = value,
+        Key::ShortDatabase => options.short_database = value,
+        Key::Prefixes => options.prefixes = value,
+        Key::As => options.name = value,
+        Key::TimeZones => options.time_zones = value,
+        Key::Carriers => options.carriers = value,
+        Key::Areas => options.areas = value,
+        Key::Output => options.output = value,
+        Key::Skipped => options.skipped = value,
     }
+    options
 }
 
 /// Options after a part.

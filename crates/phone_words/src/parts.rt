@@ -1,8 +1,8 @@
 //! The words of a call as its parts: options, values of options, and operands.
 ghost use Rattle.std.specs.Prelude.{◌≡◌, ◌≤◌, ◌<◌, ◌+◌, ◌⊎◌, ◌∷◌, [], drop, length};
 ghost use Rattle.std.specs.Prelude.{IfErr, IfOk, IfSome, MatchOption};
-ghost use Rattle.phone_words.specs.Parts.{AreParts, AreRefused, BeginsRefused, BeginsWith, all_said};
-ghost use Rattle.phone_words.specs.Parts.{said, texts_of};
+ghost use Rattle.phone_words.specs.Parts.{AreParts, AreRefused, BeginsRefused, BeginsWith};
+ghost use Rattle.phone_words.specs.Parts.{all_said, said, texts_of};
 ghost use Rattle.phone_words.specs.declared.parts.WordError.TheVariants as error;
 
 use crate::names::{flag_named, is_dashed, joined, key_named};
@@ -15,6 +15,8 @@ pub enum Flag {
     Json,
     /// `--find`: the numbers that stand in a text.
     Find,
+    /// `--csv` beside `--find`: these as records of a table.
+    FindRecords,
     /// `--unique`: the first line or record of each number.
     Unique,
     /// `--typed`: what is shown after each key of a number that is typed.
@@ -25,6 +27,14 @@ pub enum Flag {
     ElseHint,
     /// `--mark-bad-records`: a record with a wrong count of fields is given back as such.
     MarkBad,
+    /// `--time-zone`: a column of a table with a number's time zones.
+    TimeZone,
+    /// `--carrier`: one with its carrier, where numbers can't move to another one.
+    Carrier,
+    /// `--first-carrier`: one with the carrier that it was first assigned to.
+    FirstCarrier,
+    /// `--area`: one with its area.
+    Area,
     /// `--regions`: the ids that name a region.
     Regions,
     /// `--version`: of the program and of the table.
@@ -48,6 +58,16 @@ pub enum Key {
     Database,
     /// `--short-database`: the file of the database of short numbers.
     ShortDatabase,
+    /// `--prefixes`: the file of a table of prefixes, for a column of its texts.
+    Prefixes,
+    /// `--as`: the name of that column.
+    As,
+    /// `--time-zones`: the file of the time zones.
+    TimeZones,
+    /// `--carriers`: that of the carriers.
+    Carriers,
+    /// `--areas`: that of the areas.
+    Areas,
     /// `--output`: the file to write.
     Output,
     /// `--skipped`: how many lines were left out before those that are read.
@@ -66,7 +86,7 @@ pub enum Part<'w> {
 }
 
 /// What is written in place of the report. Two don't go together, but a table and the first record
-/// of each number, and objects and the numbers in a text.
+/// of each number, and the numbers in a text and objects or records.
 #[derive(Clone, Copy, PartialEq, Eq, Debug)]
 pub enum Mode {
     /// `--csv`.
@@ -94,6 +114,18 @@ pub enum TableOption {
     ElseHint,
     /// `--mark-bad-records`.
     MarkBad,
+    /// `--prefixes`.
+    Prefixes,
+    /// `--as`.
+    As,
+    /// `--time-zone`.
+    TimeZone,
+    /// `--carrier`.
+    Carrier,
+    /// `--first-carrier`.
+    FirstCarrier,
+    /// `--area`.
+    Area,
 }
 
 /// Why words are no call.
@@ -111,6 +143,12 @@ pub enum WordError<'w> {
     WithoutRegions,
     /// The column of the numbers has no name.
     NoColumn,
+    /// `--prefixes` is there without `--as`, so that its column has no name.
+    Unnamed,
+    /// `--as` is there without `--prefixes`.
+    WithoutPrefixes,
+    /// This column is asked for, and no file is named for it.
+    NoFile(TableOption),
     /// This is no byte that may stand between fields.
     Delimiter(&'w str),
     /// This is no count of lines.

@@ -19,7 +19,7 @@ pub fn answer(alloc: Global, row: &Row, db: &Database) -> Result<Option<String>>
     let object = around(
         alloc,
         begin(alloc),
-        object_line(alloc, rules, db, hint, place, line),
+        object_line(alloc, rules, db, None, hint, place, line),
     )??;
     Ok(Some(object))
 }

@@ -1,10 +1,12 @@
 //! The call that gives a table of customers back: `given-table`, by either rules.
 use crate::by_rules::by_rules;
 use anyhow::{Result, anyhow};
+use phone_choice::Rules;
 use phone_csv::RunError;
 use phone_device::{Limit, MemorySource, Then};
 use phone_meta::Database;
-use phone_table::{Asked, Counts, TableError, write_table};
+use phone_table::{Asked, Counts, Extra, TableError, write_table};
+use phone_values::country::Id;
 use replay_base::marks::{around, begin};
 use replay_base::table::Row;
 use replay_base::words::hint;
@@ -20,20 +22,28 @@ pub fn answer(alloc: Global, row: &Row, db: &Database) -> Result<Option<String>>
     let (rules, "given-table") = by_rules(row) else {
         return Ok(None);
     };
-    let asked = Asked {
-        rules,
-        number: row.argument(1),
-        region: region(row.argument(2)),
-        delimiter: b',',
-        hint: hint(row.argument(3))?,
-        else_hint: false,
-        mark_bad: row.argument(4) == "mark",
-    };
+    let further: Vec<Extra<'_>> = Vec::new(alloc);
+    let asked = asked(rules, row, hint(row.argument(3))?, further.as_slice());
     let mut source = MemorySource::new(row.argument_bytes(5));
     let mut sink = Limit::new(alloc, ROOM, Then::Fail)?;
     let end = write_table(db, asked, &mut source, &mut sink);
     let end = around(alloc, begin(alloc), end)?;
     Ok(Some(status_after(alloc, &end, sink.bytes())?))
+}
+
+/// What a row asks for of its table, with these further columns and without short numbers.
+fn asked<'r>(rules: Rules, row: &'r Row, hint: Option<Id>, extra: &'r [Extra<'r>]) -> Asked<'r> {
+    Asked {
+        rules,
+        number: row.argument(1),
+        region: region(row.argument(2)),
+        delimiter: b',',
+        hint,
+        else_hint: false,
+        mark_bad: row.argument(4) == "mark",
+        extra,
+        short: None,
+    }
 }
 
 /// A column's name, or none for a hyphen.

@@ -1,4 +1,4 @@
-use Rattle.std.proofs.Common.{◌≡◌, ◌⊎◌, inl, inr, refl, subst, sym}
+use Rattle.std.proofs.Common.{◌≡◌, inl, inr, refl, subst, sym}
 use Rattle.phone_words.specs.Parts.{texts_of}
 use Rattle.phone_cli.specs.Statuses.{Acts, status_of_words}
 use Rattle.phone_cli.specs.Statuses.Acts.{called, no_call, no_memory}

@@ -1,8 +1,8 @@
-use Rattle.std.proofs.Common.{◌∙◌, sym, ap, ap₂, subst}
+use Rattle.std.proofs.Common.{◌∙◌, option_map, sym, ap, ap₂, subst}
 use Rattle.std.proofs.lemmas.Result.{IfOk-weaker}
 use Rattle.serde_json.specs.Data.{null, string}
 use Rattle.serde_json.specs.View.{view}
-use Rattle.phone_table.specs.Spelled.{spelled}
+use Rattle.phone_table.specs.Spelled.{number_in, spelled}
 use Rattle.phone_table.specs.Objects.{IsObject, object_of}
 use Rattle.phone_table.specs.Objects.IsObject.{no_text, of_text}
 use Rattle.phone_table.proofs.objects.object.Goals as goal
@@ -10,18 +10,18 @@ use Rattle.phone_table.proofs.objects.object.Goals as goal
 pub returns-in-Ok : goal.returns-in-Ok
 returns-in-Ok c =
     let place = c.args.place in
-    let is = IsObject c.args.rules c.args.database.now c.args.hint place c.args.line.now in
+    let is = IsObject c.args.rules c.args.database.now (option_map (λ d. d.now) c.args.short) c.args.hint place c.args.line.now in
     IfOk-weaker c.object_of_text.result _ (λ v. is (view v))
     (λ v e. subst is
-    (sym (e ∙ ap₂ (λ t f. object_of place (string t) f) c.in-Ok.ensures.cases.0 c.fields_of-fields.ensures))
-    (of_text (spelled c.in_ok-answer.answer) c.in-Ok.ensures.cases.1 c.in_ok-answer.ensures))
+    (sym (e ∙ ap₂ (λ t f. object_of place (string t) f) c.in-Ok.ensures.cases.0 c.parts_of-fields.ensures))
+    (of_text (number_in c.in_ok-answer.answer) (spelled c.in_ok-answer.answer) c.in-Ok.ensures.cases.1 c.in_ok-answer.ensures.answer))
     c.object_of_text.ensures
 
 pub returns : goal.returns
 returns c =
     let place = c.args.place in
-    let is = IsObject c.args.rules c.args.database.now c.args.hint place c.args.line.now in
+    let is = IsObject c.args.rules c.args.database.now (option_map (λ d. d.now) c.args.short) c.args.hint place c.args.line.now in
     IfOk-weaker c.object_without_text.result _ (λ v. is (view v))
-    (λ v e. subst is (sym (e ∙ ap (object_of place null) c.fields_of-fields.ensures))
-    (no_text (spelled c.in_ok-answer.answer) c.in-Err.ensures.cases.0 c.in_ok-answer.ensures))
+    (λ v e. subst is (sym (e ∙ ap (object_of place null) c.parts_of-fields.ensures))
+    (no_text (number_in c.in_ok-answer.answer) (spelled c.in_ok-answer.answer) c.in-Err.ensures.cases.0 c.in_ok-answer.ensures.answer))
     c.object_without_text.ensures

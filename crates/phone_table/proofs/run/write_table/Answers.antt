@@ -2,7 +2,7 @@ use Rattle.std.proofs.Common.{rules, ◌++◌, refl, subst}
 use Rattle.csv.specs.Records.{fields_of}
 use Rattle.phone_csv.specs.Formats.{format_after, state_behind}
 use Rattle.phone_table.specs.Counts.{TakesRows, counts_after}
-use Rattle.phone_table.specs.Headers.{names}
+use Rattle.phone_table.specs.Runs.{names_in}
 use Rattle.phone_table.specs.Runs.RunEnds.{broken_off, no_column, no_delimiter, no_header, whole}
 use Rattle.phone_table.proofs.TableLemmas.{alone}
 use Rattle.phone_table.proofs.RunLemmas.{ends_from, header_read, lacks_by, no_header_by}
@@ -23,7 +23,7 @@ returns-in-Err-columns_of g c =
     let e = c.in-Err-columns_of.ensures in
     record {
       ends = no_column c.in-Err-columns_of.column first.fields (search rules) (record {
-        read = alone c.args.asked.delimiter (fields_of first.fields) names first.has_mark first.rest _ _ (header_read c.args.asked.delimiter (fields_of first.fields) first.rest first.has_mark _ _ f.ended f.only);
+        read = alone c.args.asked.delimiter (fields_of first.fields) (names_in c.args.asked) first.has_mark first.rest _ _ (header_read c.args.asked.delimiter (fields_of first.fields) first.rest first.has_mark _ _ f.ended f.only);
         lacks = lacks_by c.args.asked c.in-Err-columns_of.column (fields_of first.fields) e.no_number e.number_first e.no_region;
         no_source_fault = f.no_fault;
       }) (record { taken = refl; unflushed = refl; sink = refl });
@@ -38,7 +38,7 @@ returns-in-Ok-write_rows g c =
           (ends_from f.no_fault (c.in-Ok-write_rows.ensures.ends (g.S.ByteSource.to_come c.args.source.now)
           (header_read c.args.asked.delimiter (fields_of first.fields) first.rest first.has_mark _ _ f.ended f.only)))
           c.write_rows.new.counter (state_behind first.rest) first.has_mark
-          (subst (λ n. TakesRows counts_after (format_after c.args.asked.delimiter (state_behind first.rest)) first.has_mark (fields_of first.fields ++ names) n c.write_rows.new.counter (g.W.ByteSink.taken c.args.sink.now) (g.W.ByteSink.taken c.write_rows.new.sink)) c.new-counts.ensures c.in-Ok-write_rows.ensures.counted);
+          (subst (λ n. TakesRows counts_after (format_after c.args.asked.delimiter (state_behind first.rest)) first.has_mark (fields_of first.fields ++ names_in c.args.asked) n c.write_rows.new.counter (g.W.ByteSink.taken c.args.sink.now) (g.W.ByteSink.taken c.write_rows.new.sink)) c.new-counts.ensures c.in-Ok-write_rows.ensures.counted);
     }
 
 pub returns-in-Err-write_rows : goal.returns-in-Err-write_rows

@@ -3,11 +3,11 @@ use Rattle.phone_values.specs.declared.country.Code.{Code}
 use Rattle.phone_meta.specs.CodeLookUps.{first_of, territories}
 use Rattle.phone_choice.specs.Facts.{printed_as}
 use Rattle.phonenumber.specs.Reports.{kind_word, region_word, validity_word}
-use Rattle.phone_table.proofs.AnswerLemmas.{printed_code, same_seven, three_texts}
-use Rattle.phone_table.proofs.answer.number_answer.Goals as goal
+use Rattle.phone_table.proofs.AnswerLemmas.{printed_code, printed_digits, same_seven, three_texts}
+use Rattle.phone_table.proofs.answer.known_of.Goals as goal
 
-pub returns-in-Ok-clause-answer : goal.returns-in-Ok-clause-answer
-returns-in-Ok-clause-answer c =
+pub returns-in-Ok-clause-spelled : goal.returns-in-Ok-clause-spelled
+returns-in-Ok-clause-spelled c =
     let db = c.args.database.now in
     let n = c.args.number.now in
     let p = printed_as c.args.rules n in
@@ -18,3 +18,11 @@ returns-in-Ok-clause-answer c =
       ap (λ (k : Code). first_of (territories k.value db)) (sym (printed_code c.args.rules n)) ∙ h.first,
       same_seven _ _ _ _ _ _ _ _ _ _ _ _ h.e164 h.international h.national (ap kind_word q.kind) (ap region_word q.region) (ap validity_word q.is_valid),
     )
+
+pub returns-in-Ok-clause-known : goal.returns-in-Ok-clause-known
+returns-in-Ok-clause-known c =
+    let p = printed_as c.args.rules c.args.number.now in
+    let t = c.in_ok-texts.ensures in
+    let q = c.in-Ok.ensures in
+    let h = three_texts (first_of (territories p.code.value c.args.database.now)) p _ _ _ t.e164 t.international t.national in
+    record { e164 = h.e164 ∙ printed_digits c.args.rules c.args.number.now; kind = q.kind; region = q.region; is_valid = q.is_valid }

@@ -1,0 +1,11 @@
+use Rattle.std.proofs.Common.{◌≡◌, [], drop}
+use Rattle.csv.specs.Records.{fields_of, partial_of}
+use Rattle.phone_table.specs.Spelled.{number_in}
+use Rattle.phone_table.proofs.ExtraLemmas.{Completes}
+use Rattle.phone_table.proofs.extra.push_told.Given as goal
+
+abbrev pub invariant-columns : goal.invariant-columns
+invariant-columns l = record {
+  told : Completes l.rules l.database (number_in l.answer) l.extra (fields_of l.fn.fields) (drop l.column-index l.extra) (fields_of l.fields);
+  partial : partial_of l.fields ≡ [];
+}

@@ -1,0 +1,11 @@
+use Rattle.std.proofs.Common.{◌≡◌, OnOk, subst, codes}
+use Rattle.csv.specs.Records.{fields_of, partial_of}
+use Rattle.phone_table.proofs.RecordLemmas.{seven_fields}
+use Rattle.phone_table.proofs.finds.push_found_names.Goals as goal
+
+pub returns : goal.returns
+returns c = subst (λ t. OnOk c.push_field.result (fields_of c.push_field.new.self ≡ t))
+    (seven_fields (fields_of c.args.header.now) (fields_of c.push_three.new.fields) (fields_of c.push_three-2.new.fields) (partial_of c.push_three-2.new.fields)
+    c.as_bytes.result.now (codes "line") (codes "column") (codes "e164") (codes "type") (codes "region") (codes "extension") (codes "text")
+    c.in_ok-push_three.ensures.fields c.in_ok-push_three-2.ensures.fields c.in_ok-push_three-2.ensures.partial c.as_bytes.ensures.value)
+    c.push_field.ensures.fields
