@@ -7,7 +7,7 @@ use Rattle.phone_typed.specs.Keys.{is_key, up_to_key}
 use Rattle.phone_typed.proofs.KeysOfTexts.{key_small}
 
 -- no key stands in no text
-up_to_key-nil : (n : ℕ) → up_to_key n [] ≡ []
+pub up_to_key-nil : (n : ℕ) → up_to_key n [] ≡ []
 up_to_key-nil zero = refl
 up_to_key-nil (suc n) = refl
 
@@ -22,7 +22,7 @@ module _ (text : List ℕ) (at : ℕ) (less : at < length text) where
   front = let next : at + 1 ≡ suc at = omega arith in ap (λ k. take k text) next ∙ take-suc text at 0 less
 
   -- past a byte: a key leaves one fewer to come, another as many
-  past : (left next : ℕ) → ¬ (left ≡ 0) → (is_key byte ≡ true → next ≡ left - 1) → (is_key byte ≡ false → next ≡ left) →
+  pub past : (left next : ℕ) → ¬ (left ≡ 0) → (is_key byte ≡ true → next ≡ left - 1) → (is_key byte ≡ false → next ≡ left) →
       up_to_key left (drop at text) ≡ byte ∷ up_to_key next (drop (at + 1) text)
   past zero next some key other = absurd (some refl)
   past (suc left) next some key other = ap (up_to_key (suc left)) rest ∙ at_byte (is_key byte) refl

@@ -4,5 +4,6 @@ pub mod KeysOfTexts
 pub mod MarkedTexts
 pub mod MarkedWritten
 pub mod PrintedTexts
+pub mod ShownFronts
 pub mod ShownWritten
 pub mod TypedKeys

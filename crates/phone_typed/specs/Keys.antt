@@ -1,6 +1,6 @@
 -- The keys that are pressed while a number is typed, and how a text shows them.
-use Rattle.std.specs.Prelude.{ℕ, suc, zero, ◌==◌, ◌||◌, ◌&&◌, Bool, if◌then◌else◌, List, [], ◌∷◌}
-use Rattle.std.specs.Prelude.{◌++◌, filter, Option, Some}
+use Rattle.std.specs.Prelude.{◌≡◌, ℕ, suc, zero, ◌==◌, ◌||◌, ◌&&◌, Bool, if◌then◌else◌, List}
+use Rattle.std.specs.Prelude.{[], ◌∷◌, ◌+◌, ◌++◌, filter, get_or, Option, None, Some}
 use Rattle.std.specs.List.{list_all}
 use Rattle.std.specs.Option.{option_to_list}
 use Rattle.std.specs.Str.{bytes_eq}
@@ -43,3 +43,14 @@ abbrev pub up_to_key : ℕ → List ℕ → List ℕ
 up_to_key zero text = []
 up_to_key (suc n) [] = []
 up_to_key (suc n) (c ∷ text) = c ∷ up_to_key (if is_key c then n else suc n) text
+
+-- keys don't begin with a plus sign
+abbrev pub HasNoPlus : List ℕ → Type 0
+HasNoPlus keys = (rest : List ℕ) → ¬ (keys ≡ 43 ∷ rest)
+
+-- past a byte of a text that shows keys, where n of them stand before it: how many stand up to it;
+-- none where the byte is neither the next key nor a mark
+abbrev pub passed : List ℕ → ℕ → ℕ → Option ℕ
+passed keys n c =
+    if is_key c then (if c == get_or keys n 0 then Some (n + 1) else None)
+    else (if is_mark c then Some n else None)

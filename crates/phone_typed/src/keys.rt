@@ -1,8 +1,9 @@
 //! The keys that are pressed while a number is typed, and how a text shows them.
-ghost use Rattle.std.specs.Prelude.{◌≡◌, string_bytes, take, chars, IfOk, IsCharBoundary};
-ghost use Rattle.std.specs.Prelude.{OnErr, OnOk};
-ghost use Rattle.phone_typed.specs.Keys.{is_key, is_mark, key_of, keys_in, shows, up_to_key};
-ghost use Rattle.phone_typed.specs.Keys.{with_key};
+ghost use Rattle.std.specs.Prelude.{◌≡◌, ◌<◌, string_bytes, take, chars, length, option_map, IfOk};
+ghost use Rattle.std.specs.Prelude.{IfSome, IsCharBoundary, OnErr, OnOk};
+ghost use Rattle.phone_typed.specs.Keys.{is_key, is_mark, key_of, keys_in, passed, shows};
+ghost use Rattle.phone_typed.specs.Keys.{up_to_key, with_key};
+ghost use Rattle.phone_typed.specs.Typed.{if_shows};
 
 use phone_chars::chars::is_plus;
 use phone_chars::cuts::split_first;
@@ -51,7 +52,7 @@ pub(crate) fn push_key(keys: &mut String, c: char) -> Result<(), AllocError>
 pub(crate) fn keys_in(alloc: Global, text: &str) -> Result<String, AllocError>
     ensures { IfOk result (λ keys. string_bytes keys ≡ keys_in (chars text.now)) }
 {
-    let mut keys = String::new(alloc);
+    let mut keys = String::with_capacity(alloc, text.len())?;
     let mut rest = text;
     while let Some((c, after)) = split_first(rest) {
         push_key(&mut keys, c)?;
@@ -99,4 +100,42 @@ pub(crate) fn end_of_key(text: &str, n: usize) -> usize
         }
     }
     bytes.len()
+}
+
+/// After how many bytes of a text the last of these keys stands, if the text up to there shows
+/// them.
+pub(crate) fn end_of_shown(keys: &str, text: &str) -> Option<usize>
+    ensures shown { option_map (λ end. take end text.now) result ≡
+        if_shows keys.now (up_to_key (length keys.now) text.now) }
+    ensures border { IfSome result (IsCharBoundary text.now) }
+{
+    let wanted = keys.as_bytes();
+    let bytes = text.as_bytes();
+    let mut n = 0;
+    for at in 0..bytes.len() {
+        if n == wanted.len() {
+            return Some(at);
+        }
+        n = passed(wanted, n, bytes[at])?;
+    }
+    if n == wanted.len() {
+        Some(bytes.len())
+    } else {
+        None
+    }
+}
+
+/// How many of the keys stand up to a byte of a text that shows them, where n of them, not all,
+/// stand before it. None where the byte isn't the next key, nor a mark.
+fn passed(keys: &[u8], n: usize, byte: u8) -> Option<usize>
+    requires { n < length keys.now }
+    ensures { result ≡ passed keys.now n byte }
+{
+    if is_key(byte) {
+        if byte == keys[n] { Some(n + 1) } else { None }
+    } else if is_mark(byte) {
+        Some(n)
+    } else {
+        None
+    }
 }

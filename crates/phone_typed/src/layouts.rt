@@ -1,19 +1,21 @@
 //! What layouts print of a number that is typed, whole or its beginning.
-ghost use Rattle.std.specs.Prelude.{◌≡◌, None, IfOk, map, option_map, string_bytes};
+ghost use Rattle.std.specs.Prelude.{◌≡◌, None, IfOk, OnOk, drop, length, map, option_map};
+ghost use Rattle.std.specs.Prelude.{string_bytes};
 ghost use Rattle.phone_print.specs.Layouts.{layouts_for, template_for};
 ghost use Rattle.phone_records.specs.Missing.{first_given};
+ghost use Rattle.phone_territory.specs.First.{is_whole_match};
 ghost use Rattle.phone_territory.specs.Layouts.{laid_by};
 ghost use Rattle.phone_typed.specs.Keys.{up_to_key};
 ghost use Rattle.phone_typed.specs.Typed.{complete_text, first_complete, first_partial, if_shows};
 ghost use Rattle.phone_typed.specs.Typed.{lays_out, lays_out_all, partial_text, text_of_keys};
-ghost use Rattle.phone_typed.specs.Typed.{is_short, with_nines};
+ghost use Rattle.phone_typed.specs.Typed.{is_short, nines, with_nines};
 ghost use Rattle.std.specs.Option.{option_or};
 
-use crate::keys::{end_of_key, shows};
-use phone_base::together::instead;
-use phone_territory::{FirstGroup, Format, Metadata};
+use crate::keys::{end_of_shown, shows};
+use phone_meta::Database;
+use phone_territory::{FirstGroup, Format, Metadata, Pattern};
 use phone_values::Mode;
-use std::alloc::{AllocError, Global};
+use std::alloc::AllocError;
 
 /// Fewer digits are shown as they are.
 const FEWEST_DIGITS: usize = 3;
@@ -21,14 +23,23 @@ const FEWEST_DIGITS: usize = 3;
 /// The digits of a longest number that are not typed yet.
 const NINES: &str = "999999999999999";
 
-/// The digits, and as many nines after them as are lacking to fifteen. Refused only for memory.
-fn with_nines(alloc: Global, digits: &str) -> Result<String, AllocError>
-    ensures { IfOk result (λ t. string_bytes t ≡ with_nines digits.now) }
+/// Puts digits in a text, and as many nines after them as are lacking to fifteen; what stood there
+/// is gone. Refused only for memory.
+fn write_nines(text: &mut String, digits: &str) -> Result<(), AllocError>
+    ensures { OnOk result (string_bytes text.new ≡ with_nines digits.now) }
 {
-    let mut text = String::with_capacity(alloc, NINES.len())?;
+    text.clear();
+    text.reserve(NINES.len())?;
     text.push_str(digits)?;
-    text.push_str(NINES.get(digits.len()..).unwrap_or(""))?;
-    Ok(text)
+    text.push_str(nines_after(digits.len()))?;
+    Ok(())
+}
+
+/// The nines that are lacking to fifteen after so many digits.
+fn nines_after(n: usize) -> &'static str
+    ensures { result.now ≡ drop n nines }
+{
+    NINES.get(n..).unwrap_or("")
 }
 
 /// The layouts that a territory has for a mode.
@@ -51,7 +62,19 @@ fn lays_out_all(layout: &Format, digits: &str) -> Result<bool, AllocError>
     if !layout.is_led(digits)? {
         return Ok(false);
     }
-    layout.whole_pattern().is_whole_match(digits)
+    matches_whole(layout.whole_pattern(), digits)
+}
+
+/// Whether a pattern's first match is all of these digits. Most digits that are typed are too few
+/// for the pattern: that no match begins at the first is told without a search for one behind it.
+/// Refused only for memory.
+fn matches_whole(pattern: &Pattern, digits: &str) -> Result<bool, AllocError>
+    ensures { IfOk result (λ b. b ≡ is_whole_match pattern.now digits.now) }
+{
+    if !pattern.is_at_start(digits)? {
+        return Ok(false);
+    }
+    pattern.is_whole_match(digits)
 }
 
 /// Whether a layout lays out the first n of these digits: it is meant for them, and its pattern's
@@ -134,17 +157,18 @@ fn partial_text(
         return Ok(None);
     }
     let text = lay_out(finder, m, mode, layout, digits)?;
-    Ok(if_shows(keys, beginning(text, keys.len())))
+    Ok(beginning(keys, text))
 }
 
-/// The beginning of a text up to its n-th key.
-fn beginning(text: String, n: usize) -> String
-    ensures { string_bytes result ≡ up_to_key n (string_bytes text) }
+/// The beginning of a text up to as many keys as these, if it shows them.
+fn beginning(keys: &str, text: String) -> Option<String>
+    ensures { option_map string_bytes result ≡
+        if_shows keys.now (up_to_key (length keys.now) (string_bytes text)) }
 {
     let mut text = text;
-    let end = end_of_key(text.as_str(), n);
+    let end = end_of_shown(keys, text.as_str())?;
     text.truncate(end);
-    text
+    Some(text)
 }
 
 /// Of a complete number, by the first layout that gives a text that shows the keys. Refused only
@@ -168,22 +192,21 @@ fn first_complete(
     Ok(None)
 }
 
-/// Of the beginning of a number, by the first layout that gives a text that shows the keys. Refused
-/// only for memory.
+/// Of the beginning of a number, by the first layout that gives a text that shows the keys. The
+/// last text has room for the digits with nines after them. Refused only for memory.
 fn first_partial(
-    alloc: Global,
     finder: &FirstGroup,
     m: &Metadata,
     mode: Mode,
     national: &str,
     keys: &str,
+    nines: &mut String,
 ) -> Result<Option<String>, AllocError>
     ensures { IfOk result (λ t. option_map string_bytes t ≡
         first_partial m.now mode national.now keys.now) }
 {
-    let digits = with_nines(alloc, national)?;
-    let text = first_of_nines(finder, m, mode, national.len(), digits.as_str(), keys);
-    instead(digits, text)
+    write_nines(nines, national)?;
+    first_of_nines(finder, m, mode, national.len(), nines.as_str(), keys)
 }
 
 /// The same of n digits with others after them.
@@ -208,7 +231,7 @@ fn first_of_nines(
 }
 
 /// Whether digits are so few that they are shown as they are.
-fn is_short(digits: &str) -> bool
+pub(crate) fn is_short(digits: &str) -> bool
     ensures { result ≡ is_short digits.now }
 {
     digits.len() < FEWEST_DIGITS
@@ -218,34 +241,34 @@ fn is_short(digits: &str) -> bool
 /// beginning; the keys as they are where they are too short, and where no layout's text shows them.
 /// Refused only for memory.
 pub(crate) fn text_of_keys(
-    alloc: Global,
-    finder: &FirstGroup,
+    db: &Database,
     m: &Metadata,
     mode: Mode,
     national: &str,
     keys: &str,
+    nines: &mut String,
 ) -> Result<String, AllocError>
     ensures { IfOk result (λ t. string_bytes t ≡
         text_of_keys m.now mode national.now keys.now) }
 {
     if is_short(national) || is_short(keys) {
-        return String::from_str(alloc, keys);
+        return String::from_str(db.allocator(), keys);
     }
-    match by_layouts(alloc, finder, m, mode, national, keys)? {
+    match by_layouts(db.first_group_finder(), m, mode, national, keys, nines)? {
         Some(text) => Ok(text),
-        None => String::from_str(alloc, keys),
+        None => String::from_str(db.allocator(), keys),
     }
 }
 
 /// As of a complete number, else as of a beginning, where the text of a layout shows the keys.
 /// Refused only for memory.
 fn by_layouts(
-    alloc: Global,
     finder: &FirstGroup,
     m: &Metadata,
     mode: Mode,
     national: &str,
     keys: &str,
+    nines: &mut String,
 ) -> Result<Option<String>, AllocError>
     ensures { IfOk result (λ t. option_map string_bytes t ≡ option_or
         (first_complete m.now mode national.now keys.now)
@@ -253,6 +276,6 @@ fn by_layouts(
 {
     match first_complete(finder, m, mode, national, keys)? {
         Some(text) => Ok(Some(text)),
-        None => first_partial(alloc, finder, m, mode, national, keys),
+        None => first_partial(finder, m, mode, national, keys, nines),
     }
 }

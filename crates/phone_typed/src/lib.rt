@@ -4,6 +4,7 @@
 mod keys;
 pub mod laws;
 mod layouts;
+mod stripping;
 mod texts;
 mod typing;
 

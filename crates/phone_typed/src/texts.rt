@@ -1,22 +1,23 @@
 //! What is shown of keys under a database and a hint.
-ghost use Rattle.std.specs.Prelude.{◌≡◌, ◌∷◌, ◌++◌, IfOk, chars, drop, length, string_bytes, take};
-ghost use Rattle.std.specs.Prelude.{true};
+ghost use Rattle.std.specs.Prelude.{◌≡◌, ◌∷◌, ◌++◌, List, Option, IfOk, IsTrue, chars, drop};
+ghost use Rattle.std.specs.Prelude.{length, string_bytes, take, true};
 ghost use Rattle.std.specs.Fmt.{decimal};
 ghost use Rattle.std.specs.Option.{option_copied, option_map_or};
 ghost use Rattle.phone_values.specs.declared.mode.Mode.TheVariants as mode;
+ghost use Rattle.phone_values.specs.declared.country.Id as country;
 ghost use Rattle.phone_parts.specs.Texts.{is_front};
 ghost use Rattle.phone_read.specs.Hints.{hinted};
-ghost use Rattle.phone_typed.specs.Keys.{keys_in};
+ghost use Rattle.phone_records.specs.declared.loader.Metadata as loader;
+ghost use Rattle.phone_typed.specs.Keys.{HasNoPlus, keys_in};
 ghost use Rattle.phone_typed.specs.Typed.{layout_territory, text_abroad, text_at, text_of_code};
 ghost use Rattle.phone_typed.specs.Typed.{text_of_keys, typed};
 
 use crate::keys::keys_in;
-use crate::layouts::text_of_keys;
+use crate::layouts::{is_short, text_of_keys};
+use crate::stripping::national_digits;
 use phone_base::together::instead;
 use phone_meta::{Database, Metadata};
-use phone_parts::Number;
 use phone_print::written::ROOM;
-use phone_rules::stripping::national_number;
 use phone_rules::trims::behind_number;
 use phone_values::Mode;
 use phone_values::country::Id;
@@ -35,25 +36,61 @@ pub fn typed(database: &Database, hint: Option<Id>, text: &str) -> Result<String
         typed database.now hint (keys_in (chars text.now))) }
 {
     let keys = keys_in(database.allocator(), text)?;
-    let shown = text_of(database, hint, keys.as_str());
-    instead(keys, shown)
+    if is_shown_as_it_is(keys.as_str()) {
+        return Ok(keys);
+    }
+    let home = home_of(database, hint, keys.as_str());
+    let mut nines = String::new(database.allocator());
+    let shown = text_of(database, home, keys.as_str(), &mut nines);
+    instead((keys, nines), shown)
 }
 
-/// What is shown of keys. Refused only for memory.
-pub(crate) fn text_of(db: &Database, hint: Option<Id>, keys: &str) -> Result<String, AllocError>
-    ensures { IfOk result (λ t. string_bytes t ≡ typed db.now hint keys.now) }
+/// The first territory of the calling code of the hint; it isn't looked for where the keys begin
+/// with a plus sign.
+fn home_of<'d>(db: &'d Database, hint: Option<Id>, keys: &str) -> Option<&'d Metadata>
+    ensures { HasNoPlus keys.now → option_copied result ≡ layout_territory db.entry.now hint }
+{
+    match keys.strip_prefix('+') {
+        Some(_) => None,
+        None => layout_territory(db, hint),
+    }
+}
+
+/// Whether keys are certain to be shown as they are, in any territory: they are too few, and have
+/// no plus sign.
+fn is_shown_as_it_is(keys: &str) -> bool
+    ensures { IsTrue result → (db : List loader.Metadata) → (hint : Option country.Id) →
+        typed db hint keys.now ≡ keys.now }
+{
+    match keys.strip_prefix('+') {
+        Some(_) => false,
+        None => is_short(keys),
+    }
+}
+
+/// What is shown of keys, by the territory in which digits without a plus sign are typed. The last
+/// text has room for digits with nines after them. Refused only for memory.
+pub(crate) fn text_of(
+    db: &Database,
+    home: Option<&Metadata>,
+    keys: &str,
+    nines: &mut String,
+) -> Result<String, AllocError>
+    ensures { (hint : Option country.Id) →
+        (HasNoPlus keys.now → option_copied home.entry ≡ layout_territory db.now hint) →
+        IfOk result (λ t. string_bytes t ≡ typed db.now hint keys.now) }
 {
     if let Some(digits) = keys.strip_prefix('+') {
-        return text_abroad(db, digits);
+        return text_abroad(db, digits, nines);
     }
-    match layout_territory(db, hint) {
-        Some(m) => text_at(db, m, keys),
+    match home {
+        Some(m) => text_at(db, m, keys, nines),
         None => String::from_str(db.allocator(), keys),
     }
 }
 
 /// The first territory of the calling code of the hint.
-fn layout_territory(db: &Database, hint: Option<Id>) -> Option<&Metadata>
+pub(crate) fn layout_territory(db: &Database, hint: Option<Id>) -> Option<&Metadata>
     ensures { option_copied result ≡ layout_territory db.now hint }
 {
     let m = hint_territory(db, hint)?;
@@ -71,27 +108,28 @@ fn hint_territory(db: &Database, hint: Option<Id>) -> Option<&Metadata>
 }
 
 /// What is shown of digits that are typed in a territory. Refused only for memory.
-fn text_at(db: &Database, m: &Metadata, keys: &str) -> Result<String, AllocError>
+fn text_at(
+    db: &Database,
+    m: &Metadata,
+    keys: &str,
+    nines: &mut String,
+) -> Result<String, AllocError>
     ensures { IfOk result (λ t. string_bytes t ≡ text_at m.now keys.now) }
 {
-    let number = national_number(m, Number::of(keys))?;
-    let shown = text_of_keys(
-        db.allocator(),
-        db.first_group_finder(),
-        m,
-        Mode::National,
-        number.national.as_str(),
-        keys,
-    );
-    instead(number, shown)
+    if is_short(keys) {
+        return String::from_str(db.allocator(), keys);
+    }
+    let national = national_digits(m, keys)?;
+    let shown = text_of_keys(db, m, Mode::National, national.as_str(), keys, nines);
+    instead(national, shown)
 }
 
 /// What is shown of digits that are typed after a plus sign. Refused only for memory.
-fn text_abroad(db: &Database, digits: &str) -> Result<String, AllocError>
+fn text_abroad(db: &Database, digits: &str, nines: &mut String) -> Result<String, AllocError>
     ensures { IfOk result (λ t. string_bytes t ≡ text_abroad db.now digits.now) }
 {
     match db.shortest(digits) {
-        Some(code) => text_of_code(db, code, digits),
+        Some(code) => text_of_code(db, code, digits, nines),
         None => signed(db, digits),
     }
 }
@@ -108,7 +146,12 @@ fn signed(db: &Database, digits: &str) -> Result<String, AllocError>
 
 /// What is shown of digits after a plus sign that begin with this calling code. Refused only for
 /// memory.
-fn text_of_code(db: &Database, code: u16, digits: &str) -> Result<String, AllocError>
+fn text_of_code(
+    db: &Database,
+    code: u16,
+    digits: &str,
+    nines: &mut String,
+) -> Result<String, AllocError>
     requires { is_front (decimal code) digits.now ≡ true }
     ensures { IfOk result (λ t. string_bytes t ≡ text_of_code db.now digits.now code) }
 {
@@ -117,14 +160,7 @@ fn text_of_code(db: &Database, code: u16, digits: &str) -> Result<String, AllocE
     };
     let at = behind_number(digits, code);
     let (front, rest) = (&digits[..at], &digits[at..]);
-    let shown = text_of_keys(
-        db.allocator(),
-        db.first_group_finder(),
-        m,
-        Mode::International,
-        rest,
-        rest,
-    )?;
+    let shown = text_of_keys(db, m, Mode::International, rest, rest, nines)?;
     after_code(db, front, shown)
 }
 

@@ -4,8 +4,8 @@ ghost use Rattle.phone_typed.specs.Fields.{shown};
 ghost use Rattle.phone_typed.specs.Keys.{up_to_key, with_key};
 
 use crate::keys::{end_of_key, push_key};
-use crate::texts::text_of;
-use phone_meta::Database;
+use crate::texts::{layout_territory, text_of};
+use phone_meta::{Database, Metadata};
 use phone_values::country::Id;
 use std::alloc::AllocError;
 use std::marker::Model;
@@ -16,16 +16,21 @@ use std::marker::Model;
 pub struct Typing<'d> {
     database: &'d Database,
     hint: Option<Id>,
+    /// The territory in which digits without a plus sign are typed.
+    home: Option<&'d Metadata>,
     keys: String,
     shown: String,
+    /// Room for digits with nines after them, from one key to the next.
+    nines: String,
 }
 
 impl<'d> Model for Typing<'d> {
     ghost use Rattle.std.specs.Prelude.{◌≡◌, string_bytes, true};
     ghost use Rattle.std.specs.List.{list_all};
     ghost use Rattle.phone_typed.specs.Fields.{Field};
+    ghost use Rattle.std.specs.Option.{option_copied};
     ghost use Rattle.phone_typed.specs.Keys.{is_key};
-    ghost use Rattle.phone_typed.specs.Typed.{typed};
+    ghost use Rattle.phone_typed.specs.Typed.{layout_territory, typed};
 
     ghost Value = { Field };
 
@@ -36,7 +41,8 @@ impl<'d> Model for Typing<'d> {
     } };
 
     ghost invariant = { λ t. (list_all is_key (string_bytes t.keys) ≡ true) ×
-        (string_bytes t.shown ≡ typed t.database.now t.hint (string_bytes t.keys)) };
+        (string_bytes t.shown ≡ typed t.database.now t.hint (string_bytes t.keys)) ×
+        (option_copied t.home ≡ layout_territory t.database.now t.hint) };
 }
 
 impl<'d> Typing<'d> {
@@ -49,8 +55,10 @@ impl<'d> Typing<'d> {
         Typing {
             database,
             hint,
+            home: layout_territory(database, hint),
             keys: String::new(alloc),
             shown: String::new(alloc),
+            nines: String::new(alloc),
         }
     }
 
@@ -78,7 +86,12 @@ impl<'d> Typing<'d> {
     {
         let len = self.keys.len();
         push_key(&mut self.keys, c)?;
-        match text_of(self.database, self.hint, self.keys.as_str()) {
+        match text_of(
+            self.database,
+            self.home,
+            self.keys.as_str(),
+            &mut self.nines,
+        ) {
             Ok(shown) => {
                 self.shown = shown;
                 Ok(())
@@ -98,7 +111,12 @@ impl<'d> Typing<'d> {
         ensures kept { OnErr result (self.new ≡ self.old) }
     {
         let len = self.keys.len().saturating_sub(1);
-        let shown = text_of(self.database, self.hint, &self.keys.as_str()[..len])?;
+        let shown = text_of(
+            self.database,
+            self.home,
+            &self.keys.as_str()[..len],
+            &mut self.nines,
+        )?;
         self.keys.truncate(len);
         self.shown = shown;
         Ok(())

@@ -9,7 +9,8 @@ use Rattle.phone_typed.proofs.typing.Typing.push.Goals as goal
 pub invariant_of-self-in-Ok : goal.invariant_of-self-in-Ok
 invariant_of-self-in-Ok c = (
   ap (list_all is_key) c.in_ok-push_key.ensures.pushed ∙ all-with_key (string_bytes c.self.inside.keys) c.args.c c.self.invariant.0,
-  c.in-Ok.ensures ∙ ap (typed c.self.inside.database.now c.self.inside.hint) c.as_str.ensures.value,
+  c.in-Ok.ensures c.self.inside.hint (λ _. c.self.invariant.2) ∙ ap (typed c.self.inside.database.now c.self.inside.hint) c.as_str.ensures.value,
+  c.self.invariant.2,
 )
 
 pub truncate-requires : goal.truncate-requires
