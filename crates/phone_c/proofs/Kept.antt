@@ -1,8 +1,8 @@
 -- A handle that nothing wrote is as it was.
 use Rattle.std.proofs.Common.{◌≡◌, refl}
 use denote.RawPtr.{Ptr, InBlock, block_ptr, null_ptr}
-use Rattle.phone_c.specs.Handles.{IsKept}
-use Rattle.phone_c.specs.declared.handle.Handle.{Handle}
+use Rattle.phone_c_base.specs.Handles.{IsKept}
+use Rattle.phone_c_base.specs.declared.handle.Handle.{Handle}
 
 -- a pointer that isn't null is to a block
 pub in_block : (p : Ptr) → ¬ (p ≡ null_ptr) → InBlock p

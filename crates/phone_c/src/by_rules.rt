@@ -1,24 +1,24 @@
 //! The calls that report on a line, read a number, print it, or tell something of it, by the rules
 //! of one's choice.
 ghost use Rattle.std.specs.Prelude.{◌≡◌, ◌⊎◌, ◌↔◌, ◌<◌, None, IsUtf8};
-ghost use Rattle.phone_c.specs.Answers.{IsKindBy, IsPrintedBy, IsRegionBy, IsUnprintedBy};
-ghost use Rattle.phone_c.specs.Answers.{IsValidityBy};
-ghost use Rattle.phone_c.specs.Buffers.{IsTooLongA, IsWrittenA};
-ghost use Rattle.phone_c.specs.Handles.{IsClosed, IsKept};
-ghost use Rattle.phone_c.specs.Hints.{hint_of};
-ghost use Rattle.phone_c.specs.Numbers.{AreNoNumber, AreNone};
-ghost use Rattle.phone_c.specs.Parses.{IsParsedBy, IsParsedTooLongBy, IsRefusedAsBy};
-ghost use Rattle.phone_c.specs.Rules.{UnderRules};
-ghost use Rattle.phone_c.specs.TextReports.{IsReportOfBy};
+ghost use Rattle.phone_c_base.specs.Answers.{IsKindBy, IsPrintedBy, IsRegionBy, IsUnprintedBy};
+ghost use Rattle.phone_c_base.specs.Answers.{IsValidityBy};
+ghost use Rattle.phone_c_base.specs.Buffers.{IsTooLongA, IsWrittenA};
+ghost use Rattle.phone_c_base.specs.Handles.{IsClosed, IsKept};
+ghost use Rattle.phone_c_base.specs.Hints.{hint_of};
+ghost use Rattle.phone_c_base.specs.Numbers.{AreNoNumber, AreNone};
+ghost use Rattle.phone_c_base.specs.Parses.{IsParsedBy, IsParsedTooLongBy, IsRefusedAsBy};
+ghost use Rattle.phone_c_base.specs.Rules.{UnderRules};
+ghost use Rattle.phone_c_base.specs.TextReports.{IsReportOfBy};
 
-use crate::asked::{kind, region, validity};
-use crate::handle::{Handle, put, take};
-use crate::number::Number;
-use crate::parse::parse;
-use crate::print::print;
-use crate::report::report_by;
-use crate::rules::rules_of;
-use crate::status::{
+use phone_c_base::asked::{kind, region, validity};
+use phone_c_base::handle::{Handle, put, take};
+use phone_c_base::number::Number;
+use phone_c_base::parse::parse;
+use phone_c_base::print::print;
+use phone_c_base::report::report_by;
+use phone_c_base::rules::rules_of;
+use phone_c_base::status::{
     BAD_NUMBER, CLOSED, MEMORY, NO_MODE, NO_REGION, NO_RULES, NOT_UTF8, OK, TOO_SMALL, UNKNOWN_CODE,
 };
 use std::alloc::Global;

@@ -1,19 +1,19 @@
 //! The calls that read a number, print it, or tell something of it.
 ghost use Rattle.std.specs.Prelude.{◌≡◌, ◌⊎◌, ◌↔◌, ◌<◌, None, IsUtf8};
-ghost use Rattle.phone_c.specs.Answers.{IsKey, IsKind, IsPrinted, IsRegion, IsUnprinted};
-ghost use Rattle.phone_c.specs.Answers.{IsValidity};
-ghost use Rattle.phone_c.specs.Buffers.{IsTooLongA, IsWrittenA};
-ghost use Rattle.phone_c.specs.Handles.{IsClosed, IsKept};
-ghost use Rattle.phone_c.specs.Hints.{hint_of};
-ghost use Rattle.phone_c.specs.Numbers.{AreNoNumber, AreNone};
-ghost use Rattle.phone_c.specs.Parses.{IsParsed, IsParsedTooLong, IsRefusedAs};
+ghost use Rattle.phone_c_base.specs.Answers.{IsKey, IsKind, IsPrinted, IsRegion, IsUnprinted};
+ghost use Rattle.phone_c_base.specs.Answers.{IsValidity};
+ghost use Rattle.phone_c_base.specs.Buffers.{IsTooLongA, IsWrittenA};
+ghost use Rattle.phone_c_base.specs.Handles.{IsClosed, IsKept};
+ghost use Rattle.phone_c_base.specs.Hints.{hint_of};
+ghost use Rattle.phone_c_base.specs.Numbers.{AreNoNumber, AreNone};
+ghost use Rattle.phone_c_base.specs.Parses.{IsParsed, IsParsedTooLong, IsRefusedAs};
 
-use crate::asked::{key, kind, region, validity};
-use crate::handle::{Handle, put, take};
-use crate::number::Number;
-use crate::parse::parse;
-use crate::print::print;
-use crate::status::{
+use phone_c_base::asked::{key, kind, region, validity};
+use phone_c_base::handle::{Handle, put, take};
+use phone_c_base::number::Number;
+use phone_c_base::parse::parse;
+use phone_c_base::print::print;
+use phone_c_base::status::{
     BAD_NUMBER, CLOSED, MEMORY, NO_MODE, NO_REGION, NOT_UTF8, OK, TOO_SMALL, UNKNOWN_CODE,
 };
 use phone_choice::Rules;

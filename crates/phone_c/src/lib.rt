@@ -6,43 +6,35 @@
 //! and puts it back, which moves a pointer.
 #![tactic(auto)]
 
-ghost use Rattle.std.specs.Prelude.{◌≡◌, ◌⊎◌, ◌↔◌, None, IsUtf8, chars, codes};
+ghost use Rattle.std.specs.Prelude.{◌≡◌, ◌⊎◌, ◌↔◌, None, Some, IsUtf8, chars, codes};
 ghost use Rattle.phone_chars.specs.Viable.{IsViable};
-ghost use Rattle.phone_c.specs.Buffers.{IsTooLong, IsTooLongA, IsWritten, IsWrittenA};
-ghost use Rattle.phone_c.specs.Handles.{IsClosed, IsKept, IsOpenedBy};
-ghost use Rattle.phone_c.specs.Hints.{hint_of};
-ghost use Rattle.phone_c.specs.Openings.{IsRefusalOf};
-ghost use Rattle.phone_c.specs.Parses.{IsNoRefusal, IsWordsOf};
-ghost use Rattle.phone_c.specs.TextReports.{IsReportOf};
+ghost use Rattle.phone_c_base.specs.Buffers.{IsTooLong, IsTooLongA, IsWritten, IsWrittenA};
+ghost use Rattle.phone_c_base.specs.Handles.{IsClosed, IsKept, IsOpenedBy};
+ghost use Rattle.phone_c_base.specs.Hints.{hint_of};
+ghost use Rattle.phone_c_base.specs.Openings.{IsRefusalOf};
+ghost use Rattle.phone_c_base.specs.Parses.{IsNoRefusal, IsWordsOf};
+ghost use Rattle.phone_c_base.specs.TextReports.{IsReportOf};
+ghost use Rattle.phone_c_base.specs.Words.{word_of};
 
-mod asked;
-mod buffer;
 mod by_rules;
 mod calls;
-mod handle;
-mod hint;
-pub mod laws;
-pub mod number;
-mod opening;
-mod parse;
+mod find;
+mod listed;
 mod prefixes;
-mod print;
-mod raw_box;
-mod refusal;
-mod report;
-mod rules;
-pub mod short;
-pub mod status;
-mod table;
+mod short;
 mod typing;
+mod util;
 
-use buffer::give;
-use handle::{Handle, put, take};
-use opening::open_database;
+use phone_c_base::buffer::give;
+use phone_c_base::handle::{Handle, put, take};
+use phone_c_base::opening::open_database;
+use phone_c_base::refusal::refusal_words;
+use phone_c_base::report::report;
+use phone_c_base::status::{
+    CLOSED, MEMORY, NO_REFUSAL, NO_REGION, NO_WORD, NOT_UTF8, OK, TOO_SMALL,
+};
+use phone_c_base::words::word;
 use phonenumber::is_viable;
-use refusal::refusal_words;
-use report::report;
-use status::{CLOSED, MEMORY, NO_REFUSAL, NO_REGION, NOT_UTF8, OK, TOO_SMALL};
 use std::alloc::Global;
 
 /// Opens the database that a text is, as `Database::parse` reads it. What the handle had open is
@@ -155,6 +147,29 @@ pub extern "C" fn phone_refusal_words(number: u32, out: &mut [u8], wrote: &mut u
     ensures no_length { result ≡ NO_REFUSAL → wrote.new ≡ 0 }
 {
     refusal_words(number, out, wrote)
+}
+
+/// Writes the word of a value that a call tells by its number. The set says of what it is: 0 of
+/// kinds, 1 of the ways in which a calling code was found, 2 of what a length says, 3 of how like
+/// two numbers are, 4 of costs, 5 of statuses, 6 of those of `phone_open`. It needs no database and
+/// takes no memory.
+///
+/// `OK`: the word stands at the front of `out`, which is else as it was, and `wrote` is its length.
+/// `TOO_SMALL` where `out` is shorter: then `wrote` is the length of the word. `NO_WORD` exactly
+/// where no value of the set has the number: then `wrote` is 0. For each but `OK` `out` is as it
+/// was.
+#[unsafe(no_mangle)]
+pub extern "C" fn phone_word(set: u32, value: u32, out: &mut [u8], wrote: &mut usize) -> u32
+    ensures written { result ≡ OK →
+        IsWrittenA (λ text. word_of set value ≡ Some text) out.old out.new wrote.new }
+    ensures too_small { result ≡ TOO_SMALL →
+        IsTooLongA (λ text. word_of set value ≡ Some text) out.old out.new wrote.new }
+    ensures none { (result ≡ NO_WORD) ↔ (word_of set value ≡ None) }
+    ensures status { (result ≡ OK) ⊎ (result ≡ TOO_SMALL) ⊎ (result ≡ NO_WORD) }
+    ensures untouched { ¬ (result ≡ OK) → out.new ≡ out.old }
+    ensures no_length { result ≡ NO_WORD → wrote.new ≡ 0 }
+{
+    word(set, value, out, wrote)
 }
 
 /// The version of these calls. A change to what one of them takes or means gives it a new number.

@@ -1,6 +1,6 @@
 use Rattle.std.proofs.Common.{◌≡◌, ◌↔◌, List, rules, subst}
 use Rattle.phone_prefixes.specs.Tables.{Entry, NoneBegins}
-use Rattle.phone_c.specs.declared.status.TheConstants.{NO_PREFIX}
+use Rattle.phone_c_base.specs.declared.status.TheConstants.{NO_PREFIX}
 use Rattle.phone_c.proofs.prefixes.phone_prefixes_longest.Goals as goal
 
 pub returns-clause-none : goal.returns-clause-none

@@ -1,0 +1,14 @@
+pub mod Behind
+pub mod BehindTable
+pub mod ByNumber
+pub mod CaretPlaces
+pub mod IdsByPlace
+pub mod LongestFound
+pub mod OneAnswers
+pub mod OneShown
+pub mod OneTold
+pub mod Places
+pub mod ReadPlaces
+pub mod SaidOfText
+pub mod Statuses
+pub mod TheirWords

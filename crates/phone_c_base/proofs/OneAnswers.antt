@@ -1,0 +1,234 @@
+-- What is said of plain numbers is said of one number.
+use Rattle.std.proofs.Common.{◌≡◌, ℕ, ◌+◌, ◌==◌, if◌then◌else◌, List, [], Option, None, Some, IsSomeAnd}
+use Rattle.std.proofs.Common.{Result, chars, length, slice_range, refl, ap, sym, subst, ◌∙◌}
+use Rattle.std.proofs.Common.{arith}
+use Rattle.std.specs.Option.{option_map_or}
+use Rattle.phone_values.specs.Ids.{name}
+use Rattle.phone_values.specs.declared.country.Id.{Id}
+use Rattle.phone_values.specs.declared.country.Source.{Source}
+use Rattle.phone_values.specs.declared.country.Source.TheVariants.{Plus, Idd, Number, Default}
+use Rattle.phone_values.specs.declared.error.ParseError.{ParseError}
+use Rattle.phone_values.specs.declared.mode.Mode.{Mode}
+use Rattle.phone_values.specs.declared.mode.Mode.TheVariants.{E164, International, National, Rfc3966}
+use Rattle.phone_values.specs.declared.reading.Reading.{Reading}
+use Rattle.phone_print.specs.Texts.{e164_text}
+use Rattle.phone_choice.proofs.OneReading.{reading_same}
+use Rattle.phone_choice.specs.Facts.{is_valid_by, kind_by, printed_as, region_by}
+use Rattle.phone_choice.specs.Readings.{ReadsBy}
+use Rattle.phone_choice.specs.declared.rules.Rules.{Rules}
+use Rattle.phone_choice.specs.declared.rules.Rules.TheVariants.{Library, Crate}
+use Rattle.phone_records.specs.declared.loader.Metadata.{Metadata}
+use Rattle.phone_util.specs.Possibilities.{possibility_of}
+use Rattle.phone_report.proofs.OneLine as by_rules
+use Rattle.phone_report.specs.ReportLines.{IsReportLineBy}
+use Rattle.phonenumber.proofs.OneLine
+use Rattle.phonenumber.specs.Printed.{printed}
+use Rattle.phonenumber.specs.Reports.{IsReportLine}
+use Rattle.phone_c_base.specs.Answers.{IsKey, IsKindBy, IsPrintedBy, IsRegionBy, IsUnprintedBy}
+use Rattle.phone_c_base.specs.Answers.{IsValidityBy, kind_number, mode_number}
+use Rattle.phone_c_base.specs.Hints.{hint_of}
+use Rattle.phone_c_base.specs.Numbers.{HasNumbers, IsNumber, IsPart, source_number}
+use Rattle.phone_c_base.specs.Parses.{ReadsAsBy}
+use Rattle.phone_c_base.specs.Possibilities.{IsPossibilityBy, possibility_number}
+use Rattle.phone_c_base.specs.Rules.{UnderRules, rules_number}
+use Rattle.phone_c_base.specs.TextReports.{IsReportOf, IsReportOfBy}
+use Rattle.phone_c_base.specs.declared.number.Number as plain
+use Rattle.phone_c_base.specs.declared.number.Part.{Part}
+
+-- how a calling code was found, and a mode, of their numbers
+abbrev source_at : ℕ → Source
+source_at k = if k == 0 then Plus else if k == 1 then Idd else if k == 2 then Number else Default
+
+abbrev mode_at : ℕ → Mode
+mode_at k =
+    if k == 0 then E164 else if k == 1 then International else if k == 2 then National else Rfc3966
+
+source_back : (s : Source) → source_at (source_number s) ≡ s
+source_back Plus = refl
+source_back Idd = refl
+source_back Number = refl
+source_back Default = refl
+
+mode_back : (m : Mode) → mode_at (mode_number m) ≡ m
+mode_back E164 = refl
+mode_back International = refl
+mode_back National = refl
+mode_back Rfc3966 = refl
+
+one_mode : (a b : Mode) → mode_number a ≡ mode_number b → a ≡ b
+one_mode a b e = sym (mode_back a) ∙ ap mode_at e ∙ mode_back b
+
+one_source : (a b : Source) → source_number a ≡ source_number b → a ≡ b
+one_source a b e = sym (source_back a) ∙ ap source_at e ∙ source_back b
+
+-- a number of its parts
+abbrev reading_by : Source → (code zeros value : ℕ) → (extension carrier : Option (List ℕ)) → Reading
+reading_by source code zeros value extension carrier = record {
+  code = record { source = source; value = code };
+  national = record { zeros = zeros; value = value };
+  extension = extension;
+  carrier = carrier;
+}
+
+-- a number without its texts
+abbrev bare : Reading → Reading
+bare n = reading_by n.code.source n.code.value n.national.zeros n.national.value None None
+
+by_parts : (s t : Source) (c d y z u v : ℕ) (e f g h : Option (List ℕ)) → s ≡ t → c ≡ d → y ≡ z →
+    u ≡ v → e ≡ f → g ≡ h → reading_by s c y u e g ≡ reading_by t d z v f h
+by_parts s t c d y z u v e f g h source code zeros value extension carrier = cc
+
+module _ (x : plain.Number) where
+  same_with : (m n : Reading) → HasNumbers x m → HasNumbers x n → (e f g h : Option (List ℕ)) →
+      e ≡ f → g ≡ h →
+      reading_by m.code.source m.code.value m.national.zeros m.national.value e g ≡
+      reading_by n.code.source n.code.value n.national.zeros n.national.value f h
+  same_with m n a b e f g h = by_parts m.code.source n.code.source m.code.value n.code.value
+      m.national.zeros n.national.zeros m.national.value n.national.value e f g h
+      (one_source m.code.source n.code.source (a.source ∙ sym b.source)) (a.code ∙ sym b.code)
+      (a.zeros ∙ sym b.zeros) (a.value ∙ sym b.value)
+
+  -- plain numbers are those of one number, its texts aside
+  same_bare : (m n : Reading) → HasNumbers x m → HasNumbers x n → bare m ≡ bare n
+  same_bare m n a b = same_with m n a b None None None None refl refl
+
+  pub one_key : (a b : List ℕ) → IsKey x a → IsKey x b → a ≡ b
+  one_key a b h g = h.2 ∙ ap e164_text (same_bare h.0 g.0 h.1 g.1) ∙ sym g.2
+
+  module _ (db : List Metadata) (rules : Rules) where
+    -- what is known of a number is known of it without its texts
+    bare_kind : (n : Reading) → kind_by rules db n ≡ kind_by rules db (bare n)
+    bare_kind n = at rules
+      where
+        at : (r : Rules) → kind_by r db n ≡ kind_by r db (bare n)
+        at Library = refl
+        at Crate = refl
+
+    bare_validity : (n : Reading) → is_valid_by rules db n ≡ is_valid_by rules db (bare n)
+    bare_validity n = at rules
+      where
+        at : (r : Rules) → is_valid_by r db n ≡ is_valid_by r db (bare n)
+        at Library = refl
+        at Crate = refl
+
+    bare_region : (n : Reading) → region_by rules db n ≡ region_by rules db (bare n)
+    bare_region n = at rules
+      where
+        at : (r : Rules) → region_by r db n ≡ region_by r db (bare n)
+        at Library = refl
+        at Crate = refl
+
+    bare_possibility : (n : Reading) → possibility_of rules db n ≡ possibility_of rules db (bare n)
+    bare_possibility n = at rules
+      where
+        at : (r : Rules) → possibility_of r db n ≡ possibility_of r db (bare n)
+        at Library = refl
+        at Crate = refl
+
+    pub one_possibility : (j k : ℕ) → IsPossibilityBy rules db x j → IsPossibilityBy rules db x k →
+        j ≡ k
+    one_possibility j k h g =
+        h.2 ∙ ap possibility_number (bare_possibility h.0)
+        ∙ ap (λ n. possibility_number (possibility_of rules db n)) (same_bare h.0 g.0 h.1 g.1)
+        ∙ ap possibility_number (sym (bare_possibility g.0)) ∙ sym g.2
+
+    pub one_kind : (j k : ℕ) → IsKindBy rules db x j → IsKindBy rules db x k → j ≡ k
+    one_kind j k h g =
+        h.2 ∙ ap kind_number (bare_kind h.0)
+        ∙ ap (λ n. kind_number (kind_by rules db n)) (same_bare h.0 g.0 h.1 g.1)
+        ∙ ap kind_number (sym (bare_kind g.0)) ∙ sym g.2
+
+    pub one_validity : (u v : ℕ) → IsValidityBy rules db x u → IsValidityBy rules db x v → u ≡ v
+    one_validity u v h g =
+        h.2 ∙ ap (λ b. if b then 1 else 0) (bare_validity h.0)
+        ∙ ap (λ n. if is_valid_by rules db n then 1 else 0) (same_bare h.0 g.0 h.1 g.1)
+        ∙ ap (λ b. if b then 1 else 0) (sym (bare_validity g.0)) ∙ sym g.2
+
+    pub one_region : (a b : List ℕ) → IsRegionBy rules db x a → IsRegionBy rules db x b → a ≡ b
+    one_region a b h g =
+        h.2 ∙ ap (λ r. option_map_or name r []) (bare_region h.0)
+        ∙ ap (λ n. option_map_or name (region_by rules db n) []) (same_bare h.0 g.0 h.1 g.1)
+        ∙ ap (λ r. option_map_or name r []) (sym (bare_region g.0)) ∙ sym g.2
+
+one_part : (p : Part) (bytes : List ℕ) (s t : Option (List ℕ)) → IsPart p bytes s →
+    IsPart p bytes t → s ≡ t
+one_part p bytes None None h g = refl
+one_part p bytes None (Some t) h g = absurd (omega (arith, h, g.0))
+one_part p bytes (Some s) None h g = absurd (omega (arith, g, h.0))
+one_part p bytes (Some s) (Some t) h g =
+    let long : length s ≡ length t = sym h.1 ∙ g.1 in
+    let same : s ≡ t = h.2.1 ∙ ap (λ n. slice_range bytes p.start (p.start + n)) long ∙ sym g.2.1
+    in
+    ap Some same
+
+module _ (x : plain.Number) (bytes : List ℕ) where
+  pub one_number : (m n : Reading) → IsNumber x bytes m → IsNumber x bytes n → m ≡ n
+  one_number m n a b = same_with x m n a.numbers b.numbers m.extension n.extension m.carrier
+      n.carrier (one_part x.extension bytes m.extension n.extension a.extension b.extension)
+      (one_part x.carrier bytes m.carrier n.carrier a.carrier b.carrier)
+
+  module _ (db : List Metadata) (rules : Rules) (mode : ℕ) where
+    one_printed : (m n : Mode) (j k : Reading) → IsNumber x bytes j → IsNumber x bytes k →
+        mode ≡ mode_number m → mode ≡ mode_number n →
+        printed db m None (printed_as rules j) ≡ printed db n None (printed_as rules k)
+    one_printed m n j k a b e f =
+        let same = one_mode m n (sym e ∙ f) in
+        let number = one_number j k a b in
+        ap (λ (o : Mode). printed db o None (printed_as rules j)) same
+        ∙ ap (λ r. printed db n None (printed_as rules r)) number
+
+    pub one_text : (a b : List ℕ) → IsPrintedBy rules db x bytes mode a →
+        IsPrintedBy rules db x bytes mode b → a ≡ b
+    one_text a b h g =
+        let same : Some a ≡ Some b =
+        sym h.4 ∙ one_printed h.1 g.1 h.0 g.0 h.2 g.2 h.3 g.3 ∙ g.4 in cc
+
+    pub no_other : (a : List ℕ) → IsPrintedBy rules db x bytes mode a →
+        ¬ (IsUnprintedBy rules db x bytes mode)
+    no_other a h g =
+        let same : Some a ≡ None =
+        sym h.4 ∙ one_printed h.1 g.1 h.0 g.0 h.2 g.2 h.3 g.3 ∙ g.4 in cc
+
+-- what is said under a hint is said under one
+pub under_one : {A : Type 0} (P : Option Id → A → Type 0) → ((h : Option Id) (a b : A) → P h a →
+    P h b → a ≡ b) → (o : Option (Option Id)) (a b : A) → IsSomeAnd o (λ h. P h a) →
+    IsSomeAnd o (λ h. P h b) → a ≡ b
+under_one P one None a b h g = absurd h
+under_one P one (Some hint) a b h g = one hint a b h g
+
+module _ (db : List Metadata) (hint text : List ℕ) where
+  pub one_line : (a b : List ℕ) → IsReportOf db hint text a → IsReportOf db hint text b → a ≡ b
+  one_line = under_one (λ h a. IsReportLine db h text a) (λ h a b. OneLine.one_report_line db h
+      text a b) (hint_of hint)
+
+  pub one_reading : (rules : Rules) (r s : Result Reading ParseError) →
+      ReadsAsBy rules db hint text r → ReadsAsBy rules db hint text s → r ≡ s
+  one_reading rules = under_one (λ h r. ReadsBy rules db h (chars text) r)
+      (λ h r s. reading_same rules db h (chars text) r s) (hint_of hint)
+
+  pub one_line_by : (rules : Rules) (a b : List ℕ) → IsReportOfBy rules db hint text a →
+      IsReportOfBy rules db hint text b → a ≡ b
+  one_line_by rules = under_one (λ h a. IsReportLineBy rules db h text a)
+      (λ h a b. by_rules.one_report_line rules db h text a b) (hint_of hint)
+
+-- a number is of one of the rules at most
+one_of_rules : (q r : Rules) → rules_number q ≡ rules_number r → q ≡ r
+one_of_rules Library Library e = refl
+one_of_rules Library Crate e = cc
+one_of_rules Crate Library e = cc
+one_of_rules Crate Crate e = refl
+
+-- what is said under the rules of a number is said under one
+pub under_rules : {A : Type 0} (P : Rules → A → Type 0) → ((r : Rules) (a b : A) → P r a →
+    P r b → a ≡ b) → (number : ℕ) (a b : A) → UnderRules number (λ r. P r a) →
+    UnderRules number (λ r. P r b) → a ≡ b
+under_rules P one number a b h g =
+    let same : h.0 ≡ g.0 = one_of_rules h.0 g.0 (sym h.1 ∙ g.1) in
+    one g.0 a b (subst (λ r. P r a) same h.2) g.2
+
+-- and nothing is said under one rules that another denies
+pub no_other_rules : (P Q : Rules → Type 0) → ((r : Rules) → P r → ¬ (Q r)) → (number : ℕ) →
+    UnderRules number P → ¬ (UnderRules number Q)
+no_other_rules P Q never number h g =
+    let same : h.0 ≡ g.0 = one_of_rules h.0 g.0 (sym h.1 ∙ g.1) in
+    never g.0 (subst P same h.2) g.2

@@ -1,0 +1,11 @@
+use Rattle.phone_c_base.proofs.ByNumber.{kind_back, no_kind, two_bytes}
+use Rattle.phone_c_base.proofs.laws.by_number.Goals as goal
+
+pub returns-clause-kind : goal.returns-clause-kind
+returns-clause-kind c = kind_back
+
+pub returns-clause-no_kind : goal.returns-clause-no_kind
+returns-clause-no_kind c = no_kind
+
+pub returns-clause-region : goal.returns-clause-region
+returns-clause-region c = two_bytes

@@ -1,0 +1,102 @@
+-- What is told of a number that is given as plain numbers.
+use Rattle.std.specs.Prelude.{◌≡◌, ℕ, if◌then◌else◌, List, [], Some}
+use Rattle.std.specs.Prelude.{None}
+use Rattle.std.specs.Option.{option_map_or}
+use Rattle.phone_values.specs.Ids.{name}
+use Rattle.phone_values.specs.declared.kind.«Type».{«Type»}
+use Rattle.phone_values.specs.declared.kind.«Type».TheVariants.{FixedLine, Mobile}
+use Rattle.phone_values.specs.declared.kind.«Type».TheVariants.{FixedLineOrMobile}
+use Rattle.phone_values.specs.declared.kind.«Type».TheVariants.{TollFree, PremiumRate, SharedCost}
+use Rattle.phone_values.specs.declared.kind.«Type».TheVariants.{PersonalNumber, Voip, Pager, Uan}
+use Rattle.phone_values.specs.declared.kind.«Type».TheVariants.{Emergency, Voicemail, ShortCode}
+use Rattle.phone_values.specs.declared.kind.«Type».TheVariants.{StandardRate, Carrier}
+use Rattle.phone_values.specs.declared.kind.«Type».TheVariants.{NoInternational, Unknown}
+use Rattle.phone_values.specs.declared.mode.Mode.{Mode}
+use Rattle.phone_values.specs.declared.mode.Mode.TheVariants.{E164, International, National}
+use Rattle.phone_values.specs.declared.mode.Mode.TheVariants.{Rfc3966}
+use Rattle.phone_records.specs.declared.loader.Metadata.{Metadata}
+use Rattle.phone_values.specs.declared.reading.Reading.{Reading}
+use Rattle.phone_choice.specs.Facts.{is_valid_by, kind_by, printed_as, region_by}
+use Rattle.phone_choice.specs.declared.rules.Rules.{Rules}
+use Rattle.phone_choice.specs.declared.rules.Rules.TheVariants.{Crate}
+use Rattle.phone_print.specs.Texts.{e164_text}
+use Rattle.phonenumber.specs.Printed.{printed}
+use Rattle.phone_c_base.specs.Numbers.{HasNumbers, IsNumber}
+use Rattle.phone_c_base.specs.declared.number.Number as plain
+
+-- a kind by its number
+abbrev pub kind_number : «Type» → ℕ
+kind_number FixedLine = 0
+kind_number Mobile = 1
+kind_number FixedLineOrMobile = 2
+kind_number TollFree = 3
+kind_number PremiumRate = 4
+kind_number SharedCost = 5
+kind_number PersonalNumber = 6
+kind_number Voip = 7
+kind_number Pager = 8
+kind_number Uan = 9
+kind_number Emergency = 10
+kind_number Voicemail = 11
+kind_number ShortCode = 12
+kind_number StandardRate = 13
+kind_number Carrier = 14
+kind_number NoInternational = 15
+kind_number Unknown = 16
+
+-- by rules, the kind of the number that has these plain numbers
+abbrev pub IsKindBy : Rules → List Metadata → plain.Number → ℕ → Type 0
+IsKindBy rules db x kind =
+    (n : Reading) × HasNumbers x n × (kind ≡ kind_number (kind_by rules db n))
+
+-- by rules, 1 where the number is valid, else 0
+abbrev pub IsValidityBy : Rules → List Metadata → plain.Number → ℕ → Type 0
+IsValidityBy rules db x valid = (n : Reading) × HasNumbers x n ×
+    (valid ≡ (if is_valid_by rules db n then 1 else 0))
+
+-- by rules, the id of its region; no byte where it has none
+abbrev pub IsRegionBy : Rules → List Metadata → plain.Number → List ℕ → Type 0
+IsRegionBy rules db x id = (n : Reading) × HasNumbers x n ×
+    (id ≡ option_map_or name (region_by rules db n) [])
+
+-- these by the rules of the crate
+abbrev pub IsKind : List Metadata → plain.Number → ℕ → Type 0
+IsKind db x kind = IsKindBy Crate db x kind
+
+-- and its validity
+abbrev pub IsValidity : List Metadata → plain.Number → ℕ → Type 0
+IsValidity db x valid = IsValidityBy Crate db x valid
+
+-- and its region
+abbrev pub IsRegion : List Metadata → plain.Number → List ℕ → Type 0
+IsRegion db x id = IsRegionBy Crate db x id
+
+-- its E.164 text, by which tables are keyed
+abbrev pub IsKey : plain.Number → List ℕ → Type 0
+IsKey x text = (n : Reading) × HasNumbers x n × (text ≡ e164_text n)
+
+-- a mode by its number
+abbrev pub mode_number : Mode → ℕ
+mode_number E164 = 0
+mode_number International = 1
+mode_number National = 2
+mode_number Rfc3966 = 3
+
+-- by rules, the text of the number in the mode
+abbrev pub IsPrintedBy : Rules → List Metadata → plain.Number → (bytes : List ℕ) → ℕ → List ℕ →
+    Type 0
+IsPrintedBy rules db x bytes mode text = (n : Reading) × (m : Mode) × IsNumber x bytes n ×
+    (mode ≡ mode_number m) × (printed db m None (printed_as rules n) ≡ Some text)
+
+-- by rules, it is a number and a mode, but no territory has its code
+abbrev pub IsUnprintedBy : Rules → List Metadata → plain.Number → (bytes : List ℕ) → ℕ → Type 0
+IsUnprintedBy rules db x bytes mode = (n : Reading) × (m : Mode) × IsNumber x bytes n ×
+    (mode ≡ mode_number m) × (printed db m None (printed_as rules n) ≡ None)
+
+-- the text by the rules of the crate
+abbrev pub IsPrinted : List Metadata → plain.Number → (bytes : List ℕ) → ℕ → List ℕ → Type 0
+IsPrinted db x bytes mode text = IsPrintedBy Crate db x bytes mode text
+
+-- and that there is none
+abbrev pub IsUnprinted : List Metadata → plain.Number → (bytes : List ℕ) → ℕ → Type 0
+IsUnprinted db x bytes mode = IsUnprintedBy Crate db x bytes mode

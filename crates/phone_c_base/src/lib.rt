@@ -1,0 +1,30 @@
+//! What the calls for C are made of: handles that own databases and tables of prefixes, buffers of
+//! the caller's, phone numbers as plain numbers, statuses, and what each call answers of them.
+//! `phone_c` has the calls themselves.
+#![tactic(auto)]
+
+pub mod asked;
+pub mod buffer;
+pub mod comparison;
+pub mod dialling;
+pub mod example;
+pub mod found;
+pub mod handle;
+pub mod hint;
+pub mod laws;
+pub mod listed;
+pub mod number;
+pub mod opening;
+pub mod parse;
+pub mod possibility;
+pub mod prefixes;
+pub mod print;
+mod raw_box;
+pub mod refusal;
+pub mod report;
+pub mod rules;
+pub mod short;
+pub mod status;
+pub mod table;
+pub mod typing;
+pub mod words;
