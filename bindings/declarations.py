@@ -1,5 +1,5 @@
 #!/usr/bin/env python3
-"""Compares the declarations of the calls: crates/phone_c, c/phone.h, Rust's sys/src/lib.rs and Python's _calls.py.
+"""Compares the declarations of the calls: crates/phone_c, c/world.c, c/phone.h, Rust's sys/src/lib.rs and Python's _calls.py.
 
 usage: bindings/declarations.py
 
@@ -18,8 +18,10 @@ CRATES = BINDINGS.parent / "crates"
 # The names of a struct in the four places, each by its name in phone.h.
 STRUCTS = {
     "Handle": "handle", "Table": "prefixes", "Prefixes": "prefixes", "PrefixesHandle": "prefixes", "Part": "part", "Number": "number",
-    "PlainFacts": "short_facts", "ShortFacts": "short_facts", "Facts": "short_facts",
+    "PlainFacts": "short_facts", "ShortFacts": "short_facts", "Facts": "short_facts", "Place": "place",
 }
+# What the names of a set's values begin with in phone.h.
+FRONTS = {"Cost": "COST_", "Possibility": "LENGTH_", "Sameness": "MATCH_", "Leniency": "IF_"}
 C_TYPES = {"uint8_t": "u8", "uint16_t": "u16", "uint32_t": "u32", "uint64_t": "u64", "size_t": "usize", "void": "u8"}
 differences = []
 
@@ -34,11 +36,17 @@ def of_c(text):
     return (const or "") + C_TYPES.get(name, name.removeprefix("phone_")) + star
 
 
+def c_calls(text, end):
+    """The calls that C declares, or defines, by what stands behind their arguments."""
+    calls = {}
+    for answer, name, args in re.findall(r"^(uint32_t |void |const uint8_t \*)phone_(\w+)\(([^)]*)\)" + end, text, re.MULTILINE):
+        calls[name] = ([] if args == "void" else [of_c(it) for it in args.split(",")], "" if answer == "void " else of_c(answer + "it"))
+    return calls
+
+
 def header():
     text = re.sub(r"/\*.*?\*/", "", (BINDINGS / "c" / "phone.h").read_text(), flags=re.DOTALL)
-    calls = {}
-    for answer, name, args in re.findall(r"^(uint32_t|void) phone_(\w+)\(([^)]*)\);", text, re.MULTILINE):
-        calls[name] = ([] if args == "void" else [of_c(it) for it in args.split(",")], answer != "void")
+    calls = c_calls(text, ";")
     structs = {}
     for fields, name in re.findall(r"typedef struct \{([^}]*)\} phone_(\w+);", text):
         structs[name] = [(re.search(r"(\w+)\s*$", it)[1], of_c(it)) for it in fields.split(";") if it.strip()]
@@ -53,8 +61,8 @@ def header():
 def of_rust(text):
     """Types of Rust or Rattle: a slice is a pointer and a length."""
     text = text.strip()
-    if text in ("&[u8]", "&mut [u8]"):
-        return ["u8*" if "mut" in text else "const u8*", "usize"]
+    if slice := re.fullmatch(r"&(mut )?\[(\w+)\]", text):
+        return [("" if slice[1] else "const ") + named(slice[2]) + "*", "usize"]
     sign, name = re.fullmatch(r"(&mut |&|\*mut |\*const )?(\w+)", text).groups()
     const = "const " if sign in ("&", "*const ") else ""
     return [const + named(name) + ("*" if sign else "")]
@@ -62,10 +70,10 @@ def of_rust(text):
 
 def rust_calls(text, head):
     calls = {}
-    for name, args, answer in re.findall(head + r" fn phone_(\w+)\(([^)]*)\)( -> u32)?", text):
+    for name, args, answer in re.findall(head + r" fn phone_(\w+)\(([^)]*)\)(?: -> ([*\w ]+\w))?", text):
         given = [it.split(":")[1].strip() for it in args.split(",") if it.strip()]
         types = [kind for it in given if it not in ("Global", "alloc::Global") for kind in of_rust(it)]
-        calls[name] = (types, bool(answer))
+        calls[name] = (types, *(of_rust(answer) if answer else [""]))
     return calls
 
 
@@ -109,12 +117,12 @@ def python():
     kinds.update({ctypes.POINTER(it): name + "*" for it, name in list(kinds.items()) if "*" not in name})
     calls = {}
     for name, call in vars(_calls.lib).items():
-        calls[name.removeprefix("phone_")] = ([kinds[it] for it in call.argtypes], call.restype is not None)
+        calls[name.removeprefix("phone_")] = ([kinds[it] for it in call.argtypes], kinds[call.restype] if call.restype else "")
     fields = {named(it.__name__): [(name, kinds[kind]) for name, kind in it._fields_] for it in structs}
     numbers = {name: it for name, it in vars(_calls).items() if name.isupper() and isinstance(it, int)}
     for it in vars(phonenumber_proved).values():
         if isinstance(it, type) and issubclass(it, enum.IntEnum):
-            front = "COST_" if it.__name__ == "Cost" else ""
+            front = FRONTS.get(it.__name__, "")
             numbers.update({front + member.name: member.value for member in it})
     return calls, fields, numbers
 
@@ -123,11 +131,12 @@ def rust_numbers():
     """The numbers of Rust's declarations, and the places of the variants of Rust's enums."""
     text = (BINDINGS / "rust" / "sys" / "src" / "lib.rs").read_text()
     numbers = {name: int(it) for name, it in re.findall(r"const (\w+): u32 = (\d+);", text)}
-    for file, name in (("number", "Mode"), ("number", "Source"), ("number", "Type"), ("database", "Rules"), ("short", "Cost")):
+    for file, name in (("number", "Mode"), ("number", "Source"), ("number", "Type"), ("database", "Rules"), ("short", "Cost"),
+                       ("possible", "Possibility"), ("possible", "Sameness"), ("found", "Leniency")):
         body = re.search(r"pub enum " + name + r" \{(.*?)\n\}", (BINDINGS / "rust" / "src" / f"{file}.rs").read_text(), re.DOTALL)[1]
         for place, variant in enumerate(re.findall(r"^ +([A-Z]\w*),$", body, re.MULTILINE)):
             snake = re.sub(r"(?<=[a-z])(?=[A-Z])", "_", variant).upper()
-            numbers[("COST_" if name == "Cost" else "") + snake] = place
+            numbers[FRONTS.get(name, "") + snake] = place
     return numbers
 
 
@@ -141,14 +150,15 @@ def without_const(calls):
     """What ctypes can say: it has no const, and one type for size_t and uint64_t."""
     def plain(kind):
         return kind.replace("const ", "").replace("usize", "u64")
-    return {name: ([plain(it) for it in types], answer) for name, (types, answer) in calls.items()}
+    return {name: ([plain(it) for it in types], plain(answer)) for name, (types, answer) in calls.items()}
 
 
 def main():
     calls, structs, numbers = header()
     crate = "".join(file.read_text() for file in sorted(CRATES.glob("phone_c*/src/*.rt")))
     ffi = (BINDINGS / "rust" / "sys" / "src" / "lib.rs").read_text()
-    compare("crates/phone_c", "call", rust_calls(crate, 'extern "C"'), calls, whole=True)
+    world = c_calls((BINDINGS / "c" / "world.c").read_text(), r" \{")
+    compare("crates/phone_c, c/world.c", "call", rust_calls(crate, 'extern "C"') | world, calls, whole=True)
     compare("crates/phone_c", "struct", rust_structs(crate), structs)
     compare("crates/phone_c", "number", crate_numbers(crate), numbers)
     compare("sys/src/lib.rs", "call", rust_calls(ffi, "pub"), calls)

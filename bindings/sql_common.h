@@ -96,16 +96,11 @@ static uint32_t sql_print(phone_handle *world, const phone_number *number, sql_b
     return status;
 }
 
-/* Tells the kind of a number, in the word that reports have for it. */
-static uint32_t sql_type(phone_handle *world, const phone_number *number, sql_text *word) {
-    static const char *const WORDS[] = {
-        "FixedLine", "Mobile", "FixedLineOrMobile", "TollFree", "PremiumRate", "SharedCost", "PersonalNumber",
-        "Voip", "Pager", "Uan", "Emergency", "Voicemail", "ShortCode", "StandardRate", "Carrier",
-        "NoInternational", "Unknown"};
-    uint32_t kind = PHONE_UNKNOWN, status = phone_kind_by(world, PHONE_LIBRARY, number, &kind);
-    word->at = WORDS[kind <= PHONE_UNKNOWN ? kind : PHONE_UNKNOWN];
-    word->len = strlen(word->at);
-    return status;
+/* Puts the word of a value of a set of phone_word into the bytes of the answer, which have room for each. */
+static void sql_word(uint32_t set, uint32_t value, sql_answer *answer) {
+    sql_bytes *out = &answer->bytes;
+    if (phone_word(set, value, sql_at(out), out->room, &out->len) != PHONE_OK) out->len = 0;
+    answer->text = (sql_text){(const char *)sql_at(out), out->len};
 }
 
 /* Answers what is asked of a number that was read. */
@@ -113,7 +108,7 @@ static uint32_t sql_describe(phone_handle *world, const sql_call *call, const ph
                              sql_bytes *texts, uint32_t mode, sql_answer *answer) {
     sql_bytes *out = &answer->bytes;
     uint8_t truth = 0;
-    uint32_t status = PHONE_OK;
+    uint32_t kind = PHONE_UNKNOWN, status = PHONE_OK;
     answer->kind = SQL_TEXT;
     switch (call->question) {
     case SQL_E164:
@@ -124,7 +119,8 @@ static uint32_t sql_describe(phone_handle *world, const sql_call *call, const ph
         status = sql_print(world, number, texts, mode, answer);
         break;
     case SQL_TYPE:
-        return sql_type(world, number, &answer->text);
+        status = phone_kind_by(world, PHONE_LIBRARY, number, &kind);
+        return sql_word(PHONE_KIND_WORDS, kind, answer), status;
     case SQL_REGION:
         do status = phone_region_by(world, PHONE_LIBRARY, number, sql_at(out), out->room, &out->len);
         while (sql_again(out, &status));
@@ -144,20 +140,6 @@ static uint32_t sql_describe(phone_handle *world, const sql_call *call, const ph
     return status;
 }
 
-/* Writes the words of a status that is not PHONE_OK. */
-static void sql_words(uint32_t status, sql_answer *answer) {
-    sql_bytes *out = &answer->bytes;
-    const char *words = status == PHONE_NO_REGION      ? "unknown region"
-                        : status == PHONE_NOT_UTF8     ? "not UTF-8"
-                        : status == PHONE_NO_MODE      ? "unknown mode"
-                        : status == PHONE_UNKNOWN_CODE ? "unknown calling code"
-                                                       : "refused";
-    answer->kind = SQL_TEXT;
-    answer->text = (sql_text){words, strlen(words)};
-    if (phone_refusal_words(status, sql_at(out), out->room, &out->len) == PHONE_OK)
-        answer->text = (sql_text){(const char *)sql_at(out), out->len};
-}
-
 /* Answers a call under an open table. sql_end gives back what the answer holds. */
 static void sql_ask(phone_handle *world, const sql_call *call, sql_answer *answer) {
     phone_number number;
@@ -170,7 +152,8 @@ static void sql_ask(phone_handle *world, const sql_call *call, sql_answer *answe
     if (status == PHONE_OK && call->mode.at && !sql_mode(call->mode, &mode)) status = PHONE_NO_MODE;
     if (status == PHONE_OK) status = sql_describe(world, call, &number, &texts, mode, answer);
     if (status == PHONE_MEMORY) answer->kind = SQL_NO_MEMORY;
-    else if (status != PHONE_OK && call->question == SQL_REFUSAL) sql_words(status, answer);
+    else if (status != PHONE_OK && call->question == SQL_REFUSAL)
+        answer->kind = SQL_TEXT, sql_word(PHONE_STATUS_WORDS, status, answer);
     else if (status != PHONE_OK) answer->kind = SQL_NOTHING;
     sql_forget(texts.many);
 }
@@ -193,24 +176,20 @@ static uint8_t *sql_read(const char *path, size_t *len, char *why, size_t why_le
     return text;
 }
 
-/* Opens the table at a path under a handle. 0: the handle is closed, and why stands in `why`. */
+/* Opens the table at a path, or the one in the library where the path is empty, under a handle. 0: the
+ * handle is closed, and why stands in `why`. */
 static int sql_open(const char *path, phone_handle *world, char *why, size_t why_len) {
-    static const char *const FAULTS[] = {
-        "a record lacks a value", "a record has a key that it may not have", "it is no JSON",
-        "a value is of the wrong kind", "a text is no pattern"};
-    size_t len = 0;
+    uint8_t *text = NULL, words[128];
+    size_t len = 0, words_len = 0;
     uint32_t status;
     errno = 0;
-    uint8_t *text = sql_read(path, &len, why, why_len);
-    if (!text) return phone_close(world), 0;
-    status = phone_open(text, len, world);
+    if (*path && !(text = sql_read(path, &len, why, why_len))) return phone_close(world), 0;
+    status = *path ? phone_open(text, len, world) : phone_open_world(world);
     sql_forget(text);
-    if (status != PHONE_OK)
-        snprintf(why, why_len, "the table of phone numbers %s is refused: %s", path,
-                 status >= 1 && status <= 5     ? FAULTS[status - 1]
-                 : status == PHONE_NOT_UTF8     ? "it is not UTF-8"
-                 : status == PHONE_MEMORY       ? "there is no memory for it"
-                                                : "its library doesn't fit");
+    if (status != PHONE_OK) {
+        phone_word(PHONE_OPEN_STATUS_WORDS, status, words, sizeof words, &words_len);
+        snprintf(why, why_len, "the table of phone numbers %s is refused: %.*s", path, (int)words_len, (const char *)words);
+    }
     return status == PHONE_OK;
 }
 #endif

@@ -32,7 +32,11 @@ static const char SHORT[] = "[{\"id\": \"NZ\", \"country_code\": 64,"
     "\"emergency\": {\"national_number\": \"111\", \"possible_length\": [3]},"
     "\"short_code\": {\"national_number\": \"1\\\\d\\\\d\", \"possible_length\": [3]}}]";
 static const char PREFIXES[] = "64\tNew Zealand\r\n643\tSouth Island\n1\t";
-static uint8_t out[4096];
+/* One region, with an example. */
+static const char REGION[] = "[{\"id\": \"NZ\", \"country_code\": 64, \"international_prefix\": \"00\","
+    "\"general\": {\"national_number\": \"[1-9]\\\\d{6}\", \"possible_length\": [7]},"
+    "\"mobile\": {\"national_number\": \"[1-9]\\\\d{6}\", \"possible_length\": [7], \"example\": \"2345678\"}}]";
+static _Alignas(16) uint8_t out[4096];
 static size_t wrote;
 static phone_number number;
 
@@ -64,7 +68,7 @@ static uint32_t caret(phone_handle *h, const char *keys, size_t n, size_t *told)
     return phone_typing_caret(h, phone_text("", 0), 0, phone_text(keys, strlen(keys)), strlen(keys), n, told);
 }
 /* The calls, by a number, each on the same text; those up to ROOMS write to a buffer. */
-enum { ROOMS = 11, CALLS = 16 };
+enum { ROOMS = 16, CALLS = 24 };
 static uint32_t call(int which, phone_handle *h, const phone_number *n, const uint8_t *bytes, size_t len, size_t room) {
     const char *text = "+64 3 331 6005 ext. 12";
     uint32_t status, kind = 99;
@@ -83,10 +87,25 @@ static uint32_t call(int which, phone_handle *h, const phone_number *n, const ui
     case 8: return phone_format_by(h, PHONE_LIBRARY, n, bytes, len, PHONE_NATIONAL, out, room, &wrote);
     case 9: return phone_region_by(h, PHONE_LIBRARY, n, out, room, &wrote);
     case 10: return shown(h, "NZ", "033316005", 9, room);
-    case 11: return status = phone_kind(h, n, &kind), kind == (status ? 99 : PHONE_FIXED_LINE) ? status : 98;
-    case 12: return status = phone_kind_by(h, PHONE_LIBRARY, n, &kind), kind == (status ? 99 : PHONE_FIXED_LINE) ? status : 98;
-    case 13: return status = phone_is_valid_by(h, PHONE_LIBRARY, n, &flag), flag == (status ? 99 : 1) ? status : 98;
-    case 14: return status = caret(h, "+6433316005", 4, &place), place == (status ? 99 : 5) ? status : 98;
+    case 11: return phone_dialled_from(h, B("DE"), n, bytes, len, out, room, &wrote);
+    case 12: return phone_example_by(h, PHONE_LIBRARY, B("NZ"), PHONE_MOBILE, &number, out, room, &wrote);
+    case 13: return phone_regions(h, out, room, &wrote);
+    case 14: return status = phone_codes(h, (uint16_t *)out, room / 2, &wrote), wrote *= 2, status;
+    case 15:
+        status = phone_find_by(h, PHONE_LIBRARY, B("NZ"), PHONE_IF_VALID, B("or 03-331 6005, or +1 650 253 0000"),
+                               (phone_place *)out, room / sizeof(phone_place), &wrote);
+        return wrote *= sizeof(phone_place), status;
+    case 16: return status = phone_kind(h, n, &kind), kind == (status ? 99 : PHONE_FIXED_LINE) ? status : 98;
+    case 17: return status = phone_kind_by(h, PHONE_LIBRARY, n, &kind), kind == (status ? 99 : PHONE_FIXED_LINE) ? status : 98;
+    case 18: return status = phone_is_valid_by(h, PHONE_LIBRARY, n, &flag), flag == (status ? 99 : 1) ? status : 98;
+    case 19: return status = caret(h, "+6433316005", 4, &place), place == (status ? 99 : 5) ? status : 98;
+    case 20: return status = phone_possibility_by(h, PHONE_LIBRARY, n, &kind), kind == (status ? 99 : PHONE_LENGTH_POSSIBLE) ? status : 98;
+    case 21:
+        status = phone_text_possibility_by(h, PHONE_CRATE, B("NZ"), B("03-33"), &kind);
+        return kind == (status ? 99 : PHONE_LENGTH_TOO_SHORT) ? status : 98;
+    case 22:
+        status = phone_compare_by(h, PHONE_LIBRARY, B("331 6005"), (const uint8_t *)text, strlen(text), &kind);
+        return kind == (status ? 99 : PHONE_MATCH_END) ? status : 98;
     default: return status = phone_is_valid(h, n, &flag), flag == (status ? 99 : 1) ? status : 98;
     }
 }
@@ -94,11 +113,11 @@ static int every_room(phone_handle *h, const phone_number *n, const uint8_t *byt
     for (int which = 0; which < ROOMS; which++) {
         uint8_t whole[4096];
         size_t len, room;
-        CHECK(200 + which, call(which, h, n, bytes, bytes_len, sizeof out) == PHONE_OK && is_untouched(wrote));
+        CHECK(1200 + which, call(which, h, n, bytes, bytes_len, sizeof out) == PHONE_OK && is_untouched(wrote));
         memcpy(whole, out, len = wrote);
         for (room = 0; room < len; room++)
-            CHECK(210 + which, call(which, h, n, bytes, bytes_len, room) == PHONE_TOO_SMALL && wrote == len && is_untouched(0));
-        CHECK(220 + which, call(which, h, n, bytes, bytes_len, len) == PHONE_OK && wrote == len && !memcmp(out, whole, len)
+            CHECK(1300 + which, call(which, h, n, bytes, bytes_len, room) == PHONE_TOO_SMALL && wrote == len && is_untouched(0));
+        CHECK(1400 + which, call(which, h, n, bytes, bytes_len, len) == PHONE_OK && wrote == len && !memcmp(out, whole, len)
             && is_untouched(len));
     }
     return 0;
@@ -115,9 +134,9 @@ static int refused(phone_handle *h, const phone_number *n, const uint8_t *bytes,
             uint32_t status = call(which, h, n, bytes, bytes_len, sizeof out);
             refuse_at = -1;
             int met = requests > k;
-            CHECK(300 + which, (status == PHONE_OK && !memcmp(out, whole, sizeof out) && wrote == len)
+            CHECK(1500 + which, (status == PHONE_OK && !memcmp(out, whole, sizeof out) && wrote == len)
                 || (met && status == PHONE_MEMORY && is_untouched(0)));
-            CHECK(310 + which, h->at && call(which, h, n, bytes, bytes_len, sizeof out) == PHONE_OK
+            CHECK(1600 + which, h->at && call(which, h, n, bytes, bytes_len, sizeof out) == PHONE_OK
                 && !memcmp(out, whole, sizeof out) && wrote == len);
             if (!met) { if (k > *most) *most = k; break; }
         }
@@ -287,10 +306,127 @@ static int prefixes(void) {
     CHECK(917, blocks == 0);
     return 0;
 }
+/* How the calls of two texts, of lengths, of regions and of numbers in texts refuse, in their order. */
+static int possible(void) {
+    phone_handle h = PHONE_CLOSED;
+    phone_number n = {0, {0, 0, 0}, {0, 0, 0}, 64, PHONE_PLUS, 0}, bad = {1ull << 56, {0, 0, 0}, {0, 0, 0}, 64, PHONE_PLUS, 0};
+    uint32_t told = 9;
+    CHECK(1000, phone_possibility_by(&h, 2, &bad, &told) == PHONE_NO_RULES && phone_possibility_by(&h, 0, &bad, &told) == PHONE_IS_CLOSED);
+    CHECK(1001, phone_text_possibility_by(&h, 2, B("xx"), B("\xff"), &told) == PHONE_NO_RULES);
+    CHECK(1002, phone_text_possibility_by(&h, 1, B("xx"), B("\xff"), &told) == PHONE_IS_CLOSED);
+    CHECK(1003, phone_compare_by(&h, 2, B("\xff"), B("1"), &told) == PHONE_NO_RULES);
+    CHECK(1004, phone_compare_by(&h, 1, B("\xff"), B("1"), &told) == PHONE_IS_CLOSED && told == 9);
+    CHECK(1005, phone_open(B(REGION), &h) == PHONE_OK && phone_possibility_by(&h, 0, &bad, &told) == PHONE_BAD_NUMBER);
+    CHECK(1006, phone_text_possibility_by(&h, 0, B("xx"), B("\xff"), &told) == PHONE_NO_REGION);
+    CHECK(1007, phone_text_possibility_by(&h, 0, B("NZ"), B("\xff"), &told) == PHONE_NOT_UTF8);
+    CHECK(1008, phone_text_possibility_by(&h, 0, B("NZ"), B("call me"), &told) == PHONE_NO_NUMBER);
+    CHECK(1009, phone_compare_by(&h, 0, B("1234567"), B("\xff"), &told) == PHONE_NOT_UTF8);
+    CHECK(1010, phone_compare_by(&h, 0, B("call me"), B("+9991234567"), &told) == PHONE_NO_NUMBER && told == 9);
+    CHECK(1011, phone_compare_by(&h, 0, B("1234567"), B("\xff\xff"), &told) == PHONE_NOT_UTF8 && told == 9);
+    CHECK(1012, phone_possibility_by(&h, 0, &n, &told) == PHONE_OK && told == PHONE_LENGTH_TOO_SHORT);
+    CHECK(1013, (n.code = 65, phone_possibility_by(&h, 1, &n, &told)) == PHONE_OK && told == PHONE_LENGTH_UNKNOWN_CODE);
+    CHECK(1014, phone_compare_by(&h, 0, B("+64 2345678"), B("234-5678"), &told) == PHONE_OK && told == PHONE_MATCH_NATIONAL);
+    phone_close(&h);
+    CHECK(1015, blocks == 0);
+    return 0;
+}
+static uint32_t dialled(phone_handle *h, const char *region, const phone_number *n, size_t room) {
+    fill();
+    return phone_dialled_from(h, phone_text(region, strlen(region)), strlen(region), n, B(""), out, room, &wrote);
+}
+static uint32_t example(phone_handle *h, uint32_t rules, const char *region, uint32_t kind, size_t room) {
+    fill();
+    memset(&number, 0x55, sizeof number);
+    return phone_example_by(h, rules, phone_text(region, strlen(region)), strlen(region), kind, &number, out, room, &wrote);
+}
+static uint32_t find(phone_handle *h, uint32_t rules, const char *hint, uint32_t leniency, const void *text, size_t len, size_t room) {
+    fill();
+    return phone_find_by(h, rules, phone_text(hint, strlen(hint)), strlen(hint), leniency, phone_text(text, len), len,
+                         (phone_place *)out, room, &wrote);
+}
+static int listed(void) {
+    phone_handle h = PHONE_CLOSED;
+    phone_number n = {2345678, {0, 0, 0}, {0, 0, 0}, 64, PHONE_PLUS, 0}, bad = n;
+    const phone_place *places = (const phone_place *)out;
+    bad.source = 4;
+    CHECK(1020, dialled(&h, "xx", &bad, 99) == PHONE_IS_CLOSED && example(&h, 2, "xx", 17, 99) == PHONE_NO_RULES);
+    CHECK(1021, example(&h, 0, "xx", 17, 99) == PHONE_IS_CLOSED && find(&h, 2, "xx", 2, "\xff", 1, 9) == PHONE_NO_RULES);
+    CHECK(1022, find(&h, 0, "xx", 2, "\xff", 1, 9) == PHONE_IS_CLOSED && wrote == 0 && is_untouched(0));
+    CHECK(1023, phone_regions(&h, out, 9, &wrote) == PHONE_IS_CLOSED && phone_codes(&h, (uint16_t *)out, 9, &wrote) == PHONE_IS_CLOSED);
+    CHECK(1024, phone_open(B(REGION), &h) == PHONE_OK && dialled(&h, "", &bad, 99) == PHONE_NO_REGION);
+    CHECK(1025, dialled(&h, "DE", &bad, 99) == PHONE_BAD_NUMBER && dialled(&h, "DE", &n, 99) == PHONE_NO_TERRITORY);
+    CHECK(1026, dialled(&h, "NZ", &n, 6) == PHONE_TOO_SMALL && wrote == 7 && is_untouched(0));
+    CHECK(1027, dialled(&h, "NZ", &n, 7) == PHONE_OK && !memcmp(out, "2345678", 7) && is_untouched(7));
+    CHECK(1028, (n.code = 65, dialled(&h, "NZ", &n, 99)) == PHONE_UNKNOWN_CODE && wrote == 0 && is_untouched(0));
+    CHECK(1029, example(&h, 0, "", 17, 99) == PHONE_NO_REGION && example(&h, 0, "DE", 17, 99) == PHONE_NO_KIND);
+    CHECK(1030, example(&h, 0, "DE", 16, 99) == PHONE_NO_EXAMPLE && example(&h, 1, "NZ", PHONE_FIXED_LINE, 99) == PHONE_NO_EXAMPLE);
+    CHECK(1031, wrote == 0 && is_untouched(0) && number.zeros == 0x55);
+    CHECK(1032, example(&h, 0, "NZ", PHONE_MOBILE, 0) == PHONE_OK && number.value == 2345678 && number.code == 64 && wrote == 0);
+    CHECK(1033, phone_regions(&h, out, 1, &wrote) == PHONE_TOO_SMALL && wrote == 2);
+    CHECK(1034, phone_regions(&h, out, 2, &wrote) == PHONE_OK && wrote == 2 && !memcmp(out, "NZ", 2));
+    CHECK(1035, phone_codes(&h, (uint16_t *)out, 0, &wrote) == PHONE_TOO_SMALL && wrote == 1);
+    CHECK(1036, phone_codes(&h, (uint16_t *)out, 1, &wrote) == PHONE_OK && wrote == 1 && *(uint16_t *)out == 64);
+    CHECK(1037, find(&h, 0, "xx", 2, "\xff", 1, 9) == PHONE_NO_LENIENCY && find(&h, 0, "xx", 1, "\xff", 1, 9) == PHONE_NO_REGION);
+    CHECK(1038, find(&h, 0, "NZ", 1, "\xff", 1, 9) == PHONE_NOT_UTF8 && find(&h, 0, "NZ", 1, NULL, 0, 0) == PHONE_OK && wrote == 0);
+    CHECK(1039, find(&h, 0, "NZ", 1, "a 2345678, b 3456789", 20, 1) == PHONE_TOO_SMALL && wrote == 2 && is_untouched(0));
+    CHECK(1040, find(&h, 0, "NZ", 1, "a 2345678, b 3456789", 20, 2) == PHONE_OK && wrote == 2 && places[0].start == 2
+        && places[0].end == 9 && places[1].start == 13 && places[1].end == 20 && is_untouched(2 * sizeof *places));
+    phone_close(&h);
+    CHECK(1041, blocks == 0);
+    return 0;
+}
+/* Each value of each set has a word, and each status too; no other has. */
+static int words(void) {
+    static const uint32_t COUNTS[] = {17, 4, 6, 5, 4, 36, 19, 0};
+    requests = 0, refuse_at = 0;
+    for (uint32_t set = 0; set < 8; set++)
+        for (uint32_t value = 0; value < 64; value++) {
+            fill();
+            uint32_t status = phone_word(set, value, out, sizeof out, &wrote);
+            int is_one = value < COUNTS[set] && (set != 5 || value < 8 || value > 15)
+                && (set != 6 || value < 6 || value == PHONE_MEMORY || value == PHONE_NOT_UTF8);
+            CHECK(1050, status == (is_one ? PHONE_OK : PHONE_NO_WORD) && (is_one ? wrote > 0 : wrote == 0) && is_untouched(wrote));
+            size_t len = wrote;
+            fill();
+            CHECK(1051, !is_one || (phone_word(set, value, out, len - 1, &wrote) == PHONE_TOO_SMALL && wrote == len && is_untouched(0)));
+        }
+    CHECK(1052, phone_word(UINT32_MAX, 0, out, 9, &wrote) == PHONE_NO_WORD && requests == 0);
+    refuse_at = -1;
+    return 0;
+}
+/* The table in the library, with requests refused at ever later places; and the calls that take no memory. */
+static int world_in_library(void) {
+    phone_handle h = PHONE_CLOSED;
+    phone_prefixes p = PHONE_CLOSED;
+    size_t len = 0, line, prefix;
+    uint8_t flag;
+    CHECK(950, phone_world_text(&len) == phone_world_text(&line) && len == line && len > 0);
+    for (long k = 0;; k = 2 * k + 1) {
+        requests = 0, refuse_at = k;
+        uint32_t status = phone_open_world(&h);
+        refuse_at = -1;
+        CHECK(951, status == PHONE_OK ? h.at != NULL : requests > k && status == PHONE_MEMORY && !h.at && blocks == 0);
+        if (requests <= k) { printf("requests of opening the table in the library: %ld\n", requests); break; }
+    }
+    CHECK(952, report(&h, "NZ", "03-331 6005", 11, sizeof out) == PHONE_OK && !memcmp(out, "ok\t+6433316005\t", 15));
+    CHECK(953, phone_prefixes_open(B(PREFIXES), &p, &line) == PHONE_OK);
+    requests = 0, refuse_at = 0;
+    CHECK(954, phone_version() == PHONE_VERSION && phone_table_version(out, sizeof out, &wrote) == PHONE_OK);
+    CHECK(955, phone_is_viable(B("03-331 6005"), &flag) == PHONE_OK && flag == 1);
+    CHECK(956, longest(&p, "6433316005", sizeof out, &prefix) == PHONE_OK && prefix == 3);
+    for (uint32_t refusal = 0; refusal < 40; refusal++)
+        CHECK(957, phone_refusal_words(refusal, out, sizeof out, &wrote) == (refusal >= 1 && refusal <= 7 ? PHONE_OK : PHONE_NO_REFUSAL));
+    phone_close(&h);
+    phone_prefixes_close(&p);
+    CHECK(958, requests == 0 && blocks == 0);
+    refuse_at = -1;
+    return 0;
+}
 int main(int argc, char **argv) {
     long rounds = argc > 2 ? atol(argv[2]) : 100, most = 0;
     int wrong;
-    if ((wrong = small()) || (wrong = by_rules()) || (wrong = typing()) || (wrong = shorts()) || (wrong = prefixes())) return wrong;
+    if ((wrong = small()) || (wrong = by_rules()) || (wrong = typing()) || (wrong = shorts()) || (wrong = prefixes())
+        || (wrong = possible()) || (wrong = listed()) || (wrong = words()) || (wrong = world_in_library())) return wrong;
     CHECK(100, phone_version() == PHONE_VERSION);
     fill();
     CHECK(104, phone_table_version(out, sizeof out, &wrote) == PHONE_OK && wrote == 21
@@ -320,7 +456,7 @@ int main(int argc, char **argv) {
     printf("most requests of a call: %ld\n", most);
     for (long i = 0; i < rounds; i++)
         for (int which = 0; which < CALLS; which++)
-            CHECK(400 + which, call(which, &h, &kept, bytes, bytes_len, sizeof out) == PHONE_OK);
+            CHECK(1700 + which, call(which, &h, &kept, bytes, bytes_len, sizeof out) == PHONE_OK);
     phone_close(&h);
     CHECK(502, blocks == 0);
     for (long i = 0; i < rounds / 100; i++) {

@@ -68,7 +68,12 @@ enum {
     PHONE_LINE_NO_PREFIX = 27,       /* phone_prefixes_open: before the tab stand not 1 to 15 digits */
     PHONE_LINE_NOT_UTF8 = 28,        /* phone_prefixes_open: what stands after the tab is not UTF-8 */
     PHONE_LINE_TWICE = 29,           /* phone_prefixes_open: an earlier line has the prefix */
-    PHONE_NO_PREFIX = 30             /* phone_prefixes_longest: no prefix begins the digits */
+    PHONE_NO_PREFIX = 30,            /* phone_prefixes_longest: no prefix begins the digits */
+    PHONE_NO_KIND = 31,              /* the kind is none of the 17 */
+    PHONE_NO_EXAMPLE = 32,           /* the table has no example of the region and kind */
+    PHONE_NO_WORD = 33,              /* phone_word: no value of the set has the number */
+    PHONE_NO_TERRITORY = 34,         /* the table has no territory of the region */
+    PHONE_NO_LENIENCY = 35           /* the leniency is neither of the two */
 };
 
 /* By whose rules a text is read and a number described: those of libphonenumber, or those of the Rust
@@ -83,7 +88,8 @@ typedef struct {
     uint8_t is_there; /* 0 where there is no such text */
 } phone_part;
 
-/* A phone number. Its texts stand in bytes beside it: `out` of phone_parse. */
+/* A phone number. Its texts stand in bytes beside it: `out` of phone_parse. The structs of this header
+ * keep their fields: what is to be told besides gets a struct and calls of its own. */
 typedef struct {
     uint64_t value;       /* the national number without its leading zeros, below 2^56 */
     phone_part extension; /* what is dialled once the call is answered */
@@ -119,6 +125,37 @@ enum {
     PHONE_COST_UNKNOWN = 3
 };
 
+/* Whether the count of a number's digits is possible: as it is, or inside its area alone; else why not. */
+enum {
+    PHONE_LENGTH_POSSIBLE = 0,
+    PHONE_LENGTH_POSSIBLE_LOCALLY = 1, /* where it is dialled inside its area */
+    PHONE_LENGTH_TOO_SHORT = 2,        /* each number there has more: while one is typed, go on */
+    PHONE_LENGTH_TOO_LONG = 3,         /* each has fewer */
+    PHONE_LENGTH_WRONG_LENGTH = 4,     /* some have fewer and some more, or none is listed */
+    PHONE_LENGTH_UNKNOWN_CODE = 5      /* no territory has the calling code */
+};
+
+/* How like two numbers are. */
+enum {
+    PHONE_MATCH_EXACT = 0,    /* one calling code, national number, and extension or none */
+    PHONE_MATCH_NUMBER = 1,   /* the extensions differ */
+    PHONE_MATCH_NATIONAL = 2, /* one has no calling code, and the national numbers are one */
+    PHONE_MATCH_END = 3,      /* one's national number is an end of the other's, of 7 digits at least */
+    PHONE_MATCH_DIFFERENT = 4 /* none of these */
+};
+
+/* What is found in a text: what is read as a possible number, or as a valid one. */
+enum { PHONE_IF_POSSIBLE = 0, PHONE_IF_VALID = 1 };
+
+/* Where a number stands in a text, in bytes: from `start` to before `end`. */
+typedef struct { size_t start; size_t end; } phone_place;
+
+/* The sets of values that have words, for phone_word. */
+enum {
+    PHONE_KIND_WORDS = 0, PHONE_SOURCE_WORDS, PHONE_POSSIBILITY_WORDS, PHONE_SAMENESS_WORDS,
+    PHONE_COST_WORDS, PHONE_STATUS_WORDS, PHONE_OPEN_STATUS_WORDS
+};
+
 /* A text of length 0 may be null for the caller, but not for a call. */
 static inline const uint8_t *phone_text(const void *text, size_t len) {
     return len ? (const uint8_t *)text : (const uint8_t *)"";
@@ -128,6 +165,13 @@ static inline const uint8_t *phone_text(const void *text, size_t len) {
  * first. PHONE_OK: it is open. PHONE_NOT_UTF8 exactly where the text isn't UTF-8; 1 to 5 by the
  * first fault of its records; PHONE_MEMORY. For each but PHONE_OK the handle is closed. */
 uint32_t phone_open(const uint8_t *text, size_t text_len, phone_handle *handle);
+
+/* Opens the table of the world that stands in the library, of the version that phone_table_version
+ * tells: phone_open of phone_world_text. PHONE_OK, or PHONE_MEMORY. It is C over phone_open. */
+uint32_t phone_open_world(phone_handle *handle);
+
+/* The text of that table, which is never freed, and its length. It is C, and takes no memory. */
+const uint8_t *phone_world_text(size_t *text_len);
 
 /* Closes a handle and frees its database; nothing where it is closed. */
 void phone_close(phone_handle *handle);
@@ -193,6 +237,60 @@ uint32_t phone_region_by(phone_handle *handle, uint32_t rules, const phone_numbe
 uint32_t phone_is_valid_by(phone_handle *handle, uint32_t rules, const phone_number *number,
                            uint8_t *told);
 
+/* Tells whether the count of a number's digits is possible: PHONE_LENGTH_POSSIBLE .. PHONE_NO_RULES exactly
+ * where the rules are above 1; else its statuses are those of phone_kind. */
+uint32_t phone_possibility_by(phone_handle *handle, uint32_t rules, const phone_number *number,
+                              uint32_t *told);
+
+/* The same of a text, which may not be whole yet, under a hint as phone_report takes it. A text that is
+ * refused for its length or its calling code is told of by PHONE_LENGTH_TOO_SHORT and its like.
+ * PHONE_NO_RULES, PHONE_IS_CLOSED, PHONE_NO_REGION and PHONE_NOT_UTF8 as phone_parse_by has them; else
+ * PHONE_NO_NUMBER or PHONE_MALFORMED_INTEGER; PHONE_MEMORY. */
+uint32_t phone_text_possibility_by(phone_handle *handle, uint32_t rules, const uint8_t *hint,
+                                   size_t hint_len, const uint8_t *text, size_t text_len,
+                                   uint32_t *told);
+
+/* Tells how like the numbers of two texts are, each perhaps without its calling code: PHONE_MATCH_EXACT ..
+ * PHONE_NO_RULES, PHONE_IS_CLOSED; else PHONE_NOT_UTF8 exactly where one of the texts isn't UTF-8; 1 to
+ * 6: why the first text is no number, else why the second is none; PHONE_MEMORY. */
+uint32_t phone_compare_by(phone_handle *handle, uint32_t rules, const uint8_t *first, size_t first_len,
+                          const uint8_t *second, size_t second_len, uint32_t *told);
+
+/* Writes how a number is dialled from a region, whose id is as "NZ": its national text there, and else
+ * an international prefix, its calling code and its digits. `number` and `bytes` are as phone_format
+ * takes them. PHONE_IS_CLOSED exactly where nothing is open, else PHONE_NO_REGION exactly where the
+ * region is no id, else PHONE_BAD_NUMBER as phone_format has it. PHONE_NO_TERRITORY only where the
+ * table has no territory of the region, PHONE_UNKNOWN_CODE only where none has the calling code;
+ * PHONE_TOO_SMALL, PHONE_MEMORY. */
+uint32_t phone_dialled_from(phone_handle *handle, const uint8_t *region, size_t region_len,
+                            const phone_number *number, const uint8_t *bytes, size_t bytes_len,
+                            uint8_t *out, size_t out_len, size_t *wrote);
+
+/* Writes the example number of a region and a kind, read with the region as hint, as phone_parse_by
+ * writes a number. PHONE_NO_RULES, PHONE_IS_CLOSED, PHONE_NO_REGION, PHONE_NO_KIND, and
+ * PHONE_NO_EXAMPLE exactly where so, in this order; 1 to 6: why the example is no number;
+ * PHONE_TOO_SMALL, PHONE_MEMORY. */
+uint32_t phone_example_by(phone_handle *handle, uint32_t rules, const uint8_t *region,
+                          size_t region_len, uint32_t kind, phone_number *number, uint8_t *out,
+                          size_t out_len, size_t *wrote);
+
+/* Writes the ids of the table's regions, by the alphabet, two bytes each with nothing between them.
+ * PHONE_IS_CLOSED exactly where nothing is open; PHONE_TOO_SMALL, PHONE_MEMORY. */
+uint32_t phone_regions(phone_handle *handle, uint8_t *out, size_t out_len, size_t *wrote);
+
+/* Writes the table's calling codes, ascending. Its statuses are those of phone_regions. Here `out_len`
+ * and `wrote` count codes, and not bytes. */
+uint32_t phone_codes(phone_handle *handle, uint16_t *out, size_t out_len, size_t *wrote);
+
+/* Writes where numbers stand in a text, from its front on; they don't overlap. phone_parse_by reads each
+ * of these pieces, by the same rules and under the same hint, as the number that was found. `out_len`
+ * and `wrote` count places: no text has more than bytes. PHONE_NO_RULES, PHONE_IS_CLOSED,
+ * PHONE_NO_LENIENCY, PHONE_NO_REGION, PHONE_NOT_UTF8 exactly where so, in this order; PHONE_TOO_SMALL,
+ * PHONE_MEMORY. */
+uint32_t phone_find_by(phone_handle *handle, uint32_t rules, const uint8_t *hint, size_t hint_len,
+                       uint32_t leniency, const uint8_t *text, size_t text_len, phone_place *out,
+                       size_t out_len, size_t *wrote);
+
 /* Writes what is shown of a number while it is typed, by libphonenumber's layouts, to the front of
  * `out`, and its length to `wrote`: of the keys of all that was typed so far. `keys` is a text in
  * UTF-8, whose keys are its digits of any script and a plus sign before all of them; its other
@@ -254,6 +352,13 @@ uint32_t phone_is_viable(const uint8_t *text, size_t text_len, uint8_t *told);
  * and takes no memory. PHONE_NO_REFUSAL exactly where no refusal has the number, PHONE_TOO_SMALL as
  * phone_report has it. */
 uint32_t phone_refusal_words(uint32_t number, uint8_t *out, size_t out_len, size_t *wrote);
+
+/* Writes the word of a value of a set, PHONE_KIND_WORDS .., or the words of a status, to the front of
+ * `out`, and their length to `wrote`: "FixedLine" of a kind, "not a number" of PHONE_NO_NUMBER.
+ * PHONE_STATUS_WORDS has the statuses of all calls but phone_open, whose are in
+ * PHONE_OPEN_STATUS_WORDS. It needs no database and takes no memory. PHONE_NO_WORD exactly where the
+ * set has no such value, or there is no such set; PHONE_TOO_SMALL as phone_report has it. */
+uint32_t phone_word(uint32_t set, uint32_t value, uint8_t *out, size_t out_len, size_t *wrote);
 
 /* The version of these calls: PHONE_VERSION where the library fits this header. */
 uint32_t phone_version(void);

@@ -17,28 +17,26 @@
 #define sql_forget(at) ((at) ? pfree(at) : (void)0)
 #include "sql_common.h"
 
-#ifndef PHONE_TABLE_PATH
-#define PHONE_TABLE_PATH "/usr/local/share/phonenumber-proved/world.json"
-#endif
-
 PG_MODULE_MAGIC;
 void _PG_init(void);
 
-/* The path that phonenumber.table_path says, and the one of the table that is open. */
+/* The path that phonenumber.table_path says, empty for the table in the library, and the one of the
+ * table that is open. */
 static char *table_path;
 static char open_path[MAXPGPATH];
+static bool is_open;
 static phone_handle world = PHONE_CLOSED;
 
 /* Opens the table that phonenumber.table_path names, unless it is open; where it can't be, says so. */
 static bool open_world(int level) {
     char why[1024] = "";
-    if (open_path[0] && strcmp(open_path, table_path) == 0) return true;
-    open_path[0] = '\0';
+    if (is_open && strcmp(open_path, table_path) == 0) return true;
+    is_open = false;
     if (strlen(table_path) >= sizeof open_path)
         snprintf(why, sizeof why, "the path of phonenumber.table_path is too long");
     else if (sql_open(table_path, &world, why, sizeof why)) {
         strcpy(open_path, table_path);
-        return true;
+        return is_open = true;
     }
     ereport(level, (errcode(ERRCODE_CONFIG_FILE_ERROR), errmsg("%s", why),
                     errhint("The setting phonenumber.table_path names the table.")));
@@ -48,7 +46,7 @@ static bool open_world(int level) {
 void _PG_init(void) {
     DefineCustomStringVariable("phonenumber.table_path", "The file of the table of phone numbers.",
                                "Once it is another table, what stands on the functions is to be built anew.",
-                               &table_path, PHONE_TABLE_PATH, PGC_SUSET, 0, NULL, NULL, NULL);
+                               &table_path, "", PGC_SUSET, 0, NULL, NULL, NULL);
     MarkGUCPrefixReserved("phonenumber");
     if (process_shared_preload_libraries_in_progress) open_world(WARNING);
 }

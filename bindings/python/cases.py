@@ -5,15 +5,20 @@ FOLDER is crates/replay/data, whose rows are replayed. The last line is `python:
 
 import copy
 import doctest
+import os
 import pickle
 import re
+import shutil
+import subprocess
 import sys
+import tempfile
 import threading
 from pathlib import Path
 
 import phonenumber_proved
 from phonenumber_proved import (
-    TABLE, BadPrefixes, Database, Error, Kind, Mode, Prefixes, Rules, ShortNumbers, Source, is_viable,
+    TABLE, BadPrefixes, Database, Error, Kind, Mode, NoNumber, PhoneNumber, Prefixes, Rules, ShortNumbers, Source, UnknownCode,
+    UnknownRegion, _calls, is_viable,
 )
 
 REPLAY = Path(__file__).resolve().parents[2] / "crates" / "replay" / "data"
@@ -100,6 +105,40 @@ def numbers_are_keys_of_tables(world):
     check("database", refused(copy.copy, world), ("TypeError", "a Database is neither copied nor pickled"))
     check("database", refused(copy.deepcopy, world)[0], "TypeError")
     check("database", refused(pickle.dumps, world)[0], "TypeError")
+
+
+# Code, national number, extension, carrier; and what is no number.
+PARTS = [(64, "33316005", None, None), (39, "0236618300", "7", None), (55, "1123456789", "7", "31"), (1, "0", None, None),
+         (65535, str((1 << 56) - 1), "", ""), (7, "0" * 255 + "1", None, None)]
+NO_PARTS = [(64, ""), (64, "+1"), (64, "\u0661"), (64, " 1"), (-1, "1"), (1 << 16, "1"), (64, str(1 << 56)), (64, "0" * 256 + "1"),
+            (64, "1", "\ud800"), (64, "1", None, "\udc80")]
+
+
+def numbers_come_from_parts(world):
+    for code, national, extension, carrier in PARTS:
+        number = PhoneNumber.from_parts(code, national, extension, carrier, Source.IDD)
+        told = number.code, number.national, number.extension, number.carrier, number.source
+        check(national, told, (code, national, extension, carrier, Source.IDD))
+        check(national, pickle.loads(pickle.dumps(number)), number)
+    for parts in NO_PARTS:
+        check(parts, refused(PhoneNumber.from_parts, *parts)[0], "ValueError")
+    read = world.parse("+64 3 331 6005")
+    made = PhoneNumber.from_parts(64, "33316005")
+    check("parts", (made == read, hash(made) == hash(read), made.on(world).region, made.rules), (True, True, "NZ", Rules.LIBRARY))
+
+
+def no_file_is_needed():
+    """The package alone, without the tables beside it, opens the one in the library."""
+    here = Path(phonenumber_proved.__file__).parent
+    with tempfile.TemporaryDirectory() as folder:
+        shutil.copytree(here, Path(folder, "a", "b", here.name), ignore=shutil.ignore_patterns("data", "__pycache__"))
+        env = {name: it for name, it in os.environ.items() if name != "PHONE_TABLE"}
+        env.update(PYTHONPATH=str(Path(folder, "a", "b")), PHONE_LIBRARY=_calls.lib._name)
+        program = "from phonenumber_proved import Database, TABLE, TABLE_VERSION, phonenumbers\n" \
+            "with Database.load() as world: print(TABLE, TABLE_VERSION, world.parse('03-331 6005', 'NZ').region)\n" \
+            "print(len(phonenumbers.SUPPORTED_REGIONS), phonenumbers.is_valid_number(phonenumbers.parse('+6433316005')))"
+        ran = subprocess.run([sys.executable, "-c", program], env=env, capture_output=True, text=True)
+    check("no file", (ran.stdout, ran.stderr), (f"None {phonenumber_proved.TABLE_VERSION} NZ\n245 True\n", ""))
 
 
 def errors_are_values(world):
@@ -254,6 +293,85 @@ def short_rows(table, folder):
     return count
 
 
+def word(value):
+    """The word that rows have for a value, as FixedLine."""
+    return "".join(part.capitalize() for part in value.name.split("_"))
+
+
+def part(field):
+    return None if field == "-" else field[1:]
+
+
+def hint_in(field):
+    return None if field == "-" else field
+
+
+def made(world, rules, code, value, zeros, extension=None):
+    return PhoneNumber.from_parts(int(code), "0" * int(zeros) + value, extension).on(world).by(rules)
+
+
+def read_parts(number):
+    if number is None:
+        return "-"
+    texts = number.extension, number.carrier
+    told = number.code, number.source.name.lower(), number.national, *("-" if it is None else "=" + it for it in texts)
+    return "\t".join(map(str, told))
+
+
+def found_in(world, rules, hint, text):
+    found, out, last = world.find(text, hint_in(hint), rules=rules), "", 0
+    for it in found:
+        out, last = out + text[last : it.start] + "{" + text[it.start : it.end] + "}", it.end
+    return "\t".join([out + text[last:], *(it.number.e164 for it in found)])
+
+
+# The calls that rows ask, with how many fields each has behind its database.
+UTILITIES = {
+    "possible": (3, lambda world, rules, *parts: word(made(world, rules, *parts).possibility)),
+    "possible-text": (2, lambda world, rules, hint, text: word(world.possibility_of_text(text, hint_in(hint), rules))),
+    "same": (2, lambda world, rules, one, two: word(world.compare(one, two, rules))),
+    "dialled-from": (5, lambda world, rules, code, value, zeros, extension, region:
+                     "=" + made(world, rules, code, value, zeros, part(extension)).dialled_from(region)),
+    "example": (2, lambda world, rules, region, kind:
+                read_parts(world.example(region, next(it for it in Kind if word(it) == kind), rules))),
+    "regions": (0, lambda world, rules: "=" + " ".join(world.regions())),
+    "codes": (0, lambda world, rules: "=" + " ".join(map(str, world.codes()))),
+    "found": (2, found_in),
+}
+
+
+def utility_rows(folder):
+    """What is possible, alike, dialled, listed and found, by both rules."""
+    count, opened = 0, {}
+    cases = [(file, call, rules) for file in ("more.tsv", "rules.tsv", "found.tsv") for call in UTILITIES for rules in Rules]
+    for file, call, rules in cases:
+        fields, asked = UTILITIES[call]
+        for base, *row in rows(folder, file, call + ("-library" if rules == Rules.LIBRARY else "")):
+            args, wanted = [it.decode() for it in row[:fields]], row[fields].decode()
+            world = opened.get(base) or opened.setdefault(base, Database.load(folder / "databases" / (base.decode() + ".json")))
+            try:
+                told = asked(world, rules, *args)
+            except NoNumber as error:
+                told, wanted = f"error\t{error.status}", "\t".join(wanted.split("\t")[:2])
+            except (UnknownCode, UnknownRegion) as error:
+                told = type(error).__name__
+            check((call, base, rules.name, *args), told, wanted)
+            count += 1
+    for it in opened.values():
+        it.close()
+    return count
+
+
+def each_value_has_a_word():
+    """The words of the library for a set are the names of its values here, and each status has some."""
+    sets = [Kind, Source, phonenumber_proved.Possibility, phonenumber_proved.Sameness, phonenumber_proved.Cost]
+    for number, values in enumerate(sets):
+        told = [re.sub(r"_COST$|[-_]", "", _calls.words_of(it, number)).lower() for it in values]
+        check(values.__name__, told, [it.name.replace("_", "").lower() for it in values])
+    told = [status for status in range(64) if "status" not in _calls.words_of(status)]
+    check("statuses", told, [*range(8), *range(16, 36)])
+
+
 def prefix_rows(folder):
     count = 0
     for table, digits, wanted, _ in rows(folder, "prefixes.tsv", "prefix"):
@@ -295,17 +413,21 @@ def docstrings():
 def main(words):
     folder = Path(words[0]) if words else REPLAY
     with Database.load() as world, ShortNumbers.load() as table:
-        for case in (rules_are_the_callers, numbers_are_told, numbers_are_keys_of_tables, errors_are_values, one_thread_has_a_database):
+        for case in (rules_are_the_callers, numbers_are_told, numbers_are_keys_of_tables, numbers_come_from_parts,
+                     errors_are_values, one_thread_has_a_database):
             case(world)
         for case in (lone_surrogates_are_refused, what_is_no_region_is_refused, texts_are_str_or_bytes):
             case(world, table)
         long_texts()
+        no_file_is_needed()
+        each_value_has_a_word()
         count = [typed_rows(world, folder), short_rows(table, folder), prefix_rows(folder), docstrings()]
-        count.append(library_rows(world, folder))
-    check("rows", all(it > least for it, least in zip(count, (1000, 2000, 20, 20, 10_000))), True)
+        count += [library_rows(world, folder), utility_rows(folder)]
+    check("rows", all(it > least for it, least in zip(count, (1000, 2000, 20, 20, 10_000, 500))), True)
     check("py.typed", Path(phonenumber_proved.__file__).with_name("py.typed").exists(), True)
     check("version", re.fullmatch(r"\d+\.\d+\.\d+", phonenumber_proved.__version__) is not None, True)
-    print(f"rows: {count[0]} typed, {count[1]} short, {count[2]} of prefixes, {count[4]} read; {count[3]} examples")
+    print(f"rows: {count[0]} typed, {count[1]} short, {count[2]} of prefixes, {count[4]} read, {count[5]} of utilities; "
+          f"{count[3]} examples")
     print(f"python: {len(failed)} failed" if failed else "python: ok")
     return 1 if failed else 0
 

@@ -16,7 +16,7 @@ from pathlib import Path
 from phonenumber_proved import Database
 from phonenumber_proved import phonenumbers as names
 from phonenumber_proved.phonenumbers import NumberParseException as Refused
-from phonenumber_proved.phonenumbers import PhoneNumber, PhoneNumberFormat, PhoneNumberType, ValidationResult
+from phonenumber_proved.phonenumbers import Leniency, MatchType, PhoneNumber, PhoneNumberFormat, PhoneNumberType, ValidationResult
 
 # Text, region, the fields that are set, and the text in each format.
 READ = [
@@ -60,6 +60,24 @@ REFUSED = [
 
 # Text, region: whether it reaches emergency services, whether it is an emergency number.
 EMERGENCIES = [("911", "US", True, True), ("9116", "US", True, False), ("133", "CL", True, True), ("112", "ZZ", False, False)]
+
+# Two texts or numbers, and how like they are.
+MATCHES = [
+    ("+64 3 331 6005", "tel:+64-3-331-6005", MatchType.EXACT_MATCH), ("+64 3 331 6005", "03 331 6005", MatchType.NSN_MATCH),
+    ("03 331 6005", "+64 3 331 6005", MatchType.NSN_MATCH), ("+64 3 331 6005", PhoneNumber(64, 33316005), MatchType.EXACT_MATCH),
+    ("+64 3 331 6005", "+64 3 331 6005 ext. 12", MatchType.SHORT_NSN_MATCH), ("+64 3 331 6005", "331 6005", MatchType.SHORT_NSN_MATCH),
+    ("+64 3 331 6005 ext. 1", "+64 3 331 6005 ext. 2", MatchType.NO_MATCH), ("+64 3 331 6005", "+16502530000", MatchType.NO_MATCH),
+    ("331 6005", "3 331 6005", MatchType.SHORT_NSN_MATCH), ("331 6005", "331-6005", MatchType.NSN_MATCH),
+    ("call me", "+64 3 331 6005", MatchType.NOT_A_NUMBER), ("+64 3 331 6005", "call me", MatchType.NOT_A_NUMBER),
+    ("call me", "331 6005", MatchType.NOT_A_NUMBER), (PhoneNumber(800, 12345678), "12345678", MatchType.NOT_A_NUMBER),
+]
+
+# Text, region, leniency, and what is found.
+FOUND = [
+    ("Ring 03-331 6005, or +1 650 253 0000", "NZ", Leniency.VALID, [(5, "03-331 6005", 33316005), (21, "+1 650 253 0000", 6502530000)]),
+    ("Z\u00fcrich \U0001f4a9 +41 44 668 18 00", None, Leniency.VALID, [(9, "+41 44 668 18 00", 446681800)]),
+    ("+1 650 253 000", "US", Leniency.VALID, []), ("no number", "ZZ", Leniency.POSSIBLE, []), (None, "US", Leniency.VALID, []),
+]
 
 failed = []
 
@@ -115,6 +133,36 @@ def short_numbers_are_told():
     check("111", names.is_valid_short_number_for_region(PhoneNumber(64, 111), "US"), False)
 
 
+def numbers_are_compared_and_found():
+    for one, two, match in MATCHES:
+        check((one, two), MatchType.to_string(names.is_number_match(one, two)), MatchType.to_string(match))
+    for text, region, leniency, found in FOUND:
+        matcher = names.PhoneNumberMatcher(text, region, leniency)
+        check(text, [(it.start, it.raw_string, it.number.national_number) for it in matcher], found)
+        check(text, (matcher.has_next(), len(list(matcher))), (False, 0))
+    for wrong in (dict(leniency=2), dict(leniency=None), dict(max_tries=-1)):
+        try:
+            check(wrong, names.PhoneNumberMatcher("", None, **wrong), "a refusal")
+        except ValueError:
+            pass
+    check("tries", list(names.PhoneNumberMatcher("+64 3 331 6005", None, max_tries=0)), [])
+
+
+def regions_are_told():
+    told = names.country_code_for_valid_region("NZ"), names.is_nanpa_country("BS"), names.is_nanpa_country("NZ"), names.is_nanpa_country(None)
+    check("codes", told, (64, True, False, False))
+    check("prefixes", [names.ndd_prefix_for_region(it, True) for it in ("NZ", "us", "XX", None)], ["0", "1", None, None])
+    check("lists", (979 in names.supported_calling_codes(), 979 in names.COUNTRY_CODES_FOR_NON_GEO_REGIONS), (True, True))
+    check("lists", (64 in names.COUNTRY_CODES_FOR_NON_GEO_REGIONS, "NZ" in names.SUPPORTED_SHORT_REGIONS), (False, True))
+    check("digits", (names.normalize_digits_only("+\u0663a4"), names.normalize_digits_only("+\u0663a4", True)), ("34", "+3a4"))
+    for region in ("NZ", "US", "GB"):
+        number = names.example_number(region)
+        check(region, (names.is_valid_number(number), names.region_code_for_number(number)), (True, region))
+    check("example", (names.example_number("001"), names.example_number_for_type("NZ", PhoneNumberType.VOICEMAIL)), (None, None))
+    dialled = [names.format_out_of_country_calling_number(PhoneNumber(1, 6502530000), it) for it in ("US", "DE", "BS", "ZZ")]
+    check("dialled", dialled, ["1 (650) 253-0000", "00 1 650-253-0000", "1 (650) 253-0000", "+1 650-253-0000"])
+
+
 def numbers_are_data():
     number = PhoneNumber(64, 33316005)
     frozen = names.FrozenPhoneNumber(number)
@@ -157,7 +205,8 @@ def readme():
 
 
 def main():
-    for case in (numbers_are_read, numbers_are_told, short_numbers_are_told, numbers_are_data, threads_free_what_they_open, readme):
+    for case in (numbers_are_read, numbers_are_told, numbers_are_compared_and_found, regions_are_told, short_numbers_are_told,
+                 numbers_are_data, threads_free_what_they_open, readme):
         case()
     missing = [name for name in names.__all__ if not hasattr(names, name)]
     check("names", missing, [])

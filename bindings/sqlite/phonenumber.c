@@ -14,10 +14,6 @@ static void *zeroed(size_t size) {
 #define sql_forget(at) sqlite3_free(at)
 #include "sql_common.h"
 
-#ifndef PHONE_TABLE_PATH
-#define PHONE_TABLE_PATH "/usr/local/share/phonenumber-proved/world.json"
-#endif
-
 static pthread_once_t once = PTHREAD_ONCE_INIT;
 static pthread_key_t key;
 static int has_key;
@@ -40,7 +36,7 @@ static phone_handle *world_of_thread(sqlite3_context *context) {
     world = has_key ? malloc(sizeof *world) : NULL;
     if (!world) return sqlite3_result_error_nomem(context), NULL;
     *world = phone_closed();
-    if (!sql_open(path && *path ? path : PHONE_TABLE_PATH, world, why, sizeof why))
+    if (!sql_open(path ? path : "", world, why, sizeof why))
         sqlite3_result_error(context, why, -1);
     else if (pthread_setspecific(key, world)) sqlite3_result_error_nomem(context);
     else return world;

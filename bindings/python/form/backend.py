@@ -2,9 +2,7 @@
 
 from __future__ import annotations
 
-import json
 import unicodedata
-from pathlib import Path
 from typing import List, NamedTuple, Optional, Tuple, Union
 
 from phonenumber_proved import TABLE, Database, Mode, NoNumber, PhoneNumber
@@ -26,11 +24,10 @@ class Told(NamedTuple):
 class Backend:
     """The form's answers by a table of the world. A region is an id, as `NZ`, or `None`."""
 
-    def __init__(self, table: str = TABLE) -> None:
+    def __init__(self, table: Optional[str] = TABLE) -> None:
         self._world = Database.load(table)
-        records = json.loads(Path(table).read_text(encoding="utf-8"))
         #: The ids of the regions that one can choose.
-        self.regions: List[str] = sorted({it["id"] for it in records} - {"001"})
+        self.regions: List[str] = self._world.regions()
 
     def typed(self, region: Optional[str], text: str, caret: int) -> Optional[Tuple[str, int]]:
         """What the field shows of a text that is typed, and where the caret stands in it.

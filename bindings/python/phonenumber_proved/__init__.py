@@ -18,17 +18,19 @@
 A `Database` is used on the thread that made it, by one call at a time; so are `ShortNumbers` and
 `Prefixes`. Each database has a table of its own; that of the world takes some 57 MB. `close`, or
 `with`, frees it. A text is `str` or UTF-8 in `bytes`; a lone surrogate, or bytes that aren't UTF-8,
-are refused. PHONE_LIBRARY names the shared library, else `libphone.so` beside these files is taken,
-and else the one that `make` leaves in bindings/c/out. PHONE_TABLE names another table of the world.
+are refused. PHONE_LIBRARY names the shared library, else `libphone.so` beside these files is
+taken, and else the one that `make` leaves in bindings/c/out. The table of the world is a file
+beside these, or else the one in the library; PHONE_TABLE names another file.
 The module `phonenumber_proved.phonenumbers` has the names of the package `phonenumbers`.
 """
 
 from ._calls import is_viable
-from .database import Database, Typing
+from .database import Database, Found, Leniency, Sameness
 from .errors import (
     BadDatabase, BadPrefixes, Closed, Error, NoNumber, UnknownCode, UnknownRegion,
 )
-from .number import Kind, Mode, PhoneNumber, Rules, Source
+from .field import Typing
+from .number import Kind, Mode, PhoneNumber, Possibility, Rules, Source
 from .prefixes import Prefixes
 from .short import Cost, ShortFacts, ShortNumbers
 from .tables import CARRIERS_TABLE, SHORT_TABLE, TABLE, TABLE_VERSION, TIME_ZONES_TABLE
@@ -43,13 +45,17 @@ __all__ = [
     "Cost",
     "Database",
     "Error",
+    "Found",
     "Kind",
+    "Leniency",
     "Mode",
     "NoNumber",
     "PhoneNumber",
+    "Possibility",
     "Prefixes",
     "Rules",
     "SHORT_TABLE",
+    "Sameness",
     "ShortFacts",
     "ShortNumbers",
     "Source",

@@ -1,7 +1,6 @@
 """The calls of `phone.h` by ctypes, and how texts go to them and come back.
 
-Written by hand: nothing compares the declarations with the header, but that the library's version is
-asked.
+Written by hand; in the repository bindings/declarations.py compares them with the header.
 """
 
 from __future__ import annotations
@@ -9,15 +8,25 @@ from __future__ import annotations
 import ctypes
 import os
 from pathlib import Path
-from typing import Callable, Union
+from typing import Any, Callable, NoReturn, Union
 
-from .errors import refuse
+from .errors import Closed, Error, NoNumber, UnknownCode, UnknownRegion
 
 #: The version of the calls that is declared here.
 VERSION = 2
 
 #: The statuses that are looked at; `phone.h` has all.
-OK, MEMORY, IS_CLOSED, TOO_SMALL, NOT_UTF8, NO_REGION, NO_PREFIX = 0, 7, 16, 17, 18, 19, 30
+OK, MEMORY, IS_CLOSED, TOO_SMALL, NOT_UTF8, NO_REGION, UNKNOWN_CODE = 0, 7, 16, 17, 18, 19, 20
+NO_PREFIX, NO_EXAMPLE, NO_TERRITORY = 30, 32, 34
+
+#: The sets of words that are looked at: of the statuses of all calls but `phone_open`, and of those.
+STATUS_WORDS, OPEN_STATUS_WORDS = 5, 6
+
+#: The errors of statuses that any call may give; 1 to 6 are those of a text that is no number.
+_ERRORS = {
+    IS_CLOSED: Closed, NOT_UTF8: NoNumber, NO_REGION: UnknownRegion, UNKNOWN_CODE: UnknownCode,
+    NO_TERRITORY: UnknownRegion, **dict.fromkeys(range(1, 7), NoNumber),
+}
 
 Text = Union[str, bytes, bytearray, memoryview]
 
@@ -68,6 +77,12 @@ class Facts(ctypes.Structure):
     ]
 
 
+class Place(ctypes.Structure):
+    """Where a number stands in a text, in bytes."""
+
+    _fields_ = [("start", ctypes.c_size_t), ("end", ctypes.c_size_t)]
+
+
 def _declare(lib: ctypes.CDLL) -> None:
     """Gives each call its types."""
     size, u8, u32 = ctypes.c_size_t, ctypes.c_uint8, ctypes.c_uint32
@@ -77,12 +92,21 @@ def _declare(lib: ctypes.CDLL) -> None:
     out = [ctypes.c_char_p, size, count]
     calls = {
         "open": [*text, handle],
+        "open_world": [handle],
         "report_by": [handle, u32, *text, *text, *out],
         "parse_by": [handle, u32, *text, *text, number, *out],
         "format_by": [handle, u32, number, *text, u32, *out],
         "kind_by": [handle, u32, number, ctypes.POINTER(u32)],
         "region_by": [handle, u32, number, *out],
         "is_valid_by": [handle, u32, number, ctypes.POINTER(u8)],
+        "possibility_by": [handle, u32, number, ctypes.POINTER(u32)],
+        "text_possibility_by": [handle, u32, *text, *text, ctypes.POINTER(u32)],
+        "compare_by": [handle, u32, *text, *text, ctypes.POINTER(u32)],
+        "dialled_from": [handle, *text, number, *text, *out],
+        "example_by": [handle, u32, *text, u32, number, *out],
+        "regions": [handle, *out],
+        "codes": [handle, ctypes.POINTER(ctypes.c_uint16), size, count],
+        "find_by": [handle, u32, *text, u32, *text, ctypes.POINTER(Place), size, count],
         "typing_shown": [handle, *text, *text, *out],
         "typing_caret": [handle, *text, *text, size, count],
         "short": [handle, *text, *text, ctypes.POINTER(Facts)],
@@ -91,10 +115,13 @@ def _declare(lib: ctypes.CDLL) -> None:
         "key": [number, *out],
         "is_viable": [*text, ctypes.POINTER(u8)],
         "refusal_words": [u32, *out],
+        "word": [u32, u32, *out],
+        "table_version": out,
     }
     for name, types in calls.items():
         call = getattr(lib, "phone_" + name)
         call.argtypes, call.restype = types, u32
+    lib.phone_world_text.argtypes, lib.phone_world_text.restype = [count], ctypes.c_void_p
     lib.phone_close.argtypes, lib.phone_close.restype = [handle], None
     lib.phone_prefixes_close.argtypes, lib.phone_prefixes_close.restype = [prefixes], None
 
@@ -140,21 +167,51 @@ def hint_of(hint: Union[str, bytes, None]) -> bytes:
     return bytes_of(hint) or refuse(NO_REGION, hint)
 
 
-def written(call: Callable[..., int], room: int = 64) -> bytes:
-    """What a call writes: it is given a buffer, its length, and where the answer's length goes."""
+def written(
+    call: Callable[..., int], room: int = 64, region: Union[str, bytes, None] = None
+) -> bytes:
+    """What a call writes: it is given a buffer, its length, and where the answer's length goes.
+
+    The region is the one that it is told of.
+    """
     while True:
         out, wrote = ctypes.create_string_buffer(room), ctypes.c_size_t()
         status = call(out, room, ctypes.byref(wrote))
         if status == OK:
             return out.raw[: wrote.value]
         if status != TOO_SMALL:
-            refuse(status)
+            refuse(status, region)
         room = wrote.value
 
 
-def refusal_words(number: int) -> str:
-    """The words of the refusal of a text that has this number, 1 to 7."""
-    return written(lambda *out: lib.phone_refusal_words(number, *out)).decode()
+def items(
+    kind: Any, room: int, call: Callable[..., int], region: Union[str, bytes, None] = None
+) -> Any:
+    """What a call writes that counts items of a kind, and not bytes."""
+    while True:
+        out, wrote = (kind * room)(), ctypes.c_size_t()
+        status = call(out, room, ctypes.byref(wrote))
+        if status == OK:
+            return out[: wrote.value]
+        if status != TOO_SMALL:
+            refuse(status, region)
+        room = wrote.value
+
+
+def words_of(status: int, among: int = STATUS_WORDS) -> str:
+    """The words of a status."""
+    out, wrote = ctypes.create_string_buffer(128), ctypes.c_size_t()
+    if lib.phone_word(among, status, out, len(out), ctypes.byref(wrote)) != OK:
+        return f"status {status} of the library"
+    return out.raw[: wrote.value].decode()
+
+
+def refuse(status: int, region: Union[str, bytes, None] = None) -> NoReturn:
+    """Raises the error of a status."""
+    if status == MEMORY:
+        raise MemoryError
+    words = f"no region's id: {region!a}" if status == NO_REGION else words_of(status)
+    raise _ERRORS.get(status, Error)(status, words)
 
 
 def is_viable(text: Text) -> bool:

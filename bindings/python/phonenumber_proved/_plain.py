@@ -4,6 +4,8 @@ from __future__ import annotations
 
 from typing import Any, Optional, Tuple
 
+from .number import PhoneNumber as _Read
+
 
 class _Names:
     """Constants that have numbers."""
@@ -65,6 +67,16 @@ class ValidationResult(_Names):
     TOO_LONG = 3
     IS_POSSIBLE_LOCAL_ONLY = 4
     INVALID_LENGTH = 5
+
+
+class MatchType(_Names):
+    """How like two numbers are."""
+
+    NOT_A_NUMBER = 0
+    NO_MATCH = 1
+    SHORT_NSN_MATCH = 2
+    NSN_MATCH = 3
+    EXACT_MATCH = 4
 
 
 class ShortNumberCost(_Names):
@@ -169,6 +181,31 @@ class PhoneNumber:
         told = vars(self)
         fields = ", ".join(f"{name}={it!r}" for name, it in told.items() if name != "raw_input")
         return f"{type(self).__name__}({fields})"
+
+
+def leading_zeros(numobj: PhoneNumber) -> int:
+    """How many leading zeros a number has."""
+    zeros = numobj.number_of_leading_zeros
+    return 0 if not numobj.italian_leading_zero else 1 if zeros is None else max(zeros, 0)
+
+
+def national_significant_number(numobj: PhoneNumber) -> str:
+    """The digits of the national number, with its leading zeros."""
+    return "0" * leading_zeros(numobj) + str(numobj.national_number)
+
+
+def plain_number(read: _Read, numobj: Optional[PhoneNumber] = None) -> PhoneNumber:
+    """A number that was read, in the fields of another or of a new one."""
+    it = PhoneNumber() if numobj is None else numobj
+    it.country_code, it.national_number = read.code, int(read.national)
+    zeros = len(read.national) - len(str(it.national_number))
+    if zeros:
+        it.italian_leading_zero = True
+    if zeros > 1:
+        it.number_of_leading_zeros = zeros
+    if read.extension:
+        it.extension = read.extension
+    return it
 
 
 class FrozenPhoneNumber(PhoneNumber):

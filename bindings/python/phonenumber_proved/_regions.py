@@ -10,7 +10,7 @@ from typing import Any, Dict, List, Optional, Tuple
 
 from .database import Database
 from .short import ShortNumbers
-from .tables import TABLE
+from .tables import SHORT_TABLE, table_text
 
 #: The region of a code that is no region's, as 800, and that of no code.
 NO_REGION, UNKNOWN = "001", "ZZ"
@@ -35,7 +35,7 @@ def short_numbers() -> ShortNumbers:
 @functools.lru_cache(maxsize=None)
 def records() -> Dict[Tuple[int, str], Dict[str, Any]]:
     """The records of the table, by calling code and region."""
-    table = json.loads(Path(TABLE).read_bytes())
+    table = json.loads(table_text())
     return {(it["country_code"], it["id"]): it for it in table}
 
 
@@ -55,10 +55,17 @@ def code_by_region() -> Dict[str, int]:
     return {region: code for code, region in records() if region != NO_REGION}
 
 
-def main_record(code: Optional[int]) -> Optional[Dict[str, Any]]:
-    """The record of a code's main region; none where the table has no such code."""
-    regions = regions_by_code().get(code or 0)
-    return records()[code or 0, regions[0]] if regions else None
+def record_of(region: Optional[str]) -> Optional[Dict[str, Any]]:
+    """The record of a region; none where the table has no such region."""
+    return records().get((code_by_region().get(region or "", 0), region or ""))
+
+
+@functools.lru_cache(maxsize=None)
+def short_regions() -> Tuple[str, ...]:
+    """The regions of the table of short numbers; none where that isn't there."""
+    if not Path(SHORT_TABLE).is_file():
+        return ()
+    return tuple(it["id"] for it in json.loads(Path(SHORT_TABLE).read_bytes()))
 
 
 def alone(code: int, region: str) -> Optional[Database]:

@@ -1,31 +1,69 @@
-"""A database, and a number as it is typed under it."""
+"""A database: what is asked of texts."""
 
 from __future__ import annotations
 
 import ctypes
-from typing import NoReturn, Optional
+import enum
+from typing import Any, List, NamedTuple, Optional
 
 from ._calls import (
-    MEMORY, NO_REGION, OK, TOO_SMALL, Handle, Number, Text, bytes_of, hint_of, lib, refusal_words,
-    written,
+    MEMORY, NO_EXAMPLE, OK, OPEN_STATUS_WORDS, Handle, Number, Place, Text, bytes_of, hint_of,
+    items, lib, refuse, words_of, written,
 )
-from .errors import DATABASE_WORDS, BadDatabase, NoNumber, UnknownRegion, refuse
+from .errors import BadDatabase
+from .field import Typing
 from .held import Held, PathText
-from .number import PhoneNumber, Rules
+from .number import Kind, PhoneNumber, Possibility, Rules
 from .tables import TABLE
 
-#: The statuses of a text that is no number.
-_NO_NUMBER = range(1, 7)
+
+class Sameness(enum.IntEnum):
+    """How like two numbers are."""
+
+    EXACT = 0
+    """One calling code, one national number, and one extension or none."""
+    NUMBER = 1
+    """One calling code and one national number; the extensions differ."""
+    NATIONAL = 2
+    """One of them has no calling code, and the national numbers are one, leading zeros aside."""
+    END = 3
+    """The national number of one is an end of the other's, of seven digits at least."""
+    DIFFERENT = 4
+    """None of these."""
+
+
+class Leniency(enum.IntEnum):
+    """Which pieces of a text are found."""
+
+    POSSIBLE = 0
+    """Those that are read as a number of which the count of digits is possible."""
+    VALID = 1
+    """Those that are read as a valid number."""
+
+
+class Found(NamedTuple):
+    """A number in a text."""
+
+    start: int
+    """Where it begins: in characters of a `str`, in bytes of `bytes`."""
+    end: int
+    """Before which place it ends."""
+    number: PhoneNumber
+    """The number."""
 
 
 def open_records(text: Text) -> Handle:
     """The handle of the records that a JSON text has; `BadDatabase` where it is none."""
     data, handle = bytes_of(text), Handle()
-    status = lib.phone_open(data, len(data), ctypes.byref(handle))
+    return _opened(handle, lib.phone_open(data, len(data), ctypes.byref(handle)))
+
+
+def _opened(handle: Handle, status: int) -> Handle:
+    """The handle, where the status says that it is open."""
     if status == MEMORY:
         raise MemoryError
     if status != OK:
-        raise BadDatabase(status, DATABASE_WORDS.get(status, f"status {status}"))
+        raise BadDatabase(status, words_of(status, OPEN_STATUS_WORDS))
     return handle
 
 
@@ -41,9 +79,16 @@ class Database(Held):
         self._hold(open_records(text))
 
     @classmethod
-    def load(cls, path: PathText = TABLE) -> "Database":
+    def load(cls, path: Optional[PathText] = TABLE) -> "Database":
         """Opens the database that a file is; without a path, the table of the world."""
-        return super().load(path)
+        return cls.world() if path is None else super().load(path)
+
+    @classmethod
+    def world(cls) -> "Database":
+        """Opens the table of the world that stands in the library, and needs no file."""
+        database, handle = cls.__new__(cls), Handle()
+        database._hold(_opened(handle, lib.phone_open_world(ctypes.byref(handle))))
+        return database
 
     def parse(
         self, text: Text, hint: Optional[str] = None, rules: Rules = Rules.LIBRARY
@@ -58,37 +103,29 @@ class Database(Held):
         LIBRARY +442079460018 True
         CRATE +4402079460018 False
         """
-        data, region, rules = bytes_of(text), hint_of(hint), Rules(rules)
-        number, room, handle = Number(), 64, self._borrowed()
-        while True:
-            texts, wrote = ctypes.create_string_buffer(room), ctypes.c_size_t()
-            status = lib.phone_parse_by(
-                handle, rules, region, len(region), data, len(data), ctypes.byref(number), texts,
-                room, ctypes.byref(wrote),
-            )
-            if status == OK:
-                return PhoneNumber(number, texts.raw[: wrote.value], rules, self)
-            if status in _NO_NUMBER:
-                raise NoNumber(status, refusal_words(status))
-            if status != TOO_SMALL:
-                refuse(status, hint)
-            room = wrote.value
+        data, region, by = bytes_of(text), hint_of(hint), Rules(rules)
+        number, handle = Number(), self._borrowed()
+        texts = written(
+            lambda *out: lib.phone_parse_by(
+                handle, by, region, len(region), data, len(data), ctypes.byref(number), *out
+            ),
+            region=hint,
+        )
+        return PhoneNumber(number, texts, by, self)
 
     def report(
         self, line: Text, hint: Optional[str] = None, rules: Rules = Rules.LIBRARY
     ) -> str:
         """The report line of a line, without a line feed."""
-        data, region, by = bytes_of(line), hint_of(hint), int(Rules(rules))
+        data, region, by = bytes_of(line), hint_of(hint), Rules(rules)
         handle = self._borrowed()
-        try:
-            return written(
-                lambda *out: lib.phone_report_by(
-                    handle, by, region, len(region), data, len(data), *out
-                ),
-                512,
-            ).decode()
-        except UnknownRegion:
-            refuse(NO_REGION, hint)
+        return written(
+            lambda *out: lib.phone_report_by(
+                handle, by, region, len(region), data, len(data), *out
+            ),
+            512,
+            hint,
+        ).decode()
 
     def typed(self, keys: Text, hint: Optional[str] = None) -> str:
         """What is shown of a number while it is typed, once these keys are.
@@ -102,14 +139,12 @@ class Database(Held):
         ('03 331 60', '+64 3 331 6005')
         """
         data, region, handle = bytes_of(keys), hint_of(hint), self._borrowed()
-        try:
-            return written(
-                lambda *out: lib.phone_typing_shown(
-                    handle, region, len(region), data, len(data), *out
-                )
-            ).decode()
-        except UnknownRegion:
-            refuse(NO_REGION, hint)
+        return written(
+            lambda *out: lib.phone_typing_shown(
+                handle, region, len(region), data, len(data), *out
+            ),
+            region=hint,
+        ).decode()
 
     def caret(self, keys: Text, n: int, hint: Optional[str] = None) -> int:
         """After how many characters of what `typed` shows of these keys the n-th key stands.
@@ -130,61 +165,102 @@ class Database(Held):
         """A field in which nothing is typed yet."""
         return Typing(self, hint)
 
+    def possibility_of_text(
+        self, text: Text, hint: Optional[str] = None, rules: Rules = Rules.LIBRARY
+    ) -> Possibility:
+        """Whether a text, which may not be whole yet, has a possible count of digits.
 
-class Typing:
-    """A number as it is typed: the keys so far, and what is shown of them.
-
-    >>> from phonenumber_proved import Database
-    >>> with Database.load() as world:
-    ...     field = world.typing("US")
-    ...     print([field.push(key) for key in "6502530"])
-    ...     print(field.back(), field.keys, field.caret(4))
-    ['6', '65', '650', '650-2', '650-25', '650-253', '650-2530']
-    650-253 650253 5
-    """
-
-    def __init__(self, database: Database, hint: Optional[str] = None) -> None:
-        self._database, self._hint = database, hint
-        self._show("")
-
-    @property
-    def keys(self) -> str:
-        """The keys so far: digits of ASCII, and perhaps a plus sign before them."""
-        return self._keys
-
-    @property
-    def shown(self) -> str:
-        """What is shown of them."""
-        return self._shown
-
-    def push(self, text: str) -> str:
-        """Types a character, or several, as one pastes them; returns what is shown.
-
-        A digit of any script is the key of its value, and a plus sign is one before all others; any
-        other character changes nothing. Where the call is refused, the field stays as it was.
+        >>> from phonenumber_proved import Database
+        >>> with Database.load() as world:
+        ...     world.possibility_of_text("+1 650 253 000").name
+        'TOO_SHORT'
         """
-        return self._show(self._keys + text)
+        data, region, told = bytes_of(text), hint_of(hint), ctypes.c_uint32()
+        handle, by, at = self._borrowed(), Rules(rules), ctypes.byref(told)
+        status = lib.phone_text_possibility_by(
+            handle, by, region, len(region), data, len(data), at
+        )
+        return Possibility(told.value) if status == OK else refuse(status, hint)
 
-    def back(self) -> str:
-        """Takes the last key away, where there is one; returns what is shown."""
-        return self._show(self._keys[:-1])
+    def compare(self, first: Text, second: Text, rules: Rules = Rules.LIBRARY) -> Sameness:
+        """How like the numbers of two texts are, each perhaps without its calling code.
 
-    def clear(self) -> None:
-        """Takes all keys away."""
-        self._keys = self._shown = ""
-
-    def caret(self, n: int) -> int:
-        """After how many characters of what is shown the n-th key stands, counted from 1.
-
-        0 for no key, and all characters from the last key on.
+        >>> from phonenumber_proved import Database
+        >>> with Database.load() as world:
+        ...     world.compare("+64 3 331 6005", "tel:+64-3-331-6005").name
+        ...     world.compare("+64 3 331 6005", "331 6005").name
+        'EXACT'
+        'END'
         """
-        return self._database.caret(self._keys, n, self._hint)
+        one, two, told = bytes_of(first), bytes_of(second), ctypes.c_uint32()
+        handle, by, at = self._borrowed(), Rules(rules), ctypes.byref(told)
+        status = lib.phone_compare_by(handle, by, one, len(one), two, len(two), at)
+        return Sameness(told.value) if status == OK else refuse(status)
 
-    def _show(self, keys: str) -> str:
-        """Shows keys. What is shown is these, with marks between them."""
-        self._shown = self._database.typed(keys, self._hint)
-        self._keys = "".join(c for c in self._shown if c == "+" or c.isdigit())
-        return self._shown
+    def find(
+        self, text: Text, hint: Optional[str] = None, leniency: Leniency = Leniency.VALID,
+        rules: Rules = Rules.LIBRARY,
+    ) -> List[Found]:
+        """The numbers that stand in a text, from its front on; they don't overlap.
 
-    def __reduce_ex__(self, protocol: object) -> NoReturn:
-        raise TypeError("a Typing is neither copied nor pickled")
+        >>> from phonenumber_proved import Database
+        >>> with Database.load() as world:
+        ...     world.find("Ring 03-331 6005 today", "NZ")
+        [Found(start=5, end=16, number=<PhoneNumber +6433316005>)]
+        """
+        data, region = bytes_of(text), hint_of(hint)
+        handle, by, level = self._borrowed(), Rules(rules), Leniency(leniency)
+        places = items(
+            Place, 8, lambda *out: lib.phone_find_by(
+                handle, by, region, len(region), level, data, len(data), *out
+            ), hint,
+        )
+        found, last, end = [], 0, 0
+        for it in places:
+            piece, between = data[it.start : it.end], data[last : it.start]
+            if isinstance(text, str):
+                start = end + len(between.decode())
+                last, end = it.end, start + len(piece.decode())
+            else:
+                start, end = it.start, it.end
+            found.append(Found(start, end, self.parse(piece, hint, by)))
+        return found
+
+    def example(
+        self, region: str, kind: Kind, rules: Rules = Rules.LIBRARY
+    ) -> Optional[PhoneNumber]:
+        """The example number of a region and a kind; `None` where the database has none.
+
+        >>> from phonenumber_proved import Database, Kind
+        >>> with Database.load() as world:
+        ...     world.example("NZ", Kind.MOBILE).kind.name, world.example("NZ", Kind.UNKNOWN)
+        ('MOBILE', None)
+        """
+        at, number, handle, by = hint_of(region or ""), Number(), self._borrowed(), Rules(rules)
+        is_there, of_kind = [], Kind(kind)
+
+        def call(*out: Any) -> int:
+            into = ctypes.byref(number)
+            status: int = lib.phone_example_by(handle, by, at, len(at), of_kind, into, *out)
+            is_there.append(status != NO_EXAMPLE)
+            return status if is_there[-1] else OK
+
+        texts = written(call, region=region)
+        return PhoneNumber(number, texts, by, self) if is_there[-1] else None
+
+    def regions(self) -> List[str]:
+        """The ids of the database's regions, by the alphabet."""
+        handle = self._borrowed()
+        ids = written(lambda *out: lib.phone_regions(handle, *out), 512).decode()
+        return [ids[at : at + 2] for at in range(0, len(ids), 2)]
+
+    def codes(self) -> List[int]:
+        """The calling codes of the database, ascending.
+
+        >>> from phonenumber_proved import Database
+        >>> with Database.load() as world:
+        ...     world.regions()[:3], world.codes()[:3]
+        (['AC', 'AD', 'AE'], [1, 7, 20])
+        """
+        handle = self._borrowed()
+        return list(items(ctypes.c_uint16, 256, lambda *out: lib.phone_codes(handle, *out)))

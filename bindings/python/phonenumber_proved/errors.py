@@ -3,7 +3,7 @@
 from __future__ import annotations
 
 import functools
-from typing import Any, NoReturn, Tuple, Union
+from typing import Any, Tuple
 
 
 @functools.total_ordering
@@ -58,43 +58,8 @@ class UnknownCode(Error):
 
 
 class UnknownRegion(Error):
-    """A hint is no region's id."""
+    """A region's id is none, or the database has no territory of it."""
 
 
 class Closed(Error):
     """The database or the table was closed, or a number has none."""
-
-
-#: The words of a database's refusal, by status.
-DATABASE_WORDS = {
-    1: "a record lacks a value that it must have",
-    2: "a record has a key that it may not have",
-    3: "malformed JSON",
-    4: "a value is of the wrong kind",
-    5: "a text is no pattern",
-    18: "not UTF-8",
-}
-
-#: The words of a line that is no entry of a table of prefixes, by status.
-LINE_WORDS = {
-    25: "the line is empty",
-    26: "the line has no tab",
-    27: "the prefix isn't 1 to 15 digits",
-    28: "the text isn't UTF-8",
-    29: "the prefix stands in an earlier line",
-}
-
-
-def refuse(status: int, hint: Union[str, bytes, None] = None) -> NoReturn:
-    """Raises the error of a status that any call may give."""
-    if status == 7:
-        raise MemoryError
-    if status == 16:
-        raise Closed(status, "closed")
-    if status == 18:
-        raise NoNumber(status, "not UTF-8")
-    if status == 19:
-        raise UnknownRegion(status, f"no region's id: {hint!a}")
-    if status == 20:
-        raise UnknownCode(status, "unknown calling code")
-    raise Error(status, f"status {status} of the library")

@@ -7,8 +7,8 @@ import enum
 import functools
 from typing import TYPE_CHECKING, Any, Optional, Tuple
 
-from ._calls import IS_CLOSED, OK, Number, Part, lib, written
-from .errors import Closed, refuse
+from ._calls import IS_CLOSED, OK, Number, Part, hint_of, lib, refuse, written
+from .errors import Closed
 
 if TYPE_CHECKING:
     from .database import Database
@@ -63,6 +63,23 @@ class Kind(enum.IntEnum):
     UNKNOWN = 16
 
 
+class Possibility(enum.IntEnum):
+    """What the count of a number's digits says of it."""
+
+    POSSIBLE = 0
+    """Such numbers have this many digits."""
+    POSSIBLE_LOCALLY = 1
+    """This many digits suffice where the number is dialled inside its area."""
+    TOO_SHORT = 2
+    """Each such number has more digits: while one is typed, go on."""
+    TOO_LONG = 3
+    """Each such number has fewer digits."""
+    WRONG_LENGTH = 4
+    """Some have fewer digits and some more, or no length is listed."""
+    UNKNOWN_CODE = 5
+    """No territory has the calling code."""
+
+
 @functools.total_ordering
 class PhoneNumber:
     """A phone number that a database read. It never changes, and asks its database.
@@ -82,6 +99,31 @@ class PhoneNumber:
         """What a database makes of a text by `parse`."""
         self._number, self._texts = number, texts
         self._rules, self._database = rules, database
+
+    @classmethod
+    def from_parts(
+        cls, code: int, national: str, extension: Optional[str] = None,
+        carrier: Optional[str] = None, source: Source = Source.PLUS,
+    ) -> "PhoneNumber":
+        """The number of a calling code and of a national number's digits, with its leading zeros.
+
+        No database is asked whether there is such a number: `on` gives it one. `ValueError` where
+        a part is none: a code of 2^16 or more, a national number that isn't ASCII digits, whose
+        value is 2^56 or more, or that has more than 255 leading zeros, a text without UTF-8.
+
+        >>> from phonenumber_proved import PhoneNumber
+        >>> number = PhoneNumber.from_parts(39, "0236618300", extension="7")
+        >>> number.e164, number.extension
+        ('+390236618300', '7')
+        """
+        value = int(national) if national.isascii() and national.isdecimal() else -1
+        zeros = len(national) - len(str(value))
+        if value < 0 or value >> 56 or zeros > 255 or not 0 <= code < 1 << 16:
+            raise ValueError(f"no phone number has the parts {code!r} and {national!a}")
+        try:
+            return _again(value, code, Source(source), zeros, extension, carrier, Rules.LIBRARY)
+        except UnicodeEncodeError:
+            raise ValueError("a part of the number is not UTF-8") from None
 
     @property
     def code(self) -> int:
@@ -158,6 +200,32 @@ class PhoneNumber:
         number, answer = ctypes.byref(self._number), ctypes.byref(told)
         status = lib.phone_is_valid_by(self._borrowed(), self._rules, number, answer)
         return told.value == 1 if status == OK else refuse(status)
+
+    @property
+    def possibility(self) -> Possibility:
+        """Whether the count of its digits is possible."""
+        told = ctypes.c_uint32()
+        number, answer = ctypes.byref(self._number), ctypes.byref(told)
+        status = lib.phone_possibility_by(self._borrowed(), self._rules, number, answer)
+        return Possibility(told.value) if status == OK else refuse(status)
+
+    def dialled_from(self, region: str) -> str:
+        """How it is dialled from a region: `UnknownRegion` where the database has none of that id.
+
+        >>> from phonenumber_proved import Database
+        >>> with Database.load() as world:
+        ...     number = world.parse("03-331 6005", "NZ")
+        ...     number.dialled_from("DE"), number.dialled_from("NZ")
+        ('00 64 3 331 6005', '03 331 6005')
+        """
+        at, number, texts = hint_of(region or ""), ctypes.byref(self._number), self._texts
+        handle = self._borrowed()
+        return written(
+            lambda *out: lib.phone_dialled_from(
+                handle, at, len(at), number, texts, len(texts), *out
+            ),
+            region=region,
+        ).decode()
 
     def _borrowed(self) -> Any:
         if self._database is None:

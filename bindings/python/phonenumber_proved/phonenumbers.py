@@ -11,52 +11,64 @@ A program that uses no others changes its import alone:
     >>> phonenumbers.is_valid_number(number), phonenumbers.region_code_for_number(number)
     (True, 'GB')
 
-What is read, printed and told of kind, region, validity and short numbers is what the library's
-calls answer, by libphonenumber's rules. Whether the count of digits is possible is told by the
-lengths of the table; that, and all that is of regions alone, is Python, of which nothing is proved.
-Each thread has a table of its own, of some 57 MB, which its first call opens.
+What is read, printed, found in texts and told of kind, region, validity, count of digits and short
+numbers is what the library's calls answer, by libphonenumber's rules. What is of regions alone is
+Python over the table, of which nothing is proved. Each thread has a table of its own, of some 57
+MB, which its first call opens.
 
 An unknown region is none, as there. A national number of 2^56 or more, as some of 17 digits are,
 is too long. Where versions of libphonenumber differ, the rules are a newer one's: a text with
 `;phone-context=1` is no number. `AsYouTypeFormatter` shows what `Database.typed` does: unlike
 there, keys that begin with a national or an international prefix often stay without marks until
-the number is whole.
+the number is whole. `PhoneNumberMatcher` finds what `Database.find` does, which guesses less.
 """
 
 from __future__ import annotations
 
-from typing import Optional, Tuple, Union
+from typing import Optional, Union
 
 from . import _regions
-from ._plain import (
-    CountryCodeSource, FrozenPhoneNumber, NumberParseException, PhoneNumber, PhoneNumberFormat,
-    PhoneNumberType, ShortNumberCost, ValidationResult,
+from ._matches import Leniency, PhoneNumberMatch, PhoneNumberMatcher
+from ._of_regions import (
+    COUNTRY_CODE_TO_REGION_CODE, COUNTRY_CODES_FOR_NON_GEO_REGIONS, REGION_CODE_FOR_NON_GEO_ENTITY,
+    SUPPORTED_REGIONS, SUPPORTED_SHORT_REGIONS, UNKNOWN_REGION, country_code_for_region,
+    country_code_for_valid_region, is_mobile_number_portable_region, is_nanpa_country,
+    ndd_prefix_for_region, normalize_digits_only, region_code_for_country_code,
+    region_codes_for_country_code, supported_calling_codes,
 )
-from .errors import NoNumber, UnknownCode, UnknownRegion
-from .number import Kind, Mode, Rules, Source, _again
+from ._plain import (
+    CountryCodeSource, FrozenPhoneNumber, MatchType, NumberParseException, PhoneNumber,
+    PhoneNumberFormat, PhoneNumberType, ShortNumberCost, ValidationResult, leading_zeros,
+    national_significant_number, plain_number,
+)
+from ._shorts import (
+    connects_to_emergency_number, expected_cost, expected_cost_for_region, is_carrier_specific,
+    is_carrier_specific_for_region, is_emergency_number, is_possible_short_number,
+    is_possible_short_number_for_region, is_valid_short_number, is_valid_short_number_for_region,
+)
+from .database import Sameness
+from .errors import NoNumber, UnknownCode
+from .number import Kind, Mode, Possibility, Rules, Source, _again
 from .number import PhoneNumber as _Read
-from .short import ShortFacts
 
 __all__ = [
-    "AsYouTypeFormatter", "COUNTRY_CODE_TO_REGION_CODE", "CountryCodeSource", "FrozenPhoneNumber",
-    "NumberParseException", "PhoneNumber", "PhoneNumberFormat", "PhoneNumberType",
-    "REGION_CODE_FOR_NON_GEO_ENTITY", "SUPPORTED_REGIONS", "ShortNumberCost", "UNKNOWN_REGION",
-    "ValidationResult", "connects_to_emergency_number", "country_code_for_region",
-    "expected_cost_for_region", "format_number", "is_carrier_specific_for_region",
-    "is_emergency_number", "is_possible_number", "is_possible_number_string",
-    "is_possible_number_with_reason", "is_possible_short_number_for_region", "is_valid_number",
-    "is_valid_number_for_region", "is_valid_short_number_for_region", "national_significant_number",
-    "number_type", "parse", "region_code_for_country_code", "region_code_for_number",
-    "region_codes_for_country_code",
+    "AsYouTypeFormatter", "COUNTRY_CODES_FOR_NON_GEO_REGIONS", "COUNTRY_CODE_TO_REGION_CODE",
+    "CountryCodeSource", "FrozenPhoneNumber", "Leniency", "MatchType", "NumberParseException",
+    "PhoneNumber", "PhoneNumberFormat", "PhoneNumberMatch", "PhoneNumberMatcher",
+    "PhoneNumberType", "REGION_CODE_FOR_NON_GEO_ENTITY", "SUPPORTED_REGIONS",
+    "SUPPORTED_SHORT_REGIONS", "ShortNumberCost", "UNKNOWN_REGION", "ValidationResult",
+    "connects_to_emergency_number", "country_code_for_region", "country_code_for_valid_region",
+    "example_number", "example_number_for_type", "expected_cost", "expected_cost_for_region",
+    "format_number", "format_out_of_country_calling_number", "is_carrier_specific",
+    "is_carrier_specific_for_region", "is_emergency_number", "is_mobile_number_portable_region",
+    "is_nanpa_country", "is_number_match", "is_possible_number", "is_possible_number_string",
+    "is_possible_number_with_reason", "is_possible_short_number",
+    "is_possible_short_number_for_region", "is_valid_number", "is_valid_number_for_region",
+    "is_valid_short_number", "is_valid_short_number_for_region", "national_significant_number",
+    "ndd_prefix_for_region", "normalize_digits_only", "number_type", "parse",
+    "region_code_for_country_code", "region_code_for_number", "region_codes_for_country_code",
+    "supported_calling_codes",
 ]
-
-REGION_CODE_FOR_NON_GEO_ENTITY, UNKNOWN_REGION = _regions.NO_REGION, _regions.UNKNOWN
-
-#: The regions of each calling code, the main one first.
-COUNTRY_CODE_TO_REGION_CODE = _regions.regions_by_code()
-
-#: The regions that the table has.
-SUPPORTED_REGIONS = frozenset(_regions.code_by_region())
 
 _SOURCES = {
     Source.PLUS: CountryCodeSource.FROM_NUMBER_WITH_PLUS_SIGN,
@@ -97,35 +109,17 @@ def parse(
         read = _regions.world().parse(number, hint)
     except NoNumber as error:
         raise refused(_REFUSALS.get(error.status, refused.NOT_A_NUMBER), error.words) from None
-    it = PhoneNumber() if numobj is None else numobj
-    it.country_code, it.national_number = read.code, int(read.national)
-    zeros = len(read.national) - len(str(it.national_number))
-    if zeros:
-        it.italian_leading_zero = True
-    if zeros > 1:
-        it.number_of_leading_zeros = zeros
-    if read.extension:
-        it.extension = read.extension
+    it = plain_number(read, numobj)
     if keep_raw_input:
         it.raw_input, it.country_code_source = number, _SOURCES[read.source]
         it.preferred_domestic_carrier_code = read.carrier or it.preferred_domestic_carrier_code
     return it
 
 
-def _zeros(numobj: PhoneNumber) -> int:
-    """How many leading zeros a number has."""
-    zeros = numobj.number_of_leading_zeros
-    return 0 if not numobj.italian_leading_zero else 1 if zeros is None else max(zeros, 0)
-
-
-def national_significant_number(numobj: PhoneNumber) -> str:
-    """The digits of the national number, with its leading zeros."""
-    return "0" * _zeros(numobj) + str(numobj.national_number)
-
-
 def _read(numobj: PhoneNumber) -> Optional[_Read]:
     """The number for the library; none where a field is past what it takes."""
-    code, value, zeros = numobj.country_code or 0, numobj.national_number or 0, _zeros(numobj)
+    code, value = numobj.country_code or 0, numobj.national_number or 0
+    zeros = leading_zeros(numobj)
     if not (0 <= code < 1 << 16 and 0 <= value < 1 << 56 and zeros < 1 << 8):
         return None
     plus, rules = int(Source.PLUS), int(Rules.LIBRARY)
@@ -150,6 +144,23 @@ def format_number(numobj: PhoneNumber, num_format: int) -> str:
         return digits if read is None else read.format(Mode(num_format))
     except UnknownCode:
         return digits
+
+
+def format_out_of_country_calling_number(
+    numobj: PhoneNumber, region_calling_from: Optional[str]
+) -> str:
+    """How a number is dialled from a region; international text where there is no such region."""
+    if region_calling_from not in SUPPORTED_REGIONS:
+        return format_number(numobj, PhoneNumberFormat.INTERNATIONAL)
+    if numobj.country_code == 1 and is_nanpa_country(region_calling_from):
+        return "1 " + format_number(numobj, PhoneNumberFormat.NATIONAL)
+    read = _asked(numobj)
+    try:
+        if read is not None:
+            return read.dialled_from(str(region_calling_from))
+    except UnknownCode:
+        pass
+    return national_significant_number(numobj)
 
 
 def number_type(numobj: PhoneNumber) -> int:
@@ -180,20 +191,24 @@ def is_valid_number_for_region(numobj: PhoneNumber, region_code: Optional[str]) 
     return read is not None and region is not None and read.on(region).kind != Kind.UNKNOWN
 
 
+#: The numbers of what a count of digits says.
+_RESULTS = {
+    Possibility.POSSIBLE: ValidationResult.IS_POSSIBLE,
+    Possibility.POSSIBLE_LOCALLY: ValidationResult.IS_POSSIBLE_LOCAL_ONLY,
+    Possibility.TOO_SHORT: ValidationResult.TOO_SHORT,
+    Possibility.TOO_LONG: ValidationResult.TOO_LONG,
+    Possibility.WRONG_LENGTH: ValidationResult.INVALID_LENGTH,
+    Possibility.UNKNOWN_CODE: ValidationResult.INVALID_COUNTRY_CODE,
+}
+
+
 def is_possible_number_with_reason(numobj: PhoneNumber) -> int:
     """Whether the count of a number's digits is possible under its code, of `ValidationResult`."""
-    record, result = _regions.main_record(numobj.country_code), ValidationResult
-    if record is None:
-        return result.INVALID_COUNTRY_CODE
-    lengths = record["general"]["possible_length"]
-    count = len(national_significant_number(numobj))
-    if count in record["general"].get("possible_local_length", ()):
-        return result.IS_POSSIBLE_LOCAL_ONLY
-    if count in lengths:
-        return result.IS_POSSIBLE
-    if count < lengths[0]:
-        return result.TOO_SHORT
-    return result.TOO_LONG if count > lengths[-1] else result.INVALID_LENGTH
+    read = _asked(numobj)
+    if read is not None:
+        return _RESULTS[read.possibility]
+    is_known = numobj.country_code in COUNTRY_CODE_TO_REGION_CODE
+    return ValidationResult.TOO_LONG if is_known else ValidationResult.INVALID_COUNTRY_CODE
 
 
 def is_possible_number(numobj: PhoneNumber) -> bool:
@@ -210,67 +225,85 @@ def is_possible_number_string(number: str, region_dialing_from: Optional[str]) -
         return False
 
 
-def region_codes_for_country_code(country_code: int) -> Tuple[str, ...]:
-    """The regions of a calling code, the main one first."""
-    return COUNTRY_CODE_TO_REGION_CODE.get(country_code, ())
-
-
-def region_code_for_country_code(country_code: int) -> str:
-    """The main region of a calling code; `ZZ` where it has none."""
-    return (*region_codes_for_country_code(country_code), UNKNOWN_REGION)[0]
-
-
-def country_code_for_region(region_code: Optional[str]) -> int:
-    """The calling code of a region; 0 where there is no such region."""
-    return _regions.code_by_region().get(region_code or "", 0)
-
-
-def _short(number: Union[PhoneNumber, str], region: Optional[str]) -> Optional[ShortFacts]:
-    """What is known of a short number of a region; none where it isn't dialled there."""
+def _read_with_code(number: Union[PhoneNumber, str]) -> Optional[PhoneNumber]:
+    """A number, or what a text is that has its calling code; none for a text that hasn't."""
     if isinstance(number, PhoneNumber):
-        if region not in region_codes_for_country_code(number.country_code or 0):
-            return None
-        number = national_significant_number(number)
+        return number
     try:
-        return _regions.short_numbers().short(region or "", number)
-    except UnknownRegion:
+        return parse(number)
+    except NumberParseException as error:
+        if error.error_type != NumberParseException.INVALID_COUNTRY_CODE:
+            raise
         return None
 
 
-def is_possible_short_number_for_region(numobj: PhoneNumber, region_dialing_from: str) -> bool:
-    """Whether the count of a short number's digits is possible in a region."""
-    facts = _short(numobj, region_dialing_from)
-    return facts is not None and facts.is_possible
+def _match_of_numbers(one: PhoneNumber, two: PhoneNumber) -> int:
+    """How like two numbers are, each perhaps without a calling code."""
+    if one.extension and two.extension and one.extension != two.extension:
+        return MatchType.NO_MATCH
+    have_codes = bool(one.country_code and two.country_code)
+    if have_codes and one.country_code != two.country_code:
+        return MatchType.NO_MATCH
+    texts = national_significant_number(one), national_significant_number(two)
+    if texts[0] == texts[1] and (one.extension or "") == (two.extension or ""):
+        return MatchType.EXACT_MATCH if have_codes else MatchType.NSN_MATCH
+    ends = str(one.national_number), str(two.national_number)
+    is_end = ends[0].endswith(ends[1]) or ends[1].endswith(ends[0])
+    return MatchType.SHORT_NSN_MATCH if is_end else MatchType.NO_MATCH
 
 
-def is_valid_short_number_for_region(numobj: PhoneNumber, region_dialing_from: str) -> bool:
-    """Whether a number is a short number of a region."""
-    facts = _short(numobj, region_dialing_from)
-    return facts is not None and facts.is_valid
+#: How like two texts without calling codes are, by what `Database.compare` says.
+_MATCHES = {
+    Sameness.EXACT: MatchType.NSN_MATCH, Sameness.NATIONAL: MatchType.NSN_MATCH,
+    Sameness.END: MatchType.SHORT_NSN_MATCH,
+}
 
 
-def expected_cost_for_region(numobj: PhoneNumber, region_dialing_from: str) -> int:
-    """What a call of a short number costs in a region, of `ShortNumberCost`."""
-    facts = _short(numobj, region_dialing_from)
-    return ShortNumberCost.UNKNOWN_COST if facts is None else int(facts.cost)
+def is_number_match(num1: Union[PhoneNumber, str], num2: Union[PhoneNumber, str]) -> int:
+    """How like two numbers or texts are, of `MatchType`. A text may lack its calling code.
+
+    Where one has a calling code, a text without it is read in the main region of that code. Two
+    texts without are compared by `Database.compare`.
+
+    >>> from phonenumber_proved import phonenumbers
+    >>> match = phonenumbers.is_number_match("+64 3 331 6005", "03 331 6005")
+    >>> phonenumbers.MatchType.to_string(match)
+    'NSN_MATCH'
+    """
+    try:
+        one, two = _read_with_code(num1), _read_with_code(num2)
+        if one is not None and two is not None:
+            return _match_of_numbers(one, two)
+        if one is None and two is None:
+            told = _regions.world().compare(str(num1), str(num2))
+            return _MATCHES.get(told, MatchType.NO_MATCH)
+        known, text = (one, num2) if one is not None else (two, num1)
+        assert known is not None
+        region = region_code_for_country_code(known.country_code or 0)
+        if region == UNKNOWN_REGION:
+            told = _regions.world().compare(national_significant_number(known), str(text))
+            return _MATCHES.get(told, MatchType.NO_MATCH)
+        told = _match_of_numbers(known, parse(str(text), region))
+        return MatchType.NSN_MATCH if told == MatchType.EXACT_MATCH else told
+    except (NumberParseException, NoNumber):
+        return MatchType.NOT_A_NUMBER
 
 
-def is_carrier_specific_for_region(numobj: PhoneNumber, region_dialing_from: str) -> bool:
-    """Whether only some carriers of a region connect a short number."""
-    facts = _short(numobj, region_dialing_from)
-    return facts is not None and facts.is_carrier_specific
+def example_number_for_type(region_code: Optional[str], num_type: int) -> Optional[PhoneNumber]:
+    """An example of the numbers of a kind in a region, or in any where that is `None`."""
+    regions = sorted(SUPPORTED_REGIONS) if region_code is None else [region_code]
+    kinds = [kind for kind, it in _TYPES.items() if it == num_type and kind != Kind.UNKNOWN]
+    for kind in kinds:
+        for it in SUPPORTED_REGIONS.intersection(regions):
+            read = _regions.world().example(it, kind)
+            if read is not None:
+                return plain_number(read)
+    return None
 
 
-def is_emergency_number(number: str, region_code: str) -> bool:
-    """Whether a text is an emergency number of a region."""
-    facts = _short(number, region_code)
-    return facts is not None and facts.is_emergency
-
-
-def connects_to_emergency_number(number: str, region_code: str) -> bool:
-    """Whether a text reaches the emergency services of a region."""
-    facts = _short(number, region_code)
-    return facts is not None and facts.reaches_emergency
+def example_number(region_code: Optional[str]) -> Optional[PhoneNumber]:
+    """An example of the fixed-line numbers in a region."""
+    return example_number_for_type(region_code, PhoneNumberType.FIXED_LINE)
 
 
 class AsYouTypeFormatter:

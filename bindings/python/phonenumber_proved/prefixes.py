@@ -5,8 +5,10 @@ from __future__ import annotations
 import ctypes
 from typing import Any, Optional, Tuple
 
-from ._calls import MEMORY, NO_PREFIX, OK, PrefixesHandle, Text, bytes_of, lib, written
-from .errors import LINE_WORDS, BadPrefixes
+from ._calls import (
+    MEMORY, NO_PREFIX, OK, PrefixesHandle, Text, bytes_of, lib, words_of, written,
+)
+from .errors import BadPrefixes
 from .held import Held
 
 
@@ -33,8 +35,7 @@ class Prefixes(Held):
         if status == MEMORY:
             raise MemoryError
         if status != OK:
-            words = LINE_WORDS.get(status, f"status {status}")
-            raise BadPrefixes(status, f"line {line.value}: {words}", line.value)
+            raise BadPrefixes(status, f"line {line.value}: {words_of(status)}", line.value)
         self._hold(handle)
 
     def longest(self, digits: Text) -> Optional[Tuple[str, str]]:

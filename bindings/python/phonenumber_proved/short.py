@@ -6,9 +6,8 @@ import ctypes
 import enum
 from typing import NamedTuple
 
-from ._calls import OK, Facts, Text, bytes_of, hint_of, lib
+from ._calls import OK, Facts, Text, bytes_of, hint_of, lib, refuse
 from .database import open_records
-from .errors import refuse
 from .held import Held, PathText
 from .tables import SHORT_TABLE
 

@@ -2,34 +2,51 @@
 
 from __future__ import annotations
 
+import ctypes
 import os
 from pathlib import Path
 from typing import Optional
+
+from ._calls import lib, written
 
 _HERE = Path(__file__).resolve().parent
 
 # Beside these files where they were put there, else in the repository.
 _DATA = _HERE / "data" if (_HERE / "data").is_dir() else _HERE.parents[2] / "data"
 
-#: The table of the world.
-TABLE = os.environ.get("PHONE_TABLE") or str(_DATA / "world.json")
+#: The file of the table of the world; `None` where there is none, and the library's is meant.
+TABLE: Optional[str] = os.environ.get("PHONE_TABLE") or (
+    str(_DATA / "world.json") if (_DATA / "world.json").is_file() else None
+)
+
+_BESIDE = Path(TABLE).parent if TABLE else _DATA
 
 #: The table of short numbers; that beside the table of the world.
-SHORT_TABLE = str(Path(TABLE).with_name("short.json"))
+SHORT_TABLE = str(_BESIDE / "short.json")
 
 #: The tables of prefixes beside it, for `Prefixes.load`: the time zones, parted by `&`, and the
 #: English names of carriers.
-TIME_ZONES_TABLE = str(Path(TABLE).with_name("timezones.tsv"))
-CARRIERS_TABLE = str(Path(TABLE).with_name("carriers.tsv"))
+TIME_ZONES_TABLE = str(_BESIDE / "timezones.tsv")
+CARRIERS_TABLE = str(_BESIDE / "carriers.tsv")
 
 
-def _version_of(table: str) -> Optional[str]:
+def table_text() -> bytes:
+    """The text of the table of the world: of its file, or else of the library."""
+    if TABLE:
+        return Path(TABLE).read_bytes()
+    length = ctypes.c_size_t()
+    return ctypes.string_at(lib.phone_world_text(ctypes.byref(length)), length.value)
+
+
+def _version() -> Optional[str]:
+    if not TABLE:
+        return written(lib.phone_table_version).decode()
     try:
-        return Path(table).with_name("VERSION").read_text(encoding="ascii").rstrip()
+        return Path(TABLE).with_name("VERSION").read_text(encoding="ascii").rstrip()
     except OSError:
         return None
 
 
 #: Where the tables are from, by name and version, as `libphonenumber 9.0.35`; the file VERSION
 #: beside them has it.
-TABLE_VERSION = _version_of(TABLE)
+TABLE_VERSION = _version()

@@ -1,13 +1,28 @@
-//! Under the names of the crate `phonenumber`: phone COUNTRY TEXT prints a number in each mode, or why it is none.
+//! The example of the README of the crate `phonenumber`, whose first line alone is another: phone [COUNTRY] NUMBER.
 use phonenumber_proved::compat::{self as phonenumber, Mode};
+use std::env;
 
-fn main() -> Result<(), Box<dyn std::error::Error>> {
-    let words: Vec<String> = std::env::args().skip(1).collect();
-    let [country, text] = words.as_slice() else { return Err("two words are wanted: a country and a text".into()) };
-    let number = phonenumber::parse(Some(country.parse()?), text)?;
-    for mode in [Mode::E164, Mode::International, Mode::National, Mode::Rfc3966] {
-        println!("{}", number.format().mode(mode));
+fn main() {
+    let mut args = env::args().skip(1).collect::<Vec<_>>();
+
+    if args.len() < 1 {
+        panic!("not enough arguments");
     }
-    println!("{}", if number.is_valid() { "valid" } else { "invalid" });
-    Ok(())
+
+    let number = args.pop().unwrap();
+    let country = args.pop().map(|c| c.parse().unwrap());
+
+    let number = phonenumber::parse(country, number).unwrap();
+    let valid = phonenumber::is_valid(&number);
+
+    if valid {
+        println!("\x1b[32m{:#?}\x1b[0m", number);
+        println!();
+        println!("International: {}", number.format().mode(Mode::International));
+        println!("     National: {}", number.format().mode(Mode::National));
+        println!("      RFC3966: {}", number.format().mode(Mode::Rfc3966));
+        println!("        E.164: {}", number.format().mode(Mode::E164));
+    } else {
+        println!("\x1b[31m{:#?}\x1b[0m", number);
+    }
 }

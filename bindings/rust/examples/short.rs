@@ -1,7 +1,7 @@
-use phonenumber_proved::{Database, Mode, WORLD};
+use phonenumber_proved::{Database, Mode};
 
 fn main() -> Result<(), Box<dyn std::error::Error>> {
-    let world = Database::from_json(WORLD)?;
+    let world = Database::world()?;
     let number = world.parse(Some("NZ"), "03-331 6005")?;
     println!("{number} {}", world.format(&number).mode(Mode::National)); // +6433316005 03 331 6005
     let (kind, region) = (world.number_type(&number)?, world.region(&number)?);

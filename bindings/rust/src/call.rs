@@ -3,8 +3,11 @@ use crate::error::Error;
 use crate::ffi;
 
 /// What a call writes into a buffer, which is made longer where it is too short.
-pub(crate) fn bytes_of(room: usize, mut call: impl FnMut(*mut u8, usize, *mut usize) -> u32) -> Result<Vec<u8>, Error> {
-    let mut out = vec![0u8; room];
+pub(crate) fn items_of<T: Copy + Default>(
+    room: usize,
+    mut call: impl FnMut(*mut T, usize, *mut usize) -> u32,
+) -> Result<Vec<T>, Error> {
+    let mut out = vec![T::default(); room];
     loop {
         let mut wrote = 0;
         match call(out.as_mut_ptr(), out.len(), &mut wrote) {
@@ -12,10 +15,15 @@ pub(crate) fn bytes_of(room: usize, mut call: impl FnMut(*mut u8, usize, *mut us
                 out.truncate(wrote);
                 return Ok(out);
             }
-            ffi::TOO_SMALL => out = vec![0u8; wrote],
+            ffi::TOO_SMALL => out = vec![T::default(); wrote],
             status => return Err(Error::of(status)),
         }
     }
+}
+
+/// The same of bytes.
+pub(crate) fn bytes_of(room: usize, call: impl FnMut(*mut u8, usize, *mut usize) -> u32) -> Result<Vec<u8>, Error> {
+    items_of(room, call)
 }
 
 /// The same as a text.

@@ -5,8 +5,10 @@ use crate::ffi;
 use crate::number::{Mode, PhoneNumber, TYPES, Type};
 use crate::records::Records;
 use crate::typing::Typing;
+use std::cell::RefCell;
 use std::fmt;
 use std::path::Path;
+use std::rc::Rc;
 
 /// By whose rules a text is read and a number described.
 #[derive(Clone, Copy, Debug, Default, PartialEq, Eq, Hash, PartialOrd, Ord)]
@@ -37,7 +39,31 @@ impl fmt::Debug for Database {
     }
 }
 
+thread_local! {
+    static OF_THREAD: RefCell<Option<Rc<Database>>> = const { RefCell::new(None) };
+}
+
+/// What the table of the world answers that the thread has open, or opens at this call.
+pub(crate) fn of_thread<T>(call: impl FnOnce(&Database) -> T) -> Result<T, Error> {
+    let open = OF_THREAD.with_borrow(Clone::clone);
+    let world = open.map_or_else(|| Database::world().map(Rc::new), Ok)?;
+    OF_THREAD.set(Some(Rc::clone(&world)));
+    Ok(call(&world))
+}
+
 impl Database {
+    /// The table of the world that stands in the library.
+    ///
+    /// ```
+    /// use phonenumber_proved::Database;
+    /// let world = Database::world()?;
+    /// assert!(world.is_valid(&world.parse(Some("NZ"), "03-331 6005")?)?);
+    /// # Ok::<(), phonenumber_proved::Error>(())
+    /// ```
+    pub fn world() -> Result<Database, Error> {
+        Ok(Database { records: Records::world()? })
+    }
+
     /// The database that a JSON text is.
     ///
     /// ```
@@ -68,8 +94,8 @@ impl Database {
     /// The number that a text is.
     ///
     /// ```
-    /// use phonenumber_proved::{Database, Error, WORLD};
-    /// let world = Database::from_json(WORLD)?;
+    /// use phonenumber_proved::{Database, Error};
+    /// let world = Database::world()?;
     /// assert_eq!(world.parse(None, "call me").unwrap_err(), Error::NoNumber);
     /// assert_eq!(world.parse(Some("nz"), "03-331 6005").unwrap_err(), Error::NoRegion);
     /// # Ok::<(), Error>(())
@@ -108,8 +134,8 @@ impl Database {
     /// without a plus sign are dialled in.
     ///
     /// ```
-    /// use phonenumber_proved::{Database, WORLD};
-    /// let world = Database::from_json(WORLD)?;
+    /// use phonenumber_proved::Database;
+    /// let world = Database::world()?;
     /// assert_eq!(world.typed(Some("NZ"), "0333160")?, "03 331 60");
     /// assert_eq!(world.typed(None, "+643331")?, "+64 3 331");
     /// # Ok::<(), phonenumber_proved::Error>(())
@@ -149,6 +175,10 @@ pub struct By<'d> {
 }
 
 impl<'d> By<'d> {
+    pub(crate) fn records(&self) -> &'d Records {
+        &self.database.records
+    }
+
     /// The rules.
     pub fn rules(&self) -> Rules {
         self.rules

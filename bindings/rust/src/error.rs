@@ -5,8 +5,8 @@ use std::fmt;
 /// Why a call was refused. Its text is the refusal's words.
 ///
 /// ```
-/// use phonenumber_proved::{Database, Error, WORLD};
-/// let refused = Database::from_json(WORLD)?.parse(None, "call me").unwrap_err();
+/// use phonenumber_proved::{Database, Error};
+/// let refused = Database::world()?.parse(None, "call me").unwrap_err();
 /// assert_eq!((refused, refused.to_string().as_str()), (Error::NoNumber, "not a number"));
 /// # Ok::<(), Error>(())
 /// ```
@@ -35,6 +35,8 @@ pub enum Error {
     NotUtf8,
     /// The hint is no region's id.
     NoRegion,
+    /// The database has no territory of the region.
+    NoTerritory,
     /// Memory was refused. What was open is open.
     Memory,
     /// The file can't be read.
@@ -72,6 +74,7 @@ impl Error {
             ffi::NOT_UTF8 => Error::NotUtf8,
             ffi::NO_REGION => Error::NoRegion,
             ffi::UNKNOWN_CODE => Error::UnknownCode,
+            ffi::NO_TERRITORY => Error::NoTerritory,
             _ => Error::Other(status),
         }
     }
@@ -94,59 +97,48 @@ impl Error {
     }
 }
 
-/// Writes the words of the refusal of a text that has this number; none takes more than 64 bytes.
-fn write_refusal(number: u32, f: &mut fmt::Formatter<'_>) -> fmt::Result {
-    let (mut out, mut wrote) = ([0u8; 64], 0);
-    // SAFETY: the buffer is valid for its length, and apart from the length that is written.
-    let status = unsafe { ffi::phone_refusal_words(number, out.as_mut_ptr(), out.len(), &mut wrote) };
-    match out.get(..wrote).map(std::str::from_utf8) {
-        Some(Ok(words)) if status == ffi::OK => f.write_str(words),
-        _ => write!(f, "refused: {number}"),
-    }
-}
+/// The sets of words that `phone.h` has for statuses: those of all calls but `phone_open`, and its own.
+const STATUSES: u32 = 5;
+const OPEN_STATUSES: u32 = 6;
 
-/// The words of a database's refusal, by its number.
-fn database_words(number: u32) -> &'static str {
-    match number {
-        1 => "a record lacks a value that it must have",
-        2 => "a record has a key that it may not have",
-        3 => "malformed JSON",
-        4 => "a value is of the wrong kind",
-        5 => "a text is no pattern",
-        _ => "refused",
+/// Writes the words of a status; none takes more than 128 bytes.
+fn write_words(set: u32, status: u32, f: &mut fmt::Formatter<'_>) -> fmt::Result {
+    let (mut out, mut wrote) = ([0u8; 128], 0);
+    // SAFETY: the buffer is valid for its length, and apart from the length that is written.
+    let answer = unsafe { ffi::phone_word(set, status, out.as_mut_ptr(), out.len(), &mut wrote) };
+    match out.get(..wrote).map(std::str::from_utf8) {
+        Some(Ok(words)) if answer == ffi::OK => f.write_str(words),
+        _ => write!(f, "status {status} of the library"),
     }
 }
 
 impl fmt::Display for Error {
     fn fmt(&self, f: &mut fmt::Formatter<'_>) -> fmt::Result {
-        match self {
-            Error::NoNumber => write_refusal(1, f),
-            Error::InvalidCountryCode => write_refusal(2, f),
-            Error::TooShortAfterIdd => write_refusal(3, f),
-            Error::TooShortNsn => write_refusal(4, f),
-            Error::TooLong => write_refusal(5, f),
-            Error::MalformedInteger => write_refusal(6, f),
-            Error::Memory => write_refusal(ffi::MEMORY, f),
-            Error::UnknownCode => f.write_str("unknown calling code"),
-            Error::Database(number) => f.write_str(database_words(*number)),
-            Error::Line(line, fault) => write!(f, "line {line}: {fault}"),
-            Error::NotUtf8 => f.write_str("not UTF-8"),
-            Error::NoRegion => f.write_str("unknown region"),
-            Error::Io(kind) => write!(f, "I/O error: {kind}"),
-            Error::Other(status) => write!(f, "status {status} of the library"),
-        }
+        let status = match self {
+            Error::NoNumber => 1,
+            Error::InvalidCountryCode => 2,
+            Error::TooShortAfterIdd => 3,
+            Error::TooShortNsn => 4,
+            Error::TooLong => 5,
+            Error::MalformedInteger => 6,
+            Error::Memory => ffi::MEMORY,
+            Error::NotUtf8 => ffi::NOT_UTF8,
+            Error::NoRegion => ffi::NO_REGION,
+            Error::NoTerritory => ffi::NO_TERRITORY,
+            Error::UnknownCode => ffi::UNKNOWN_CODE,
+            Error::Other(status) => *status,
+            Error::Database(number) => return write_words(OPEN_STATUSES, *number, f),
+            Error::Line(line, fault) => return write!(f, "line {line}: {fault}"),
+            Error::Io(kind) => return write!(f, "I/O error: {kind}"),
+        };
+        write_words(STATUSES, status, f)
     }
 }
 
+/// The words of the fault.
 impl fmt::Display for LineFault {
     fn fmt(&self, f: &mut fmt::Formatter<'_>) -> fmt::Result {
-        f.write_str(match self {
-            LineFault::Empty => "the line is empty",
-            LineFault::NoTab => "the line has no tab",
-            LineFault::NoPrefix => "the prefix isn't 1 to 15 digits",
-            LineFault::NotUtf8 => "the text isn't UTF-8",
-            LineFault::PrefixTwice => "the prefix stands in an earlier line",
-        })
+        write_words(STATUSES, 25 + *self as u32, f)
     }
 }
 

@@ -1,8 +1,8 @@
 //! Phone numbers, read and printed as crates/phone_c proves it.
 //!
 //! ```
-//! use phonenumber_proved::{Database, Mode, Type, WORLD};
-//! let world = Database::from_json(WORLD)?;
+//! use phonenumber_proved::{Database, Mode, Type};
+//! let world = Database::world()?;
 //! let number = world.parse(Some("NZ"), "03-331 6005 ext. 12")?;
 //! assert_eq!(number.to_string(), "+6433316005");
 //! assert_eq!(world.format(&number).mode(Mode::National).to_string(), "03 331 6005 ext. 12");
@@ -16,8 +16,8 @@
 //! crate `phonenumber` 0.3.10.
 //!
 //! ```
-//! use phonenumber_proved::{Database, Rules, WORLD};
-//! let world = Database::from_json(WORLD)?;
+//! use phonenumber_proved::{Database, Rules};
+//! let world = Database::world()?;
 //! let text = "+44 (0)20 7946 0018";
 //! assert_eq!(world.parse(Some("US"), text)?.to_string(), "+442079460018");
 //! assert_eq!(world.by(Rules::Crate).parse(Some("US"), text)?.to_string(), "+4402079460018");
@@ -29,30 +29,35 @@
 //! this crate: that the declarations of `phonenumber-proved-sys` fit, and that memory is given back, is
 //! tested. The module `compat` has the names of the crate `phonenumber`.
 mod call;
-#[cfg(feature = "table")]
 pub mod compat;
 mod database;
 mod error;
+mod found;
 mod number;
+mod possible;
 mod prefixes;
 mod records;
 mod short;
 mod typing;
+#[cfg(feature = "serde")]
+mod with_serde;
 
 use phonenumber_proved_sys as ffi;
 
 pub use database::{By, Database, Formatter, Rules};
 pub use error::{Error, LineFault};
+pub use found::{Found, Leniency};
 pub use number::{Mode, PhoneNumber, Source, Type};
+pub use possible::{Possibility, Sameness};
 pub use prefixes::Prefixes;
 pub use short::{Cost, ShortFacts, ShortNumbers};
 pub use typing::Typing;
 
-/// The table of the world that goes with this crate: the text of a database, which the program then holds.
+/// The text of the table that [`Database::world`] opens, which a program that names it holds once more.
 #[cfg(feature = "table")]
 pub const WORLD: &str = include_str!(concat!(env!("PHONE_TABLES"), "/world.json"));
 
-/// The path at which that table lay when this crate was built, for programs that read it when they run.
+/// The path at which it lay when this crate was built, for programs that read it when they run.
 #[cfg(feature = "table")]
 pub const WORLD_PATH: &str = concat!(env!("PHONE_TABLES"), "/world.json");
 
@@ -99,4 +104,17 @@ struct Readme;
 fn the_version_of_the_calls_is_that_of_the_declarations() {
     // SAFETY: the call takes nothing.
     assert_eq!(unsafe { ffi::phone_version() }, ffi::VERSION);
+}
+
+#[cfg(feature = "table")]
+#[test]
+fn the_table_of_the_library_is_that_of_the_crate() {
+    let mut len = 0;
+    // SAFETY: the call writes the length alone, and the text, of that length, is never freed.
+    let text = unsafe { std::slice::from_raw_parts(ffi::phone_world_text(&mut len), len) };
+    assert_eq!(text, WORLD.as_bytes());
+    let mut out = [0; 64];
+    // SAFETY: the buffer is valid for its length, and initialized.
+    assert_eq!(unsafe { ffi::phone_table_version(out.as_mut_ptr(), out.len(), &mut len) }, ffi::OK);
+    assert_eq!(&out[..len], TABLE_VERSION.as_bytes());
 }

@@ -1,7 +1,10 @@
 //! A phone number.
 use crate::call::text_of;
+use crate::database::of_thread;
+use crate::error::Error;
 use crate::ffi;
 use std::fmt;
+use std::str::FromStr;
 
 /// How a number is printed.
 #[derive(Clone, Copy, Debug, PartialEq, Eq, Hash, PartialOrd, Ord)]
@@ -80,13 +83,14 @@ const SOURCES: [Source; 4] = [Source::Plus, Source::Idd, Source::Number, Source:
 ///
 /// Two are equal where calling code, national number, extension, carrier and source are; in this order
 /// they are ordered, the national number by its value and then by its leading zeros. The text of a
-/// number is its E.164 text, whatever the code.
+/// number is its E.164 text, whatever the code. With the feature `serde` it is written and read by serde,
+/// as `{"code":64,"national":"33316005","extension":null,"carrier":null,"source":"default"}`.
 ///
 /// ```
-/// use phonenumber_proved::{Database, PhoneNumber, WORLD};
+/// use phonenumber_proved::{Database, PhoneNumber};
 /// fn any_thread<T: Send + Sync + 'static>() {}
 /// any_thread::<PhoneNumber>();
-/// let world = Database::from_json(WORLD)?;
+/// let world = Database::world()?;
 /// let mut numbers = vec![world.parse(None, "+64 3 331 6005")?, world.parse(None, "+1 650 253 0000")?];
 /// drop(world);
 /// numbers.sort();
@@ -104,6 +108,38 @@ pub struct PhoneNumber {
 }
 
 impl PhoneNumber {
+    /// The number of a calling code, and of a national number as a value with zeros before it; found after a
+    /// plus sign, without extension and carrier. No database is asked whether there is such a number;
+    /// `Error::TooLong` where the value is 2^56 or more.
+    ///
+    /// ```
+    /// use phonenumber_proved::{Error, PhoneNumber};
+    /// let number = PhoneNumber::from_parts(39, 236618300, 1)?.with_extension(Some("7"));
+    /// assert_eq!((number.to_string().as_str(), number.extension()), ("+390236618300", Some("7")));
+    /// assert_eq!(PhoneNumber::from_parts(39, 1 << 56, 0), Err(Error::TooLong));
+    /// # Ok::<(), Error>(())
+    /// ```
+    pub fn from_parts(code: u16, national_value: u64, national_zeros: u8) -> Result<PhoneNumber, Error> {
+        let (value, zeros, source) = (national_value, national_zeros, Source::Plus);
+        let number = PhoneNumber { code, value, zeros, extension: None, carrier: None, source };
+        if value < 1 << 56 { Ok(number) } else { Err(Error::TooLong) }
+    }
+
+    /// The same number with this extension.
+    pub fn with_extension(self, extension: Option<&str>) -> PhoneNumber {
+        PhoneNumber { extension: extension.map(str::to_owned), ..self }
+    }
+
+    /// The same number with this carrier's selection code.
+    pub fn with_carrier(self, carrier: Option<&str>) -> PhoneNumber {
+        PhoneNumber { carrier: carrier.map(str::to_owned), ..self }
+    }
+
+    /// The same number, whose calling code was found so.
+    pub fn with_source(self, source: Source) -> PhoneNumber {
+        PhoneNumber { source, ..self }
+    }
+
     /// The number that a call wrote, with the bytes of its texts.
     pub(crate) fn of(number: &ffi::Number, texts: &[u8]) -> PhoneNumber {
         let text = |part: ffi::Part| {
@@ -176,6 +212,22 @@ impl PhoneNumber {
     /// The carrier's selection code, where one was dialled.
     pub fn carrier(&self) -> Option<&str> {
         self.carrier.as_deref()
+    }
+}
+
+impl FromStr for PhoneNumber {
+    type Err = Error;
+
+    /// The number that a text is without a hint, by libphonenumber's rules, under the table of the world,
+    /// which a thread opens at its first call.
+    ///
+    /// ```
+    /// let number: phonenumber_proved::PhoneNumber = "+64 3 331 6005".parse()?;
+    /// assert_eq!((number.code(), number.to_string().as_str()), (64, "+6433316005"));
+    /// # Ok::<(), phonenumber_proved::Error>(())
+    /// ```
+    fn from_str(text: &str) -> Result<PhoneNumber, Error> {
+        of_thread(|world| world.parse(None, text))?
     }
 }
 

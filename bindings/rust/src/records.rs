@@ -11,9 +11,19 @@ pub(crate) struct Records {
 
 impl Records {
     pub(crate) fn open(text: &[u8]) -> Result<Records, Error> {
+        // SAFETY: the slice is valid for its length, and the handle is closed and lent to the call alone.
+        Records::of(|handle| unsafe { ffi::phone_open(text.as_ptr(), text.len(), handle) })
+    }
+
+    /// The table of the world that stands in the library.
+    pub(crate) fn world() -> Result<Records, Error> {
+        // SAFETY: the handle is closed and lent to the call alone.
+        Records::of(|handle| unsafe { ffi::phone_open_world(handle) })
+    }
+
+    fn of(open: impl FnOnce(*mut ffi::Handle) -> u32) -> Result<Records, Error> {
         let mut handle = ffi::Handle { at: std::ptr::null_mut() };
-        // SAFETY: the slice is valid for its length, and the handle is closed and borrowed for the call alone.
-        match unsafe { ffi::phone_open(text.as_ptr(), text.len(), &mut handle) } {
+        match open(&mut handle) {
             ffi::OK => Ok(Records { handle: RefCell::new(handle) }),
             status => Err(Error::of_database(status)),
         }

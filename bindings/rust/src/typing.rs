@@ -5,8 +5,8 @@ use crate::error::Error;
 /// A number as it is typed: the keys so far, and what is shown of them.
 ///
 /// ```
-/// use phonenumber_proved::{Database, WORLD};
-/// let world = Database::from_json(WORLD)?;
+/// use phonenumber_proved::Database;
+/// let world = Database::world()?;
 /// let mut field = world.typing(Some("US"))?;
 /// for key in "6502530000".chars() {
 ///     field.push(key)?;

@@ -1,6 +1,6 @@
 //! Links the library. In a crate that was laid out for others it lies in lib/TARGET. In the repository it is what `rt lib` made in
-//! crates/phone_c, or lies in PHONE_LIB_DIR, and the heap is that of the kit, whose folder RATTLE_KIT names: `tools/bindings` sets both.
-//! Where there is neither, docs and checks are made all the same.
+//! crates/phone_c, or lies in PHONE_LIB_DIR, with the table that `make` made in bindings/c, and the heap is that of the kit, whose
+//! folder RATTLE_KIT names: `tools/bindings` does all this. Where there is neither, docs and checks are made all the same.
 use std::env::var;
 use std::path::Path;
 
@@ -16,11 +16,14 @@ fn main() {
         println!("cargo:rustc-link-lib=static=phonenumber-proved");
     } else if let Ok(kit) = var("RATTLE_KIT") {
         let built = var("PHONE_LIB_DIR").unwrap_or(format!("{here}/../../../crates/phone_c/out"));
-        println!("cargo:rerun-if-changed={built}/libphone_c.a");
-        println!("cargo:rustc-link-search=native={built}");
-        println!("cargo:rustc-link-search=native={kit}/c");
-        println!("cargo:rustc-link-lib=static=phone_c");
-        println!("cargo:rustc-link-lib=static=libc_c");
+        let folders = [(built, "phone_c"), (format!("{here}/../../c/out"), "phone_world"), (format!("{kit}/c"), "libc_c")];
+        for (folder, library) in &folders {
+            println!("cargo:rerun-if-changed={folder}/lib{library}.a");
+            println!("cargo:rustc-link-search=native={folder}");
+        }
+        for library in ["phone_world", "phone_c", "libc_c"] {
+            println!("cargo:rustc-link-lib=static={library}");
+        }
     } else {
         println!("cargo:warning=there is no library for this target: no program will link");
     }

@@ -2,10 +2,10 @@
 //! printed texts, validity, and texts that made readers panic. Then what is by libphonenumber's rules, and what
 //! belongs to neither.
 use phonenumber_proved::{
-    Cost, Database, Error, LineFault, Mode, PhoneNumber, Prefixes, Rules, SHORT, ShortNumbers, Source, TABLE_VERSION,
-    Type, WORLD, is_viable,
+    Cost, Database, Error, Found, Leniency, LineFault, Mode, PhoneNumber, Prefixes, Rules, SHORT, ShortNumbers, Source,
+    TABLE_VERSION, Type, WORLD, is_viable,
 };
-use std::collections::{BTreeSet, HashSet};
+use std::collections::{BTreeSet, HashMap, HashSet};
 
 fn world() -> Database {
     Database::from_json(WORLD).expect("the table of the world is read")
@@ -438,4 +438,121 @@ fn what_is_no_region_is_refused() {
         assert_eq!(world.typing(Some(region)).unwrap_err(), Error::NoRegion, "{region:?}");
         assert_eq!(table.short(region, "1").unwrap_err(), Error::NoRegion, "{region:?}");
     }
+}
+
+/// How rows write that a text is no number.
+fn refusal(error: Error) -> String {
+    let refusals = [
+        Error::NoNumber,
+        Error::InvalidCountryCode,
+        Error::TooShortAfterIdd,
+        Error::TooShortNsn,
+        Error::TooLong,
+        Error::MalformedInteger,
+    ];
+    match error {
+        Error::NoTerritory => "UnknownRegion".to_owned(),
+        Error::UnknownCode => "UnknownCode".to_owned(),
+        _ => format!("error\t{}", 1 + refusals.iter().position(|it| *it == error).unwrap()),
+    }
+}
+
+fn made(code: &str, value: &str, zeros: &str, extension: Option<&str>) -> PhoneNumber {
+    let number = PhoneNumber::from_parts(code.parse().unwrap(), value.parse().unwrap(), zeros.parse().unwrap());
+    number.unwrap().with_extension(extension)
+}
+
+fn parts(number: Option<PhoneNumber>) -> String {
+    let Some(number) = number else { return "-".to_owned() };
+    let text = |text: Option<&str>| text.map_or("-".to_owned(), |text| format!("={text}"));
+    let source = format!("{:?}", number.source()).to_lowercase();
+    let (extension, carrier) = (text(number.extension()), text(number.carrier()));
+    format!("{}\t{source}\t{}\t{extension}\t{carrier}", number.code(), number.national())
+}
+
+fn found_in(text: &str, found: Vec<Found>) -> String {
+    let (mut out, mut last, mut numbers) = (String::new(), 0, String::new());
+    for it in &found {
+        out += &format!("{}{{{}}}", &text[last..it.place.start], &text[it.place.clone()]);
+        last = it.place.end;
+        numbers += &format!("\t{}", it.number);
+    }
+    out + &text[last..] + &numbers
+}
+
+/// What a row's call answers, by rules; no answer where it is no call of these.
+fn utility(world: &Database, rules: Rules, call: &str, row: &[&str]) -> Option<(usize, Result<String, Error>)> {
+    let by = world.by(rules);
+    let kind = |name: &str| (0..17).map(|at| KINDS_IN_ORDER[at]).find(|kind| format!("{kind:?}") == name).unwrap();
+    Some(match (call, row) {
+        ("possible", [code, value, zeros, ..]) => {
+            (3, by.possibility(&made(code, value, zeros, None)).map(|it| format!("{it:?}")))
+        }
+        ("possible-text", [hint, text, ..]) => {
+            (2, by.possibility_of_text(Some(*hint).filter(|it| *it != "-"), text).map(|it| format!("{it:?}")))
+        }
+        ("same", [one, two, ..]) => (2, by.compare(one, two).map(|it| format!("{it:?}"))),
+        ("dialled-from", [code, value, zeros, extension, region, ..]) => {
+            let number = made(code, value, zeros, extension.strip_prefix('='));
+            (5, world.dialled_from(region, &number).map(|text| format!("={text}")))
+        }
+        ("example", [region, name, ..]) => (2, by.example(region, kind(name)).map(parts)),
+        ("regions", _) => (0, world.regions().map(|ids| format!("={}", ids.join(" ")))),
+        ("codes", _) => {
+            let codes = world.codes().map(|codes| codes.iter().map(u16::to_string).collect::<Vec<_>>().join(" "));
+            (0, codes.map(|codes| format!("={codes}")))
+        }
+        ("found", [hint, text, ..]) => {
+            let found = by.find(Some(*hint).filter(|it| *it != "-"), Leniency::Valid, text);
+            (2, found.map(|found| found_in(text, found)))
+        }
+        _ => return None,
+    })
+}
+
+const KINDS_IN_ORDER: [Type; 17] = [
+    Type::FixedLine,
+    Type::Mobile,
+    Type::FixedLineOrMobile,
+    Type::TollFree,
+    Type::PremiumRate,
+    Type::SharedCost,
+    Type::PersonalNumber,
+    Type::Voip,
+    Type::Pager,
+    Type::Uan,
+    Type::Emergency,
+    Type::Voicemail,
+    Type::ShortCode,
+    Type::StandardRate,
+    Type::Carrier,
+    Type::NoInternational,
+    Type::Unknown,
+];
+
+#[test]
+fn what_is_possible_alike_dialled_listed_and_found_is_told() {
+    let folder = concat!(env!("CARGO_MANIFEST_DIR"), "/../../crates/replay/data");
+    let (mut opened, mut count) = (HashMap::new(), 0);
+    for file in ["more.tsv", "rules.tsv", "found.tsv"] {
+        let table = std::fs::read_to_string(format!("{folder}/{file}")).unwrap();
+        for name in ["possible", "possible-text", "same", "dialled-from", "example", "regions", "codes", "found"] {
+            for (rules, call) in [(Rules::Crate, name.to_owned()), (Rules::Library, format!("{name}-library"))] {
+                for row in rows(&table, &call) {
+                    let row: Vec<&str> = row.iter().map(|field| text(field)).collect();
+                    let world = opened.entry(row[0].to_owned()).or_insert_with(|| {
+                        Database::load(format!("{folder}/databases/{}.json", row[0])).unwrap()
+                    });
+                    let (fields, told) = utility(world, rules, name, &row[1..]).unwrap();
+                    let mut wanted = row[1 + fields].to_owned();
+                    if wanted.starts_with("error\t") {
+                        wanted = wanted.split('\t').take(2).collect::<Vec<_>>().join("\t");
+                    }
+                    assert_eq!(told.unwrap_or_else(refusal), wanted, "{rules:?} {row:?}");
+                    count += 1;
+                }
+            }
+        }
+    }
+    assert!(count > 500, "{count} lines");
 }

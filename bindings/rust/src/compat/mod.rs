@@ -1,4 +1,4 @@
-//! The names of the crate `phonenumber` 0.3.10, over the table of the world of this crate.
+//! The names of the crate `phonenumber` 0.3.10, over the table of the world that stands in the library.
 //!
 //! A program that uses them alone changes its import, and is answered by that crate's rules:
 //!
@@ -14,9 +14,9 @@
 //!
 //! There is one table, [`metadata::DATABASE`]; what it has of a region isn't shown. A thread opens its own
 //! at its first call, of some 57 MB. A call ends the program where memory is refused.
-use crate::database::By;
+use crate::Rules;
+use crate::database::{By, of_thread};
 use crate::number::PhoneNumber as Read;
-use crate::{Database as World, Rules, WORLD};
 use std::fmt;
 use std::ops::Deref;
 use std::str::FromStr;
@@ -36,13 +36,9 @@ pub mod metadata {
     pub static DATABASE: Database = Database(());
 }
 
-thread_local! {
-    static OPEN: World = World::from_json(WORLD).expect("the table of the world is read");
-}
-
 /// What the thread's table answers by the rules of the crate.
 fn asked<T>(call: impl FnOnce(By<'_>) -> T) -> T {
-    OPEN.with(|world| call(world.by(Rules::Crate)))
+    of_thread(|world| call(world.by(Rules::Crate))).expect("memory is given")
 }
 
 /// The number that a text is.

@@ -49,6 +49,14 @@ pub struct ShortFacts {
     pub reaches_emergency: u8,
 }
 
+/// Where a number stands in a text, in bytes.
+#[repr(C)]
+#[derive(Clone, Copy, Default)]
+pub struct Place {
+    pub start: usize,
+    pub end: usize,
+}
+
 pub const OK: u32 = 0;
 pub const MEMORY: u32 = 7;
 pub const TOO_SMALL: u32 = 17;
@@ -56,9 +64,13 @@ pub const NOT_UTF8: u32 = 18;
 pub const NO_REGION: u32 = 19;
 pub const UNKNOWN_CODE: u32 = 20;
 pub const NO_PREFIX: u32 = 30;
+pub const NO_EXAMPLE: u32 = 32;
+pub const NO_TERRITORY: u32 = 34;
 
 unsafe extern "C" {
     pub fn phone_open(text: *const u8, len: usize, handle: *mut Handle) -> u32;
+    pub fn phone_open_world(handle: *mut Handle) -> u32;
+    pub fn phone_world_text(text_len: *mut usize) -> *const u8;
     pub fn phone_close(handle: *mut Handle);
     pub fn phone_report_by(
         handle: *mut Handle,
@@ -104,6 +116,61 @@ unsafe extern "C" {
         wrote: *mut usize,
     ) -> u32;
     pub fn phone_is_valid_by(handle: *mut Handle, rules: u32, number: *const Number, told: *mut u8) -> u32;
+    pub fn phone_possibility_by(handle: *mut Handle, rules: u32, number: *const Number, told: *mut u32) -> u32;
+    pub fn phone_text_possibility_by(
+        handle: *mut Handle,
+        rules: u32,
+        hint: *const u8,
+        hint_len: usize,
+        text: *const u8,
+        text_len: usize,
+        told: *mut u32,
+    ) -> u32;
+    pub fn phone_compare_by(
+        handle: *mut Handle,
+        rules: u32,
+        first: *const u8,
+        first_len: usize,
+        second: *const u8,
+        second_len: usize,
+        told: *mut u32,
+    ) -> u32;
+    pub fn phone_dialled_from(
+        handle: *mut Handle,
+        region: *const u8,
+        region_len: usize,
+        number: *const Number,
+        bytes: *const u8,
+        bytes_len: usize,
+        out: *mut u8,
+        out_len: usize,
+        wrote: *mut usize,
+    ) -> u32;
+    pub fn phone_example_by(
+        handle: *mut Handle,
+        rules: u32,
+        region: *const u8,
+        region_len: usize,
+        kind: u32,
+        number: *mut Number,
+        out: *mut u8,
+        out_len: usize,
+        wrote: *mut usize,
+    ) -> u32;
+    pub fn phone_regions(handle: *mut Handle, out: *mut u8, out_len: usize, wrote: *mut usize) -> u32;
+    pub fn phone_codes(handle: *mut Handle, out: *mut u16, out_len: usize, wrote: *mut usize) -> u32;
+    pub fn phone_find_by(
+        handle: *mut Handle,
+        rules: u32,
+        hint: *const u8,
+        hint_len: usize,
+        leniency: u32,
+        text: *const u8,
+        text_len: usize,
+        out: *mut Place,
+        out_len: usize,
+        wrote: *mut usize,
+    ) -> u32;
     pub fn phone_typing_shown(
         handle: *mut Handle,
         hint: *const u8,
@@ -145,7 +212,9 @@ unsafe extern "C" {
     pub fn phone_key(number: *const Number, out: *mut u8, out_len: usize, wrote: *mut usize) -> u32;
     pub fn phone_is_viable(text: *const u8, len: usize, told: *mut u8) -> u32;
     pub fn phone_refusal_words(number: u32, out: *mut u8, out_len: usize, wrote: *mut usize) -> u32;
+    pub fn phone_word(set: u32, value: u32, out: *mut u8, out_len: usize, wrote: *mut usize) -> u32;
     pub fn phone_version() -> u32;
+    pub fn phone_table_version(out: *mut u8, out_len: usize, wrote: *mut usize) -> u32;
 }
 
 /// The version of the calls that is declared here.

@@ -1,0 +1,123 @@
+/* Each call once, and what it answers; every.out has the lines. It compiles as C99, C11 and C++17, and reads no file. */
+#include "phone.h"
+#include <stdio.h>
+#include <string.h>
+#define TEXT(text) phone_text(text, strlen(text)), strlen(text)
+
+static const char SHORT[] =
+    "[{\"id\": \"NZ\", \"country_code\": 64, \"general\": {\"national_number\": \"1\\\\d\\\\d\", \"possible_length\": [3]}, "
+    "\"emergency\": {\"national_number\": \"111\", \"possible_length\": [3]}, "
+    "\"short_code\": {\"national_number\": \"1\\\\d\\\\d\", \"possible_length\": [3]}}]";
+static uint8_t out[256];
+static size_t wrote;
+
+/* The line of a call that wrote a text, and of one that told a number. */
+static void text(const char *call, uint32_t status) {
+    if (status == PHONE_OK) printf("%s: %.*s\n", call, (int)wrote, (const char *)out);
+    else printf("%s: status %lu, %lu bytes\n", call, (unsigned long)status, (unsigned long)wrote);
+}
+static void value(const char *call, uint32_t status, unsigned long told) {
+    if (status == PHONE_OK) printf("%s: %lu\n", call, told);
+    else printf("%s: status %lu\n", call, (unsigned long)status);
+}
+/* What is told is looked at once the call was made. */
+#define VALUE(call, made, told) do { uint32_t status = made; value(call, status, (unsigned long)(told)); } while (0)
+
+/* The number of a text, by libphonenumber's rules, whose own texts go to `texts`. */
+static phone_number number_of(phone_handle *world, const char *call, const char *line, uint8_t *texts, size_t *len) {
+    phone_number number;
+    memset(&number, 0, sizeof number);
+    VALUE(call, phone_parse_by(world, PHONE_LIBRARY, TEXT("NZ"), TEXT(line), &number, texts, 64, len), 0);
+    printf("+%u %.*s%llu, extension %.*s, source %u\n", number.code, number.zeros, "00000000", (unsigned long long)number.value,
+           (int)number.extension.len, (const char *)texts + number.extension.start, number.source);
+    return number;
+}
+
+/* The calls of a number: by libphonenumber's rules, and by those of the crate. */
+static void of_number(phone_handle *world) {
+    uint8_t texts[64], flag = 9;
+    size_t len = 0;
+    uint32_t kind = 99;
+    phone_number number = number_of(world, "phone_parse_by", "03-331 6005 ext. 12", texts, &len);
+    text("phone_format_by", phone_format_by(world, PHONE_LIBRARY, &number, texts, len, PHONE_NATIONAL, out, sizeof out, &wrote));
+    VALUE("phone_kind_by", phone_kind_by(world, PHONE_LIBRARY, &number, &kind), kind);
+    text("phone_region_by", phone_region_by(world, PHONE_LIBRARY, &number, out, sizeof out, &wrote));
+    VALUE("phone_is_valid_by", phone_is_valid_by(world, PHONE_LIBRARY, &number, &flag), flag);
+    text("phone_key", phone_key(&number, out, sizeof out, &wrote));
+    VALUE("phone_parse", phone_parse(world, TEXT("DE"), TEXT("301/23456"), &number, texts, sizeof texts, &len), number.code);
+    text("phone_format", phone_format(world, &number, texts, len, PHONE_RFC3966, out, sizeof out, &wrote));
+    VALUE("phone_kind", phone_kind(world, &number, &kind), kind);
+    text("phone_region", phone_region(world, &number, out, sizeof out, &wrote));
+    VALUE("phone_is_valid", phone_is_valid(world, &number, &flag), flag);
+}
+
+/* The calls of a text, and of keys. */
+static void of_text(phone_handle *world) {
+    uint8_t flag = 9;
+    size_t place = 99;
+    text("phone_report", phone_report(world, TEXT("US"), TEXT("+44 (0)20 7946 0018"), out, sizeof out, &wrote));
+    text("phone_report_by",
+         phone_report_by(world, PHONE_LIBRARY, TEXT("US"), TEXT("+44 (0)20 7946 0018"), out, sizeof out, &wrote));
+    text("phone_report_by, no room", phone_report_by(world, PHONE_LIBRARY, TEXT(""), TEXT("call me"), out, 0, &wrote));
+    text("phone_typing_shown", phone_typing_shown(world, TEXT("US"), TEXT("6502530"), out, sizeof out, &wrote));
+    VALUE("phone_typing_caret", phone_typing_caret(world, TEXT("US"), TEXT("6502530"), 4, &place), place);
+    VALUE("phone_is_viable", phone_is_viable(TEXT("call me"), &flag), flag);
+    text("phone_refusal_words", phone_refusal_words(PHONE_TOO_LONG, out, sizeof out, &wrote));
+}
+
+/* The calls of two texts, of lengths, of regions, and of numbers in a text. */
+static void of_more(phone_handle *world) {
+    const char *line = "Ring 03-331 6005, or +1 650 253 0000";
+    uint8_t texts[64];
+    size_t len = 0;
+    uint32_t told = 99;
+    uint16_t codes[300] = {0};
+    phone_place places[4] = {{0, 0}, {0, 0}, {0, 0}, {0, 0}};
+    phone_number number = number_of(world, "phone_parse_by", "03-331 6005", texts, &len);
+    VALUE("phone_possibility_by", phone_possibility_by(world, PHONE_LIBRARY, &number, &told), told);
+    VALUE("phone_text_possibility_by", phone_text_possibility_by(world, PHONE_LIBRARY, TEXT("US"), TEXT("+1 650"), &told), told);
+    VALUE("phone_compare_by", phone_compare_by(world, PHONE_LIBRARY, TEXT("+64 3 331 6005"), TEXT("331 6005"), &told), told);
+    text("phone_dialled_from", phone_dialled_from(world, TEXT("DE"), &number, texts, len, out, sizeof out, &wrote));
+    VALUE("phone_find_by", phone_find_by(world, PHONE_LIBRARY, TEXT("NZ"), PHONE_IF_VALID, TEXT(line), places, 4, &len), len);
+    for (size_t i = 0; i < len; i++) printf("%.*s\n", (int)(places[i].end - places[i].start), line + places[i].start);
+    VALUE("phone_example_by", phone_example_by(world, PHONE_LIBRARY, TEXT("NZ"), PHONE_UNKNOWN, &number, texts, 64, &len), 0);
+    VALUE("phone_example_by", phone_example_by(world, PHONE_LIBRARY, TEXT("NZ"), PHONE_MOBILE, &number, texts, 64, &len), number.code);
+    text("phone_regions", phone_regions(world, out, 0, &wrote));
+    VALUE("phone_codes", phone_codes(world, codes, 300, &len), codes[0]);
+    text("phone_word", phone_word(PHONE_KIND_WORDS, PHONE_FIXED_LINE_OR_MOBILE, out, sizeof out, &wrote));
+}
+
+/* The calls of tables of their own. */
+static void of_tables(void) {
+    phone_handle numbers = PHONE_CLOSED;
+    phone_prefixes prefixes = PHONE_CLOSED;
+    phone_short_facts facts = {0, 0, 0, 0, 0, 0};
+    size_t line = 99, len = 0;
+    VALUE("phone_open", phone_open(TEXT(SHORT), &numbers), 0);
+    VALUE("phone_short", phone_short(&numbers, TEXT("NZ"), TEXT("111"), &facts), facts.cost);
+    printf("%u%u%u%u%u\n", facts.is_possible, facts.is_valid, facts.is_carrier_specific, facts.is_emergency,
+           facts.reaches_emergency);
+    phone_close(&numbers);
+    VALUE("phone_close", phone_short(&numbers, TEXT("NZ"), TEXT("111"), &facts), 0);
+    VALUE("phone_prefixes_open, refused", phone_prefixes_open(TEXT("64\tNew Zealand\n643"), &prefixes, &line), 0);
+    VALUE("phone_prefixes_open", phone_prefixes_open(TEXT("64\tNew Zealand\n643\tSouth Island"), &prefixes, &line), line);
+    text("phone_prefixes_longest", phone_prefixes_longest(&prefixes, TEXT("6433316005"), out, sizeof out, &wrote, &len));
+    phone_prefixes_close(&prefixes);
+    text("phone_prefixes_close", phone_prefixes_longest(&prefixes, TEXT("64"), out, sizeof out, &wrote, &len));
+}
+
+int main(void) {
+    phone_handle world = PHONE_CLOSED;
+    size_t len = 0;
+    const uint8_t *table = phone_world_text(&len);
+    VALUE("phone_version", PHONE_OK, phone_version() == PHONE_VERSION);
+    text("phone_table_version", phone_table_version(out, sizeof out, &wrote) == PHONE_OK ? (wrote = 14, PHONE_OK) : 99);
+    VALUE("phone_world_text", PHONE_OK, len > 100000 && table[0] == '[');
+    VALUE("phone_open_world", phone_open_world(&world), 0);
+    of_number(&world);
+    of_text(&world);
+    of_more(&world);
+    phone_close(&world);
+    of_tables();
+    return 0;
+}

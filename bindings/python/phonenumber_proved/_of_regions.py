@@ -1,0 +1,77 @@
+"""What `phonenumbers` tells of regions and calling codes: Python over the table of the world."""
+
+from __future__ import annotations
+
+from typing import Optional, Set, Tuple
+
+from . import _regions
+
+REGION_CODE_FOR_NON_GEO_ENTITY, UNKNOWN_REGION = _regions.NO_REGION, _regions.UNKNOWN
+
+#: The regions of each calling code, the main one first.
+COUNTRY_CODE_TO_REGION_CODE = _regions.regions_by_code()
+
+#: The calling codes that are no region's.
+COUNTRY_CODES_FOR_NON_GEO_REGIONS = frozenset(
+    code
+    for code, regions in COUNTRY_CODE_TO_REGION_CODE.items()
+    if regions == (REGION_CODE_FOR_NON_GEO_ENTITY,)
+)
+
+#: The regions that the table has, and those that have short numbers.
+SUPPORTED_REGIONS = frozenset(_regions.code_by_region())
+SUPPORTED_SHORT_REGIONS = sorted(_regions.short_regions())
+
+
+def region_codes_for_country_code(country_code: int) -> Tuple[str, ...]:
+    """The regions of a calling code, the main one first."""
+    return COUNTRY_CODE_TO_REGION_CODE.get(country_code, ())
+
+
+def region_code_for_country_code(country_code: int) -> str:
+    """The main region of a calling code; `ZZ` where it has none."""
+    return (*region_codes_for_country_code(country_code), UNKNOWN_REGION)[0]
+
+
+def country_code_for_region(region_code: Optional[str]) -> int:
+    """The calling code of a region; 0 where there is no such region."""
+    return _regions.code_by_region().get(region_code or "", 0)
+
+
+def country_code_for_valid_region(region_code: str) -> int:
+    """The calling code of a region; `ValueError` where there is no such region."""
+    code = country_code_for_region(region_code)
+    if not code:
+        raise ValueError(f"no region's id: {region_code!a}")
+    return code
+
+
+def supported_calling_codes() -> Set[int]:
+    """The calling codes of the table."""
+    return set(COUNTRY_CODE_TO_REGION_CODE)
+
+
+def is_nanpa_country(region_code: Optional[str]) -> bool:
+    """Whether a region has the calling code 1."""
+    return country_code_for_region(region_code) == 1
+
+
+def is_mobile_number_portable_region(region_code: Optional[str]) -> bool:
+    """Whether in a region a mobile number is kept when the carrier is changed."""
+    record = _regions.record_of(region_code)
+    return record is not None and bool(record.get("mobile_number_portable"))
+
+
+def ndd_prefix_for_region(region_code: Optional[str], strip_non_digits: bool) -> Optional[str]:
+    """The national prefix of a region; `None` where it has none. A tilde in it waits for a tone."""
+    prefix = (_regions.record_of((region_code or "").upper()) or {}).get("national_prefix")
+    if prefix is None or not strip_non_digits:
+        return prefix
+    return str(prefix).replace("~", "")
+
+
+def normalize_digits_only(number: str, keep_non_digits: bool = False) -> str:
+    """The digits of a text, of any script, as 0 to 9, and the rest of it where that is kept."""
+    return "".join(
+        str(int(it)) if it.isdecimal() else it for it in number if keep_non_digits or it.isdecimal()
+    )

@@ -1,0 +1,143 @@
+//! Numbers in a text, and what a table lists.
+use crate::call::{bytes_of, hint_of, items_of, text_of};
+use crate::database::{By, Database};
+use crate::error::Error;
+use crate::ffi;
+use crate::number::{PhoneNumber, Type};
+use std::ops::Range;
+
+/// Which pieces of a text are found.
+#[derive(Clone, Copy, Debug, PartialEq, Eq, Hash, PartialOrd, Ord)]
+pub enum Leniency {
+    /// Those that are read as a number of which the count of digits is possible.
+    Possible,
+    /// Those that are read as a valid number.
+    Valid,
+}
+
+/// A number in a text.
+#[derive(Clone, Debug, PartialEq, Eq, Hash)]
+pub struct Found {
+    /// Where it stands, in bytes of the text.
+    pub place: Range<usize>,
+    /// The number.
+    pub number: PhoneNumber,
+}
+
+impl Database {
+    /// The valid numbers that stand in a text, from its front on. The hint is the region in which it was
+    /// written.
+    ///
+    /// ```
+    /// use phonenumber_proved::Database;
+    /// let (world, text) = (Database::world()?, "Ring 03-331 6005 today");
+    /// let found = world.find(Some("NZ"), text)?;
+    /// assert_eq!((&text[found[0].place.clone()], found.len()), ("03-331 6005", 1));
+    /// assert_eq!(found[0].number.to_string(), "+6433316005");
+    /// # Ok::<(), phonenumber_proved::Error>(())
+    /// ```
+    pub fn find(&self, hint: Option<&str>, text: impl AsRef<str>) -> Result<Vec<Found>, Error> {
+        self.by(Default::default()).find(hint, Leniency::Valid, text)
+    }
+
+    /// How a number is dialled from a region: its national text there, and else an international prefix, its
+    /// calling code and its digits. `Error::NoTerritory` where the database has none of the region.
+    ///
+    /// ```
+    /// use phonenumber_proved::Database;
+    /// let world = Database::world()?;
+    /// let number = world.parse(Some("NZ"), "03-331 6005")?;
+    /// assert_eq!(world.dialled_from("DE", &number)?, "00 64 3 331 6005");
+    /// assert_eq!(world.dialled_from("NZ", &number)?, "03 331 6005");
+    /// # Ok::<(), phonenumber_proved::Error>(())
+    /// ```
+    pub fn dialled_from(&self, region: &str, number: &PhoneNumber) -> Result<String, Error> {
+        let (number, texts) = number.to_ffi();
+        text_of(64, |out, len, wrote| {
+            let (at, bytes) = (texts.as_ptr(), texts.len());
+            // SAFETY: as in `By::find`.
+            self.by(Default::default()).records().with(|handle| unsafe {
+                ffi::phone_dialled_from(handle, region.as_ptr(), region.len(), &number, at, bytes, out, len, wrote)
+            })
+        })
+    }
+
+    /// The example number of a region and a kind; none where the database has none.
+    ///
+    /// ```
+    /// use phonenumber_proved::{Database, Type};
+    /// let world = Database::world()?;
+    /// let number = world.example("NZ", Type::Mobile)?.expect("there is one");
+    /// assert_eq!(world.number_type(&number)?, Type::Mobile);
+    /// assert_eq!(world.example("NZ", Type::Unknown)?, None);
+    /// # Ok::<(), phonenumber_proved::Error>(())
+    /// ```
+    pub fn example(&self, region: &str, kind: Type) -> Result<Option<PhoneNumber>, Error> {
+        self.by(Default::default()).example(region, kind)
+    }
+
+    /// The ids of the database's regions, by the alphabet.
+    ///
+    /// ```
+    /// let world = phonenumber_proved::Database::world()?;
+    /// assert_eq!((&world.regions()?[..2], world.regions()?.len()), (&["AC".to_owned(), "AD".to_owned()][..], 245));
+    /// assert_eq!(world.codes()?[..3], [1, 7, 20]);
+    /// # Ok::<(), phonenumber_proved::Error>(())
+    /// ```
+    pub fn regions(&self) -> Result<Vec<String>, Error> {
+        let ids = bytes_of(512, |out, len, wrote| {
+            // SAFETY: as in `By::find`.
+            self.by(Default::default()).records().with(|handle| unsafe { ffi::phone_regions(handle, out, len, wrote) })
+        })?;
+        Ok(ids.chunks_exact(2).map(|id| String::from_utf8_lossy(id).into_owned()).collect())
+    }
+
+    /// The calling codes of the database, ascending.
+    pub fn codes(&self) -> Result<Vec<u16>, Error> {
+        items_of(256, |out, len, wrote| {
+            // SAFETY: as in `By::find`.
+            self.by(Default::default()).records().with(|handle| unsafe { ffi::phone_codes(handle, out, len, wrote) })
+        })
+    }
+}
+
+impl By<'_> {
+    /// The numbers that stand in a text, from its front on; they don't overlap.
+    pub fn find(
+        &self,
+        hint: Option<&str>,
+        leniency: Leniency,
+        text: impl AsRef<str>,
+    ) -> Result<Vec<Found>, Error> {
+        let (id, text, rules) = (hint_of(hint)?, text.as_ref(), self.rules() as u32);
+        let places = items_of(4, |out: *mut ffi::Place, len, wrote| {
+            let (at, id_len) = (text.as_ptr(), id.len());
+            // SAFETY: the handle is open, and lent to the call alone; the slices are valid, apart and initialized.
+            self.records().with(|handle| unsafe {
+                ffi::phone_find_by(
+                    handle, rules, id.as_ptr(), id_len, leniency as u32, at, text.len(), out, len, wrote,
+                )
+            })
+        })?;
+        let found = |place: ffi::Place| {
+            let place = place.start..place.end;
+            Ok(Found { number: self.parse(hint, &text[place.clone()])?, place })
+        };
+        places.into_iter().map(found).collect()
+    }
+
+    /// The example number of a region and a kind; none where the database has none.
+    pub fn example(&self, region: &str, kind: Type) -> Result<Option<PhoneNumber>, Error> {
+        let (mut number, rules, mut is_there) = (ffi::Number::default(), self.rules() as u32, true);
+        let texts = bytes_of(64, |out, len, wrote| {
+            let (id, id_len) = (region.as_ptr(), region.len());
+            // SAFETY: as in `find`.
+            let status = self.records().with(|handle| unsafe {
+                ffi::phone_example_by(handle, rules, id, id_len, kind as u32, &mut number, out, len, wrote)
+            });
+            is_there = status != ffi::NO_EXAMPLE;
+            if is_there { status } else { ffi::OK }
+        })?;
+        Ok(is_there.then(|| PhoneNumber::of(&number, &texts)))
+    }
+}
