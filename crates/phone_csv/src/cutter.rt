@@ -71,6 +71,8 @@ impl Cutter {
         ensures partial { partial_of self.new.fields ≡ [] }
         ensures field { self.new.field.items ≡ [] }
         ensures feeds { self.new.feeds ≡ self.old.feeds }
+        ensures feeds_before { self.new.feeds_before ≡ self.old.feeds_before }
+        ensures feeds_to_quote { self.new.feeds_to_quote ≡ self.old.feeds_to_quote }
     {
         self.place = Place::StartRecord;
         self.fields.clear();
