@@ -1,12 +1,13 @@
 -- An automaton of the tree cut to ASCII finds in ASCII texts what the tree finds, and its cells hold the groups' slots.
-use Rattle.std.proofs.Common.{◌≡◌, ◌<◌, ◌≤◌, ◌+◌, ◌-◌, ◌*◌, ℕ, zero, suc, true, cond, List, length, take, drop, ◌++◌, Option, None, Some, All, IfSome, option_map, slice_index, refl, sym, subst, ap, ap₂, ◌∙◌, inl, inr, arith, ne_eqb, false, IsSome, is_some}
+use Rattle.std.proofs.Common.{◌≡◌, ◌<◌, ◌≤◌, ◌+◌, ◌-◌, ◌*◌, ℕ, zero, suc, true, cond, List, length, take, drop, ◌++◌, Option, None, Some, All, IfSome, MatchOption, option_map, slice_index, refl, sym, subst, ap, ap₂, ◌∙◌, inl, inr, arith, ne_eqb, false, IsSome, is_some}
 use Rattle.std.proofs.lemmas.Bool.{cases_lt, cond-true, cond-false}
 use Rattle.std.proofs.lemmas.Bool.Decides.{nat_tests}
 use Rattle.std.proofs.lemmas.List.FromFn.{get_or-map-range_with_len}
 use Rattle.std.proofs.lemmas.Option.{slice_get_past, slice_get-get_or, none-some, same_Some}
 use Rattle.std.specs.Option.{option_or}
 use Rattle.phone_automaton.specs.Ascii.{AsciiSame}
-use Rattle.phone_automaton.specs.Finds.{at_front, captured, found_by, group, group_at, position, FindsInAscii}
+use Rattle.phone_automaton.specs.Groups.{captured_at, IsFoundIn}
+use Rattle.phone_automaton.specs.Finds.{at_front, captured, found_by, front_end, group, group_at, position, FindsInAscii}
 use Rattle.phone_automaton.specs.declared.machine.Captured.{Captured}
 use Rattle.phone_automaton.specs.Templates.{with_match_replaced, AreTexts, IsWritten}
 use Rattle.regex.specs.Replace.{bytes_of}
@@ -20,8 +21,6 @@ use Rattle.regex_hir.proofs.OptionLemmas.{option_or-None}
 use Rattle.regex_nfa.specs.Run.{run}
 use Rattle.regex_nfa.specs.declared.nfa.Nfa.{Nfa}
 use Rattle.regex_syntax.specs.Grammar.{Names}
-use Rattle.regex_tagged.specs.Search.{IsNear}
-use Rattle.regex_tagged.specs.declared.near.Near.{Near}
 use Rattle.regex_vm.specs.Found.{span, cell, group_cells}
 
 ascii_boundary : (hay : List ℕ) → All (λ x. x < 128) hay → (i : ℕ) → is_boundary hay i ≡ true
@@ -78,6 +77,20 @@ begins_there at last h = some_there _ h ∙ sym (from_front at last _ refl)
 pub begins_nowhere : (at : Rest) (last : ℕ) → end_of (at 0) ≡ None → false ≡ at_front (first_between at 0 last)
 begins_nowhere at last h = none_there _ h ∙ sym (from_front at last _ refl)
 
+later_end : (o : Option Match) → ((m : Match) → o ≡ Some m → 1 ≤ m.start) → front_end o ≡ None
+later_end None h = refl
+later_end (Some m) h = let from = h m refl in cond-false _ _ _ (ne_eqb m.start 0 (omega arith))
+
+-- a match at the front ends where what matches there does
+pub ends_at_front : (at : Rest) (last : ℕ) → front_end (first_between at 0 last) ≡ end_of (at 0)
+ends_at_front at last = go (at 0) refl
+  where
+    go : (o : Option Trace) → at 0 ≡ o → front_end (first_between at 0 last) ≡ end_of o
+    go (Some t) e = ap front_end (first_between_here at 0 last t (omega arith) e)
+    go None e =
+        ap front_end (first_between_next at 0 last e)
+        ∙ later_end _ (λ m found. (IsFirst-of_first_between at 1 last m found).from)
+
 -- a slot of a group is its last write
 slot_of_group : (m : Match) (slot : ℕ) → 2 ≤ slot → slot_of m slot ≡ last_write m.trace.writes slot
 unfolding slot_of
@@ -110,10 +123,6 @@ group_at-group m width (suc n) fits =
     (position_at m width (2 * suc n - 1) (2 * suc n + 1) (omega arith) (omega arith))
     ∙ sym (cond-false _ _ _ (ne_eqb (suc n) 0 (omega arith)))
 
--- the span of a match and its cells, as groups 1 and `last`
-abbrev pub captured_at : ℕ → List ℕ → ℕ × ℕ → Captured
-captured_at last cells whole = record { span = whole; first = group_at whole cells 1; last = group_at whole cells last }
-
 captured_of_cells : (o : Option Match) (s : Option (ℕ × ℕ)) (cells : List ℕ) (width last : ℕ) → s ≡ option_map span o →
     IfSome o (λ m. cells ≡ group_cells m width) → 2 ≤ width → 2 * last ≤ width →
     option_map (captured_at last cells) s ≡ option_map (captured last) o
@@ -124,37 +133,33 @@ captured_of_cells (Some m) s cells width last e told one fits =
     (group_at-group m width 1 (omega arith)) (group_at-group m width last fits))
 
 -- what a search answers that came to an end
-pub captured_found : (hay : List ℕ) (nfa : Nfa) (near : Near) (s : Option (ℕ × ℕ)) (cells : List ℕ) (width last : ℕ) →
-    near ≡ Near.Done s → IsNear nfa hay 0 width cells near → width ≡ 2 * last + 2 →
+pub captured_found : (hay : List ℕ) (nfa : Nfa) (s : Option (ℕ × ℕ)) (cells : List ℕ) (last : ℕ) → IsFoundIn nfa hay cells s → length cells ≡ 2 * last + 2 →
     option_map (captured_at last cells) s ≡ option_map (captured last) (found_by nfa hay)
-captured_found hay nfa near s cells width last is told room =
-    let all : IsNear nfa hay 0 width cells (Near.Done s) = subst (IsNear nfa hay 0 width cells) is told in
-    captured_of_cells _ s cells width last all.0 all.1 (omega arith) (omega arith)
+captured_found hay nfa s cells last all room = captured_of_cells _ s cells (length cells) last all.0 all.1 (omega arith) (omega arith)
 
 -- what holds of what is there, if it is there
 pub IfSome-weaker : {A : Type 0} (P Q : A → Type 0) → ((x : A) → P x → Q x) → (o : Option A) → IfSome o P → IfSome o Q
 IfSome-weaker P Q f None h = h
 IfSome-weaker P Q f (Some x) h = f x h
 
--- a text in which what a template writes stands in the place of the match that was found
-pub replaced_found : (template hay : List ℕ) (nfa : Nfa) (near : Near) (s : ℕ × ℕ) (cells : List ℕ) (width : ℕ) (text : List ℕ) →
-    near ≡ Near.Done (Some s) → IsNear nfa hay 0 width cells near → length cells ≡ width →
-    ((bytes : List ℕ) × (text ≡ (take s.0 hay ++ bytes) ++ drop s.1 hay) × IsWritten template hay s cells bytes) →
+-- what a template's writer answers for a match
+abbrev pub Parts : List ℕ → List ℕ → List ℕ → ℕ × ℕ → List ℕ → Type 0
+Parts template hay cells s text = (bytes : List ℕ) × (text ≡ (take s.0 hay ++ bytes) ++ drop s.1 hay) × IsWritten template hay s cells bytes
+
+-- a text in which what a template writes stands in the place of the match that was found; without one it stays as it is
+pub replaced_found : (template hay : List ℕ) (nfa : Nfa) (found : Option (ℕ × ℕ)) (cells : List ℕ) (text : List ℕ) → IsFoundIn nfa hay cells found →
+    MatchOption found (text ≡ hay) (λ s. Parts template hay cells s text) →
     (names : Names) → text ≡ with_match_replaced names template hay (found_by nfa hay)
-replaced_found template hay nfa near s cells width text is told long (bytes, parts, written) names =
-    let all : IsNear nfa hay 0 width cells (Near.Done (Some s)) = subst (IsNear nfa hay 0 width cells) is told in
-    go (found_by nfa hay) all.0 all.1
+replaced_found template hay nfa found cells text all told names = go (found_by nfa hay) found all.0 all.1 told
   where
-    go : (o : Option Match) → Some s ≡ option_map span o → IfSome o (λ m. cells ≡ group_cells m width) → text ≡ with_match_replaced names template hay o
-    go None e told = absurd (none-some s (sym e))
-    go (Some m) e told =
+    go : (o : Option Match) (found : Option (ℕ × ℕ)) → found ≡ option_map span o → IfSome o (λ m. cells ≡ group_cells m (length cells)) →
+        MatchOption found (text ≡ hay) (λ s. Parts template hay cells s text) → text ≡ with_match_replaced names template hay o
+    go None None e cells_are told = told
+    go None (Some s) e cells_are told = absurd (none-some s (sym e))
+    go (Some m) None e cells_are told = absurd (none-some (span m) e)
+    go (Some m) (Some s) e cells_are (bytes, parts, written) =
         let same : s ≡ span m = same_Some _ _ e in
         let texts : AreTexts hay s cells (λ n. bytes_of hay (group m n)) =
-        λ n fits. ap (bytes_of hay) (sym (ap₂ (λ (w : ℕ × ℕ) (c : List ℕ). group_at w c n) same told ∙ group_at-group m width n (rw long at fits))) in
+        λ n fits. ap (bytes_of hay) (sym (ap₂ (λ (w : ℕ × ℕ) (c : List ℕ). group_at w c n) same cells_are ∙ group_at-group m (length cells) n fits)) in
         parts
         ∙ ap₂ (λ (w : ℕ × ℕ) (b : List ℕ). (take w.0 hay ++ b) ++ drop w.1 hay) same (written names (λ n. bytes_of hay (group m n)) texts)
-
--- a text in which nothing was found stays as it is
-pub none_kept : (names : Names) (template hay : List ℕ) (o : Option Match) → None ≡ option_map span o → hay ≡ with_match_replaced names template hay o
-none_kept names template hay None e = refl
-none_kept names template hay (Some m) e = absurd (none-some (span m) e)

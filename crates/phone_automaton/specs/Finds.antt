@@ -1,7 +1,7 @@
 -- What an automaton finds in a text, and what is asked of it.
 use Rattle.std.specs.Prelude.{◌≡◌, ◌<◌, ◌-◌, ◌*◌, ◌==◌, ℕ, Bool, false, List, length, Option, Some}
 use Rattle.std.specs.Prelude.{None, All, if◌then◌else◌, slice_index}
-use Rattle.std.specs.Option.{option_map_or}
+use Rattle.std.specs.Option.{option_and_then, option_map_or}
 use Rattle.regex.specs.Writes.{both, group_of}
 use Rattle.regex_hir.specs.Find.{Match, find_str}
 use Rattle.regex_hir.specs.Re.{Re}
@@ -29,6 +29,11 @@ FindsInAscii re found = (hay : List ℕ) → All (λ x. x < 128) hay → found h
 -- there is a match, and it begins at the first byte
 abbrev pub at_front : Option Match → Bool
 at_front found = option_map_or (λ m. m.start == 0) found false
+
+-- where a match that begins at the first byte ends
+abbrev pub front_end : Option Match → Option ℕ
+front_end found = option_and_then (λ (m : Match). if m.start == 0 then Some m.trace.end else None)
+    found
 
 -- what group n of a match spans; group 0 is the match
 abbrev pub group : Match → ℕ → Option (ℕ × ℕ)

@@ -1,3 +1,6 @@
 pub mod Ascii
 pub mod Finds
+pub mod Fronts
+pub mod Groups
+pub mod Lengths
 pub mod Templates

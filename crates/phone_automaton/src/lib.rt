@@ -2,9 +2,14 @@
 //! search of it works out its steps, and the next ones only walk them.
 #![tactic(auto)]
 
+mod fronts;
+mod groups;
+mod lengths;
 mod machine;
 mod narrow;
 mod template;
 
+pub use fronts::Fronts;
+pub use lengths::Lengths;
 pub use machine::{Captured, Machine};
 pub use narrow::narrow_classes;

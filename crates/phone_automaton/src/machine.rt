@@ -3,23 +3,24 @@
 ghost use Rattle.std.specs.Prelude.{◌≡◌, ◌-◌, ◌+◌, ◌*◌, ◌≤◌, ℕ, length, vec_len, string_bytes};
 ghost use Rattle.std.specs.Prelude.{IfOk, IfSome, option_map};
 ghost use Rattle.phone_automaton.specs.Ascii.{AsciiSame};
-ghost use Rattle.phone_automaton.specs.Finds.{at_front, captured, finds, group_at, FindsInAscii};
+ghost use Rattle.phone_automaton.specs.Finds.{at_front, captured, finds, front_end, group_at};
+ghost use Rattle.phone_automaton.specs.Finds.{FindsInAscii};
+ghost use Rattle.phone_automaton.specs.Groups.{AreGroupsFor, captured_at};
 ghost use Rattle.phone_automaton.specs.Templates.{with_match_replaced};
 ghost use Rattle.regex_compile.specs.Implements.{Implements};
 ghost use Rattle.regex_dfa.specs.Search.{IsForwardFor};
 ghost use Rattle.regex_hir.specs.Meaning.{meaning};
 ghost use Rattle.regex_hir.specs.Re.{Re};
 ghost use Rattle.regex_syntax.specs.Grammar.{Names};
-ghost use Rattle.regex_tagged.specs.Valid.{IsFor};
 ghost use Rattle.regex_vm.specs.Found.{span};
 
+use crate::groups::Groups;
 use crate::narrow::narrow_classes;
 use crate::template;
 use regex_dfa::{Dfa, End, Forward};
 use regex_hir::Hir;
 use regex_nfa::Nfa;
 use regex_syntax::Parsed;
-use regex_tagged::{Near, Tagged};
 use std::alloc::{AllocError, Global};
 use std::marker::Model;
 
@@ -59,14 +60,12 @@ pub struct Machine {
     /// How many bytes `forward` was asked to search, and with how many it is made anew.
     read: usize,
     most: usize,
-    tagged: Tagged,
+    groups: Groups,
     /// The number of the last group.
     last: usize,
-    /// From group 1 on, a start and an end for each group: a position plus one, or 0 for none.
-    cells: Vec<usize>,
     ghost forth: { IsForwardFor forward dfa },
-    ghost own: { IsFor tagged dfa },
-    ghost room: { vec_len cells ≡ 2 * last + 2 },
+    ghost own: { AreGroupsFor groups dfa },
+    ghost room: { vec_len groups.cells ≡ 2 * last + 2 },
 }
 
 impl Model for Machine {
@@ -87,14 +86,12 @@ impl Drop for Machine {
             forward,
             read: _,
             most: _,
-            tagged,
+            groups,
             last: _,
-            cells,
         } = self;
         drop(dfa);
         drop(forward);
-        drop(tagged);
-        drop(cells);
+        drop(groups);
     }
 }
 
@@ -145,6 +142,19 @@ pub(crate) fn group_of_cells(
     Some((first - 1, last - 1))
 }
 
+/// What a match captures, by its span and its cells.
+fn captured_at(found: Option<(usize, usize)>, cells: &[usize], last: usize) -> Option<Captured>
+    requires { length cells.now ≡ 2 * last + 2 }
+    ensures { result ≡ option_map (captured_at last cells.now) found }
+{
+    let span = found?;
+    Some(Captured {
+        span,
+        first: group_of_cells(span, cells, 1),
+        last: group_of_cells(span, cells, last),
+    })
+}
+
 impl Machine {
     /// The machine of a pattern that was read. None where memory is refused or its automaton grows
     /// too large.
@@ -162,10 +172,7 @@ impl Machine {
         let Ok(forward) = Forward::with_budget(alloc, &dfa, false, KEPT) else {
             return None;
         };
-        let Ok(tagged) = Tagged::new(alloc, &dfa) else {
-            return None;
-        };
-        let Ok(cells) = vec![in alloc; 0usize; 2 * last + 2] else {
+        let Ok(groups) = Groups::new(alloc, 2 * last + 2) else {
             return None;
         };
         Some(Machine {
@@ -174,9 +181,8 @@ impl Machine {
             forward,
             read: 0,
             most,
-            tagged,
+            groups,
             last,
-            cells,
         })
     }
 
@@ -234,6 +240,33 @@ impl Machine {
         }
     }
 
+    /// Where the first match ends, if it begins at the first byte. None where the automaton gives
+    /// up.
+    pub fn front_end(&mut self, hay: &[u8]) -> Option<Option<usize>>
+        ensures found { IfSome result (λ end. end ≡ front_end (finds self.old hay.now)) }
+        ensures within { IfSome result (λ end. IfSome end (λ e. e ≤ length hay.now)) }
+        ensures same { self.new ≡ self.old }
+    {
+        self.attend(hay.len());
+        self.end_at_front(hay)
+    }
+
+    /// The same by the states that are kept.
+    fn end_at_front(&mut self, hay: &[u8]) -> Option<Option<usize>>
+        ensures found { IfSome result (λ end. end ≡ front_end (finds self.old hay.now)) }
+        ensures within { IfSome result (λ end. IfSome end (λ e. e ≤ length hay.now)) }
+        ensures same { self.new ≡ self.old }
+    {
+        match self
+            .forward
+            .find_end(&self.dfa, hay, 0, hay.len(), true, false)
+        {
+            End::At(end) => Some(Some(end)),
+            End::NoMatch => Some(None),
+            _ => None,
+        }
+    }
+
     /// Where the first match begins and ends. None where the automata give up.
     pub fn span(&mut self, hay: &[u8]) -> Option<Option<(usize, usize)>>
         ensures found { IfSome result (λ found. found ≡ option_map span (finds self.old hay.now)) }
@@ -264,10 +297,7 @@ impl Machine {
         ensures found { IfSome result (λ found. found ≡ option_map span (finds self.old hay.now)) }
         ensures same { self.new ≡ self.old }
     {
-        match self.tagged.find_near(&self.dfa, hay, 0, hay.len(), &mut []) {
-            Ok(Near::Done(found)) => Some(found),
-            _ => None,
-        }
+        self.groups.find(&self.dfa, hay)
     }
 
     /// The first match with its groups. None where the automaton gives up.
@@ -276,16 +306,8 @@ impl Machine {
             option_map (captured self.old.last) (finds self.old hay.now)) }
         ensures same { self.new ≡ self.old }
     {
-        let cells = self.cells.as_mut_slice();
-        match self.tagged.find_near(&self.dfa, hay, 0, hay.len(), cells) {
-            Ok(Near::Done(Some(span))) => Some(Some(Captured {
-                span,
-                first: group_of_cells(span, &self.cells, 1),
-                last: group_of_cells(span, &self.cells, self.last),
-            })),
-            Ok(Near::Done(None)) => Some(None),
-            _ => None,
-        }
+        let found = self.groups.find(&self.dfa, hay)?;
+        Some(captured_at(found, self.groups.cells(), self.last))
     }
 
     /// The text with its first match replaced by a template, in which `$1` stands for the first
@@ -303,17 +325,9 @@ impl Machine {
             (finds self.old hay.now))) }
         ensures same { self.new ≡ self.old }
     {
-        let bytes = hay.as_bytes();
-        let cells = self.cells.as_mut_slice();
-        match self
-            .tagged
-            .find_near(&self.dfa, bytes, 0, bytes.len(), cells)
-        {
-            Ok(Near::Done(Some(span))) => {
-                template::replace(alloc, template, hay, span, &self.cells)
-            }
-            Ok(Near::Done(None)) => Ok(Some(String::from_str(alloc, hay)?)),
-            _ => Ok(None),
-        }
+        let Some(found) = self.groups.find(&self.dfa, hay.as_bytes()) else {
+            return Ok(None);
+        };
+        template::replace_if_any(alloc, template, hay, found, self.groups.cells())
     }
 }

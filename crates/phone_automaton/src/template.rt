@@ -2,7 +2,7 @@
 //! followed by a `$`, which then stands for itself, or by the one digit that names a group; any
 //! other is left to a library.
 ghost use Rattle.std.specs.Prelude.{◌≡◌, ◌+◌, ◌*◌, ◌≤◌, ◌<◌, ◌++◌, length, drop, take, slice_index};
-ghost use Rattle.std.specs.Prelude.{string_bytes, IfOk, IfSome, IsTrue, OnOk};
+ghost use Rattle.std.specs.Prelude.{string_bytes, IfOk, IfSome, IsTrue, MatchOption, OnOk};
 ghost use Rattle.std.specs.List.{prefix_len};
 ghost use Rattle.phone_automaton.specs.Finds.{group_at};
 ghost use Rattle.phone_automaton.specs.Templates.{IsWritten};
@@ -141,5 +141,24 @@ pub(crate) fn replace(
     match String::from_utf8(out) {
         Ok(text) => Ok(Some(text)),
         Err(_) => Ok(None),
+    }
+}
+
+/// The same of a match that was found, if any; a text without one as it is.
+pub(crate) fn replace_if_any(
+    alloc: Global,
+    template: &str,
+    hay: &str,
+    found: Option<(usize, usize)>,
+    cells: &[usize],
+) -> Result<Option<String>, AllocError>
+    ensures { IfOk result (λ made. IfSome made (λ out.
+        MatchOption found (string_bytes out ≡ hay.now) (λ span. (bytes : _) ×
+        (string_bytes out ≡ (take span.0 hay.now ++ bytes) ++ drop span.1 hay.now) ×
+        IsWritten template.now hay.now span cells.now bytes))) }
+{
+    match found {
+        Some(span) => replace(alloc, template, hay, span, cells),
+        None => Ok(Some(String::from_str(alloc, hay)?)),
     }
 }
