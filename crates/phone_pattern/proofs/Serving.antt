@@ -1,14 +1,24 @@
 -- What a machine finds in ASCII texts is what the text of its pattern finds there.
-use Rattle.std.proofs.Common.{◌≡◌, ◌<◌, ◌≤◌, ◌-◌, ◌==◌, ℕ, List, length, false, Option, None, Some, Result, Ok, Err, IfOk, IfSome, String, Global, string_bytes, All, option_map, refl, ap, ap₂, ◌∙◌, arith}
+use Rattle.std.proofs.Common.{◌≡◌, ◌<◌, ◌≤◌, ◌-◌, ◌==◌, ◌&&◌, ◌⊎◌, inl, inr, ℕ, Bool, List, length, true, false, Option, None, Some, Result, Ok, Err, IfOk, IfSome, String, Global, string_bytes, All, option_map, reverse, [], ◌∷◌, ◌++◌, slice_get, get_or, refl, sym, subst, ap, ap₂, ◌∙◌, arith, true≢false, cond, ne_eqb}
+use Rattle.std.proofs.lemmas.List.{get_or_default, reverse-append}
+use Rattle.std.proofs.lemmas.Option.{slice_get_cases}
+use Rattle.std.specs.Prelude.{slice_index_or}
 use Rattle.std.specs.declared.alloc.AllocError.{AllocError}
-use Rattle.std.specs.Option.{option_map_or}
+use Rattle.std.specs.Option.{option_and_then, option_map_or}
 use Rattle.std.specs.Str.{chars}
-use Rattle.phone_pattern.specs.First.{at_start, captured, captured_by, first_match, first_span, names_in, replaced, verbose, with_first_replaced, IsCut, Seen, seen_of}
+use Rattle.phone_pattern.specs.First.{at_start, front_end, is_whole_match, captured, captured_by, first_match, first_span, led_by, names_in, replaced, verbose, with_first_replaced, IsCut, Seen, seen_of}
 use Rattle.phone_pattern.specs.MachineCaches.{as_captured, Serves}
 use Rattle.phone_pattern.proofs.Matches.{found, named}
 use Rattle.phone_automaton.specs.Finds.{at_front, finds, FindsInAscii, Searcher}
 use Rattle.phone_automaton.specs.Finds as searched
+use Rattle.phone_automaton.proofs.Fitting.{too_long, too_short}
+use Rattle.phone_automaton.proofs.Fronting.{barred}
+use Rattle.phone_automaton.specs.Fronts.{BeginsIn, may_begin}
+use Rattle.phone_automaton.specs.Lengths.{any_length, Bounds, HasLengths, IsTooLong, IsTooShort}
 use Rattle.phone_automaton.specs.Templates.{with_match_replaced}
+use Rattle.phone_pattern.specs.Outlines.{AreFronts, AreLengths, IsShape, IsShapeOfFirst, Shape}
+use Rattle.regex_extract.specs.Frames.{Has}
+use Rattle.regex_hir.specs.Find.{find_str}
 use Rattle.regex.specs.Patterns.{Match, span}
 use Rattle.regex_hir.specs.Meaning.{meaning}
 use Rattle.regex_hir.specs.declared.hir.Hir.{Hir}
@@ -37,6 +47,123 @@ front_seen (Some m) = refl
 span_seen : (o : Option Match) → option_map span o ≡ option_map (λ (s : Seen). (s.0, s.1)) (option_map seen_of o)
 span_seen None = refl
 span_seen (Some m) = refl
+
+-- at the front of a text that begins with another byte than those of its tree's matches nothing is found
+pub fronts_served : (pattern : List ℕ) (hir : Hir) (names : Names) (set : List Bool) → Reads verbose pattern hir names →
+    BeginsIn set (meaning hir) → AreFronts pattern set
+unfolding first_match Reads
+fronts_served pattern hir names set reads begins hay ok other =
+    sym (ap (λ (o : Option Seen). option_map_or (λ (s : Seen). s.0 == 0) o false)
+    (found (read verbose (chars pattern)) _ (meaning hir) hay ok (λ x h. h.1) reads))
+    ∙ sym (front_seen (find_str (meaning hir) hay 0))
+    ∙ barred set hay other (meaning hir) begins ok
+
+-- where each byte may begin a match, nothing is said
+pub fronts_of_any : (pattern : List ℕ) (set : List Bool) → ((b : ℕ) → b < 256 → Has set b) → AreFronts pattern set
+fronts_of_any pattern set all hay ok other = absurd (go (slice_get_cases hay 0).1)
+  where
+    go : ((b : ℕ) × (0 < length hay) × (slice_get hay 0 ≡ Some b) × (get_or hay 0 b ≡ b)) ⊎ ((length hay ≤ 0) × (slice_get hay 0 ≡ None)) → ⊥
+    go (inl (b, within, here, read)) =
+        let small : b < 256 = subst (λ x. x < 256) read (ok 0 b within) in
+        true≢false (sym (all b small) ∙ sym (ap (λ o. option_map_or (λ b. slice_index_or set b false) o true) here) ∙ other)
+    go (inr (past, none)) = true≢false (sym (ap (λ o. option_map_or (λ b. slice_index_or set b false) o true) none) ∙ other)
+
+-- a match is the whole text where it is at the front and ends there
+pub whole_at_front : (pattern text : List ℕ) → is_whole_match pattern text ≡ option_map_or (λ e. e == length text) (front_end pattern text) false
+whole_at_front pattern text = go (first_span pattern text)
+  where
+    step : (e : ℕ) (b : Bool) → (b && (e == length text)) ≡ option_map_or (λ e. e == length text) (cond b (Some e) None) false
+    step e true = refl
+    step e false = refl
+
+    go : (o : Option (ℕ × ℕ)) → option_map_or (λ (s : ℕ × ℕ). (s.0 == 0) && (s.1 == length text)) o false ≡ option_map_or (λ e. e == length text) (option_and_then (λ (s : ℕ × ℕ). cond (s.0 == 0) (Some s.1) None) o) false
+    go None = refl
+    go (Some s) = step s.1 (s.0 == 0)
+
+-- what doesn't begin at the front ends nowhere
+pub none_at_front : (pattern text : List ℕ) → at_start pattern text ≡ false → front_end pattern text ≡ None
+none_at_front pattern text = go (first_match pattern text)
+  where
+    go : (o : Option Seen) → option_map_or (λ (s : Seen). s.0 == 0) o false ≡ false →
+        option_and_then (λ (s : ℕ × ℕ). cond (s.0 == 0) (Some s.1) None) (option_map (λ (s : Seen). (s.0, s.1)) o) ≡ None
+    go None e = refl
+    go (Some s) e = ap (λ b. cond b (Some s.1) None) e
+
+whole_at_start : (pattern text : List ℕ) → at_start pattern text ≡ false → is_whole_match pattern text ≡ false
+whole_at_start pattern text e =
+    whole_at_front pattern text ∙ ap (λ o. option_map_or (λ e. e == length text) o false) (none_at_front pattern text e)
+
+front_end_seen : (o : Option Match) →
+    searched.front_end o ≡ option_and_then (λ (s : ℕ × ℕ). cond (s.0 == 0) (Some s.1) None) (option_map (λ (s : Seen). (s.0, s.1)) (option_map seen_of o))
+front_end_seen None = refl
+front_end_seen (Some m) = refl
+
+-- a text that is shorter than each match of its tree has none at its front, and one that is longer isn't one
+lengths_served : (pattern : List ℕ) (hir : Hir) (names : Names) (b : Bounds) → Reads verbose pattern hir names →
+    HasLengths b (meaning hir) → AreLengths pattern b
+unfolding first_match Reads
+lengths_served pattern hir names b reads lengths hay ok = (
+  λ short.
+      sym (ap (λ (o : Option Seen). option_map_or (λ (s : Seen). s.0 == 0) o false) seen)
+      ∙ sym (front_seen (find_str (meaning hir) hay 0))
+      ∙ too_short b (meaning hir) lengths hay short,
+  λ long. whole_at_front pattern hay ∙ not_whole (front_end pattern hay) (λ e. too_long b (meaning hir) lengths hay long (ends ∙ e)),
+)
+  where
+    seen : option_map seen_of (find_str (meaning hir) hay 0) ≡ first_match pattern hay
+    seen = found (read verbose (chars pattern)) _ (meaning hir) hay ok (λ x h. h.1) reads
+
+    ends : searched.front_end (find_str (meaning hir) hay 0) ≡ front_end pattern hay
+    ends =
+        front_end_seen (find_str (meaning hir) hay 0)
+        ∙ ap (λ (o : Option Seen). option_and_then (λ (s : ℕ × ℕ). cond (s.0 == 0) (Some s.1) None) (option_map (λ (s : Seen). (s.0, s.1)) o)) seen
+
+    not_whole : (o : Option ℕ) → (o ≡ Some (length hay) → ⊥) → option_map_or (λ e. e == length hay) o false ≡ false
+    not_whole None other = refl
+    not_whole (Some e) other = ne_eqb e (length hay) (λ same. other (ap Some same))
+
+-- a match is the whole text if it ends with it
+pub whole_by_end : (pattern text : List ℕ) (o : Option ℕ) → o ≡ front_end pattern text → option_map_or (λ e. e == length text) o false ≡ is_whole_match pattern text
+whole_by_end pattern text o is = ap (λ o. option_map_or (λ e. e == length text) o false) is ∙ sym (whole_at_front pattern text)
+
+-- patterns of which the last has no match at the front of a text don't lead it
+pub not_led : (texts others : List (List ℕ)) (last text : List ℕ) (s : Shape) → texts ≡ others ++ last ∷ [] → IsShapeOfFirst (reverse texts) s →
+    ((pattern : List ℕ) → IsShape pattern s → at_start pattern text ≡ false) → led_by text (reverse texts) ≡ false
+not_led texts others last text s parted shape none =
+    let turned : reverse texts ≡ last ∷ reverse others = ap reverse parted ∙ reverse-append others (last ∷ []) in
+    let own : IsShape last s = subst (λ front. IsShapeOfFirst front s) turned shape in
+    subst (λ front. led_by text front ≡ false) (sym turned) (none last own)
+
+-- what is known of the last of patterns is known of the first of them turned round
+pub shape_of_last : (texts others : List (List ℕ)) (last : List ℕ) (s : Shape) → texts ≡ others ++ last ∷ [] → IsShape last s → IsShapeOfFirst (reverse texts) s
+shape_of_last texts others last s parted is =
+    subst (λ front. IsShapeOfFirst front s) (sym (ap reverse parted ∙ reverse-append others (last ∷ []))) is
+
+-- nor is anything said where no length is known
+pub lengths_of_any : (pattern : List ℕ) (b : Bounds) → b ≡ any_length → AreLengths pattern b
+lengths_of_any pattern b e hay ok = rw e (λ short. absurd (omega (arith, short)), λ long. absurd long.0)
+
+-- what is known of a tree's matches is known of the text that it is read from
+pub shape_served : (pattern : List ℕ) (hir : Hir) (names : Names) (s : Shape) → Reads verbose pattern hir names →
+    BeginsIn s.fronts (meaning hir) → HasLengths s.lengths (meaning hir) → IsShape pattern s
+shape_served pattern hir names s reads begins lengths =
+    (fronts_served pattern hir names s.fronts reads begins, lengths_served pattern hir names s.lengths reads lengths)
+
+module _ (pattern : List ℕ) (s : Shape) (is : IsShape pattern s) (text : List ℕ) (bytes : (k : ℕ) → get_or text k 0 < 256) where
+  small : All (λ b. b < 256) text
+  small k d h = rw (get_or_default text k d 0 h) (bytes k)
+
+  -- a text that begins with another byte, or is too short, has no match at its front
+  pub begins_otherwise : may_begin s.fronts text ≡ false → at_start pattern text ≡ false
+  begins_otherwise = is.0 text small
+
+  pub ends_too_early : IsTooShort s.lengths (length text) → at_start pattern text ≡ false
+  ends_too_early = (is.1 text small).0
+
+  -- one that is too short or too long isn't a match
+  pub no_whole : IsTooShort s.lengths (length text) ⊎ IsTooLong s.lengths text → is_whole_match pattern text ≡ false
+  no_whole (inl short) = whole_at_start pattern text (ends_too_early short)
+  no_whole (inr long) = (is.1 text small).1 long
 
 captured_seen : (last : ℕ) (o : Option Match) →
     option_map (as_captured last) (option_map (searched.captured last) o) ≡ option_map (captured_by last) (option_map seen_of o)

@@ -48,6 +48,11 @@ first_span pattern hay = option_map (λ (s : Seen). (s.0, s.1)) (first_match pat
 abbrev pub at_start : List ℕ → List ℕ → Bool
 at_start pattern hay = option_map_or (λ (s : Seen). s.0 == 0) (first_match pattern hay) false
 
+-- where the first match ends, if it begins at the first byte
+abbrev pub front_end : List ℕ → List ℕ → Option ℕ
+front_end pattern hay = option_and_then (λ (s : ℕ × ℕ). if s.0 == 0 then Some s.1 else None)
+    (first_span pattern hay)
+
 -- digits are led by patterns, the last of which comes first here: where there is none, or the last
 -- one's first match begins at the first byte
 abbrev pub led_by : List ℕ → List (List ℕ) → Bool

@@ -1,4 +1,5 @@
 pub mod First
 pub mod MachineCaches
+pub mod Outlines
 pub mod Refusals
 pub mod Rules

@@ -2,13 +2,13 @@
 use std::alloc::{AllocError, Global};
 use std::cell::RefCell;
 use std::collections::HashMap;
-use std::rc::Rc;
+use std::sync::Arc;
 
 /// Things that are shared by those that ask for them by the same name. Of what a cell holds nothing
 /// is known, so who finds a thing looks whether it is the right one.
 #[derive(Drop)]
 pub(crate) struct InternTable<T> {
-    things: RefCell<HashMap<String, Rc<T>>>,
+    things: RefCell<HashMap<String, Arc<T>>>,
 }
 
 impl<T: Drop> InternTable<T> {
@@ -20,7 +20,7 @@ impl<T: Drop> InternTable<T> {
     }
 
     /// What is kept by a name.
-    pub(crate) fn find(&self, name: &str) -> Result<Option<Rc<T>>, AllocError> {
+    pub(crate) fn find(&self, name: &str) -> Result<Option<Arc<T>>, AllocError> {
         let Ok(things) = self.things.try_borrow() else {
             return Ok(None);
         };
@@ -34,14 +34,14 @@ impl<T: Drop> InternTable<T> {
     pub(crate) fn keep(
         &self,
         name: Result<String, AllocError>,
-        thing: &Rc<T>,
+        thing: &Arc<T>,
     ) -> Result<(), AllocError> {
         let name = name?;
         self.insert(name, thing.clone())
     }
 
     /// Keeps a thing by a name, unless memory was refused for the thing.
-    fn insert(&self, name: String, thing: Result<Rc<T>, AllocError>) -> Result<(), AllocError> {
+    fn insert(&self, name: String, thing: Result<Arc<T>, AllocError>) -> Result<(), AllocError> {
         let thing = thing?;
         if let Ok(mut things) = self.things.try_borrow_mut() {
             things.insert(name, thing)?;
@@ -51,6 +51,6 @@ impl<T: Drop> InternTable<T> {
 }
 
 /// A thing once more, for one who shares it.
-fn share<T: Drop>(thing: &Rc<T>) -> Result<Option<Rc<T>>, AllocError> {
+fn share<T: Drop>(thing: &Arc<T>) -> Result<Option<Arc<T>>, AllocError> {
     Ok(Some(thing.clone()?))
 }

@@ -1,70 +1,78 @@
 //! The leading digits for which a layout is meant, with their patterns compiled.
 ghost use Rattle.std.specs.Prelude.{◌≡◌, ◌==◌, [], true, length, map, reverse, Ok, IfOk, IfErr};
 ghost use Rattle.std.specs.Prelude.{IsTrue};
+ghost use Rattle.std.specs.Arc.{arc_value};
 ghost use Rattle.std.specs.List.{AllByRecursion};
 ghost use Rattle.regex.specs.Strings.{regex_source};
 ghost use Rattle.phone_pattern.specs.First.{led_by, ArePatternsOf, IsPattern};
+ghost use Rattle.phone_pattern.specs.Outlines.{IsShapeOfFirst};
 ghost use Rattle.phone_pattern.specs.Refusals.{IsPatternRefusal};
 
 use crate::machine_cache::MachineCache;
-use crate::pattern;
+use crate::outline::Outline;
+use crate::{compiled, reading};
 use phone_base::{LoadMetadata, Text};
 use regex::Regex;
 use std::alloc::{AllocError, Global};
 use std::marker::Model;
+use std::sync::Arc;
 
-/// Patterns of digits in front, of which the last decides. Contracts see their texts.
-pub struct Leading {
+/// Patterns of digits in front, of which the last decides, compiled for all lists of these texts.
+/// Contracts see their texts.
+pub(crate) struct CompiledList {
     patterns: Vec<Regex>,
-    /// What searches for the last of them.
-    kept: MachineCache,
+    /// What is known of the matches of the last of them.
+    outline: Outline,
 }
 
-impl Model for Leading {
-    ghost use Rattle.std.specs.Prelude.{ℕ, List, map};
+impl Model for CompiledList {
+    ghost use Rattle.std.specs.Prelude.{ℕ, List, map, reverse};
     ghost use Rattle.std.specs.List.{AllByRecursion};
     ghost use Rattle.regex.specs.Strings.{regex_source};
     ghost use Rattle.phone_pattern.specs.First.{IsUnderX};
+    ghost use Rattle.phone_pattern.specs.Outlines.{IsShapeOfFirst};
 
     ghost Value = { List (List ℕ) };
 
     ghost view = { λ l. map regex_source l.patterns.items };
 
-    ghost invariant = { λ l. AllByRecursion IsUnderX l.patterns.items };
+    ghost invariant = { λ l. AllByRecursion IsUnderX l.patterns.items ×
+        IsShapeOfFirst (reverse (map regex_source l.patterns.items)) l.outline };
 }
 
 /// Drops what was compiled: as a function it is proved once.
-impl Drop for Leading {
+impl Drop for CompiledList {
     fn drop(self) {
-        let Leading { patterns, kept } = self;
+        let CompiledList {
+            patterns,
+            outline: _,
+        } = self;
         drop(patterns);
-        drop(kept);
     }
 }
 
-impl Leading {
+impl CompiledList {
     /// Compiles each of these texts. Refused by `Regex` with the first that is no pattern or
     /// compiles to more than 10 MiB, by `Memory` where memory is refused.
-    pub fn new(alloc: Global, texts: Vec<Text>) -> Result<Leading, LoadMetadata>
+    pub(crate) fn new(alloc: Global, texts: Vec<Text>) -> Result<CompiledList, LoadMetadata>
         ensures compiled { IfOk result (λ l. l ≡ texts.items) }
         ensures read { IfOk result (λ l. AllByRecursion IsPattern texts.items) }
         ensures refused { IfErr result (IsPatternRefusal texts.items) }
     {
-        Ok(Leading {
-            patterns: pattern::compile_all(alloc, texts)?,
-            kept: MachineCache::new(alloc),
-        })
+        let patterns = compiled::compile_all(alloc, texts)?;
+        let outline = outline_of_last(alloc, patterns.as_slice());
+        Ok(CompiledList { patterns, outline })
     }
 
     /// The compiled patterns.
-    pub fn as_slice(&self) -> &[Regex]
+    fn as_slice(&self) -> &[Regex]
         ensures { ArePatternsOf self.now result.now }
     {
         self.patterns.as_slice()
     }
 
     /// Whether there is none.
-    pub fn is_empty(&self) -> bool
+    fn is_empty(&self) -> bool
         ensures { result ≡ (length self.now == 0) }
     {
         self.patterns.is_empty()
@@ -78,6 +86,72 @@ impl Leading {
         have_texts(self.patterns.as_slice(), texts)
     }
 
+    /// Whether digits are led by these patterns, searched by the machine that is kept there.
+    fn lead(&self, kept: &MachineCache, digits: &str) -> Result<bool, AllocError>
+        ensures led { IfOk result (λ b. b ≡ led_by digits.now (reverse self.now)) }
+        ensures unsearched { self.now ≡ [] → result ≡ Ok true }
+    {
+        let Some((last, _)) = self.patterns.split_last() else {
+            return Ok(true);
+        };
+        if !self.outline.may_match_front(digits) {
+            return Ok(false);
+        }
+        kept.is_at_start(last, digits)
+    }
+}
+
+/// Patterns of digits in front, of which the last decides. Contracts see their texts. What is
+/// compiled is shared with all lists of the same texts; the machine that searches is its own.
+pub struct Leading {
+    compiled: Arc<CompiledList>,
+    /// What searches for the last of them.
+    kept: MachineCache,
+}
+
+impl Model for Leading {
+    ghost use Rattle.std.specs.Prelude.{ℕ, List};
+    ghost use Rattle.std.specs.Arc.{arc_value};
+
+    ghost Value = { List (List ℕ) };
+
+    ghost view = { λ l. arc_value l.compiled };
+}
+
+/// Drops what was compiled: as a function it is proved once.
+impl Drop for Leading {
+    fn drop(self) {
+        let Leading { compiled, kept } = self;
+        drop(compiled);
+        drop(kept);
+    }
+}
+
+impl Leading {
+    /// The list of what was compiled.
+    pub(crate) fn of(alloc: Global, compiled: Arc<CompiledList>) -> Leading
+        ensures { result ≡ arc_value compiled }
+    {
+        Leading {
+            compiled,
+            kept: MachineCache::new(alloc),
+        }
+    }
+
+    /// The compiled patterns.
+    pub fn as_slice(&self) -> &[Regex]
+        ensures { ArePatternsOf self.now result.now }
+    {
+        self.compiled.as_slice()
+    }
+
+    /// Whether there is none.
+    pub fn is_empty(&self) -> bool
+        ensures { result ≡ (length self.now == 0) }
+    {
+        self.compiled.is_empty()
+    }
+
     /// Whether digits are led by these patterns: there is none, or the first match of the last
     /// begins at the first byte. Where there is none nothing is searched, and nothing refused. Else
     /// refused only for memory.
@@ -85,10 +159,17 @@ impl Leading {
         ensures led { IfOk result (λ b. b ≡ led_by digits.now (reverse self.now)) }
         ensures unsearched { self.now ≡ [] → result ≡ Ok true }
     {
-        match self.patterns.split_last() {
-            Some((last, _)) => self.kept.is_at_start(last, digits),
-            None => Ok(true),
-        }
+        self.compiled.lead(&self.kept, digits)
+    }
+}
+
+/// What is known of the matches of the last of these patterns; nothing where there is none.
+fn outline_of_last(alloc: Global, patterns: &[Regex]) -> Outline
+    ensures { IsShapeOfFirst (reverse (map regex_source patterns.now)) result }
+{
+    match patterns.split_last() {
+        Some((last, _)) => reading::outline(alloc, last.as_str()),
+        None => Outline::any(),
     }
 }
 

@@ -2,11 +2,14 @@
 //! and the formatting rules that change the template of a match.
 #![tactic(auto)]
 
+mod compiled;
 mod intern_table;
 mod leading;
 mod machine_cache;
+mod outline;
 mod pattern;
 mod pool;
+mod reading;
 mod ruled;
 mod rules;
 mod uncached;

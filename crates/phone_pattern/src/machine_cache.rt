@@ -1,15 +1,14 @@
 //! What a pattern keeps from one search to the next: its machine, lent out for each of them.
 ghost use Rattle.std.specs.Prelude.{◌≡◌, ◌<◌, All, IfOk, IfSome, IsTrue, option_map, string_bytes};
 ghost use Rattle.regex.specs.Strings.{regex_source};
-ghost use Rattle.phone_pattern.specs.First.{at_start, captured, first_span, replaced, verbose};
+ghost use Rattle.phone_pattern.specs.First.{at_start, captured, first_span, front_end, replaced};
 ghost use Rattle.phone_pattern.specs.First.{AreCuts, IsCut, IsUnderX};
 ghost use Rattle.phone_pattern.specs.MachineCaches.{as_captured, Serves};
 
 use crate::pattern::Captured;
-use crate::uncached;
+use crate::{reading, uncached};
 use phone_automaton::Machine;
 use regex::Regex;
-use regex_syntax::Config;
 use std::alloc::{AllocError, Global};
 use std::cell::Cell;
 use std::marker::Model;
@@ -45,7 +44,7 @@ impl CachedMachine {
     fn new(alloc: Global, pattern: &str) -> Option<CachedMachine>
         ensures { IfSome result (λ h. h ≡ pattern.now) }
     {
-        let machine = machine(alloc, pattern)?;
+        let machine = reading::machine(alloc, pattern)?;
         match String::from_str(alloc, pattern) {
             Ok(text) => Some(CachedMachine { text, machine }),
             Err(_) => None,
@@ -147,6 +146,23 @@ impl MachineCache {
         uncached::is_at_start(self.alloc, re, text)
     }
 
+    /// Where the first match of a pattern ends, if it begins at the first byte. Refused only for
+    /// memory.
+    pub(crate) fn front_end(&self, re: &Regex, text: &str) -> Result<Option<usize>, AllocError>
+        requires { IsUnderX re.now }
+        ensures end { IfOk result (λ end. end ≡ front_end (regex_source re.now) text.now) }
+        ensures border { IfOk result (λ end. IfSome end (λ e. IsCut text.now (0, e))) }
+    {
+        if let Some(mut held) = self.take(re.as_str(), text) {
+            let found = held.machine.front_end(text.as_bytes());
+            self.keep(held);
+            if let Some(end) = found {
+                return Ok(end);
+            }
+        }
+        uncached::front_end(self.alloc, re, text)
+    }
+
     /// The bytes at which the first match of a pattern begins and ends. Refused only for memory.
     pub(crate) fn first_span(
         &self,
@@ -227,25 +243,6 @@ fn is_of(kept: &Option<Box<CachedMachine>>, pattern: &str) -> bool
 #[inline(never)]
 fn drop_other(other: Box<CachedMachine>) {
     drop(other);
-}
-
-/// Flag x: white space and `#` comments in a pattern don't count.
-fn under_x() -> Config
-    ensures { result ≡ verbose }
-{
-    let mut config = Config::default();
-    config.flags.ignore_whitespace = true;
-    config
-}
-
-/// A machine that serves a pattern. None where memory is refused, or it would be too large.
-fn machine(alloc: Global, pattern: &str) -> Option<Machine>
-    ensures { IfSome result (Serves pattern.now) }
-{
-    match regex_syntax::parse(alloc, pattern, &under_x()) {
-        Ok(parsed) => Machine::new(alloc, &parsed),
-        Err(_) => None,
-    }
 }
 
 /// What a machine captured, if its last group has this number: without groups there is no first

@@ -3,8 +3,8 @@ ghost use Rattle.std.specs.Prelude.{◌≡◌, ℕ, List, nat_le, if◌then◌el
 ghost use Rattle.std.specs.Prelude.{string_bytes};
 ghost use Rattle.regex.specs.Strings.{captures_haystack, captures_span, match_haystack};
 ghost use Rattle.regex.specs.Strings.{match_span, regex_names, regex_source, IsReadFrom};
-ghost use Rattle.phone_pattern.specs.First.{at_start, captured, first_span, replaced, AreCuts};
-ghost use Rattle.phone_pattern.specs.First.{IsCut, IsUnderX};
+ghost use Rattle.phone_pattern.specs.First.{at_start, captured, first_span, front_end, replaced};
+ghost use Rattle.phone_pattern.specs.First.{AreCuts, IsCut, IsUnderX};
 
 use crate::pattern::Captured;
 use regex::{Captures, Match, Regex, Template};
@@ -18,6 +18,18 @@ pub(crate) fn is_at_start(alloc: Global, re: &Regex, text: &str) -> Result<bool,
     match first_span(alloc, re, text)? {
         Some((start, _)) => Ok(start == 0),
         None => Ok(false),
+    }
+}
+
+/// Where the first match of a compiled pattern ends, if it begins at the first byte.
+pub(crate) fn front_end(alloc: Global, re: &Regex, text: &str) -> Result<Option<usize>, AllocError>
+    requires { IsUnderX re.now }
+    ensures end { IfOk result (λ end. end ≡ front_end (regex_source re.now) text.now) }
+    ensures border { IfOk result (λ end. IfSome end (λ e. IsCut text.now (0, e))) }
+{
+    match first_span(alloc, re, text)? {
+        Some((0, end)) => Ok(Some(end)),
+        _ => Ok(None),
     }
 }
 

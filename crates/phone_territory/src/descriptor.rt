@@ -15,12 +15,11 @@ use phone_records::LoadMetadata;
 use regex::Regex;
 use std::alloc::AllocError;
 use std::marker::Model;
-use std::rc::Rc;
 
 /// The numbers of one kind in a territory: their lengths and their pattern.
 #[derive(Drop)]
 pub struct Descriptor {
-    national_number: Rc<Pattern>,
+    national_number: Pattern,
     possible_length: Vec<u16>,
     possible_local_length: Vec<u16>,
     example: Option<Text>,
@@ -33,7 +32,7 @@ impl Model for Descriptor {
     ghost Value = { loader.Descriptor };
 
     ghost view = { λ d. record {
-      national_number = Some d.national_number.value;
+      national_number = Some d.national_number;
       possible_length = d.possible_length.items;
       possible_local_length = d.possible_local_length.items;
       example = d.example;
@@ -76,7 +75,7 @@ impl Descriptor {
     pub fn pattern(&self) -> &Pattern
         ensures { result.now ≡ pattern_of self.now }
     {
-        self.national_number.as_ref()
+        &self.national_number
     }
 
     /// The text of that pattern.

@@ -19,14 +19,13 @@ use phone_records::LoadMetadata;
 use regex::Regex;
 use std::alloc::AllocError;
 use std::marker::Model;
-use std::rc::Rc;
 
 /// How the digits of a national number are grouped when it is printed.
 #[derive(Drop)]
 pub struct Format {
-    pattern: Rc<Pattern>,
+    pattern: Pattern,
     text: Text,
-    leading_digits: Rc<Leading>,
+    leading_digits: Leading,
     national_prefix_rule: Option<Text>,
     is_national_prefix_optional: bool,
     domestic_carrier: Option<Text>,
@@ -41,9 +40,9 @@ impl Model for Format {
     ghost Value = { loader.Format };
 
     ghost view = { λ f. record {
-      pattern = Some f.pattern.value;
+      pattern = Some f.pattern;
       format = Some f.text;
-      leading_digits = f.leading_digits.value;
+      leading_digits = f.leading_digits;
       national_prefix_formatting_rule = f.national_prefix_rule;
       national_prefix_optional_when_formatting = f.is_national_prefix_optional;
       domestic_carrier = f.domestic_carrier;
@@ -98,7 +97,7 @@ impl Format {
     pub fn whole_pattern(&self) -> &Pattern
         ensures { self.now.pattern ≡ Some result.now }
     {
-        self.pattern.as_ref()
+        &self.pattern
     }
 
     /// The template that lays the groups out, with `$1` for the first.
@@ -170,7 +169,7 @@ impl Format {
         let Some((rule, carrier)) = self.rule_for(carrier) else {
             return self.lay_out(digits);
         };
-        let pattern = self.pattern.as_ref();
+        let pattern = &self.pattern;
         let text = self.text.as_str();
         let prefix = prefix.unwrap_or("");
         if let Some(laid) = self

@@ -1,16 +1,15 @@
 //! Parts that a record may lack, lent where they are there.
-ghost use Rattle.std.specs.Prelude.{◌≡◌, option_map};
+ghost use Rattle.std.specs.Prelude.{◌≡◌};
 ghost use Rattle.std.specs.Option.{option_copied};
 ghost use Rattle.phone_territory.specs.First.{IsLentPattern};
 
 use crate::loader::Text;
 use phone_pattern::Pattern;
 use regex::Regex;
-use std::rc::Rc;
 
 /// The pattern, as the kit's regular expression.
-pub fn regex(pattern: &Option<Rc<Pattern>>) -> Option<&Regex>
-    ensures { IsLentPattern (option_map (λ p. p.value) pattern.now) result }
+pub fn regex(pattern: &Option<Pattern>) -> Option<&Regex>
+    ensures { IsLentPattern pattern.now result }
 {
     match pattern {
         Some(pattern) => Some(pattern.regex()),
@@ -19,11 +18,11 @@ pub fn regex(pattern: &Option<Rc<Pattern>>) -> Option<&Regex>
 }
 
 /// The pattern, as one that searches.
-pub fn pattern(pattern: &Option<Rc<Pattern>>) -> Option<&Pattern>
-    ensures { option_copied result ≡ option_map (λ p. p.value) pattern.now }
+pub fn pattern(pattern: &Option<Pattern>) -> Option<&Pattern>
+    ensures { option_copied result ≡ pattern.now }
 {
     match pattern {
-        Some(pattern) => Some(pattern.as_ref()),
+        Some(pattern) => Some(pattern),
         None => None,
     }
 }

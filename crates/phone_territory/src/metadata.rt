@@ -1,5 +1,5 @@
 //! A territory, with its patterns compiled.
-ghost use Rattle.std.specs.Prelude.{◌≡◌, None, Some, IfOk, IfErr, option_map};
+ghost use Rattle.std.specs.Prelude.{◌≡◌, None, Some, IfOk, IfErr};
 ghost use Rattle.std.specs.List.{AllByRecursion, flat_map};
 ghost use Rattle.std.specs.Option.{option_and_then, option_copied};
 ghost use Rattle.phone_values.specs.Ids.{id_of};
@@ -49,7 +49,7 @@ struct CompiledParts {
 }
 
 impl Model for Metadata {
-    ghost use Rattle.std.specs.Prelude.{Some, option_map};
+    ghost use Rattle.std.specs.Prelude.{Some};
     ghost use Rattle.phone_records.specs.declared.loader.Metadata as loader;
 
     ghost Value = { loader.Metadata };
@@ -73,17 +73,16 @@ impl Model for Metadata {
       no_international = m.descriptors.no_international;
       id = Some m.kept.id;
       country_code = Some m.kept.country_code;
-      international_prefix = option_map (λ p. p.value) m.patterns.international_prefix;
+      international_prefix = m.patterns.international_prefix;
       preferred_international_prefix = m.kept.preferred_international_prefix;
       national_prefix = m.kept.national_prefix;
       preferred_extension_prefix = m.kept.preferred_extension_prefix;
-      national_prefix_for_parsing = option_map
-          (λ p. p.value) m.patterns.national_prefix_for_parsing;
+      national_prefix_for_parsing = m.patterns.national_prefix_for_parsing;
       national_prefix_transform_rule = m.kept.national_prefix_transform_rule;
       formats = m.patterns.formats.items;
       international_formats = m.patterns.international_formats.items;
       main_country_for_code = m.kept.main_country_for_code;
-      leading_digits = option_map (λ p. p.value) m.patterns.leading_digits;
+      leading_digits = m.patterns.leading_digits;
       mobile_number_portable = m.kept.mobile_number_portable;
       defaults = m.kept.defaults;
     } };

@@ -1,5 +1,5 @@
 //! What is compiled of a territory's record besides its descriptors.
-ghost use Rattle.std.specs.Prelude.{◌≡◌, None, IfOk, map, option_map};
+ghost use Rattle.std.specs.Prelude.{◌≡◌, None, IfOk, map};
 ghost use Rattle.std.specs.Option.{option_to_list};
 ghost use Rattle.phone_territory.specs.Refusals.{AreRead, patterns_besides};
 ghost use Rattle.phone_records.specs.Missing.{first_given, missing_in_format};
@@ -10,20 +10,19 @@ use crate::loader::{self, Text};
 use crate::together::both_read;
 use phone_pattern::{Pattern, Pool};
 use phone_records::LoadMetadata;
-use std::rc::Rc;
 
 /// The patterns of what is dialled in front and of leading digits, and the layouts.
 #[derive(Drop)]
 pub struct Patterns {
-    pub(crate) international_prefix: Option<Rc<Pattern>>,
-    pub(crate) national_prefix_for_parsing: Option<Rc<Pattern>>,
-    pub(crate) leading_digits: Option<Rc<Pattern>>,
+    pub(crate) international_prefix: Option<Pattern>,
+    pub(crate) national_prefix_for_parsing: Option<Pattern>,
+    pub(crate) leading_digits: Option<Pattern>,
     pub(crate) formats: Vec<Format>,
     pub(crate) international_formats: Vec<Format>,
 }
 
-fn compile_text(pool: &Pool, text: Option<Text>) -> Result<Option<Rc<Pattern>>, LoadMetadata>
-    ensures compiled { IfOk result (λ pattern. option_map (λ p. p.value) pattern ≡ text) }
+fn compile_text(pool: &Pool, text: Option<Text>) -> Result<Option<Pattern>, LoadMetadata>
+    ensures compiled { IfOk result (λ pattern. pattern ≡ text) }
     ensures read { AreRead (option_to_list text) result }
 {
     match text {
@@ -44,12 +43,10 @@ impl Patterns {
     ) -> Result<Patterns, LoadMetadata>
         requires national { first_given (map missing_in_format national.items) ≡ None }
         requires international { first_given (map missing_in_format international.items) ≡ None }
-        ensures dialled { IfOk result (λ all.
-            option_map (λ p. p.value) all.international_prefix ≡ dialled) }
+        ensures dialled { IfOk result (λ all. all.international_prefix ≡ dialled) }
         ensures parsing { IfOk result (λ all.
-            option_map (λ p. p.value) all.national_prefix_for_parsing ≡ parsing) }
-        ensures leading { IfOk result (λ all.
-            option_map (λ p. p.value) all.leading_digits ≡ leading) }
+            all.national_prefix_for_parsing ≡ parsing) }
+        ensures leading { IfOk result (λ all. all.leading_digits ≡ leading) }
         ensures national { IfOk result (λ all. all.formats.items ≡ national.items) }
         ensures international { IfOk result (λ all.
             all.international_formats.items ≡ international.items) }

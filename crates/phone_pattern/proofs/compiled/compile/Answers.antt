@@ -2,7 +2,7 @@ use Rattle.std.proofs.Common.{◌≡◌, [], rules, subst}
 use Rattle.regex.specs.Strings.{regex_config, regex_source}
 use Rattle.phone_pattern.specs.First.{IsPattern, verbose}
 use Rattle.phone_pattern.proofs.Matches.{is_pattern}
-use Rattle.phone_pattern.proofs.pattern.compile.Goals as goal
+use Rattle.phone_pattern.proofs.compiled.compile.Goals as goal
 
 pub returns-in-Ok-clause-read : goal.returns-in-Ok-clause-read
 returns-in-Ok-clause-read c =

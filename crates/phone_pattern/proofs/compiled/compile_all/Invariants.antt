@@ -3,7 +3,7 @@ use Rattle.std.specs.List.{AllByRecursion}
 use Rattle.regex.specs.Strings.{regex_source}
 use Rattle.phone_pattern.specs.First.{IsUnderX}
 use Rattle.phone_pattern.proofs.Refused.{ArePatterns}
-use Rattle.phone_pattern.proofs.pattern.compile_all.Given as goal
+use Rattle.phone_pattern.proofs.compiled.compile_all.Given as goal
 
 abbrev pub invariant-loop-text : goal.invariant-loop-text
 invariant-loop-text l =

@@ -4,7 +4,7 @@ use Rattle.std.proofs.lemmas.List.{length-map}
 use Rattle.phone_pattern.specs.First.{verbose}
 use Rattle.phone_pattern.specs.MachineCaches.{Serves}
 use Rattle.phone_pattern.proofs.Serving.{serves}
-use Rattle.phone_pattern.proofs.machine_cache.machine.Goals as goal
+use Rattle.phone_pattern.proofs.reading.machine.Goals as goal
 use Rattle.phone_automaton.specs.Finds.{finds, FindsInAscii, Searcher}
 use Rattle.regex_hir.specs.Meaning.{meaning}
 use Rattle.regex_hir.specs.declared.hir.Hir.{Hir}

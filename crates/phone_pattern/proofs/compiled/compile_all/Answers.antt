@@ -1,7 +1,7 @@
 use Rattle.std.proofs.Common.{◌≡◌, ◌∷◌, ◌++◌, map, ap, sym, rules, ◌∙◌}
 use Rattle.regex.specs.Strings.{regex_source}
 use Rattle.phone_pattern.proofs.Refused.{refused_here}
-use Rattle.phone_pattern.proofs.pattern.compile_all.Goals as goal
+use Rattle.phone_pattern.proofs.compiled.compile_all.Goals as goal
 
 pub returns-in_err-compile-clause-refused : goal.returns-in_err-compile-clause-refused
 returns-in_err-compile-clause-refused c =

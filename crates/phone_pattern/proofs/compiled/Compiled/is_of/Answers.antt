@@ -1,7 +1,7 @@
 use Rattle.std.proofs.Common.{rules, subst}
 use Rattle.phone_pattern.specs.First.{IsPattern}
 use Rattle.phone_pattern.proofs.Matches.{is_pattern}
-use Rattle.phone_pattern.proofs.pattern.Pattern.is_of.Goals as goal
+use Rattle.phone_pattern.proofs.compiled.Compiled.is_of.Goals as goal
 
 pub returns-clause-read : goal.returns-clause-read
 returns-clause-read c =

@@ -1,6 +1,6 @@
 use Rattle.std.proofs.Common.{ap, true}
 use Rattle.regex.specs.Patterns.{Config}
-use Rattle.phone_pattern.proofs.machine_cache.under_x.Goals as goal
+use Rattle.phone_pattern.proofs.reading.under_x.Goals as goal
 
 pub returns : goal.returns
 returns c =
