@@ -4,7 +4,8 @@ use Rattle.std.proofs.lemmas.List.{map-append, reverse-append}
 use Rattle.std.proofs.lemmas.List.Folds.{find-append}
 use Rattle.std.specs.List.{find, last_or}
 use Rattle.std.specs.Option.{option_or}
-use Rattle.phone_meta.specs.CodeLookUps.{first_of, if_any, is_main_of, is_other_of, territories}
+use Rattle.phone_meta.specs.CodeLookUps.{first_of, if_any, is_main, is_main_of, is_other, is_other_of, territories}
+use Rattle.phone_meta.specs.Records.{has_code}
 use Rattle.phone_records.specs.declared.loader.Metadata.{Metadata}
 
 pub first_of-append : {X : Type 0} (xs ys : List X) → first_of (xs ++ ys) ≡ option_or (first_of xs) (first_of ys)
@@ -78,6 +79,16 @@ pub first_of-territories : (code : ℕ) (db : List Metadata) → option_or (find
 first_of-territories code db =
     ap₂ option_or (sym (first_of-reverse (is_main_of code) db)) (sym (first_of-filter (is_other_of code) db))
     ∙ sym (first_of-append (reverse (filter (is_main_of code) db)) (filter (is_other_of code) db))
+
+-- the same by the territories of the code, in order of arrival
+pub first_of-given : (code : ℕ) (db all : List Metadata) → all ≡ filter (has_code code) db →
+    option_or (find is_main (reverse all)) (find is_other all) ≡ first_of (territories code db)
+first_of-given code db all are =
+    ap (λ ms. option_or (find is_main (reverse ms)) (find is_other ms)) are
+    ∙ ap₂ option_or
+    (sym (first_of-reverse is_main (filter (has_code code) db)) ∙ ap (λ ms. first_of (reverse ms)) (filter-filter (has_code code) is_main db) ∙ first_of-reverse (is_main_of code) db)
+    (find-filter (has_code code) is_other db)
+    ∙ first_of-territories code db
 
 pub map-reverse : {X Y : Type 0} (f : X → Y) (xs : List X) → map f (reverse xs) ≡ reverse (map f xs)
 map-reverse f [] = refl

@@ -1,6 +1,7 @@
 pub mod Chains
 pub mod CodeLemmas
 pub mod Indexes
+pub mod LastItems
 pub mod LastPlaces
 pub mod Lasts
 pub mod Places

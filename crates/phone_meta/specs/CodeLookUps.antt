@@ -13,6 +13,14 @@ use Rattle.phone_territory.specs.Records.{code_of, id_of}
 use Rattle.phone_meta.specs.Records.{has_code}
 use Rattle.phone_records.specs.declared.loader.Metadata.{Metadata}
 
+-- a main territory of its calling code
+abbrev pub is_main : Metadata → Bool
+is_main m = m.main_country_for_code
+
+-- a territory that isn't
+abbrev pub is_other : Metadata → Bool
+is_other m = not m.main_country_for_code
+
 -- a main territory of a calling code
 abbrev pub is_main_of : ℕ → Metadata → Bool
 is_main_of code m = has_code code m && m.main_country_for_code

@@ -11,8 +11,8 @@ ghost use Rattle.std.specs.Str.{bytes_eq};
 ghost use Rattle.serde_json.specs.Read.{read};
 ghost use Rattle.phone_device.specs.Passing.{IsAtEnd, PassesSome};
 ghost use Rattle.phone_json.specs.Records.{records_of};
-ghost use Rattle.phone_meta.specs.CodeLookUps.{first_of, if_any, is_listed, is_main_of};
-ghost use Rattle.phone_meta.specs.CodeLookUps.{is_other_of};
+ghost use Rattle.phone_meta.specs.CodeLookUps.{first_of, if_any, is_listed, is_main, is_main_of};
+ghost use Rattle.phone_meta.specs.CodeLookUps.{is_other, is_other_of};
 ghost use Rattle.phone_meta.specs.CodeLookUps.{is_prefix_free, regions, shortest, territories};
 ghost use Rattle.phone_meta.specs.Index.{count_of_ids};
 ghost use Rattle.phone_meta.specs.Lasts.{last_of, last_places, seen, with_last};
@@ -325,9 +325,10 @@ impl Database {
     pub fn first_by_code(&self, code: &u16) -> Option<&Metadata>
         ensures { option_copied result ≡ first_of (territories code.now self.now) }
     {
-        match self.last_main(*code) {
+        let all = self.of_code(*code);
+        match last_main(&all) {
             Some(main) => Some(main),
-            None => self.first_other(*code),
+            None => first_other(&all),
         }
     }
 
@@ -347,20 +348,6 @@ impl Database {
         self.of_code(code)
             .filter(|t| !t.is_main_country_for_code())
             .collect(self.allocator())
-    }
-
-    fn last_main(&self, code: u16) -> Option<&Metadata>
-        ensures { option_copied result ≡ find (is_main_of code) (reverse self.now) }
-    {
-        self.of_code(code)
-            .filter(|t| t.is_main_country_for_code())
-            .last()
-    }
-
-    fn first_other(&self, code: u16) -> Option<&Metadata>
-        ensures { option_copied result ≡ find (is_other_of code) self.now }
-    {
-        self.of_code(code).find(|t| !t.is_main_country_for_code())
     }
 
     /// Whether a calling code has a territory. Takes no memory.
@@ -408,6 +395,26 @@ impl Database {
             rest: self.territories(),
         }
     }
+}
+
+/// The last main one of territories.
+fn last_main<'a>(all: &Placed<'a>) -> Option<&'a Metadata>
+    ensures { option_copied result ≡ find is_main (reverse all.now) }
+{
+    let mut rest = all.again();
+    while let Some(territory) = rest.take_last() {
+        if territory.is_main_country_for_code() {
+            return Some(territory);
+        }
+    }
+    None
+}
+
+/// The first of territories that isn't a main one.
+fn first_other<'a>(all: &Placed<'a>) -> Option<&'a Metadata>
+    ensures { option_copied result ≡ find is_other all.now }
+{
+    all.again().find(|t| !t.is_main_country_for_code())
 }
 
 /// The refusal that tells of a missing value, or of memory for its text.

@@ -1,4 +1,5 @@
 //! The territories of a calling code.
+ghost use Rattle.std.specs.Prelude.{◌≡◌, ◌∷◌, ◌++◌, [], MatchOption};
 ghost use Rattle.std.specs.Iterator.{YieldsFirstBy, YieldsFirstRef, item_count};
 ghost use Rattle.phone_meta.specs.Lasts.{seen};
 
@@ -36,6 +37,32 @@ impl<'a> Iterator for Placed<'a> {
         while let Some((first, others)) = self.places.split_first() {
             self.places = others;
             if let Some(territory) = self.territories.get(first.place) {
+                return Some(territory);
+            }
+        }
+        None
+    }
+}
+
+impl<'a> Placed<'a> {
+    /// The same once more.
+    pub fn again(&self) -> Placed<'a>
+        ensures { result ≡ self.now }
+    {
+        Placed {
+            places: self.places,
+            territories: self.territories,
+        }
+    }
+
+    /// Takes the last one away.
+    pub fn take_last(&mut self) -> Option<&'a Metadata>
+        ensures { MatchOption result ((self.old ≡ []) × (self.new ≡ []))
+            (λ m. self.old ≡ self.new ++ m.now ∷ []) }
+    {
+        while let Some((last, others)) = self.places.split_last() {
+            self.places = others;
+            if let Some(territory) = self.territories.get(last.place) {
                 return Some(territory);
             }
         }
@@ -84,6 +111,32 @@ impl<'a> Iterator for WithLasts<'a> {
         while let Some((first, others)) = self.places.split_first() {
             self.places = others;
             if let Some(found) = self.database.with_last_at(first.place) {
+                return Some(found);
+            }
+        }
+        None
+    }
+}
+
+impl<'a> WithLasts<'a> {
+    /// The same once more.
+    pub fn again(&self) -> WithLasts<'a>
+        ensures { result ≡ self.now }
+    {
+        WithLasts {
+            places: self.places,
+            database: self.database,
+        }
+    }
+
+    /// Takes the last one away.
+    pub fn take_last(&mut self) -> Option<WithLast<'a>>
+        ensures { MatchOption result ((self.old ≡ []) × (self.new ≡ []))
+            (λ t. self.old ≡ self.new ++ seen t ∷ []) }
+    {
+        while let Some((last, others)) = self.places.split_last() {
+            self.places = others;
+            if let Some(found) = self.database.with_last_at(last.place) {
                 return Some(found);
             }
         }

@@ -8,3 +8,4 @@ pub mod ReadingOnes
 pub mod ReadingRows
 pub mod ReadingSome
 pub mod Regional
+pub mod ToldKinds

@@ -1,6 +1,7 @@
 -- The region of a number by the territories of its code, taken in order of arrival, each with the last one of its id.
 use Rattle.std.proofs.Common.{◌≡◌, ℕ, suc, ◌+◌, ◌<◌, ◌&&◌, not, Bool, true, false, cond, if◌then◌else◌, List, [], ◌∷◌, ◌++◌, length, map, filter, reverse, Option, None, Some, option_map, unwrap_or, codes, refl, ap, ap₂, sym, subst, ◌∙◌, arith, length-append}
 use Rattle.std.proofs.lemmas.List.{length-map, length-reverse, map-append, reverse-append}
+use Rattle.std.proofs.lemmas.List.Elements.{filter-append}
 use Rattle.std.proofs.lemmas.List.Folds.{find-append}
 use Rattle.std.proofs.lemmas.Option.{none-some}
 use Rattle.std.specs.List.{find}
@@ -17,7 +18,7 @@ use Rattle.phone_meta.specs.Lasts.{with_last}
 use Rattle.phone_territory.specs.Records.{id_of}
 use Rattle.phone_meta.specs.Records.{has_code, last_with}
 use Rattle.phone_rules.proofs.TriedKinds.{find-map}
-use Rattle.phone_read.specs.Origins.{told}
+use Rattle.phone_read.specs.Origins.{Given, by_name, first_given, first_other, latest_main, told}
 use Rattle.phone_read.specs.declared.validator.Origin.{Origin}
 use Rattle.phone_read.specs.Regions.{is_of_last, is_of_region, region_among, region_named, region_of, territory_of, with_territory}
 use Rattle.phone_records.specs.declared.loader.Metadata.{Metadata}
@@ -95,14 +96,6 @@ named-with_territory db id = step (ids.id_of id) refl
         let written : id ≡ ids.name i = name-id_of id i e in
         ap (λ t. Some (Left i, last_with t db)) written
 
--- a territory, and the last one of its id
-abbrev Given : Type 0
-Given = Metadata × Option Metadata
-
--- what the origin of a number is where it is the region that a territory's id names
-abbrev pub by_name : Given → Option (Either Id ℕ × Option Metadata)
-by_name t = option_map (λ (r : Either Id ℕ). (r, t.1)) (region_named (id_of t.0))
-
 -- what it is where the territory is its code's sole one
 abbrev pub by_sole : ℕ → Given → Option (Either Id ℕ × Option Metadata)
 by_sole code t = if bytes_eq (id_of t.0) (codes "001") then Some (Right code, Some t.0) else by_name t
@@ -156,16 +149,16 @@ module _ (db : List Metadata) (code : ℕ) (digits : List ℕ) where
       several db code digits (regions code db) (omega (arith, counted))
 
   -- the first id that the number belongs to is that of the first territory to the last one of whose id it belongs
-  abbrev first_given : Option Metadata
-  first_given = find (λ m. is_of_region db digits (id_of m)) (territories code db)
+  abbrev first_passing : Option Metadata
+  first_passing = find (λ m. is_of_region db digits (id_of m)) (territories code db)
 
-  find-given : find (is_of_last digits) (given (territories code db)) ≡ option_map (with_last db) first_given
+  find-given : find (is_of_last digits) (given (territories code db)) ≡ option_map (with_last db) first_passing
   find-given = find-map (with_last db) (is_of_last digits) (territories code db)
 
   pub found_origin : (found : Option Given) → found ≡ find (is_of_last digits) (given (territories code db)) →
       option_and_then by_name found ≡ option_map (with_territory db) (option_and_then region_named (find (is_of_region db digits) (regions code db)))
   found_origin found e =
-      ap (option_and_then by_name) (e ∙ find-given) ∙ step first_given
+      ap (option_and_then by_name) (e ∙ find-given) ∙ step first_passing
       ∙ ap (λ o. option_map (with_territory db) (option_and_then region_named o)) (sym (find-map id_of (is_of_region db digits) (territories code db)))
     where
       step : (o : Option Metadata) → option_and_then by_name (option_map (with_last db) o) ≡ option_map (with_territory db) (option_and_then region_named (option_map id_of o))
@@ -187,44 +180,34 @@ is_main t = t.0.main_country_for_code
 abbrev is_other : Given → Bool
 is_other t = not t.0.main_country_for_code
 
--- one main territory more comes before those before it
-later_main : (p : Given → Bool) (t : Given) (ts : List Given) (found : Option Given) →
-    option_or (find p (reverse (t ∷ ts))) found ≡ option_or (find p (reverse ts)) (cond (p t) (Some t) found)
-later_main p t ts found =
-    ap (λ o. option_or o found) (ap (find p) (reverse-append (t ∷ []) ts) ∙ find-append p (reverse ts) (t ∷ []))
-    ∙ step (find p (reverse ts)) (p t)
+-- a turn of the loop that looks for it from the back, by the answer to the question that the turn asks
+pub latest_main-turn : (p : Given → Bool) (t : Given) (all ts : List Given) (start answer : Option Given) → start ≡ latest_main p all → all ≡ ts ++ t ∷ [] →
+    answer ≡ cond (t.0.main_country_for_code && p t) (Some t) None → start ≡ option_or answer (latest_main p ts)
+latest_main-turn p t all ts start answer was steps asked =
+    was
+    ∙ ap (latest_main p) steps
+    ∙ ap (λ xs. find p (reverse xs)) (filter-append is_main ts (t ∷ []))
+    ∙ ap (find p) (reverse-append (filter is_main ts) (filter is_main (t ∷ [])))
+    ∙ find-append p (reverse (filter is_main (t ∷ []))) (reverse (filter is_main ts))
+    ∙ ap (λ o. option_or o (latest_main p ts)) (step (is_main t) ∙ sym asked)
   where
-    step : (o : Option Given) (b : Bool) → option_or (option_or o (cond b (Some t) None)) found ≡ option_or o (cond b (Some t) found)
-    step None true = refl
-    step None false = refl
-    step (Some u) b = refl
-
--- the last main one that passes, of those still to come, or else what was found so far
-abbrev pub last_main : (Given → Bool) → List Given → Option Given → Option Given
-last_main p ts found = option_or (find p (reverse (filter is_main ts))) found
-
--- a turn of the loop that looks for it
-last_main-next : (p : Given → Bool) (t : Given) (ts : List Given) (found : Option Given) (b : Bool) → b ≡ (t.0.main_country_for_code && p t) →
-    last_main p (t ∷ ts) found ≡ last_main p ts (cond b (Some t) found)
-last_main-next p t ts found b e = step (is_main t) ∙ ap (λ b. last_main p ts (cond b (Some t) found)) (sym e)
-  where
-    step : (main : Bool) → option_or (find p (reverse (cond main (t ∷ filter is_main ts) (filter is_main ts)))) found ≡ last_main p ts (cond (main && p t) (Some t) found)
-    step true = later_main p t (filter is_main ts) found
+    step : (b : Bool) → find p (reverse (cond b (t ∷ []) [])) ≡ cond (b && p t) (Some t) None
+    step true = refl
     step false = refl
 
--- and by the answer to the question that the turn asks
-pub last_main-turn : (p : Given → Bool) (t : Given) (all ts : List Given) (found start : Option Given) (b answer : Bool) → start ≡ last_main p all found → all ≡ t ∷ ts →
-    b ≡ (t.0.main_country_for_code && p t) → b ≡ answer → start ≡ last_main p ts (cond answer (Some t) found)
-last_main-turn p t all ts found start b answer was steps asked is =
-    was ∙ ap (λ ts. last_main p ts found) steps ∙ last_main-next p t ts found b asked ∙ ap (λ b. last_main p ts (cond b (Some t) found)) is
+-- a turn of the loop that looks for it
+pub first_other-turn : (p : Given → Bool) (t : Given) (all ts : List Given) (start answer : Option Given) → start ≡ first_other p all → all ≡ t ∷ ts →
+    answer ≡ cond (not t.0.main_country_for_code && p t) (Some t) None → start ≡ option_or answer (first_other p ts)
+first_other-turn p t all ts start answer was steps asked =
+    was ∙ ap (first_other p) steps ∙ step (is_other t) ∙ ap (λ o. option_or o (first_other p ts)) (sym asked)
+  where
+    passed : (b : Bool) → cond b (Some t) (first_other p ts) ≡ option_or (cond b (Some t) None) (first_other p ts)
+    passed true = refl
+    passed false = refl
 
--- the first other one that passes, of those still to come
-abbrev pub first_other : (Given → Bool) → List Given → Option Given
-first_other p ts = find p (filter is_other ts)
-
-or_none : {X : Type 0} (o : Option X) → o ≡ option_or o None
-or_none None = refl
-or_none (Some x) = refl
+    step : (b : Bool) → find p (cond b (t ∷ filter is_other ts) (filter is_other ts)) ≡ option_or (cond (b && p t) (Some t) None) (first_other p ts)
+    step true = passed (p t)
+    step false = refl
 
 -- those of a list that pass, and what is made of them
 map-filter : {X Y : Type 0} (f : X → Y) (q : Y → Bool) (xs : List X) → map f (filter (λ x. q (f x)) xs) ≡ filter q (map f xs)
@@ -244,10 +227,19 @@ module _ (db : List Metadata) (code : ℕ) (p : Given → Bool) (ts : List Given
       ∙ map-filter (with_last db) q (filter (has_code code) db)
       ∙ ap (filter q) (sym are)
 
-  pub last_main-first : find p (map (with_last db) (reverse (filter (is_main_of code) db))) ≡ last_main p ts None
-  last_main-first =
-      ap (find p) (map-reverse (with_last db) (filter (is_main_of code) db) ∙ ap reverse (given-filter is_main))
-      ∙ or_none (find p (reverse (filter is_main ts)))
+  pub latest_main-first : find p (map (with_last db) (reverse (filter (is_main_of code) db))) ≡ latest_main p ts
+  latest_main-first = ap (find p) (map-reverse (with_last db) (filter (is_main_of code) db) ∙ ap reverse (given-filter is_main))
 
   pub first_other-first : find p (map (with_last db) (filter (is_other_of code) db)) ≡ first_other p ts
   first_other-first = ap (find p) (given-filter is_other)
+
+-- the origin of a number by several territories of its code
+pub several_found : (db : List Metadata) (code : ℕ) (digits : List ℕ) (t u : Given) (ts all : List Given) → all ≡ map (with_last db) (filter (has_code code) db) → all ≡ t ∷ u ∷ ts →
+    option_and_then by_name (first_given (is_of_last digits) all) ≡ option_map (with_territory db) (region_of db code digits)
+several_found db code digits t u ts all are two =
+    found_origin db code digits (first_given p all)
+    (ap₂ option_or (sym (latest_main-first db code p all are)) (sym (first_other-first db code p all are)) ∙ sym (find-territories p (with_last db) db code))
+    ∙ ap (option_map (with_territory db)) (sym (several_origins db code digits t u ts (sym are ∙ two)))
+  where
+    p : Given → Bool
+    p = is_of_last digits

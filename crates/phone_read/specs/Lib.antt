@@ -1,3 +1,4 @@
+pub mod Belonging
 pub mod CallingCodes
 pub mod Hints
 pub mod Numbering

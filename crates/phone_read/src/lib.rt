@@ -2,6 +2,7 @@
 //! number belongs to.
 #![tactic(auto)]
 
+mod belonging;
 mod calling_code;
 pub mod helper;
 mod hints;

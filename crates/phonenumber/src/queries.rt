@@ -152,11 +152,8 @@ fn region_and_kind_of(
         option_map_or (λ (m : loader.Metadata). type_of m digits.now)
         (home database.now code digits.now) Unknown) }
 {
-    match validator::territory_of(database, code, digits)? {
-        Some(territory) => {
-            let kind = validator::number_type(territory, digits)?;
-            Ok((territory.region(), kind))
-        }
+    match validator::home_of(database, code, digits)? {
+        Some(home) => Ok((home.territory.region(), home.kind)),
         None => Ok((None, Type::Unknown)),
     }
 }
@@ -167,8 +164,8 @@ fn is_known_in(database: &Database, code: u16, digits: &str) -> Result<bool, All
         option_map_or (λ (m : loader.Metadata). is_known (type_of m digits.now))
         (home database.now code digits.now) false) }
 {
-    match validator::territory_of(database, code, digits)? {
-        Some(territory) => Ok(validator::number_type(territory, digits)? != Type::Unknown),
+    match validator::home_of(database, code, digits)? {
+        Some(home) => Ok(home.kind != Type::Unknown),
         None => Ok(false),
     }
 }

@@ -1,7 +1,16 @@
-use Rattle.std.proofs.Common.{◌∙◌}
+use Rattle.std.proofs.Common.{Some, None, option_map, ap, sym, ◌∙◌}
+use Rattle.phone_meta.specs.Lasts.{seen}
+use Rattle.phone_read.specs.Origins.{shown}
 use Rattle.phone_read.specs.Regions.{is_of_last}
-use Rattle.phone_read.proofs.Regional.{first_other-first}
+use Rattle.phone_read.proofs.Regional.{first_other-turn}
 use Rattle.phone_read.proofs.validator.first_other_region.Goals as goal
 
-pub loop-pair-init : goal.loop-pair-init
-loop-pair-init c = first_other-first c.args.db.now c.args.code (is_of_last c.args.text.now) c.into_iter-pair-iterator.result (c.into_iter-pair-iterator.ensures.into_iter_gives ∙ c.of_code_with_lasts-pair-items.ensures)
+pub returns-in-Some-2-clause-region : goal.returns-in-Some-2-clause-region
+returns-in-Some-2-clause-region c =
+    sym (first_other-turn (is_of_last c.args.text.now) (seen c.in-Some.pair) _ _ _ (Some (shown c.in-Some-2.found)) c.loop-pair.invariant c.in-Some.ensures.steps
+    (ap (option_map shown) (sym c.in-Some-2.is) ∙ rw c.is_main_country_for_code.ensures at c.in_ok-found.ensures.region))
+
+pub loop-pair-preserved : goal.loop-pair-preserved
+loop-pair-preserved c =
+    first_other-turn (is_of_last c.args.text.now) (seen c.in-Some.pair) _ _ _ None c.loop-pair.invariant c.in-Some.ensures.steps
+    (ap (option_map shown) (sym c.in_default.is) ∙ rw c.is_main_country_for_code.ensures at c.in_ok-found.ensures.region)
