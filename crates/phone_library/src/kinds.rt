@@ -4,10 +4,9 @@ ghost use Rattle.std.specs.List.{find};
 ghost use Rattle.std.specs.Option.{option_copied};
 ghost use Rattle.phone_rules.specs.Kinds.{is_known};
 ghost use Rattle.phone_library.specs.Kinds.{is_number_of, kind_in, line_or_mobile, matches_whole};
-ghost use Rattle.phone_territory.specs.First.{is_whole_match};
 ghost use Rattle.phone_territory.specs.Kinds.{descriptor_for};
 
-use phone_territory::{Descriptor, Descriptors, Metadata, Pattern};
+use phone_territory::{Descriptor, Descriptors, Metadata};
 use phone_values::Type;
 use std::alloc::AllocError;
 
@@ -92,15 +91,7 @@ fn has_digits(descriptor: &Descriptor, digits: &str) -> Result<bool, AllocError>
 pub(crate) fn matches_general(m: &Metadata, digits: &str) -> Result<bool, AllocError>
     ensures { IfOk result (λ b. b ≡ matches_whole m.now.general digits.now) }
 {
-    is_whole(m.descriptors().general().pattern(), digits)
-}
-
-/// Whether a pattern's first match is all of the digits. Where it isn't at their front, a search of
-/// that is enough.
-fn is_whole(pattern: &Pattern, digits: &str) -> Result<bool, AllocError>
-    ensures { IfOk result (λ b. b ≡ is_whole_match pattern.now digits.now) }
-{
-    Ok(pattern.is_at_start(digits)? && pattern.is_whole_match(digits)?)
+    m.descriptors().general().pattern().is_whole_match(digits)
 }
 
 /// Whether a kind is known.

@@ -1,3 +1,4 @@
 pub mod Behinds
+pub mod Digits
 pub mod HyphenTexts
 pub mod TextsLaid

@@ -20,6 +20,19 @@ fn begins_apart(text: &str) -> bool
     }
 }
 
+/// Whether a character is a separator. Most are digits, which aren't.
+#[inline]
+#[tactic(auto, using(crate::proofs::Digits::digit_apart))]
+fn is_apart(c: char) -> bool
+    ensures { result ≡ is_separator c }
+{
+    if c.is_ascii_digit() {
+        false
+    } else {
+        is_separator(c)
+    }
+}
+
 /// Puts a text behind another, with each longest run of separators made one hyphen; all other
 /// characters stay in their order. Refused only for memory; then a part of it may stand there.
 pub(crate) fn push_hyphenated(out: &mut String, text: &str) -> Result<(), AllocError>
@@ -29,7 +42,7 @@ pub(crate) fn push_hyphenated(out: &mut String, text: &str) -> Result<(), AllocE
 {
     let mut rest = text;
     while let Some((c, after)) = split_first(rest) {
-        if !is_separator(c) {
+        if !is_apart(c) {
             out.push(c)?;
         } else if !begins_apart(after) {
             out.push('-')?;

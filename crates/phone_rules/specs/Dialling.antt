@@ -30,6 +30,10 @@ after_match digits (Some (start, end)) =
     if (start == 0) && not (begins (λ d. d == 48) (drop end digits)) then Some (drop end digits)
     else None
 
+-- where the first match ends, if it is at the front
+abbrev pub front_of : Option (ℕ × ℕ) → Option ℕ
+front_of found = option_and_then (λ (s : ℕ × ℕ). if s.0 == 0 then Some s.1 else None) found
+
 -- a plus sign tells an international number; else an international prefix does; else the hint
 -- counts
 abbrev pub source_of : Bool → Option (List ℕ) → Source

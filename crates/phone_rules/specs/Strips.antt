@@ -56,14 +56,18 @@ by_match m pattern (Some rule) digits found (Some last) =
     else anew written (held digits found.first)
 by_match m pattern rule digits found last = off_match found.span.1 (held digits last)
 
+-- what the first match of a parsing pattern does, if it is at the front
+abbrev pub cut_by : Metadata → List ℕ → List ℕ → Cut
+cut_by m pattern digits = option_map_or (λ (found : Captured).
+    if found.span.0 == 0
+    then by_match m pattern m.national_prefix_transform_rule digits found found.last
+    else stay) (captured pattern digits) stay
+
 -- what the rules do: without a parsing pattern the national prefix is cut off; with one its first
 -- match counts, where that is at the front
 abbrev pub cut_of : Metadata → List ℕ → Cut
-cut_of m digits =
-    option_map_or (λ pattern. option_map_or (λ (found : Captured).
-    if found.span.0 == 0
-    then by_match m pattern m.national_prefix_transform_rule digits found found.last
-    else stay) (captured pattern digits) stay) m.national_prefix_for_parsing off_prefix
+cut_of m digits = option_map_or (λ pattern. cut_by m pattern digits) m.national_prefix_for_parsing
+    off_prefix
 
 -- what they leave
 abbrev pub step : Metadata → List ℕ → Option (List ℕ) → Stripped

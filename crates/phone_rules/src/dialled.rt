@@ -14,7 +14,7 @@ ghost use Rattle.phone_territory.specs.First.{IsCut};
 ghost use Rattle.phone_parts.specs.Parts.{parts_of};
 ghost use Rattle.phone_parts.specs.Texts.{begins};
 ghost use Rattle.phone_rules.specs.Dialling.{after_match, dialled, found_by, is_bare, is_plain};
-ghost use Rattle.phone_rules.specs.Dialling.{unsigned};
+ghost use Rattle.phone_rules.specs.Dialling.{front_of, unsigned};
 ghost use Rattle.phone_rules.specs.Lent.{IsLentDigits, KeepsLent};
 
 use crate::trims::trim;
@@ -40,6 +40,12 @@ pub trait Finder {
         ensures span { IfOk result (λ span. span ≡ found self.now digits.now) }
         ensures cut { IfOk result (λ span. IfSome span (IsCut digits.now)) }
         ensures no_memory { is_idle self.now ≡ true → IsOk result };
+
+    /// Where the first match ends, if it begins at the first byte.
+    fn find_front(&self, digits: &str) -> Result<Option<usize>, AllocError>
+        ensures end { IfOk result (λ end. end ≡ front_of (found self.now digits.now)) }
+        ensures border { IfOk result (λ end. IfSome end (λ e. IsCut digits.now (0, e))) }
+        ensures no_memory { is_idle self.now ≡ true → IsOk result };
 }
 
 /// A compiled pattern that was handed in, or none.
@@ -64,6 +70,13 @@ impl Finder for Handed<'_> {
         };
         let mut matcher = pattern.matcher(self.alloc)?;
         Ok(span_of(matcher.find(digits)))
+    }
+
+    fn find_front(&self, digits: &str) -> Result<Option<usize>, AllocError> {
+        match self.find(digits)? {
+            Some((0, end)) => Ok(Some(end)),
+            _ => Ok(None),
+        }
     }
 }
 
@@ -95,6 +108,13 @@ impl Finder for OfTerritory<'_> {
     fn find(&self, digits: &str) -> Result<Option<(usize, usize)>, AllocError> {
         match self.pattern {
             Some(pattern) => pattern.first_span(digits),
+            None => Ok(None),
+        }
+    }
+
+    fn find_front(&self, digits: &str) -> Result<Option<usize>, AllocError> {
+        match self.pattern {
+            Some(pattern) => pattern.front_end(digits),
             None => Ok(None),
         }
     }
@@ -314,13 +334,13 @@ fn place_after<F: Finder>(finder: &F, digits: &str) -> Result<Option<usize>, All
     ensures border { IfOk result (λ at. IfSome at (λ n. IsCharBoundary digits.now n)) }
     ensures no_memory { F.is_idle finder.now ≡ true → IsOk result }
 {
-    let Some((start, end)) = finder.find(digits)? else {
+    let Some(end) = finder.find_front(digits)? else {
         return Ok(None);
     };
-    if start == 0 && !begins_with_zero(&digits[end..]) {
-        Ok(Some(end))
-    } else {
+    if begins_with_zero(&digits[end..]) {
         Ok(None)
+    } else {
+        Ok(Some(end))
     }
 }
 

@@ -9,8 +9,8 @@ ghost use Rattle.phone_records.specs.declared.loader.Metadata as loader;
 ghost use Rattle.phone_rules.specs.Kinds.{is_of};
 ghost use Rattle.phone_rules.specs.HeldCuts.{EndsBetween, LendsName, told_by};
 ghost use Rattle.phone_rules.specs.Lent.{KeepsLent};
-ghost use Rattle.phone_rules.specs.Strips.{Stripped, by_match, cut_of, held, is_anew, left_by};
-ghost use Rattle.phone_rules.specs.Strips.{step, strip, stripped};
+ghost use Rattle.phone_rules.specs.Strips.{Stripped, by_match, cut_by, cut_of, held, is_anew};
+ghost use Rattle.phone_rules.specs.Strips.{left_by, step, strip, stripped};
 
 use crate::kinds::{is_general, length_of};
 use crate::trims::{part, trim, without_front};
@@ -108,6 +108,20 @@ fn cut_of<'a>(m: &Metadata, digits: &CowStr<'a>) -> Result<Cut<'a>, AllocError>
     let Some(pattern) = m.national_prefix_for_parsing_pattern() else {
         return Ok(Cut::OffPrefix);
     };
+    if pattern.is_at_start(digits.as_str())? {
+        cut_by(m, pattern, digits)
+    } else {
+        Ok(Cut::Stay)
+    }
+}
+
+/// What the first match of a parsing pattern does to a national part.
+fn cut_by<'a>(m: &Metadata, pattern: &Pattern, digits: &CowStr<'a>) -> Result<Cut<'a>, AllocError>
+    ensures cut { IfOk result (λ cut. told_by cut ≡
+        cut_by m.now pattern.now (cow_str_bytes digits.now)) }
+    ensures ends { IfOk result (λ cut. EndsBetween (cow_str_bytes digits.now) cut) }
+    ensures lends { IfOk result (λ cut. IsBorrowedStr digits.now → LendsName cut) }
+{
     let Some(found) = pattern.captures(digits.as_str())? else {
         return Ok(Cut::Stay);
     };

@@ -7,7 +7,6 @@ ghost use Rattle.phone_short.specs.Emergencies.{is_emergency_number, is_exact};
 ghost use Rattle.phone_short.specs.Emergencies.{reaches_emergency_in};
 
 use crate::digits::{digits_in, is_dialled_within};
-use crate::numbers::is_whole;
 use phone_chars::cuts::{before, split_first};
 use phone_territory::Metadata;
 use std::alloc::AllocError;
@@ -18,7 +17,7 @@ pub(crate) fn is_emergency_number(m: &Metadata, digits: &str) -> Result<bool, Al
     ensures { IfOk result (λ b. b ≡ is_emergency_number m.now digits.now) }
 {
     match m.descriptors().emergency() {
-        Some(descriptor) => is_whole(descriptor.pattern(), digits),
+        Some(descriptor) => descriptor.pattern().is_whole_match(digits),
         None => Ok(false),
     }
 }

@@ -3,9 +3,8 @@ ghost use Rattle.std.specs.Prelude.{◌≡◌, ◌==◌, IfOk, Some};
 ghost use Rattle.std.specs.List.{list_any};
 ghost use Rattle.std.specs.Option.{option_copied};
 ghost use Rattle.phone_short.specs.Numbers.{has_number, is_carrier_specific, is_possible, is_valid};
-ghost use Rattle.phone_territory.specs.First.{is_whole_match};
 
-use phone_territory::{Descriptor, Metadata, Pattern};
+use phone_territory::{Descriptor, Metadata};
 use std::alloc::AllocError;
 
 /// Whether a descriptor is there and has the digits: it allows their count, and its pattern matches
@@ -25,14 +24,6 @@ fn has_digits(descriptor: &Descriptor, digits: &str) -> Result<bool, AllocError>
     ensures { IfOk result (λ b. b ≡ has_number (Some descriptor.now) digits.now) }
 {
     Ok(descriptor.is_match(digits)? && descriptor.pattern().is_whole_match(digits)?)
-}
-
-/// Whether a pattern's first match is all of the digits. Where it isn't at their front, a search of
-/// that is enough.
-pub(crate) fn is_whole(pattern: &Pattern, digits: &str) -> Result<bool, AllocError>
-    ensures { IfOk result (λ b. b ≡ is_whole_match pattern.now digits.now) }
-{
-    Ok(pattern.is_at_start(digits)? && pattern.is_whole_match(digits)?)
 }
 
 /// Whether a count of digits is listed.
