@@ -1,18 +1,19 @@
 -- The keys of a text.
-use Rattle.std.proofs.Common.{◌≡◌, ⊎_elim, ℕ, ◌+◌, ◌-◌, ◌<◌, ◌≤◌, ◌==◌, ◌||◌, nat_le, encode_utf8, eqb-true, leb-true, Bool, true, false, cond, List, [], ◌∷◌, ◌++◌, drop, take, length, Option, None, Some, option_map, append-nil, refl, ap, sym, subst, ◌∙◌, arith}
+use Rattle.std.proofs.Common.{◌≡◌, ⊎_elim, ℕ, ◌+◌, ◌-◌, ◌<◌, ◌≤◌, ◌==◌, ◌||◌, nat_le, chars, encode_utf8, eqb-true, leb-true, not, Bool, true, false, cond, List, [], ◌∷◌, ◌++◌, drop, take, length, Option, None, Some, option_map, append-nil, refl, ap, sym, subst, ◌∙◌, arith}
 use Rattle.std.proofs.Math.Seq.{take-append_seam}
-use Rattle.std.proofs.lemmas.Bool.{and_from, and_parts, le-leb, or_cases}
-use Rattle.std.proofs.lemmas.Str.{encodes-IsAscii}
+use Rattle.std.proofs.lemmas.Bool.{and_from, and_parts, cond-false, le-leb, not-true, or_cases}
+use Rattle.std.proofs.lemmas.Str.{chars-IsAscii, encodes-IsAscii}
 use Rattle.std.proofs.lemmas.Str.Ascii.{IsAscii-cons, IsAscii-nil}
 use Rattle.std.specs.Str.{IsAscii}
-use Rattle.std.proofs.lemmas.List.{length-append, take-append-drop}
+use Rattle.std.proofs.lemmas.List.{append_assoc, length-append, take-append-drop}
 use Rattle.std.proofs.lemmas.List.Folds.{list_all-append}
 use Rattle.std.specs.List.{find, list_all}
 use Rattle.std.specs.Option.{option_to_list}
 use Rattle.phone_chars.specs.Characters.{is_digit, is_in_run, is_plus}
 use Rattle.phone_library_text.specs.Letters.{value_of, zeros}
-use Rattle.phone_library_text.proofs.Digits.{found_in_run}
-use Rattle.phone_typed.specs.Keys.{is_key, key_of, with_key, with_keys}
+use Rattle.phone_parts.proofs.PrintedTexts.{digit_passes}
+use Rattle.phone_library_text.proofs.Digits.{found_in_run, value_digit}
+use Rattle.phone_typed.specs.Keys.{is_key, key_of, keys_in, with_key, with_keys}
 
 -- more is typed after a text
 pub with_keys-append : (keys text more : List ℕ) → with_keys keys (text ++ more) ≡ with_keys (with_keys keys text) more
@@ -79,3 +80,32 @@ key_byte keys c d e = sym (append-nil (encode_utf8 d)) ∙ encodes-IsAscii (d �
 pub all-take : (n : ℕ) (keys : List ℕ) → list_all is_key keys ≡ true → list_all is_key (take n keys) ≡ true
 all-take n keys are =
     (and_parts _ _ (sym (list_all-append is_key (take n keys) (drop n keys)) ∙ ap (list_all is_key) (take-append-drop n keys) ∙ are)).0
+
+-- digits are their own keys, after whatever keys
+digit_key : (keys : List ℕ) (d : ℕ) → is_digit d ≡ true → key_of keys d ≡ Some d
+digit_key [] d h =
+    cond-false _ (Some 43) (value_of d) (not-true (is_plus d) (digit_passes (λ c. not (is_plus c)) refl d h)) ∙ value_digit d h
+digit_key (k ∷ keys) d h = value_digit d h
+
+with_digits : (keys digits : List ℕ) → list_all is_digit digits ≡ true → with_keys keys digits ≡ keys ++ digits
+with_digits keys [] h = sym (append-nil keys)
+with_digits keys (d ∷ digits) h =
+    let parts = and_parts (is_digit d) (list_all is_digit digits) h in
+    ap (λ o. with_keys (keys ++ option_to_list o) digits) (digit_key keys d parts.0)
+    ∙ with_digits (keys ++ d ∷ []) digits parts.1
+    ∙ append_assoc keys (d ∷ []) digits
+
+digits_are_keys : (digits : List ℕ) → list_all is_digit digits ≡ true → list_all is_key digits ≡ true
+digits_are_keys [] h = refl
+digits_are_keys (d ∷ digits) h =
+    let parts = and_parts (is_digit d) (list_all is_digit digits) h in
+    and_from _ _ (ap (λ b. b || (d == 43)) parts.0) (digits_are_keys digits parts.1)
+
+-- a text of digits is nothing but its keys, and so is one with a plus sign before them
+pub keys_of_digits : (digits : List ℕ) → list_all is_digit digits ≡ true → keys_in (chars digits) ≡ digits
+keys_of_digits digits h =
+    ap keys_in (chars-IsAscii digits (IsAscii-keys digits (digits_are_keys digits h))) ∙ with_digits [] digits h
+
+pub keys_of_signed : (digits : List ℕ) → list_all is_digit digits ≡ true → keys_in (chars (43 ∷ digits)) ≡ 43 ∷ digits
+keys_of_signed digits h =
+    ap keys_in (chars-IsAscii (43 ∷ digits) (IsAscii-keys (43 ∷ digits) (digits_are_keys digits h))) ∙ with_digits (43 ∷ []) digits h

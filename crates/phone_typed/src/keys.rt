@@ -1,6 +1,8 @@
 //! The keys that are pressed while a number is typed, and how a text shows them.
 ghost use Rattle.std.specs.Prelude.{◌≡◌, ◌<◌, string_bytes, take, chars, length, option_map, IfOk};
-ghost use Rattle.std.specs.Prelude.{IfSome, IsCharBoundary, OnErr, OnOk};
+ghost use Rattle.std.specs.Prelude.{IfSome, IsCharBoundary, IsTrue, OnErr, OnOk};
+ghost use Rattle.std.specs.List.{list_all};
+ghost use Rattle.phone_chars.specs.Characters.{is_digit};
 ghost use Rattle.phone_typed.specs.Keys.{is_key, is_mark, key_of, keys_in, passed, shows};
 ghost use Rattle.phone_typed.specs.Keys.{up_to_key, with_key};
 ghost use Rattle.phone_typed.specs.Typed.{if_shows};
@@ -45,6 +47,23 @@ pub(crate) fn push_key(keys: &mut String, c: char) -> Result<(), AllocError>
     match key_of(keys.as_str(), c) {
         Some(key) => keys.push(key),
         None => Ok(()),
+    }
+}
+
+/// Whether bytes are digits of ASCII.
+fn are_digits(bytes: &[u8]) -> bool
+    ensures { result ≡ list_all is_digit bytes.now }
+{
+    bytes.iter().all(|b| b.is_ascii_digit())
+}
+
+/// Whether a text is nothing but its keys: digits of ASCII, and perhaps a plus sign before them.
+pub(crate) fn are_keys(text: &str) -> bool
+    ensures { IsTrue result → keys_in (chars text.now) ≡ text.now }
+{
+    match text.strip_prefix('+') {
+        Some(digits) => are_digits(digits.as_bytes()),
+        None => are_digits(text.as_bytes()),
     }
 }
 

@@ -1,6 +1,6 @@
 //! What layouts print of a number that is typed, whole or its beginning.
-ghost use Rattle.std.specs.Prelude.{◌≡◌, None, IfOk, OnOk, drop, length, map, option_map};
-ghost use Rattle.std.specs.Prelude.{string_bytes};
+ghost use Rattle.std.specs.Prelude.{◌≡◌, ◌≤◌, ◌++◌, None, IfOk, IsUtf8, drop, length, map};
+ghost use Rattle.std.specs.Prelude.{option_map, string_bytes};
 ghost use Rattle.phone_print.specs.Layouts.{layouts_for, template_for};
 ghost use Rattle.phone_records.specs.Missing.{first_given};
 ghost use Rattle.phone_territory.specs.First.{is_whole_match};
@@ -8,38 +8,35 @@ ghost use Rattle.phone_territory.specs.Layouts.{laid_by};
 ghost use Rattle.phone_typed.specs.Keys.{up_to_key};
 ghost use Rattle.phone_typed.specs.Typed.{complete_text, first_complete, first_partial, if_shows};
 ghost use Rattle.phone_typed.specs.Typed.{lays_out, lays_out_all, partial_text, text_of_keys};
-ghost use Rattle.phone_typed.specs.Typed.{is_short, nines, with_nines};
+ghost use Rattle.phone_typed.specs.Typed.{is_short};
 ghost use Rattle.std.specs.Option.{option_or};
 
 use crate::keys::{end_of_shown, shows};
 use phone_meta::Database;
-use phone_territory::{FirstGroup, Format, Metadata, Pattern};
+use phone_territory::{FirstGroup, Format, Metadata};
 use phone_values::Mode;
 use std::alloc::AllocError;
 
 /// Fewer digits are shown as they are.
 const FEWEST_DIGITS: usize = 3;
 
-/// The digits of a longest number that are not typed yet.
-const NINES: &str = "999999999999999";
+/// The digits of a longest number, all nines: those that are not typed yet.
+const NINES: [u8; 15] = [b'9'; 15];
 
-/// Puts digits in a text, and as many nines after them as are lacking to fifteen; what stood there
-/// is gone. Refused only for memory.
-fn write_nines(text: &mut String, digits: &str) -> Result<(), AllocError>
-    ensures { OnOk result (string_bytes text.new ≡ with_nines digits.now) }
+/// Puts digits in the front of a row of others.
+fn put_in_front(digits: &str, row: &mut [u8])
+    requires { length digits.now ≤ length row.old }
+    ensures { row.new ≡ digits.now ++ drop (length digits.now) row.old }
 {
-    text.clear();
-    text.reserve(NINES.len())?;
-    text.push_str(digits)?;
-    text.push_str(nines_after(digits.len()))?;
-    Ok(())
+    row[..digits.len()].copy_from_slice(digits.as_bytes());
 }
 
-/// The nines that are lacking to fifteen after so many digits.
-fn nines_after(n: usize) -> &'static str
-    ensures { result.now ≡ drop n nines }
+/// Bytes as the text that they are.
+fn as_text(bytes: &[u8]) -> &str
+    requires { IsUtf8 bytes.now }
+    ensures { result.now ≡ bytes.now }
 {
-    NINES.get(n..).unwrap_or("")
+    std::str::from_utf8(bytes).unwrap_or("")
 }
 
 /// The layouts that a territory has for a mode.
@@ -55,26 +52,14 @@ fn layouts_for(m: &Metadata, mode: Mode) -> &[Format]
 }
 
 /// Whether a layout lays out all of these digits: it is meant for them, and its pattern matches
-/// them whole. Refused only for memory.
+/// them whole. Mostly their length tells that it doesn't. Refused only for memory.
 fn lays_out_all(layout: &Format, digits: &str) -> Result<bool, AllocError>
     ensures { IfOk result (λ b. b ≡ lays_out_all digits.now layout.now) }
 {
-    if !layout.is_led(digits)? {
+    if !layout.whole_pattern().is_whole_match(digits)? {
         return Ok(false);
     }
-    matches_whole(layout.whole_pattern(), digits)
-}
-
-/// Whether a pattern's first match is all of these digits. Most digits that are typed are too few
-/// for the pattern: that no match begins at the first is told without a search for one behind it.
-/// Refused only for memory.
-fn matches_whole(pattern: &Pattern, digits: &str) -> Result<bool, AllocError>
-    ensures { IfOk result (λ b. b ≡ is_whole_match pattern.now digits.now) }
-{
-    if !pattern.is_at_start(digits)? {
-        return Ok(false);
-    }
-    pattern.is_whole_match(digits)
+    layout.is_led(digits)
 }
 
 /// Whether a layout lays out the first n of these digits: it is meant for them, and its pattern's
@@ -85,8 +70,8 @@ fn lays_out(layout: &Format, n: usize, digits: &str) -> Result<bool, AllocError>
     if !layout.is_led(digits)? {
         return Ok(false);
     }
-    match layout.whole_pattern().first_span(digits)? {
-        Some((start, end)) => Ok(start == 0 && end >= n),
+    match layout.whole_pattern().front_end(digits)? {
+        Some(end) => Ok(end >= n),
         None => Ok(false),
     }
 }
@@ -192,21 +177,25 @@ fn first_complete(
     Ok(None)
 }
 
-/// Of the beginning of a number, by the first layout that gives a text that shows the keys. The
-/// last text has room for the digits with nines after them. Refused only for memory.
+/// Of the beginning of a number, by the first layout that gives a text that shows the keys. Refused
+/// only for memory.
 fn first_partial(
     finder: &FirstGroup,
     m: &Metadata,
     mode: Mode,
     national: &str,
     keys: &str,
-    nines: &mut String,
 ) -> Result<Option<String>, AllocError>
     ensures { IfOk result (λ t. option_map string_bytes t ≡
         first_partial m.now mode national.now keys.now) }
 {
-    write_nines(nines, national)?;
-    first_of_nines(finder, m, mode, national.len(), nines.as_str(), keys)
+    let n = national.len();
+    if n >= NINES.len() {
+        return first_of_nines(finder, m, mode, n, national, keys);
+    }
+    let mut row = NINES;
+    put_in_front(national, &mut row);
+    first_of_nines(finder, m, mode, n, as_text(&row), keys)
 }
 
 /// The same of n digits with others after them.
@@ -246,7 +235,6 @@ pub(crate) fn text_of_keys(
     mode: Mode,
     national: &str,
     keys: &str,
-    nines: &mut String,
 ) -> Result<String, AllocError>
     ensures { IfOk result (λ t. string_bytes t ≡
         text_of_keys m.now mode national.now keys.now) }
@@ -254,7 +242,7 @@ pub(crate) fn text_of_keys(
     if is_short(national) || is_short(keys) {
         return String::from_str(db.allocator(), keys);
     }
-    match by_layouts(db.first_group_finder(), m, mode, national, keys, nines)? {
+    match by_layouts(db.first_group_finder(), m, mode, national, keys)? {
         Some(text) => Ok(text),
         None => String::from_str(db.allocator(), keys),
     }
@@ -268,7 +256,6 @@ fn by_layouts(
     mode: Mode,
     national: &str,
     keys: &str,
-    nines: &mut String,
 ) -> Result<Option<String>, AllocError>
     ensures { IfOk result (λ t. option_map string_bytes t ≡ option_or
         (first_complete m.now mode national.now keys.now)
@@ -276,6 +263,6 @@ fn by_layouts(
 {
     match first_complete(finder, m, mode, national, keys)? {
         Some(text) => Ok(Some(text)),
-        None => first_partial(finder, m, mode, national, keys, nines),
+        None => first_partial(finder, m, mode, national, keys),
     }
 }

@@ -67,12 +67,9 @@ fn behind_match<'k>(pattern: &Pattern, keys: &'k str) -> Result<&'k str, AllocEr
         m.national_prefix_transform_rule ≡ None →
         IfOk result (λ left. left.now ≡ (step m keys.entry.now None).national) }
 {
-    if !pattern.is_at_start(keys)? {
-        return Ok(keys);
-    }
-    match pattern.first_span(keys)? {
-        Some((0, end)) => Ok(&keys[end..]),
-        _ => Ok(keys),
+    match pattern.front_end(keys)? {
+        Some(end) => Ok(&keys[end..]),
+        None => Ok(keys),
     }
 }
 
@@ -89,6 +86,9 @@ fn by_rule<'k>(
     ensures { IfOk result (λ left. cow_str_bytes left ≡
         (step m.now keys.entry.now None).national) }
 {
+    if !pattern.is_at_start(keys)? {
+        return Ok(CowStr::Borrowed(keys));
+    }
     let Some(found) = pattern.captures(keys)? else {
         return Ok(CowStr::Borrowed(keys));
     };

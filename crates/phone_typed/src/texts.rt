@@ -12,7 +12,7 @@ ghost use Rattle.phone_typed.specs.Keys.{HasNoPlus, keys_in};
 ghost use Rattle.phone_typed.specs.Typed.{layout_territory, text_abroad, text_at, text_of_code};
 ghost use Rattle.phone_typed.specs.Typed.{text_of_keys, typed};
 
-use crate::keys::keys_in;
+use crate::keys::{are_keys, keys_in};
 use crate::layouts::{is_short, text_of_keys};
 use crate::stripping::national_digits;
 use phone_base::together::instead;
@@ -35,14 +35,23 @@ pub fn typed(database: &Database, hint: Option<Id>, text: &str) -> Result<String
     ensures { IfOk result (λ t. string_bytes t ≡
         typed database.now hint (keys_in (chars text.now))) }
 {
-    let keys = keys_in(database.allocator(), text)?;
-    if is_shown_as_it_is(keys.as_str()) {
-        return Ok(keys);
+    if are_keys(text) {
+        return shown_of(database, hint, text);
     }
-    let home = home_of(database, hint, keys.as_str());
-    let mut nines = String::new(database.allocator());
-    let shown = text_of(database, home, keys.as_str(), &mut nines);
-    instead((keys, nines), shown)
+    let keys = keys_in(database.allocator(), text)?;
+    let shown = shown_of(database, hint, keys.as_str());
+    instead(keys, shown)
+}
+
+/// What is shown of keys. Refused only for memory.
+fn shown_of(db: &Database, hint: Option<Id>, keys: &str) -> Result<String, AllocError>
+    ensures { IfOk result (λ t. string_bytes t ≡ typed db.now hint keys.now) }
+{
+    if is_shown_as_it_is(keys) {
+        return String::from_str(db.allocator(), keys);
+    }
+    let home = home_of(db, hint, keys);
+    text_of(db, home, keys)
 }
 
 /// The first territory of the calling code of the hint; it isn't looked for where the keys begin
@@ -68,23 +77,22 @@ fn is_shown_as_it_is(keys: &str) -> bool
     }
 }
 
-/// What is shown of keys, by the territory in which digits without a plus sign are typed. The last
-/// text has room for digits with nines after them. Refused only for memory.
+/// What is shown of keys, by the territory in which digits without a plus sign are typed. Refused
+/// only for memory.
 pub(crate) fn text_of(
     db: &Database,
     home: Option<&Metadata>,
     keys: &str,
-    nines: &mut String,
 ) -> Result<String, AllocError>
     ensures { (hint : Option country.Id) →
         (HasNoPlus keys.now → option_copied home.entry ≡ layout_territory db.now hint) →
         IfOk result (λ t. string_bytes t ≡ typed db.now hint keys.now) }
 {
     if let Some(digits) = keys.strip_prefix('+') {
-        return text_abroad(db, digits, nines);
+        return text_abroad(db, digits);
     }
     match home {
-        Some(m) => text_at(db, m, keys, nines),
+        Some(m) => text_at(db, m, keys),
         None => String::from_str(db.allocator(), keys),
     }
 }
@@ -108,28 +116,23 @@ fn hint_territory(db: &Database, hint: Option<Id>) -> Option<&Metadata>
 }
 
 /// What is shown of digits that are typed in a territory. Refused only for memory.
-fn text_at(
-    db: &Database,
-    m: &Metadata,
-    keys: &str,
-    nines: &mut String,
-) -> Result<String, AllocError>
+fn text_at(db: &Database, m: &Metadata, keys: &str) -> Result<String, AllocError>
     ensures { IfOk result (λ t. string_bytes t ≡ text_at m.now keys.now) }
 {
     if is_short(keys) {
         return String::from_str(db.allocator(), keys);
     }
     let national = national_digits(m, keys)?;
-    let shown = text_of_keys(db, m, Mode::National, national.as_str(), keys, nines);
+    let shown = text_of_keys(db, m, Mode::National, national.as_str(), keys);
     instead(national, shown)
 }
 
 /// What is shown of digits that are typed after a plus sign. Refused only for memory.
-fn text_abroad(db: &Database, digits: &str, nines: &mut String) -> Result<String, AllocError>
+fn text_abroad(db: &Database, digits: &str) -> Result<String, AllocError>
     ensures { IfOk result (λ t. string_bytes t ≡ text_abroad db.now digits.now) }
 {
     match db.shortest(digits) {
-        Some(code) => text_of_code(db, code, digits, nines),
+        Some(code) => text_of_code(db, code, digits),
         None => signed(db, digits),
     }
 }
@@ -146,12 +149,7 @@ fn signed(db: &Database, digits: &str) -> Result<String, AllocError>
 
 /// What is shown of digits after a plus sign that begin with this calling code. Refused only for
 /// memory.
-fn text_of_code(
-    db: &Database,
-    code: u16,
-    digits: &str,
-    nines: &mut String,
-) -> Result<String, AllocError>
+fn text_of_code(db: &Database, code: u16, digits: &str) -> Result<String, AllocError>
     requires { is_front (decimal code) digits.now ≡ true }
     ensures { IfOk result (λ t. string_bytes t ≡ text_of_code db.now digits.now code) }
 {
@@ -160,7 +158,7 @@ fn text_of_code(
     };
     let at = behind_number(digits, code);
     let (front, rest) = (&digits[..at], &digits[at..]);
-    let shown = text_of_keys(db, m, Mode::International, rest, rest, nines)?;
+    let shown = text_of_keys(db, m, Mode::International, rest, rest)?;
     after_code(db, front, shown)
 }
 

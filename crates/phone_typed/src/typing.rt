@@ -20,8 +20,6 @@ pub struct Typing<'d> {
     home: Option<&'d Metadata>,
     keys: String,
     shown: String,
-    /// Room for digits with nines after them, from one key to the next.
-    nines: String,
 }
 
 impl<'d> Model for Typing<'d> {
@@ -58,7 +56,6 @@ impl<'d> Typing<'d> {
             home: layout_territory(database, hint),
             keys: String::new(alloc),
             shown: String::new(alloc),
-            nines: String::new(alloc),
         }
     }
 
@@ -86,12 +83,7 @@ impl<'d> Typing<'d> {
     {
         let len = self.keys.len();
         push_key(&mut self.keys, c)?;
-        match text_of(
-            self.database,
-            self.home,
-            self.keys.as_str(),
-            &mut self.nines,
-        ) {
+        match text_of(self.database, self.home, self.keys.as_str()) {
             Ok(shown) => {
                 self.shown = shown;
                 Ok(())
@@ -111,12 +103,7 @@ impl<'d> Typing<'d> {
         ensures kept { OnErr result (self.new ≡ self.old) }
     {
         let len = self.keys.len().saturating_sub(1);
-        let shown = text_of(
-            self.database,
-            self.home,
-            &self.keys.as_str()[..len],
-            &mut self.nines,
-        )?;
+        let shown = text_of(self.database, self.home, &self.keys.as_str()[..len])?;
         self.keys.truncate(len);
         self.shown = shown;
         Ok(())

@@ -5,8 +5,8 @@ use Rattle.phone_typed.specs.Typed.{typed}
 use Rattle.phone_typed.proofs.KeysOfTexts.{all-take}
 use Rattle.phone_typed.proofs.typing.Typing.back.Goals as goal
 
-pub invariant_of-self-2 : goal.invariant_of-self-2
-invariant_of-self-2 c =
+pub invariant_of-self : goal.invariant_of-self
+invariant_of-self c =
     let keys = string_bytes c.self.inside.keys in
     let n = c.saturating_sub-len.result in
     let same : string_bytes c.truncate.new.self ≡ take n keys = c.truncate.ensures.bytes in
