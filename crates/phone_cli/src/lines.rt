@@ -65,6 +65,20 @@ impl Held {
         Ok(())
     }
 
+    /// Writes all answers that are held, where the block that was taken isn't full: the next read may
+    /// wait then, as that of a pipe or a terminal does.
+    fn hand_on_short<W: ByteSink>(&mut self, sink: &mut W, block_length: usize) -> Result<(), Fault>
+        ensures no_fault { OnOk result (W.faults sink.new ≡ W.faults sink.old) }
+        ensures fault { OnErr result (W.faults sink.new ≡ W.faults sink.old + 1) }
+    {
+        if block_length >= BLOCK_LENGTH {
+            return Ok(());
+        }
+        self.write_out(sink)?;
+        self.answers.clear();
+        Ok(())
+    }
+
     /// Takes the bytes of a block, one after the other.
     fn take_block<T: LineTaker, W: ByteSink>(
         &mut self,
@@ -84,6 +98,9 @@ impl Held {
                 return Err(RunError::Output);
             };
         }
+        let Ok(()) = self.hand_on_short(sink, block.len()) else {
+            return Err(RunError::Output);
+        };
         Ok(())
     }
 

@@ -73,7 +73,7 @@ refusal, and extension. With --csv, which takes no COLUMN here, it writes a reco
 line of headings: line, column, e164, type, region, extension, text; before them the file, where
 several are named.
 --typed takes each line as the keys of a number that is typed, and writes what is shown after each
-key, parted by |.
+key, parted by |. In a terminal, without FILE, it shows the number in place, key by key.
 --short takes each line as a number that is dialled within REGION, and writes yes or no, parted by
 tabs: whether its count of digits is possible; whether it is a short number; what it costs; whether
 only some carriers connect it; whether it is an emergency number; whether it reaches emergency
