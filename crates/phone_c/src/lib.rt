@@ -2,8 +2,8 @@
 //! buffers of the caller's.
 //!
 //! C's variable holds a handle, a struct of one pointer that begins as null; only these calls write
-//! it, one at a time and on one thread. Each call that asks takes the database out of the handle
-//! and puts it back, which moves a pointer.
+//! it, one at a time; between two calls it may be passed to another thread. Each call that asks
+//! takes the database out of the handle and puts it back, which moves a pointer.
 #![tactic(auto)]
 
 ghost use Rattle.std.specs.Prelude.{◌≡◌, ◌⊎◌, ◌↔◌, None, Some, IsUtf8, chars, codes};

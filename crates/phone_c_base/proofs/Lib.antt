@@ -2,6 +2,7 @@ pub mod Behind
 pub mod BehindTable
 pub mod ByNumber
 pub mod CaretPlaces
+pub mod Crossing
 pub mod IdsByPlace
 pub mod LongestFound
 pub mod OneAnswers

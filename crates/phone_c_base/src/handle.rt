@@ -22,6 +22,10 @@ impl Model for Handle {
     ghost also_owns = { λ h. handle_owns h.at h.records };
 }
 
+/// A handle, closed or open, may be passed to another thread: what its database shares, several
+/// threads may read.
+unsafe impl Send for Handle {}
+
 impl Handle {
     /// A handle behind which nothing is open.
     fn empty() -> Handle

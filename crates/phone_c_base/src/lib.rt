@@ -26,5 +26,6 @@ pub mod rules;
 pub mod short;
 pub mod status;
 pub mod table;
+pub mod threads;
 pub mod typing;
 pub mod words;

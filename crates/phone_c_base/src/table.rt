@@ -22,6 +22,9 @@ impl Model for Table {
     ghost also_owns = { λ t. table_owns t.at t.entries };
 }
 
+/// A handle, closed or open, may be passed to another thread: a table is plain data.
+unsafe impl Send for Table {}
+
 impl Table {
     /// A handle behind which nothing is open.
     fn empty() -> Table
