@@ -23,9 +23,6 @@ fn without_database<R: Files + AllocGlobal>(rt: &R, row: &Row) -> Result<Option<
     if let Some(found) = replay_numbers::of_value(rt.alloc(), row)? {
         return Ok(Some(found));
     }
-    if let Some(found) = replay_prefixes::answer(rt, row)? {
-        return Ok(Some(found));
-    }
     replay_util::without_database(rt, row)
 }
 
@@ -46,9 +43,6 @@ fn on_database(
     if let Some(found) = replay_numbers::of_number(alloc, row, db, layouts)? {
         return Ok(Some(found));
     }
-    if let Some(found) = replay_typed::answer(alloc, row, db)? {
-        return Ok(Some(found));
-    }
     replay_util::answer(alloc, row, db)
 }
 
@@ -61,10 +55,8 @@ pub fn answer<R: Files + AllocGlobal>(
     if let Some(found) = without_database(rt, row)? {
         return Ok(found);
     }
-    let named = of_name(rt, at_hand.take(), row.argument(0))?;
-    let found = under(rt, row, &named.database);
-    *at_hand = Some(named);
-    match found? {
+    let db = of_name(rt, at_hand, row.argument(0))?;
+    match under(rt, row, db)? {
         Some(found) => Ok(found),
         None => Err(anyhow!("no call has this name")),
     }

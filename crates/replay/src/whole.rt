@@ -37,8 +37,8 @@ const TABLES: [&str; 26] = [
     "report-lines.tsv",
 ];
 
-/// Prints each line whose answer is another one here, then the counts. Gives whether all lines
-/// agree.
+/// Prints each line whose answer is another one here, then the counts, then what the examples of
+/// use print. Gives whether all lines agree.
 pub fn replay<R: Files + AllocGlobal + Print>(rt: &R) -> Result<bool> {
     let mut tally = Tally::new(rt.alloc());
     for file in TABLES {
@@ -48,6 +48,7 @@ pub fn replay<R: Files + AllocGlobal + Print>(rt: &R) -> Result<bool> {
         let (call, agree, all) = (count.call.as_str(), count.agree, count.all);
         println!(rt; "{call}: {agree} of {all} lines agree")?;
     }
+    using_examples::examples(rt, "databases/three.json")?;
     Ok(tally.all_agree())
 }
 

@@ -2,6 +2,7 @@
 //! it ends.
 use crate::marks::{around, begin};
 use crate::table::Row;
+use crate::words::said;
 use anyhow::{Result, anyhow};
 use phone_device::{
     At, Block, ByteSink, ByteSource, Fault, Limit, ReadError, Script, Then, read_all, write_all,
@@ -11,14 +12,14 @@ use std::alloc::{AllocError, Global};
 /// What a device answers, as the table writes it; none for any other call.
 pub fn answer(alloc: Global, row: &Row) -> Result<Option<String>> {
     let answer = match row.call() {
-        "source-reads" => reads(alloc, row)?,
-        "block-fills" => fills(alloc, row)?,
-        "read-all" => all_read(alloc, row)?,
-        "sink-writes" => writes(alloc, row)?,
-        "write-all" => all_written(alloc, row)?,
+        "source-reads" => reads(alloc, row),
+        "block-fills" => fills(alloc, row),
+        "read-all" => all_read(alloc, row),
+        "sink-writes" => writes(alloc, row),
+        "write-all" => all_written(alloc, row),
         _ => return Ok(None),
     };
-    Ok(Some(answer))
+    Ok(Some(answer?))
 }
 
 /// A piece of bytes, so many times.
@@ -99,19 +100,12 @@ impl Given {
     }
 
     /// One more call, and the bytes that stand where it was to put them.
-    fn add(
-        &mut self,
-        alloc: Global,
-        end: Result<(), Fault>,
-        bytes: &[u8],
-    ) -> Result<(), AllocError> {
+    fn add(&mut self, end: Result<(), Fault>, bytes: &[u8]) -> Result<(), AllocError> {
         self.bytes.extend_from_slice(bytes)?;
         if end.is_err() {
             return push_word(&mut self.words, "fault");
         }
-        let count = bytes.len();
-        let count = format!(in alloc; "{count}")?;
-        push_word(&mut self.words, count.as_str())
+        push_count(&mut self.words, bytes.len())
     }
 
     /// All calls, and whether the bytes are the first ones of the line's source.
@@ -136,11 +130,11 @@ fn reads(alloc: Global, row: &Row) -> Result<String> {
 /// One read into a room of this length.
 fn read(alloc: Global, source: &mut Script, length: &str, given: &mut Given) -> Result<()> {
     let mut room = repeat_piece(alloc, b"-", length)?;
-    match source.read(room.as_mut_slice()) {
-        Ok(count) => given.add(alloc, Ok(()), room.get(..count).unwrap_or(&[]))?,
-        Err(fault) => given.add(alloc, Err(fault), &[])?,
-    }
-    Ok(())
+    let (end, count) = match source.read(room.as_mut_slice()) {
+        Ok(count) => (Ok(()), count),
+        Err(fault) => (Err(fault), 0),
+    };
+    Ok(given.add(end, room.get(..count).unwrap_or(&[]))?)
 }
 
 /// What a block holds after each of its fills by at most so many bytes.
@@ -149,25 +143,32 @@ fn fills(alloc: Global, row: &Row) -> Result<String> {
     let mut given = Given::new(alloc);
     let mut block = Block::new();
     for most in row.argument(3).split(' ') {
-        let end = block.fill(&mut source, most.parse::<u64>()?);
-        given.add(alloc, end, block.bytes())?;
+        fill(&mut block, &mut source, most, &mut given)?;
     }
     given.call_words(alloc, row)
+}
+
+/// One fill by at most so many bytes.
+fn fill(block: &mut Block, source: &mut Script, most: &str, given: &mut Given) -> Result<()> {
+    let end = block.fill(source, most.parse::<u64>()?);
+    Ok(given.add(end, block.bytes())?)
 }
 
 /// How many bytes are read of a source, and whether they are all that it has; or `fault`.
 fn all_read(alloc: Global, row: &Row) -> Result<String> {
     let mut source = source(alloc, row)?;
-    match around(alloc, begin(alloc), read_all(alloc, &mut source))? {
-        Ok(bytes) => {
-            let whole = repeat_piece(alloc, row.argument_bytes(0), row.argument(1))?;
-            let are_all = bytes.as_slice() == whole.as_slice();
-            let count = bytes.len();
-            Ok(format!(in alloc; "{count}\t{are_all}")?)
-        }
-        Err(ReadError::Fault) => Ok(String::from_str(alloc, "fault")?),
+    match around(alloc, begin(alloc), read_all(alloc, &mut source)) {
+        Ok(bytes) => whole_words(alloc, row, bytes.as_slice()),
+        Err(ReadError::Fault) => said(alloc, "fault"),
         Err(ReadError::Memory) => Err(anyhow!("out of memory")),
     }
+}
+
+/// How many bytes these are, and whether they are all that a line's source has.
+fn whole_words(alloc: Global, row: &Row, bytes: &[u8]) -> Result<String> {
+    let whole = repeat_piece(alloc, row.argument_bytes(0), row.argument(1))?;
+    let (count, are_all) = (bytes.len(), bytes == whole.as_slice());
+    Ok(format!(in alloc; "{count}\t{are_all}")?)
 }
 
 /// What a sink answers to writes of these texts and then to a flush, and what it has taken.
@@ -175,22 +176,22 @@ fn writes(alloc: Global, row: &Row) -> Result<String> {
     let mut sink = sink(alloc, row.argument(0))?;
     let mut words = String::new(alloc);
     for text in row.argument(1).split(' ') {
-        write(alloc, &mut sink, text, &mut words)?;
+        write(&mut sink, text, &mut words)?;
     }
     let flushed = word(sink.flush());
-    let taken = std::str::from_utf8(sink.bytes()).unwrap_or("no text");
-    Ok(format!(in alloc; "{words}\t{flushed}\t={taken}")?)
+    taken_words(alloc, words.as_str(), flushed, sink.bytes())
+}
+
+/// Words, a word, and what a sink has taken behind an equals sign.
+fn taken_words(alloc: Global, words: &str, word: &str, taken: &[u8]) -> Result<String> {
+    let taken = std::str::from_utf8(taken).unwrap_or("no text");
+    Ok(format!(in alloc; "{words}\t{word}\t={taken}")?)
 }
 
 /// One write of a text: how many bytes were taken, or `fault`.
-fn write(
-    alloc: Global,
-    sink: &mut Limit,
-    text: &str,
-    words: &mut String,
-) -> Result<(), AllocError> {
+fn write(sink: &mut Limit, text: &str, words: &mut String) -> Result<(), AllocError> {
     match sink.write(text.as_bytes()) {
-        Ok(count) => push_word(words, format!(in alloc; "{count}")?.as_str()),
+        Ok(count) => push_count(words, count),
         Err(_) => push_word(words, "fault"),
     }
 }
@@ -203,22 +204,37 @@ fn all_written(alloc: Global, row: &Row) -> Result<String> {
     let mut words = String::new(alloc);
     let mut are_first = true;
     for limit in 0..text.len().saturating_add(3) {
-        let mut sink = Limit::new(alloc, limit, then)?;
-        let end = word(write_all(&mut sink, text));
-        push_counted(alloc, &mut words, end, sink.bytes().len())?;
-        if !text.starts_with(sink.bytes()) {
+        if !is_written(alloc, text, limit, then, &mut words)? {
             are_first = false;
         }
     }
-    Ok(format!(in alloc; "{words}\t{are_first}")?)
+    write!(words, "\t{are_first}")?;
+    Ok(words)
+}
+
+/// Writes how a text is written whole to a sink of this limit. Whether the sink has taken the first
+/// bytes of the text.
+fn is_written(
+    alloc: Global,
+    text: &[u8],
+    limit: usize,
+    then: Then,
+    words: &mut String,
+) -> Result<bool, AllocError> {
+    let mut sink = Limit::new(alloc, limit, then)?;
+    let end = word(write_all(&mut sink, text));
+    push_counted(words, end, sink.bytes().len())?;
+    Ok(text.starts_with(sink.bytes()))
+}
+
+/// Writes a count behind other words, parted by a space.
+fn push_count(words: &mut String, count: usize) -> Result<(), AllocError> {
+    push_word(words, "")?;
+    write!(words, "{count}")
 }
 
 /// Writes how a call ended, and how many bytes a sink then had taken.
-pub fn push_counted(
-    alloc: Global,
-    words: &mut String,
-    end: &str,
-    count: usize,
-) -> Result<(), AllocError> {
-    push_word(words, format!(in alloc; "{end}/{count}")?.as_str())
+pub fn push_counted(words: &mut String, end: &str, count: usize) -> Result<(), AllocError> {
+    push_word(words, end)?;
+    write!(words, "/{count}")
 }

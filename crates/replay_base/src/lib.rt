@@ -11,6 +11,7 @@ pub mod marks;
 pub mod readers;
 pub mod table;
 pub mod tally;
+pub mod values;
 pub mod words;
 
 use anyhow::Result;
@@ -20,6 +21,9 @@ use table::Row;
 /// The answer to a call of these crates; none for any other call.
 pub fn answer(alloc: Global, row: &Row) -> Result<Option<String>> {
     if let Some(found) = characters::answer(alloc, row)? {
+        return Ok(Some(found));
+    }
+    if let Some(found) = values::answer(alloc, row)? {
         return Ok(Some(found));
     }
     if let Some(found) = readers::answer(alloc, row)? {

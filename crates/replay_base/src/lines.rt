@@ -10,13 +10,12 @@ use std::alloc::{AllocError, Global};
 /// What a run over lines gives, as the table writes it; none for any other call.
 pub fn answer(alloc: Global, row: &Row) -> Result<Option<String>> {
     let answer = match row.call() {
-        "lines" => report(alloc, row)?,
-        "lines-many" => long_report(alloc, row)?,
-        "lines-each" => around(alloc, begin(alloc), each(alloc, row))??,
-        "lines-refused" => refusal_words(alloc, row)?,
+        "lines" | "lines-many" => report(alloc, row),
+        "lines-each" => around(alloc, begin(alloc), each(alloc, row)),
+        "lines-refused" => refusal_words(alloc, row),
         _ => return Ok(None),
     };
-    Ok(Some(answer))
+    Ok(Some(answer?))
 }
 
 /// Answers a line by its length, and perhaps by itself behind a colon.
@@ -82,34 +81,43 @@ fn source(alloc: Global, row: &Row) -> Result<Script> {
     Ok(Script::new(bytes, at))
 }
 
-/// The devices of a line: its source, and a sink that takes so many bytes.
-fn devices(alloc: Global, row: &Row) -> Result<(Script, Limit)> {
-    let source = source(alloc, row)?;
-    Ok((source, sink(alloc, row.argument(5))?))
+/// How a run over a line's source ends, and what its sink has taken.
+fn report(alloc: Global, row: &Row) -> Result<String> {
+    let mut source = source(alloc, row)?;
+    let mut sink = sink(alloc, row.argument(5))?;
+    let end = marked_run(alloc, row, &mut source, &mut sink)?;
+    match row.call() {
+        "lines" => end_and_taken(alloc, end, sink.bytes()),
+        _ => end_and_count(alloc, row, end, sink.bytes()),
+    }
 }
 
-/// How a run ends, and what the sink has taken.
-fn report(alloc: Global, row: &Row) -> Result<String> {
+/// How a line's run ends. No marks stand around one over many lines, since it asks for memory for
+/// each of them.
+fn marked_run(
+    alloc: Global,
+    row: &Row,
+    source: &mut Script,
+    sink: &mut Limit,
+) -> Result<&'static str> {
     let with_line = row.argument(0) == "lines";
-    let (mut source, mut sink) = devices(alloc, row)?;
-    let end = around(
-        alloc,
-        begin(alloc),
-        run(alloc, with_line, &mut source, &mut sink),
-    )??;
-    let taken = std::str::from_utf8(sink.bytes()).unwrap_or("no text");
+    if row.call() == "lines-many" {
+        return run(alloc, with_line, source, sink);
+    }
+    around(alloc, begin(alloc), run(alloc, with_line, source, sink))
+}
+
+/// How a run ended, and what its sink has taken.
+fn end_and_taken(alloc: Global, end: &str, taken: &[u8]) -> Result<String> {
+    let taken = std::str::from_utf8(taken).unwrap_or("no text");
     Ok(format!(in alloc; "{end}\t={taken}")?)
 }
 
-/// How a run over many lines ends, how many bytes the sink has taken, and whether these are the
-/// first ones of a piece that is repeated as often as the source's. No marks stand around it, since
-/// it asks for memory for each of its thousands of lines.
-fn long_report(alloc: Global, row: &Row) -> Result<String> {
-    let (mut source, mut sink) = devices(alloc, row)?;
-    let end = run(alloc, row.argument(0) == "lines", &mut source, &mut sink)?;
+/// How a run ended, how many bytes its sink has taken, and whether these are the first ones of a
+/// piece that is repeated as often as the source's.
+fn end_and_count(alloc: Global, row: &Row, end: &str, taken: &[u8]) -> Result<String> {
     let whole = repeat_piece(alloc, row.argument_bytes(6), row.argument(2))?;
-    let are_first = whole.as_slice().starts_with(sink.bytes());
-    let count = sink.bytes().len();
+    let (count, are_first) = (taken.len(), whole.as_slice().starts_with(taken));
     Ok(format!(in alloc; "{end}\t{count}\t{are_first}")?)
 }
 
@@ -132,21 +140,33 @@ fn each(alloc: Global, row: &Row) -> Result<String> {
             are_first = false;
         }
     }
-    Ok(format!(in alloc; "{words}\t{are_first}")?)
+    write!(words, "\t{are_first}")?;
+    Ok(words)
 }
 
 /// One of these runs, to a sink with so much room: writes how it ends, and says whether the sink
-/// has a beginning of the report. A sink that fails before it is full, or before it has the report,
-/// was handed too little, as memory was refused.
+/// has a beginning of the report.
 fn one(alloc: Global, row: &Row, at: Option<At>, room: usize, words: &mut String) -> Result<bool> {
     let mut sink = Limit::new(alloc, room, then(row.argument(0)))?;
     let mut source = Script::new(Vec::from_slice(alloc, row.argument_bytes(1))?, at);
     let end = run(alloc, false, &mut source, &mut sink)?;
-    let (report, taken) = (row.argument_bytes(2), sink.bytes());
+    push_end(words, end, room, row.argument_bytes(2), sink.bytes())
+}
+
+/// Writes how a run ended, and says whether a sink with so much room has taken a beginning of the
+/// report. A sink that fails before it is full, or before it has the report, was handed too little,
+/// as memory was refused.
+fn push_end(
+    words: &mut String,
+    end: &str,
+    room: usize,
+    report: &[u8],
+    taken: &[u8],
+) -> Result<bool> {
     if end == "Output" && taken.len() < room && taken.len() < report.len() {
         return Err(anyhow!("out of memory"));
     }
-    push_counted(alloc, words, end, taken.len())?;
+    push_counted(words, end, taken.len())?;
     Ok(report.starts_with(taken))
 }
 
@@ -160,6 +180,5 @@ fn refusal_words(alloc: Global, row: &Row) -> Result<String> {
     let mut source = MemorySource::new(row.argument_bytes(1));
     let mut sink = MemorySink::new(alloc);
     let end = word(answer_lines(alloc, &answers, &mut source, &mut sink));
-    let taken = std::str::from_utf8(sink.bytes()).unwrap_or("no text");
-    Ok(format!(in alloc; "{end}\t={taken}")?)
+    end_and_taken(alloc, end, sink.bytes())
 }

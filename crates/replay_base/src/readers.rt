@@ -1,7 +1,7 @@
 //! The calls of `phone_parts`: the two readers, and `extract`. They take no memory, so no marks
 //! stand around them.
 use crate::table::Row;
-use crate::words::source;
+use crate::words::{part, said, source};
 use anyhow::Result;
 use phone_parts::natural::NoReading;
 use phone_parts::{Number, helper, natural, rfc3966};
@@ -12,14 +12,22 @@ use std::borrow::CowStr;
 pub fn answer(alloc: Global, row: &Row) -> Result<Option<String>> {
     let text = row.argument(0);
     let answer = match row.call() {
-        "extract" => crate::words::part(alloc, helper::extract(text))?,
-        "natural" => in_free_text(alloc, text)?,
-        "natural-made" => String::from_str(alloc, free_kind(text_of_row(alloc, row, 0)?.as_str()))?,
-        "rfc3966" => in_tel_form(alloc, text)?,
-        "rfc3966-made" => String::from_str(alloc, tel_kind(text_of_row(alloc, row, 0)?.as_str()))?,
+        "extract" => part(alloc, helper::extract(text)),
+        "natural" => in_free_text(alloc, text, false),
+        "rfc3966" => in_tel_form(alloc, text, false),
+        "natural-made" | "rfc3966-made" => made(alloc, row),
         _ => return Ok(None),
     };
-    Ok(Some(answer))
+    Ok(Some(answer?))
+}
+
+/// What kind of reading one of the readers has of the text that a line makes.
+fn made(alloc: Global, row: &Row) -> Result<String> {
+    let text = text_of_row(alloc, row, 0)?;
+    match row.call() {
+        "natural-made" => in_free_text(alloc, text.as_str(), true),
+        _ => in_tel_form(alloc, text.as_str(), true),
+    }
 }
 
 /// The text that a line makes, from an argument on: a front, a part so many times, and a back.
@@ -33,38 +41,29 @@ pub fn text_of_row(alloc: Global, row: &Row, at: usize) -> Result<String> {
     Ok(text)
 }
 
-/// What the reader of free text finds, or why it finds nothing.
-fn in_free_text(alloc: Global, text: &str) -> Result<String, AllocError> {
+/// What the reader of free text finds, or its kind alone; or why it finds nothing.
+fn in_free_text(alloc: Global, text: &str, is_kind_alone: bool) -> Result<String> {
     match natural::phone_number(text) {
-        Ok(found) => number(alloc, &found),
-        Err(NoReading::Error) => String::from_str(alloc, "Error"),
-        Err(NoReading::Failure) => String::from_str(alloc, "Failure"),
+        Ok(found) => found_words(alloc, &found, is_kind_alone),
+        Err(NoReading::Error) => said(alloc, "Error"),
+        Err(NoReading::Failure) => said(alloc, "Failure"),
     }
 }
 
-/// What the reader of the `tel:` form finds, or `none`.
-fn in_tel_form(alloc: Global, text: &str) -> Result<String, AllocError> {
+/// What the reader of the `tel:` form finds, or its kind alone; or `none`.
+fn in_tel_form(alloc: Global, text: &str, is_kind_alone: bool) -> Result<String> {
     match rfc3966::phone_number(text) {
-        Some(found) => number(alloc, &found),
-        None => String::from_str(alloc, "none"),
+        Some(found) => found_words(alloc, &found, is_kind_alone),
+        None => said(alloc, "none"),
     }
 }
 
-/// What kind of reading the reader of free text has.
-fn free_kind(text: &str) -> &'static str {
-    match natural::phone_number(text) {
-        Ok(found) => kind(&found),
-        Err(NoReading::Error) => "Error",
-        Err(NoReading::Failure) => "Failure",
+/// A number that was found, or its kind alone.
+fn found_words(alloc: Global, found: &Number<'_>, is_kind_alone: bool) -> Result<String> {
+    if is_kind_alone {
+        return said(alloc, kind(found));
     }
-}
-
-/// What kind of reading the reader of the `tel:` form has.
-fn tel_kind(text: &str) -> &'static str {
-    match rfc3966::phone_number(text) {
-        Some(found) => kind(&found),
-        None => "none",
-    }
+    number(alloc, found)
 }
 
 /// Whether a number that was found has an extension.
@@ -76,19 +75,28 @@ fn kind(found: &Number<'_>) -> &'static str {
 }
 
 /// A number's source and its four parts, as the table writes them.
-pub fn number(alloc: Global, number: &Number<'_>) -> Result<String, AllocError> {
-    let source = source(number.country);
-    let national = number.national.as_str();
-    let prefix = part(alloc, &number.prefix)?;
-    let extension = part(alloc, &number.extension)?;
-    let carrier = part(alloc, &number.carrier)?;
-    format!(in alloc; "{source}\t={national}\t{prefix}\t{extension}\t{carrier}")
+pub fn number(alloc: Global, number: &Number<'_>) -> Result<String> {
+    let (source, national) = (source(number.country), number.national.as_str());
+    let mut out = String::from_str(alloc, source)?;
+    push_part(&mut out, Some(national))?;
+    push_part(&mut out, text(&number.prefix))?;
+    push_part(&mut out, text(&number.extension))?;
+    push_part(&mut out, text(&number.carrier))?;
+    Ok(out)
 }
 
-/// A part that may be absent.
-fn part(alloc: Global, part: &Option<CowStr<'_>>) -> Result<String, AllocError> {
+/// The text of a part that may be absent.
+fn text<'a>(part: &'a Option<CowStr<'_>>) -> Option<&'a str> {
     match part {
-        Some(part) => crate::words::part(alloc, Some(part.as_str())),
-        None => crate::words::part(alloc, None),
+        Some(part) => Some(part.as_str()),
+        None => None,
+    }
+}
+
+/// Writes a tab and a part behind an equals sign, or a hyphen where there is none.
+pub fn push_part(out: &mut String, part: Option<&str>) -> Result<(), AllocError> {
+    match part {
+        Some(part) => write!(out, "\t={part}"),
+        None => out.push_str("\t-"),
     }
 }

@@ -9,72 +9,84 @@ use anyhow::{Result, anyhow};
 use phone_chars::cuts::split_first;
 use std::alloc::{AllocError, Global};
 
-/// Why a line could not be read.
-const MALFORMED: &str = "an escape of the table is malformed";
+/// What an escape stands for.
+#[derive(Clone, Copy)]
+enum Piece {
+    Char(char),
+    Byte(u8),
+}
 
 /// The number that the first digits of a text write in hexadecimal, and what follows them.
 fn number(text: &str, digits: usize) -> Option<(u32, &str)> {
-    let (number, after) = (text.get(..digits)?, text.get(digits..)?);
+    let (number, after) = text.split_at_checked(digits)?;
     match u32::from_str_radix(number, 16) {
         Ok(number) => Some((number, after)),
         Err(_) => None,
     }
 }
 
-/// Writes the character of a number that is written in so many digits, and what follows it.
-fn push_numbered(out: &mut Vec<u8>, text: &str, digits: usize) -> Result<()> {
-    let Some((number, after)) = number(text, digits) else {
-        return Err(anyhow!(MALFORMED));
-    };
-    let Some(c) = char::from_u32(number) else {
-        return Err(anyhow!(MALFORMED));
-    };
-    let mut bytes = [0; 4];
-    out.extend_from_slice(c.encode_utf8(&mut bytes).as_bytes())?;
-    out.extend_from_slice(after.as_bytes())?;
-    Ok(())
+/// The character of a number that is written in so many digits, and what follows it.
+fn numbered(text: &str, digits: usize) -> Option<(Piece, &str)> {
+    let (number, after) = number(text, digits)?;
+    Some((Piece::Char(char::from_u32(number)?), after))
+}
+
+/// The byte of a number that is written in two digits, and what follows it.
+fn byte(text: &str) -> Option<(Piece, &str)> {
+    let (number, after) = number(text, 2)?;
+    Some((Piece::Byte(number.to_le_bytes()[0]), after))
+}
+
+/// What an escape stands for, and what follows it. The text is what stands behind its backslash.
+fn escaped(text: &str) -> Option<(Piece, &str)> {
+    let (kind, rest) = split_first(text)?;
+    match kind {
+        't' => Some((Piece::Byte(b'\t'), rest)),
+        'n' => Some((Piece::Byte(b'\n'), rest)),
+        'u' => numbered(rest, 4),
+        'U' => numbered(rest, 8),
+        'x' => byte(rest),
+        _ => None,
+    }
+}
+
+/// Writes what an escape stands for.
+fn push_piece(out: &mut Vec<u8>, piece: Piece) -> Result<(), AllocError> {
+    match piece {
+        Piece::Char(c) => out.extend_from_slice(c.encode_utf8(&mut [0; 4]).as_bytes()),
+        Piece::Byte(byte) => out.extend_from_slice(&[byte]),
+    }
 }
 
 /// Writes what an escape stands for, and what follows it. The text is what stands behind its
 /// backslash.
 fn push_escape(out: &mut Vec<u8>, text: &str) -> Result<()> {
-    let Some((kind, rest)) = split_first(text) else {
-        return Err(anyhow!(MALFORMED));
+    let Some((piece, rest)) = escaped(text) else {
+        return Err(anyhow!("an escape of the table is malformed"));
     };
-    match kind {
-        't' => out.push(b'\t')?,
-        'n' => out.push(b'\n')?,
-        'u' => return push_numbered(out, rest, 4),
-        'U' => return push_numbered(out, rest, 8),
-        'x' => {
-            let Some((byte, after)) = number(rest, 2) else {
-                return Err(anyhow!(MALFORMED));
-            };
-            out.push(byte.to_le_bytes()[0])?;
-            out.extend_from_slice(after.as_bytes())?;
-            return Ok(());
-        }
-        _ => return Err(anyhow!(MALFORMED)),
+    push_piece(out, piece)?;
+    Ok(out.extend_from_slice(rest.as_bytes())?)
+}
+
+/// Writes a part of a column that was cut at its backslashes; a backslash where no escape begins.
+fn push_part(out: &mut Vec<u8>, part: &str, is_plain: bool) -> Result<()> {
+    if is_plain {
+        return Ok(out.extend_from_slice(part.as_bytes())?);
     }
-    out.extend_from_slice(rest.as_bytes())?;
-    Ok(())
+    if part.is_empty() {
+        return Ok(out.extend_from_slice(b"\\")?);
+    }
+    push_escape(out, part)
 }
 
 /// A column with its escapes undone. Cut at its backslashes, an empty part is a second backslash,
 /// behind which no escape begins.
 fn undo(alloc: Global, column: &str) -> Result<Vec<u8>> {
     let mut out = Vec::new(alloc);
-    let mut plain = true;
+    let mut is_plain = true;
     for part in column.split('\\') {
-        if plain {
-            out.extend_from_slice(part.as_bytes())?;
-            plain = false;
-        } else if part.is_empty() {
-            out.push(b'\\')?;
-            plain = true;
-        } else {
-            push_escape(&mut out, part)?;
-        }
+        push_part(&mut out, part, is_plain)?;
+        is_plain = !is_plain && part.is_empty();
     }
     Ok(out)
 }
@@ -134,16 +146,21 @@ impl Row {
     }
 }
 
+/// Writes a character as a table does: a tab, a line feed or a backslash escaped.
+fn push_char(out: &mut String, c: char) -> Result<(), AllocError> {
+    match c {
+        '\t' => out.push_str("\\t"),
+        '\n' => out.push_str("\\n"),
+        '\\' => out.push_str("\\\\"),
+        _ => out.push(c),
+    }
+}
+
 /// A text as a table writes it: tabs, line feeds and backslashes escaped.
 pub fn escape(alloc: Global, text: &str) -> Result<String, AllocError> {
     let mut out = String::new(alloc);
     for c in text.chars() {
-        match c {
-            '\t' => out.push_str("\\t")?,
-            '\n' => out.push_str("\\n")?,
-            '\\' => out.push_str("\\\\")?,
-            _ => out.push(c)?,
-        }
+        push_char(&mut out, c)?;
     }
     Ok(out)
 }

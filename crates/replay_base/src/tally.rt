@@ -25,19 +25,30 @@ impl Tally {
 
     /// Counts a line of this call.
     pub fn count(&mut self, alloc: Global, call: &str, agrees: bool) -> Result<(), AllocError> {
+        if self.has_counted(call, agrees) {
+            return Ok(());
+        }
+        let call = String::from_str(alloc, call)?;
+        let agree = u64::from(agrees);
+        Ok(
+            self.counts.push(Count {
+                call,
+                agree,
+                all: 1,
+            })?,
+        )
+    }
+
+    /// Counts a line of a call that was met before. Whether it was.
+    fn has_counted(&mut self, call: &str, agrees: bool) -> bool {
         for count in &mut self.counts {
             if count.call.as_str() == call {
                 count.all = count.all.saturating_add(1);
                 count.agree = count.agree.saturating_add(u64::from(agrees));
-                return Ok(());
+                return true;
             }
         }
-        self.counts.push(Count {
-            call: String::from_str(alloc, call)?,
-            agree: u64::from(agrees),
-            all: 1,
-        })?;
-        Ok(())
+        false
     }
 
     /// The counts of the calls.
@@ -47,6 +58,11 @@ impl Tally {
 
     /// Whether all lines agree.
     pub fn all_agree(&self) -> bool {
-        self.counts.iter().all(|count| count.agree == count.all)
+        for count in &self.counts {
+            if count.agree != count.all {
+                return false;
+            }
+        }
+        true
     }
 }

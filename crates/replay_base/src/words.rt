@@ -2,7 +2,7 @@
 use anyhow::{Result, anyhow};
 use phone_values::country::{Id, Source};
 use phone_values::{Mode, ParseError, Type};
-use std::alloc::{AllocError, Global};
+use std::alloc::Global;
 
 /// The kinds by their names, in their order.
 pub const KINDS: [(&str, Type); 17] = [
@@ -25,27 +25,24 @@ pub const KINDS: [(&str, Type); 17] = [
     ("Unknown", Type::Unknown),
 ];
 
-/// The modes by their names, in the order of the tables.
-pub const MODES: [(&str, Mode); 4] = [
-    ("E164", Mode::E164),
-    ("International", Mode::International),
-    ("National", Mode::National),
-    ("Rfc3966", Mode::Rfc3966),
-];
-
 /// The kind of this name.
 pub fn kind(name: &str) -> Result<Type> {
-    match KINDS.iter().find(|kind| kind.0 == name) {
-        Some(kind) => Ok(kind.1),
-        None => Err(anyhow!("no kind has this name")),
+    for (known, kind) in &KINDS {
+        if *known == name {
+            return Ok(*kind);
+        }
     }
+    Err(anyhow!("no kind has this name"))
 }
 
 /// The mode of this name.
 pub fn mode(name: &str) -> Result<Mode> {
-    match MODES.iter().find(|mode| mode.0 == name) {
-        Some(mode) => Ok(mode.1),
-        None => Err(anyhow!("no mode has this name")),
+    match name {
+        "E164" => Ok(Mode::E164),
+        "International" => Ok(Mode::International),
+        "National" => Ok(Mode::National),
+        "Rfc3966" => Ok(Mode::Rfc3966),
+        _ => Err(anyhow!("no mode has this name")),
     }
 }
 
@@ -57,16 +54,26 @@ pub fn hint(column: &str) -> Result<Option<Id>> {
     Ok(Some(column.parse::<Id>()?))
 }
 
+/// A text as an answer.
+pub fn said(alloc: Global, text: &str) -> Result<String> {
+    Ok(String::from_str(alloc, text)?)
+}
+
 /// `true` or `false`.
-pub fn truth(alloc: Global, holds: bool) -> Result<String, AllocError> {
-    String::from_str(alloc, if holds { "true" } else { "false" })
+pub fn truth(alloc: Global, holds: bool) -> Result<String> {
+    said(alloc, if holds { "true" } else { "false" })
+}
+
+/// A text behind an equals sign.
+pub fn part_of(alloc: Global, text: &str) -> Result<String> {
+    Ok(format!(in alloc; "={text}")?)
 }
 
 /// A text behind an equals sign, or a hyphen where there is none.
-pub fn part(alloc: Global, text: Option<&str>) -> Result<String, AllocError> {
+pub fn part(alloc: Global, text: Option<&str>) -> Result<String> {
     match text {
-        Some(text) => format!(in alloc; "={text}"),
-        None => String::from_str(alloc, "-"),
+        Some(text) => part_of(alloc, text),
+        None => said(alloc, "-"),
     }
 }
 
@@ -83,9 +90,16 @@ pub fn source(source: Source) -> &'static str {
 /// How a refusal is written: `error`, its number and its text. Want of memory is no answer, but an
 /// error.
 pub fn refusal(alloc: Global, error: &ParseError) -> Result<String> {
+    let mut out = String::new(alloc);
+    push_refusal(&mut out, error)?;
+    Ok(out)
+}
+
+/// Writes a refusal like that.
+pub fn push_refusal(out: &mut String, error: &ParseError) -> Result<()> {
     if let ParseError::Memory = error {
         return Err(anyhow!("out of memory"));
     }
     let (number, words) = (error.number(), error.report_words());
-    Ok(format!(in alloc; "error\t{number}\t{words}")?)
+    Ok(write!(out, "error\t{number}\t{words}")?)
 }

@@ -12,24 +12,28 @@ pub struct Named {
     pub database: Database,
 }
 
-/// The database of this name: the one that is at hand, or else the one in the file of this name.
-pub fn of_name<R: Files + AllocGlobal>(
+/// The database of this name: the one that is at hand, or else the one in the file of this name,
+/// which is at hand then.
+pub fn of_name<'a, R: Files + AllocGlobal>(
     rt: &R,
-    at_hand: Option<Named>,
+    at_hand: &'a mut Option<Named>,
     name: &str,
-) -> Result<Named> {
+) -> Result<&'a Database> {
+    if !is_at_hand(at_hand, name) {
+        *at_hand = Some(read(rt, name)?);
+    }
     match at_hand {
-        Some(named) => same_or_read(rt, named, name),
-        None => read(rt, name),
+        Some(named) => Ok(&named.database),
+        None => Err(anyhow!("no database is at hand")),
     }
 }
 
-/// This database, if that is its name, or else the one in the file of this name.
-fn same_or_read<R: Files + AllocGlobal>(rt: &R, named: Named, name: &str) -> Result<Named> {
-    if named.name.as_str() == name {
-        return Ok(named);
+/// Whether the database of this name is at hand.
+fn is_at_hand(at_hand: &Option<Named>, name: &str) -> bool {
+    match at_hand {
+        Some(named) => named.name.as_str() == name,
+        None => false,
     }
-    read(rt, name)
 }
 
 /// The database in the file of this name, with its name.
@@ -45,12 +49,7 @@ fn read<R: Files + AllocGlobal>(rt: &R, name: &str) -> Result<Named> {
 /// The database in the file of this name.
 pub fn load<R: Files + AllocGlobal>(rt: &R, name: &str) -> Result<Database> {
     let path = format!(in rt.alloc(); "databases/{name}.json")?;
-    load_path(rt, path.as_str())
-}
-
-/// The database in the file at this path.
-fn load_path<R: Files + AllocGlobal>(rt: &R, path: &str) -> Result<Database> {
-    Ok(Database::load(rt, path)?)
+    Ok(Database::load(rt, path.as_str())?)
 }
 
 /// The calling code that a line names behind its database.

@@ -5,31 +5,29 @@ use phone_pattern::Pattern;
 use phone_records::loader::Text;
 use replay_base::marks::{around, begin};
 use replay_base::table::Row;
-use replay_base::words::truth;
+use replay_base::words::{part_of, truth};
 use std::alloc::{AllocError, Global};
-
-/// The calls that search.
-const SEARCHES: [&str; 5] = [
-    "first-span",
-    "at-start",
-    "whole-match",
-    "captured",
-    "replaced",
-];
 
 /// What a search of a line's pattern gives, as the table writes it; none for any other call. An
 /// error where the pattern is none, and where memory is refused.
 pub fn answer(alloc: Global, row: &Row) -> Result<Option<String>> {
-    if !SEARCHES.iter().any(|search| *search == row.call()) {
-        return Ok(None);
+    match row.call() {
+        "first-span" | "at-start" | "whole-match" | "captured" | "replaced" => {
+            Ok(Some(search(alloc, row)?))
+        }
+        _ => Ok(None),
     }
-    let text = Text::from(String::from_str(alloc, row.argument(0))?);
-    let pattern = Pattern::new(alloc, text)?;
-    Ok(Some(search(alloc, &pattern, row)?))
 }
 
 /// What the search that a line names gives.
-fn search(alloc: Global, pattern: &Pattern, row: &Row) -> Result<String, AllocError> {
+fn search(alloc: Global, row: &Row) -> Result<String> {
+    let text = Text::from(String::from_str(alloc, row.argument(0))?);
+    let pattern = Pattern::new(alloc, text)?;
+    search_words(alloc, &pattern, row)
+}
+
+/// What the search that a line names gives, of its pattern.
+fn search_words(alloc: Global, pattern: &Pattern, row: &Row) -> Result<String> {
     let text = row.argument(1);
     match row.call() {
         "first-span" => first_span(alloc, pattern, text),
@@ -41,54 +39,59 @@ fn search(alloc: Global, pattern: &Pattern, row: &Row) -> Result<String, AllocEr
 }
 
 /// Where the first match begins and ends, or a hyphen.
-fn first_span(alloc: Global, pattern: &Pattern, text: &str) -> Result<String, AllocError> {
-    let found = around(alloc, begin(alloc), pattern.first_span(text))??;
+fn first_span(alloc: Global, pattern: &Pattern, text: &str) -> Result<String> {
+    let found = around(alloc, begin(alloc), pattern.first_span(text))?;
     spans(alloc, &[found])
 }
 
 /// Whether the first match begins at the first byte.
-fn at_start(alloc: Global, pattern: &Pattern, text: &str) -> Result<String, AllocError> {
-    let is_at_start = around(alloc, begin(alloc), pattern.is_at_start(text))??;
-    truth(alloc, is_at_start)
+fn at_start(alloc: Global, pattern: &Pattern, text: &str) -> Result<String> {
+    truth(
+        alloc,
+        around(alloc, begin(alloc), pattern.is_at_start(text))?,
+    )
 }
 
 /// Whether the first match is the whole text.
-fn whole_match(alloc: Global, pattern: &Pattern, text: &str) -> Result<String, AllocError> {
-    let is_whole = around(alloc, begin(alloc), pattern.is_whole_match(text))??;
-    truth(alloc, is_whole)
+fn whole_match(alloc: Global, pattern: &Pattern, text: &str) -> Result<String> {
+    truth(
+        alloc,
+        around(alloc, begin(alloc), pattern.is_whole_match(text))?,
+    )
 }
 
 /// The first match, its first group and its last group; one hyphen without a match.
-fn captures(alloc: Global, pattern: &Pattern, text: &str) -> Result<String, AllocError> {
-    match around(alloc, begin(alloc), pattern.captures(text))?? {
+fn captures(alloc: Global, pattern: &Pattern, text: &str) -> Result<String> {
+    match around(alloc, begin(alloc), pattern.captures(text))? {
         Some(found) => spans(alloc, &[Some(found.span), found.first, found.last]),
         None => spans(alloc, &[None]),
     }
 }
 
 /// The text with its first match replaced by a template.
-fn replace(alloc: Global, pattern: &Pattern, row: &Row) -> Result<String, AllocError> {
+fn replace(alloc: Global, pattern: &Pattern, row: &Row) -> Result<String> {
     let (template, text) = (row.argument(1), row.argument(2));
-    let found = around(alloc, begin(alloc), pattern.replace(template, text))??;
-    format!(in alloc; "={found}")
+    let found = around(alloc, begin(alloc), pattern.replace(template, text))?;
+    part_of(alloc, found.as_str())
 }
 
 /// Where things begin and end, each a hyphen where it is absent, parted by tabs.
-fn spans(alloc: Global, found: &[Option<(usize, usize)>]) -> Result<String, AllocError> {
+fn spans(alloc: Global, found: &[Option<(usize, usize)>]) -> Result<String> {
     let mut out = String::new(alloc);
     for span in found {
-        if !out.is_empty() {
-            out.push('\t')?;
-        }
-        out.push_str(span_text(alloc, *span)?.as_str())?;
+        push_span(&mut out, *span)?;
     }
     Ok(out)
 }
 
-/// Where something begins and ends, or a hyphen.
-fn span_text(alloc: Global, span: Option<(usize, usize)>) -> Result<String, AllocError> {
+/// Writes where something begins and ends, or a hyphen, behind a tab where something stands before
+/// it.
+fn push_span(out: &mut String, span: Option<(usize, usize)>) -> Result<(), AllocError> {
+    if !out.is_empty() {
+        out.push('\t')?;
+    }
     match span {
-        Some((start, end)) => format!(in alloc; "{start} {end}"),
-        None => String::from_str(alloc, "-"),
+        Some((start, end)) => write!(out, "{start} {end}"),
+        None => out.push('-'),
     }
 }

@@ -7,6 +7,7 @@ use phone_records::LoadMetadata;
 use phone_records::loader::Metadata;
 use replay_base::marks::{around, begin};
 use replay_base::table::Row;
+use replay_base::words::said;
 use std::alloc::{AllocError, Global};
 
 /// What the records of a text are written as, or what a refusal says, as the table writes it; none
@@ -24,20 +25,13 @@ pub fn answer(alloc: Global, row: &Row) -> Result<Option<String>> {
 /// The records of a database text, made again, as serde writes them.
 fn json_of_records(alloc: Global, text: &str) -> Result<String> {
     let records = phone_json::records(alloc, text)?;
-    with_marks(alloc, begin(alloc), &copies(alloc, records.as_slice()))
+    json_of_copies(alloc, records.as_slice())
 }
 
-/// Copies of records as serde writes them, with the marks around the call that made them.
-fn with_marks(
-    alloc: Global,
-    begun: Result<(), AllocError>,
-    copies: &Result<Vec<Metadata>, AllocError>,
-) -> Result<String> {
-    around(alloc, begun, ())?;
-    match copies {
-        Ok(copies) => Ok(serde_json::to_string(alloc, copies)?),
-        Err(_) => Err(anyhow!("out of memory")),
-    }
+/// Copies of records, as serde writes them.
+fn json_of_copies(alloc: Global, records: &[Metadata]) -> Result<String> {
+    let copies = around(alloc, begin(alloc), copies(alloc, records))?;
+    Ok(serde_json::to_string(alloc, &copies)?)
 }
 
 /// These records, made again.
@@ -62,7 +56,7 @@ fn written_or_hyphen(
     match read {
         Ok(records) => Ok(serde_json::to_string(alloc, records)?),
         Err(error) if error.is_memory() => Err(anyhow!("out of memory")),
-        Err(_) => Ok(String::from_str(alloc, "-")?),
+        Err(_) => said(alloc, "-"),
     }
 }
 

@@ -2,12 +2,12 @@
 //! answer is, told as the tables tell it.
 use anyhow::{Result, anyhow};
 use phone_base::MetadataError;
-use phone_device::{MemorySource, Script};
+use phone_device::{ByteSource, MemorySource, Script};
 use phone_meta::{Database, LoadMetadata};
 use replay_base::devices::fault;
 use replay_base::marks::{around, begin};
 use replay_base::table::Row;
-use std::alloc::{AllocError, AllocGlobal, Global};
+use std::alloc::{AllocGlobal, Global};
 use std::fs::Files;
 
 /// What the tables have in place of a word that an answer lacks.
@@ -30,18 +30,29 @@ pub fn answer<R: Files + AllocGlobal>(rt: &R, row: &Row) -> Result<Option<String
 /// The database that a text is; bytes that are no text come from a source in memory.
 fn database_text(alloc: Global, bytes: &[u8]) -> Result<String> {
     match std::str::from_utf8(bytes) {
-        Ok(text) => with_marks(alloc, begin(alloc), &Database::parse(alloc, text)),
+        Ok(text) => of_text(alloc, text),
         Err(_) => of_bytes(alloc, bytes),
     }
 }
 
+/// The database that a text is.
+fn of_text(alloc: Global, text: &str) -> Result<String> {
+    answer_words(
+        alloc,
+        around(alloc, begin(alloc), Database::parse(alloc, text)),
+    )
+}
+
 /// The database that bytes are which come from a source in memory.
 fn of_bytes(alloc: Global, bytes: &[u8]) -> Result<String> {
-    let mut source = MemorySource::new(bytes);
-    with_marks(
+    of_source(alloc, &mut MemorySource::new(bytes))
+}
+
+/// The database whose text comes from this source.
+fn of_source<S: ByteSource>(alloc: Global, source: &mut S) -> Result<String> {
+    answer_words(
         alloc,
-        begin(alloc),
-        &Database::read_from(alloc, &mut source),
+        around(alloc, begin(alloc), Database::read_from(alloc, source)),
     )
 }
 
@@ -52,17 +63,7 @@ fn read_from(alloc: Global, row: &Row) -> Result<String> {
     let spaces = row.argument(0).parse::<usize>()?;
     let mut bytes = vec![in alloc; b' '; spaces]?;
     bytes.extend_from_slice(row.argument_bytes(1))?;
-    of_script(alloc, Script::new(bytes, at))
-}
-
-/// The database whose text comes from this source.
-fn of_script(alloc: Global, source: Script) -> Result<String> {
-    let mut source = source;
-    with_marks(
-        alloc,
-        begin(alloc),
-        &Database::read_from(alloc, &mut source),
-    )
+    of_source(alloc, &mut Script::new(bytes, at))
 }
 
 /// A source of these bytes fails at each place in turn, from the first on: how many times the
@@ -71,7 +72,8 @@ fn each_fault(alloc: Global, kind: &str, bytes: &[u8]) -> Result<String> {
     for number in 0..=bytes.len().saturating_add(1) {
         let at = format!(in alloc; "{kind} {number}")?;
         let at = fault(at.as_str())?;
-        let told = of_script(alloc, Script::new(Vec::from_slice(alloc, bytes)?, at))?;
+        let bytes = Vec::from_slice(alloc, bytes)?;
+        let told = of_source(alloc, &mut Script::new(bytes, at))?;
         if !told.as_str().starts_with("Io") {
             return Ok(format!(in alloc; "{number}\t{told}")?);
         }
@@ -85,7 +87,7 @@ fn each_front(alloc: Global, text: &str) -> Result<String> {
     let mut fronts = 0u64;
     for end in 0..=text.len() {
         if text.is_char_boundary(end) {
-            let told = answer_words(alloc, &Database::parse(alloc, &text[..end]))?;
+            let told = answer_words(alloc, Database::parse(alloc, &text[..end]))?;
             if !told.as_str().starts_with("Json") {
                 return Ok(format!(in alloc; "{fronts}\t{told}")?);
             }
@@ -98,18 +100,16 @@ fn each_front(alloc: Global, text: &str) -> Result<String> {
 /// The database in the file at a path.
 fn load<R: Files + AllocGlobal>(rt: &R, path: &str) -> Result<String> {
     let alloc = rt.alloc();
-    with_marks(alloc, begin(alloc), &Database::load(rt, path))
+    answer_words(alloc, around(alloc, begin(alloc), Database::load(rt, path)))
 }
 
-/// The answer, with the marks around the call. It is lent: who hands a database to a function that
-/// takes any value has to show how each part of it is dropped.
-fn with_marks(
-    alloc: Global,
-    begun: Result<(), AllocError>,
-    answer: &Result<Database, LoadMetadata>,
-) -> Result<String> {
-    around(alloc, begun, ())?;
-    answer_words(alloc, answer)
+/// The answer's name and two words on it, parted by tabs. Want of memory is no answer, but an
+/// error.
+fn answer_words(alloc: Global, answer: Result<Database, LoadMetadata>) -> Result<String> {
+    match answer {
+        Ok(database) => count_words(alloc, count_of_ids(&database)),
+        Err(refusal) => refusal_words(alloc, &refusal),
+    }
 }
 
 /// How many different ids a database has.
@@ -121,56 +121,37 @@ fn count_of_ids(database: &Database) -> u64 {
     ids
 }
 
-/// The answer's name and two words on it, parted by tabs. Want of memory is no answer, but an
-/// error.
-fn answer_words(alloc: Global, answer: &Result<Database, LoadMetadata>) -> Result<String> {
-    match answer {
-        Ok(database) => told_of_database(alloc, count_of_ids(database)),
-        Err(refusal) => refusal_words(alloc, refusal),
-    }
-}
-
-/// A database of so many ids.
-fn told_of_database(alloc: Global, ids: u64) -> Result<String> {
+/// A database of so many different ids.
+fn count_words(alloc: Global, ids: u64) -> Result<String> {
     Ok(format!(in alloc; "ok\t{ids}\t{NO_WORD}")?)
 }
 
-/// A refusal. An error where memory was wanted.
+/// A refusal. An error where memory was wanted, and for one that is never given.
 fn refusal_words(alloc: Global, refusal: &LoadMetadata) -> Result<String> {
-    match told_of_refusal(alloc, refusal)? {
-        Some(told) => Ok(told),
-        None => Err(anyhow!("{refusal}")),
+    match refusal {
+        LoadMetadata::Metadata(fault) => record_words(alloc, fault),
+        LoadMetadata::Json => words(alloc, "Json", NO_WORD, NO_WORD),
+        LoadMetadata::Kind { phase, name } => words(alloc, "Kind", phase.as_str(), name.as_str()),
+        LoadMetadata::Regex(pattern) => words(alloc, "Regex", NO_WORD, pattern.as_str()),
+        LoadMetadata::Io => words(alloc, "Io", NO_WORD, NO_WORD),
+        LoadMetadata::Memory => Err(anyhow!("out of memory")),
     }
 }
 
-/// A refusal; none for want of memory, and for one that is never given.
-fn told_of_refusal(alloc: Global, refusal: &LoadMetadata) -> Result<Option<String>, AllocError> {
-    let told = match refusal {
-        LoadMetadata::Metadata(fault) => return told_of_record(alloc, fault),
-        LoadMetadata::Json => words(alloc, "Json", NO_WORD, NO_WORD)?,
-        LoadMetadata::Kind { phase, name } => words(alloc, "Kind", phase.as_str(), name.as_str())?,
-        LoadMetadata::Regex(pattern) => words(alloc, "Regex", NO_WORD, pattern.as_str())?,
-        LoadMetadata::Io => words(alloc, "Io", NO_WORD, NO_WORD)?,
-        LoadMetadata::Memory => return Ok(None),
-    };
-    Ok(Some(told))
-}
-
-/// What is wrong with a record; none for what is never given.
-fn told_of_record(alloc: Global, fault: &MetadataError) -> Result<Option<String>, AllocError> {
-    let told = match fault {
+/// What is wrong with a record. An error for what is never given.
+fn record_words(alloc: Global, fault: &MetadataError) -> Result<String> {
+    match fault {
         MetadataError::MissingValue { phase, name } => {
-            words(alloc, "MissingValue", phase.as_str(), name.as_str())?
+            words(alloc, "MissingValue", phase.as_str(), name.as_str())
         }
         MetadataError::UnhandledElement { phase, name } => {
-            words(alloc, "UnhandledElement", phase.as_str(), name.as_str())?
+            words(alloc, "UnhandledElement", phase.as_str(), name.as_str())
         }
-        _ => return Ok(None),
-    };
-    Ok(Some(told))
+        _ => Err(anyhow!("{fault}")),
+    }
 }
 
 /// An answer's name, and two words on it.
-fn words(alloc: Global, name: &str, first: &str, second: &str) -> Result<String, AllocError> {
-    format!(in alloc; "{name}\t{first}\t{second}")
+fn words(alloc: Global, name: &str, first: &str, second: &str) -> Result<String> {
+    Ok(format!(in alloc; "{name}\t{first}\t{second}")?)
 }

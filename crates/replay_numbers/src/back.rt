@@ -2,9 +2,9 @@
 //! hint.
 use crate::given::with_extension;
 use crate::printing::text_or_refusal;
-use crate::reading::parts_or_refusal;
+use crate::reading::push_parts_or_refusal;
 use anyhow::{Result, anyhow};
-use phone_base::together::both;
+use phone_base::together::beside;
 use phone_meta::Database;
 use phone_values::{Mode, ParseError};
 use phonenumber::{PhoneNumber, format_with, round_trip};
@@ -25,44 +25,39 @@ pub fn answer(alloc: Global, row: &Row, db: &Database) -> Result<Option<String>>
     Ok(Some(answer?))
 }
 
-/// What the text of a number in a mode is read as. An error where memory was refused between the
-/// marks, and for national text, which is not read back.
+/// The number and the mode that a line gives. An error for national text, which is not read back.
+fn number_and_mode(alloc: Global, row: &Row) -> Result<(PhoneNumber, Mode)> {
+    match mode(row.argument(5))? {
+        Mode::National => Err(anyhow!("national text is not read back")),
+        mode => beside(with_extension(alloc, row), mode),
+    }
+}
+
+/// What the text of a number in a mode is read as.
 fn read(
     alloc: Global,
     db: &Database,
     number: &PhoneNumber,
     mode: Mode,
-) -> Result<Result<PhoneNumber, ParseError>> {
+) -> Result<PhoneNumber, ParseError> {
+    let begun = begin(alloc);
     let answer = match mode {
-        Mode::E164 => around(alloc, begin(alloc), round_trip::e164(db, number))?,
-        Mode::Rfc3966 => around(alloc, begin(alloc), round_trip::rfc3966(db, number))?,
-        Mode::International => around(alloc, begin(alloc), round_trip::international(db, number))?,
-        Mode::National => return Err(anyhow!("national text is not read back")),
+        Mode::E164 => round_trip::e164(db, number),
+        Mode::Rfc3966 => round_trip::rfc3966(db, number),
+        Mode::International | Mode::National => round_trip::international(db, number),
     };
-    Ok(answer)
+    around(alloc, begun, answer)
 }
 
 /// Whether the text of a line's number is read as its code, national number and, but for the E.164
 /// text, extension.
 fn back(alloc: Global, row: &Row, db: &Database) -> Result<String> {
-    let (number, mode) = both(with_extension(alloc, row), mode(row.argument(5)))?;
-    let found = read(alloc, db, &number, mode)?;
-    is_read_back(alloc, &number, mode, &found)
-}
-
-/// Whether what was read of the text of a number in a mode is the number.
-fn is_read_back(
-    alloc: Global,
-    number: &PhoneNumber,
-    mode: Mode,
-    found: &Result<PhoneNumber, ParseError>,
-) -> Result<String> {
-    let is_same = match found {
-        Ok(found) => is_same(found, number, mode),
-        Err(ParseError::Memory) => return Err(anyhow!("out of memory")),
-        Err(_) => false,
-    };
-    Ok(truth(alloc, is_same)?)
+    let (number, mode) = number_and_mode(alloc, row)?;
+    match read(alloc, db, &number, mode) {
+        Ok(found) => truth(alloc, is_same(&found, &number, mode)),
+        Err(ParseError::Memory) => Err(anyhow!("out of memory")),
+        Err(_) => truth(alloc, false),
+    }
 }
 
 /// Whether a number that was read of a text in this mode is the number that was printed.
@@ -74,22 +69,14 @@ fn is_same(found: &PhoneNumber, number: &PhoneNumber, mode: Mode) -> bool {
 
 /// The text of a line's number, or `UnknownCode`, and what it is read as.
 fn printed_and_read(alloc: Global, row: &Row, db: &Database) -> Result<String> {
-    let (number, mode) = both(with_extension(alloc, row), mode(row.argument(5)))?;
-    let (text, found) = both(
-        text(alloc, db, &number, mode),
-        reading_words(alloc, db, &number, mode),
-    )?;
-    Ok(format!(in alloc; "{text}\t{found}")?)
+    let (number, mode) = number_and_mode(alloc, row)?;
+    let mut out = text_or_refusal(alloc, format_with(db, &number).mode(mode).to_text(alloc))?;
+    push_read(&mut out, read(alloc, db, &number, mode))?;
+    Ok(out)
 }
 
-/// What the text of a number in a mode is read as, told by its parts, or the refusal.
-fn reading_words(alloc: Global, db: &Database, number: &PhoneNumber, mode: Mode) -> Result<String> {
-    let found = read(alloc, db, number, mode)?;
-    parts_or_refusal(alloc, &found)
-}
-
-/// The text of a number in a mode behind an equals sign, or `UnknownCode`.
-fn text(alloc: Global, db: &Database, number: &PhoneNumber, mode: Mode) -> Result<String> {
-    let text = format_with(db, number).mode(mode).to_text(alloc);
-    text_or_refusal(alloc, &text)
+/// Writes a tab and what a text is read as, told by its parts, or the refusal.
+fn push_read(out: &mut String, found: Result<PhoneNumber, ParseError>) -> Result<()> {
+    out.push('\t')?;
+    push_parts_or_refusal(out, found)
 }

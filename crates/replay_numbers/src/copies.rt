@@ -3,14 +3,12 @@ use crate::given::number_of_row;
 use anyhow::Result;
 use phone_values::equality::{SameValue, hash_of};
 use phone_values::{Carrier, Extension};
-use phonenumber::country::Id;
 use phonenumber::metadata::Database;
 use phonenumber::{PhoneNumber, Texts, format_with, laws, parse_with};
 use replay_base::marks::{around, begin};
 use replay_base::table::Row;
 use replay_base::words::{hint, truth};
-use serde::Serialize;
-use std::alloc::{AllocError, Global};
+use std::alloc::Global;
 use std::hash::Hash;
 
 /// What a copy is beside its value, as the table writes it; none for any other call. An error where
@@ -28,7 +26,7 @@ pub fn answer(alloc: Global, row: &Row) -> Result<Option<String>> {
 
 /// Whether a value is as its copy, as the table writes it.
 fn truth_words(alloc: Global, is_copied: Result<bool>) -> Result<String> {
-    Ok(truth(alloc, is_copied?)?)
+    truth(alloc, is_copied?)
 }
 
 /// Whether a line's number and its copy are alike.
@@ -45,20 +43,20 @@ fn are_alike<T: PartialEq + SameValue + Hash>(a: &T, b: &T) -> bool {
 /// Whether the extension of a text and its copy are alike.
 fn is_extension_copied(alloc: Global, text: &str) -> Result<bool> {
     let extension = Extension::from(String::from_str(alloc, text)?);
-    let copy = around(alloc, begin(alloc), extension.clone())??;
+    let copy = around(alloc, begin(alloc), extension.clone())?;
     Ok(are_alike(&extension, &copy))
 }
 
 /// Whether the carrier of a text and its copy are alike.
 fn is_carrier_copied(alloc: Global, text: &str) -> Result<bool> {
     let carrier = Carrier::from(String::from_str(alloc, text)?);
-    let copy = around(alloc, begin(alloc), carrier.clone())??;
+    let copy = around(alloc, begin(alloc), carrier.clone())?;
     Ok(are_alike(&carrier, &copy))
 }
 
 /// Whether a number and its copy are alike.
 fn is_number_copied(alloc: Global, number: &PhoneNumber) -> Result<bool> {
-    let copy = around(alloc, begin(alloc), number.clone())??;
+    let copy = around(alloc, begin(alloc), number.clone())?;
     Ok(are_numbers_alike(number, &copy))
 }
 
@@ -71,63 +69,27 @@ fn are_numbers_alike(number: &PhoneNumber, copy: &PhoneNumber) -> bool {
 /// The RFC 3966 text of what a line's text is read as by the records of a database text, which were
 /// written and read again; and whether a copy of the number's texts is equal to them.
 fn texts(alloc: Global, row: &Row) -> Result<String> {
-    let database = written_again(alloc, row.argument(0))?;
-    under(alloc, row, &database)
-}
-
-/// The same under a database.
-fn under(alloc: Global, row: &Row, database: &Database) -> Result<String> {
-    let hint = hint(row.argument(1))?;
-    let texts = texts_under(alloc, database, hint, row.argument(2))?;
-    copy_words(alloc, &texts)
-}
-
-/// The RFC 3966 text of these texts, and whether a copy of them is equal to them.
-fn copy_words(alloc: Global, texts: &Texts) -> Result<String> {
-    let copy = around(alloc, begin(alloc), copy_of(texts))??;
-    equality_words(alloc, texts, &copy)
-}
-
-/// The RFC 3966 text of these texts, and whether others are equal to them.
-fn equality_words(alloc: Global, texts: &Texts, copy: &Texts) -> Result<String> {
-    let (text, is_equal) = (texts.rfc3966.as_str(), texts == copy);
-    Ok(format!(in alloc; "={text}\t{is_equal}")?)
-}
-
-/// These texts again.
-fn copy_of(texts: &Texts) -> Result<Texts, AllocError> {
-    Ok(texts.clone()?)
-}
-
-/// The database of the records of a text, as serde writes them.
-fn written_again(alloc: Global, text: &str) -> Result<Database> {
-    let text = json_of_records(alloc, text)?;
-    database_of(alloc, text.as_str())
+    let json = json_of_records(alloc, row.argument(0))?;
+    under(alloc, row, &Database::parse(alloc, json.as_str())?)
 }
 
 /// The records of a text, as serde writes them.
 fn json_of_records(alloc: Global, text: &str) -> Result<String> {
     let records = phone_json::records(alloc, text)?;
-    form(alloc, &records)
+    Ok(serde_json::to_string(alloc, &records)?)
 }
 
-/// A value as serde writes it.
-fn form<T: Serialize>(alloc: Global, value: &T) -> Result<String> {
-    Ok(serde_json::to_string(alloc, value)?)
+/// The same under a database.
+fn under(alloc: Global, row: &Row, database: &Database) -> Result<String> {
+    let number = parse_with(database, hint(row.argument(1))?, row.argument(2))?;
+    copy_words(alloc, &format_with(database, &number).to_texts(alloc)?)
 }
 
-/// The database of a text.
-fn database_of(alloc: Global, text: &str) -> Result<Database> {
-    Ok(Database::parse(alloc, text)?)
-}
-
-/// The texts of the number that a text is read as.
-fn texts_under(alloc: Global, database: &Database, hint: Option<Id>, text: &str) -> Result<Texts> {
-    let number = parse_with(database, hint, text)?;
-    texts_of(alloc, database, &number)
-}
-
-/// The texts of a number.
-fn texts_of(alloc: Global, database: &Database, number: &PhoneNumber) -> Result<Texts> {
-    Ok(format_with(database, number).to_texts(alloc)?)
+/// The RFC 3966 text of these texts, and whether a copy of them is equal to them.
+fn copy_words(alloc: Global, texts: &Texts) -> Result<String> {
+    let begun = begin(alloc);
+    let copy: Result<_, _> = texts.clone();
+    let copy = around(alloc, begun, copy)?;
+    let (text, is_equal) = (texts.rfc3966.as_str(), *texts == copy);
+    Ok(format!(in alloc; "={text}\t{is_equal}")?)
 }

@@ -3,6 +3,7 @@ use anyhow::{Result, anyhow};
 use phone_device::{ByteSink, ByteSource, Count, ReadError, Std, read_all, write_all};
 use replay_base::marks::{around, begin};
 use replay_base::table::Row;
+use replay_base::words::{part_of, said};
 use std::alloc::Global;
 use std::io::{self, BufWriter, Error, ErrorKind, Read, Write};
 
@@ -64,22 +65,11 @@ fn text(bytes: &[u8]) -> &str {
 /// All bytes of a slice, as they are read, or `fault`.
 fn all_read(alloc: Global, row: &Row) -> Result<String> {
     let mut source = Std::new(row.argument_bytes(0));
-    let read = around(alloc, begin(alloc), read_all(alloc, &mut source))?;
-    text_or_fault(alloc, &read)
-}
-
-/// Bytes that were read as a text, or `fault`. An error where memory was refused.
-fn text_or_fault(alloc: Global, read: &Result<Vec<u8>, ReadError>) -> Result<String> {
-    match read {
-        Ok(bytes) => behind_sign(alloc, text(bytes.as_slice())),
-        Err(ReadError::Fault) => Ok(String::from_str(alloc, "fault")?),
+    match around(alloc, begin(alloc), read_all(alloc, &mut source)) {
+        Ok(bytes) => part_of(alloc, text(bytes.as_slice())),
+        Err(ReadError::Fault) => said(alloc, "fault"),
         Err(ReadError::Memory) => Err(anyhow!("out of memory")),
     }
-}
-
-/// A text behind an equals sign.
-fn behind_sign(alloc: Global, text: &str) -> Result<String> {
-    Ok(format!(in alloc; "={text}")?)
 }
 
 /// What a buffered writer to a vector answers to two texts, how many bytes the vector has then,

@@ -3,7 +3,6 @@
 use anyhow::Result;
 use phone_meta::Database;
 use phone_read::{Number, helper};
-use phone_values::ParseError;
 use phone_values::country::Source;
 use regex::{Regex, RegexBuilder};
 use replay_base::marks::{around, begin};
@@ -16,32 +15,26 @@ use std::borrow::CowStr;
 
 /// What is dialled before a calling code, by a pattern of the line's own; none for any other call.
 pub fn without_database(alloc: Global, row: &Row) -> Result<Option<String>> {
-    if row.call() != "international-prefix" {
-        return Ok(None);
+    match row.call() {
+        "international-prefix" => Ok(Some(international_prefix(alloc, row)?)),
+        _ => Ok(None),
     }
-    Ok(Some(by_pattern(alloc, row)?))
 }
 
 /// The number behind what is dialled before a calling code, by a pattern of the line's own.
-fn by_pattern(alloc: Global, row: &Row) -> Result<String> {
+fn international_prefix(alloc: Global, row: &Row) -> Result<String> {
     let pattern = pattern(alloc, row.argument(0))?;
-    international_prefix(alloc, pattern.as_ref(), row)
+    behind_prefix(alloc, pattern.as_ref(), number_of_row(row, 1))
 }
 
 /// The number behind what is dialled before a calling code.
-fn international_prefix(alloc: Global, pattern: Option<&Regex>, row: &Row) -> Result<String> {
-    let handed = number_of_row(row, 1);
+fn behind_prefix(alloc: Global, pattern: Option<&Regex>, handed: Number<'_>) -> Result<String> {
     let found = around(
         alloc,
         begin(alloc),
         helper::international_prefix(alloc, pattern, handed),
-    )??;
-    part_words(alloc, &found)
-}
-
-/// A number's parts.
-fn part_words(alloc: Global, found: &Number<'_>) -> Result<String> {
-    Ok(number(alloc, found)?)
+    )?;
+    number(alloc, &found)
 }
 
 /// What the port answers to a call of this module on a database, as the table writes it; none for
@@ -59,15 +52,9 @@ pub fn answer(alloc: Global, row: &Row, db: &Database) -> Result<Option<String>>
 /// The number with its calling code, or the refusal.
 fn country_code(alloc: Global, row: &Row, db: &Database) -> Result<String> {
     let (hint, handed) = (hint(row.argument(1))?, number_of_row(row, 2));
-    let found = around(alloc, begin(alloc), helper::country_code(db, hint, handed))?;
-    told_or_refusal(alloc, &found)
-}
-
-/// A number's parts, or the refusal.
-fn told_or_refusal(alloc: Global, found: &Result<Number<'_>, ParseError>) -> Result<String> {
-    match found {
-        Ok(found) => part_words(alloc, found),
-        Err(error) => refusal(alloc, error),
+    match around(alloc, begin(alloc), helper::country_code(db, hint, handed)) {
+        Ok(found) => number(alloc, &found),
+        Err(error) => refusal(alloc, &error),
     }
 }
 
@@ -78,8 +65,8 @@ fn national_number(alloc: Global, row: &Row, db: &Database) -> Result<String> {
         alloc,
         begin(alloc),
         helper::national_number(territory, handed),
-    )??;
-    part_words(alloc, &found)
+    )?;
+    number(alloc, &found)
 }
 
 /// A pattern as the records' patterns are read, without regard to its white space and comments; or

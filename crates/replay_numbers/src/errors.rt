@@ -29,12 +29,12 @@ fn of_line(alloc: Global, row: &Row) -> Result<String> {
 
 /// The text of an error.
 fn text<T: Display>(alloc: Global, error: &T) -> Result<String> {
-    Ok(around(alloc, begin(alloc), error_text(alloc, error))??)
+    Ok(around(alloc, begin(alloc), error_text(alloc, error))?)
 }
 
 /// An error as it is printed.
 fn error_text<T: Display>(alloc: Global, error: &T) -> Result<String, AllocError> {
-    format!(in alloc; "{error}")
+    error.to_string(alloc)
 }
 
 /// The text of the error of this name.
@@ -52,7 +52,7 @@ fn of_name(alloc: Global, name: &str) -> Result<String> {
 
 /// The text of a record's error, and whether a copy of the error is equal to it.
 fn of_record(alloc: Global, error: &MetadataError) -> Result<String> {
-    let copy = around(alloc, begin(alloc), error.clone())??;
+    let copy = around(alloc, begin(alloc), error.clone())?;
     equality_words(alloc, error, &copy)
 }
 

@@ -1,67 +1,70 @@
 //! How the tables tell a number: its parts, its texts in the four modes, and what a database tells
 //! of it.
 use anyhow::{Result, anyhow};
-use phone_meta::Database;
 use phone_values::country::Id;
 use phonenumber::{Facts, FormatError, Formatter, PhoneNumber, Texts};
 use replay_base::marks::{around, begin};
-use replay_base::words::{part, source};
+use replay_base::readers::push_part;
+use replay_base::words::source;
 use std::alloc::{AllocError, Global};
 
-/// Code, source and national text of a number, its extension and its carrier, parted by tabs.
-pub fn parts(alloc: Global, number: &PhoneNumber) -> Result<String, AllocError> {
+/// The text of a number's extension.
+pub fn extension(number: &PhoneNumber) -> Option<&str> {
+    match number.extension() {
+        Some(extension) => Some(extension.as_str()),
+        None => None,
+    }
+}
+
+/// The text of a number's carrier.
+pub fn carrier(number: &PhoneNumber) -> Option<&str> {
+    match number.carrier() {
+        Some(carrier) => Some(carrier.as_str()),
+        None => None,
+    }
+}
+
+/// Writes code, source and national text of a number, its extension and its carrier, parted by
+/// tabs.
+pub fn push_parts(out: &mut String, number: &PhoneNumber) -> Result<(), AllocError> {
     let (code, national) = (number.code().value(), number.national());
     let source = source(number.code().source());
-    let extension = part(alloc, number.extension().map(|e| e.as_str()))?;
-    let carrier = part(alloc, number.carrier().map(|c| c.as_str()))?;
-    format!(in alloc; "{code}\t{source}\t{national}\t{extension}\t{carrier}")
+    write!(out, "{code}\t{source}\t{national}")?;
+    push_part(out, extension(number))?;
+    push_part(out, carrier(number))
 }
 
-/// The text in each mode behind this sign, or `UnknownCode` for each, parted by tabs.
-pub fn texts(alloc: Global, printer: Formatter<'_, '_, '_>, sign: &str) -> Result<String> {
-    let texts = around(alloc, begin(alloc), printer.to_texts(alloc))?;
-    texts_or_refusal(alloc, &texts, sign)
-}
-
-/// The texts in the four modes, or `UnknownCode` for each. An error where memory was refused.
-fn texts_or_refusal(
+/// Writes the text in each mode behind this sign, or `UnknownCode` for each, parted by tabs.
+pub fn push_texts(
     alloc: Global,
-    texts: &Result<Texts, FormatError>,
+    out: &mut String,
+    printer: Formatter<'_, '_, '_>,
     sign: &str,
-) -> Result<String> {
-    match texts {
-        Ok(texts) => Ok(parts_after(alloc, texts, sign)?),
-        Err(FormatError::UnknownCode) => Ok(String::from_str(
-            alloc,
-            "UnknownCode\tUnknownCode\tUnknownCode\tUnknownCode",
-        )?),
+) -> Result<()> {
+    match around(alloc, begin(alloc), printer.to_texts(alloc)) {
+        Ok(texts) => Ok(push_each(out, &texts, sign)?),
+        Err(FormatError::UnknownCode) => {
+            Ok(out.push_str("UnknownCode\tUnknownCode\tUnknownCode\tUnknownCode")?)
+        }
         Err(FormatError::Memory) => Err(anyhow!("out of memory")),
     }
 }
 
-/// These texts, each behind the sign.
-fn parts_after(alloc: Global, texts: &Texts, sign: &str) -> Result<String, AllocError> {
+/// Writes these texts, each behind the sign.
+fn push_each(out: &mut String, texts: &Texts, sign: &str) -> Result<(), AllocError> {
     let (e164, international) = (texts.e164.as_str(), texts.international.as_str());
     let (national, rfc3966) = (texts.national.as_str(), texts.rfc3966.as_str());
-    format!(in alloc; "{sign}{e164}\t{sign}{international}\t{sign}{national}\t{sign}{rfc3966}")
+    write!(
+        out,
+        "{sign}{e164}\t{sign}{international}\t{sign}{national}\t{sign}{rfc3966}"
+    )
 }
 
-/// What a database tells of a number, parted by tabs.
-pub fn facts(alloc: Global, database: &Database, number: &PhoneNumber) -> Result<String> {
-    Ok(facts_words(alloc, number.facts(database)?)?)
-}
-
-/// Kind of a number, its region or a hyphen, `valid` or `invalid`, parted by tabs.
-pub fn facts_words(alloc: Global, found: Facts) -> Result<String, AllocError> {
-    let Facts {
-        kind,
-        region,
-        is_valid,
-    } = found;
-    let kind = format!(in alloc; "{kind:?}")?;
-    let region = region_name(region);
-    let validity = validity(is_valid);
-    format!(in alloc; "{kind}\t{region}\t{validity}")
+/// Writes the kind of a number, its region or a hyphen, `valid` or `invalid`, parted by tabs.
+pub fn push_facts(out: &mut String, found: Facts) -> Result<(), AllocError> {
+    let (kind, region) = (found.kind.name(), region_name(found.region));
+    let validity = if found.is_valid { "valid" } else { "invalid" };
+    write!(out, "{kind}\t{region}\t{validity}")
 }
 
 /// A region's id, or a hyphen.
@@ -70,9 +73,4 @@ pub fn region_name(region: Option<Id>) -> &'static str {
         Some(id) => id.as_str(),
         None => "-",
     }
-}
-
-/// Whether a number is valid, as the tables write it.
-fn validity(is_valid: bool) -> &'static str {
-    if is_valid { "valid" } else { "invalid" }
 }

@@ -6,6 +6,7 @@ use phone_values::{Carrier, Extension, NationalNumber, Type};
 use phonenumber::PhoneNumber;
 use replay_base::marks::{around, begin};
 use replay_base::table::Row;
+use replay_base::words::said;
 use serde::{Deserialize, Serialize};
 use serde_json::Error;
 use std::alloc::{AllocError, Global};
@@ -51,10 +52,10 @@ fn form_words<'a, T: Serialize + Deserialize<'a> + Debug + Drop>(
     alloc: Global,
     json: &'a str,
 ) -> Result<String> {
-    match around(alloc, begin(alloc), read::<T>(alloc, json))? {
+    match around(alloc, begin(alloc), read::<T>(alloc, json)) {
         Ok(value) => words(alloc, &value),
         Err(error) if error.is_memory() => Err(anyhow!("out of memory")),
-        Err(_) => Ok(String::from_str(alloc, "-")?),
+        Err(_) => said(alloc, "-"),
     }
 }
 
@@ -71,7 +72,7 @@ fn words<T: Serialize + Debug>(alloc: Global, value: &T) -> Result<String> {
 
 /// What serde writes of a value.
 fn json_of<T: Serialize>(alloc: Global, value: &T) -> Result<String> {
-    Ok(around(alloc, begin(alloc), serde_json::to_string(alloc, value))??)
+    Ok(around(alloc, begin(alloc), serde_json::to_string(alloc, value))?)
 }
 
 /// What serde writes of the national number of a value and so many zeros.

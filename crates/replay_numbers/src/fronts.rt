@@ -12,8 +12,7 @@ use std::alloc::Global;
 /// hint.
 pub fn fronts(alloc: Global, row: &Row, db: &Database) -> Result<String> {
     let (hint, text) = (hint(row.argument(1))?, row.argument(2));
-    let count = count_answers(db, hint, text)?;
-    Ok(format!(in alloc; "{count}")?)
+    Ok(count_answers(db, hint, text)?.to_string(alloc)?)
 }
 
 /// How many fronts of a text are answered under a hint. Refused where memory is.

@@ -60,7 +60,7 @@ fn in_any_mode(alloc: Global, row: &Row, premises: &Premises<'_>) -> Result<Stri
 
 /// Whether something holds, as the table writes it.
 fn truth_words(alloc: Global, holds: Result<bool>) -> Result<String> {
-    Ok(truth(alloc, holds?)?)
+    truth(alloc, holds?)
 }
 
 /// The premises under a database.
@@ -151,14 +151,14 @@ impl<'a> Premises<'a> {
     }
 
     /// Whether the code ends where it ends in digits alone.
-    fn is_found(&self, number: &PhoneNumber) -> bool {
+    pub fn is_found(&self, number: &PhoneNumber) -> bool {
         let code = number.code().value();
         1 <= code && code <= GREATEST_CODE && self.is_prefix_free
     }
 
     /// Whether the extension, if there is one, is announced in a way that free text knows. An error
     /// where memory is refused.
-    fn is_announced(&self, number: &PhoneNumber) -> Result<bool> {
+    pub fn is_announced(&self, number: &PhoneNumber) -> Result<bool> {
         if number.extension().is_none() {
             return Ok(true);
         }
@@ -257,7 +257,7 @@ pub fn is_idle(database: &Database, code: u16, digits: &str) -> Result<bool, All
 
 /// Whether a territory's rules leave all digits: national prefix and carrier are cut off in one
 /// step, then the national prefix once more, and all digits stay where too few would be left.
-fn leaves_all(territory: &Metadata, digits: &str) -> Result<bool, AllocError> {
+pub fn leaves_all(territory: &Metadata, digits: &str) -> Result<bool, AllocError> {
     let stepped = national_number(territory, Number::of(digits))?;
     let left = without_prefix(territory, stepped.national.as_str());
     let verdict = length_of(territory, left.len(), Type::Unknown);

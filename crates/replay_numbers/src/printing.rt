@@ -1,35 +1,44 @@
 //! The calls that print a number which a line gives by its parts.
-use crate::facts::{facts, texts};
+use crate::facts::{push_facts, push_texts};
 use crate::given::{number, number_of_row};
 use crate::page::Page;
 use anyhow::{Result, anyhow};
 use phone_base::together::both;
 use phone_meta::{Database, Format, Metadata};
 use phone_values::{Carrier, Extension};
-use phonenumber::{FormatError, Formatter, PhoneNumber, format_with};
+use phonenumber::{Facts, FormatError, Formatter, PhoneNumber, format_with};
 use replay_base::marks::{around, begin};
 use replay_base::table::Row;
-use replay_base::words::mode;
+use replay_base::words::{mode, part_of, said};
 use std::alloc::{AllocError, Global};
 
 /// What is printed of a number, or of a part of one, under no database; none for any other call.
 pub fn without_database(alloc: Global, row: &Row) -> Result<Option<String>> {
     let answer = match row.call() {
-        "display" => {
-            let number = number(row, 0, None, None)?;
-            format!(in alloc; "={number}")?
-        }
-        "display-extension" => {
-            let extension = Extension::from(String::from_str(alloc, row.argument(0))?);
-            format!(in alloc; "={extension}")?
-        }
-        "display-carrier" => {
-            let carrier = Carrier::from(String::from_str(alloc, row.argument(0))?);
-            format!(in alloc; "={carrier}")?
-        }
+        "display" => display_number(alloc, row),
+        "display-extension" => display_extension(alloc, row.argument(0)),
+        "display-carrier" => display_carrier(alloc, row.argument(0)),
         _ => return Ok(None),
     };
-    Ok(Some(answer))
+    Ok(Some(answer?))
+}
+
+/// What a line's number is printed as.
+fn display_number(alloc: Global, row: &Row) -> Result<String> {
+    let number = number(row, 0, None, None)?;
+    Ok(format!(in alloc; "={number}")?)
+}
+
+/// What an extension of this text is printed as.
+fn display_extension(alloc: Global, text: &str) -> Result<String> {
+    let extension = Extension::from(String::from_str(alloc, text)?);
+    Ok(format!(in alloc; "={extension}")?)
+}
+
+/// What a carrier of this text is printed as.
+fn display_carrier(alloc: Global, text: &str) -> Result<String> {
+    let carrier = Carrier::from(String::from_str(alloc, text)?);
+    Ok(format!(in alloc; "={carrier}")?)
 }
 
 /// What the port answers to one of these calls, as the table writes it; none for any other call.
@@ -62,24 +71,36 @@ pub fn layouts_of(row: &Row) -> Option<&str> {
 /// tells of the number.
 fn format(alloc: Global, row: &Row, db: &Database, layouts: &Database) -> Result<String> {
     let number = number_of_row(alloc, row, 1)?;
-    let printer = format_with(db, &number);
-    let texts = by_layout(alloc, printer, layouts, row.argument(6));
-    let (texts, facts) = both(texts, facts(alloc, db, &number))?;
-    Ok(format!(in alloc; "{texts}\t{facts}")?)
+    let mut out = String::new(alloc);
+    push_by_layout(
+        alloc,
+        &mut out,
+        format_with(db, &number),
+        layouts,
+        row.argument(6),
+    )?;
+    push_behind_texts(&mut out, number.facts(db)?)?;
+    Ok(out)
 }
 
-/// The texts of a printer's number by the layout of this name; by its own for a hyphen.
-fn by_layout(
+/// Writes a tab and what a database tells of a number.
+fn push_behind_texts(out: &mut String, facts: Facts) -> Result<(), AllocError> {
+    out.push('\t')?;
+    push_facts(out, facts)
+}
+
+/// Writes the texts of a printer's number by the layout of this name; by its own for a hyphen.
+fn push_by_layout(
     alloc: Global,
+    out: &mut String,
     printer: Formatter<'_, '_, '_>,
     layouts: &Database,
     name: &str,
-) -> Result<String> {
+) -> Result<()> {
     if name == "-" {
-        return texts(alloc, printer, "=");
+        return push_texts(alloc, out, printer, "=");
     }
-    let layout = layout(layouts, name)?;
-    texts(alloc, printer.with(layout), "=")
+    push_texts(alloc, out, printer.with(layout(layouts, name)?), "=")
 }
 
 /// The layout of this name: a database, an id in it, and a place in that territory's national list,
@@ -116,24 +137,14 @@ fn layout_at<'a>(territory: &'a Metadata, place: &str) -> Result<&'a Format> {
 fn format_one(alloc: Global, row: &Row, db: &Database) -> Result<String> {
     let (number, mode) = both(number_of_row(alloc, row, 1), mode(row.argument(6)))?;
     let printer = number.format_with(db).mode(mode);
-    with_marks(alloc, begin(alloc), &printer.to_text(alloc))
-}
-
-/// A text or why there is none, with the marks around the call.
-fn with_marks(
-    alloc: Global,
-    begun: Result<(), AllocError>,
-    text: &Result<String, FormatError>,
-) -> Result<String> {
-    around(alloc, begun, ())?;
-    text_or_refusal(alloc, text)
+    text_or_refusal(alloc, around(alloc, begin(alloc), printer.to_text(alloc)))
 }
 
 /// A text behind an equals sign, or `UnknownCode`. An error where memory was refused.
-pub fn text_or_refusal(alloc: Global, text: &Result<String, FormatError>) -> Result<String> {
+pub fn text_or_refusal(alloc: Global, text: Result<String, FormatError>) -> Result<String> {
     match text {
-        Ok(text) => Ok(format!(in alloc; "={text}")?),
-        Err(FormatError::UnknownCode) => Ok(String::from_str(alloc, "UnknownCode")?),
+        Ok(text) => part_of(alloc, text.as_str()),
+        Err(FormatError::UnknownCode) => said(alloc, "UnknownCode"),
         Err(FormatError::Memory) => Err(anyhow!("out of memory")),
     }
 }
@@ -155,15 +166,12 @@ fn display_words(
     printer: &Formatter<'_, '_, '_>,
 ) -> Result<String> {
     let mut page = Page::blank(alloc)?;
-    let is_written = around(alloc, begin(alloc), page.write(printer))?;
+    let is_written = around(alloc, begin(alloc), page.write(printer));
     let is_listed = db.first_by_code(&number.code().value()).is_some();
     match (is_written, page.pieces(), is_listed) {
-        (true, 1, _) => {
-            let text = page.text();
-            Ok(format!(in alloc; "={text}")?)
-        }
-        (false, 0, false) => Ok(String::from_str(alloc, "UnknownCode")?),
+        (true, 1, _) => part_of(alloc, page.text()),
+        (false, 0, false) => said(alloc, "UnknownCode"),
         (false, 0, true) => Err(anyhow!("out of memory")),
-        _ => Ok(String::from_str(alloc, "a text in pieces")?),
+        _ => said(alloc, "a text in pieces"),
     }
 }

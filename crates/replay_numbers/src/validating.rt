@@ -1,14 +1,15 @@
 //! The calls of the module `validator` of `phone_read`, each on the database that its line names.
 use anyhow::Result;
-use either::{Either, Left, Right};
-use phone_meta::{Database, Metadata};
+use either::{Left, Right};
+use phone_meta::Database;
 use phone_read::{Number, validator};
-use phone_values::country::Id;
 use replay_base::marks::{around, begin};
 use replay_base::table::Row;
-use replay_base::words::kind;
+use replay_base::words::{kind, said};
+use replay_database::look_ups::record;
 use replay_database::named::{code_of, territory};
-use std::alloc::{AllocError, Global};
+use std::alloc::Global;
+use std::fmt::Display;
 
 /// What the port answers to a call of this module, as the table writes it; none for any other call.
 /// An error where a line names a code, a territory or a kind that isn't there, and where memory is
@@ -35,15 +36,25 @@ fn length_repeated(alloc: Global, db: &Database, row: &Row) -> Result<String> {
 /// The region or calling code of a code and a text.
 fn source_for(alloc: Global, db: &Database, row: &Row) -> Result<String> {
     let (code, text) = (code_of(row)?, row.argument(2));
-    let found = around(alloc, begin(alloc), validator::source_for(db, code, text))??;
-    Ok(region(alloc, found)?)
+    match around(alloc, begin(alloc), validator::source_for(db, code, text))? {
+        Some(Left(id)) => in_word(alloc, "Left", &id.as_str()),
+        Some(Right(code)) => in_word(alloc, "Right", &code),
+        None => said(alloc, "-"),
+    }
 }
 
-/// The territory of a code and a text.
+/// A side's word, and behind it in brackets what stands there.
+fn in_word<T: Display>(alloc: Global, word: &str, value: &T) -> Result<String> {
+    Ok(format!(in alloc; "{word}({value})")?)
+}
+
+/// The territory of a code and a text, or a hyphen.
 fn territory_of(alloc: Global, db: &Database, row: &Row) -> Result<String> {
     let (code, text) = (code_of(row)?, row.argument(2));
-    let found = around(alloc, begin(alloc), validator::territory_of(db, code, text))??;
-    Ok(territory_words(alloc, found)?)
+    record(
+        alloc,
+        around(alloc, begin(alloc), validator::territory_of(db, code, text))?,
+    )
 }
 
 /// What a length says of a national part as a number of the territory and the kind that a line
@@ -57,28 +68,6 @@ fn length(alloc: Global, db: &Database, row: &Row, national: &str) -> Result<Str
 /// The kind of a text in the territory that a line names.
 fn number_type(alloc: Global, db: &Database, row: &Row) -> Result<String> {
     let (territory, text) = (territory(db, row)?, row.argument(2));
-    let kind = around(alloc, begin(alloc), validator::number_type(territory, text))??;
-    Ok(format!(in alloc; "{kind:?}")?)
-}
-
-/// A region or a calling code, or a hyphen.
-fn region(alloc: Global, found: Option<Either<Id, u16>>) -> Result<String, AllocError> {
-    match found {
-        Some(Left(id)) => {
-            let id = id.as_str();
-            format!(in alloc; "Left({id})")
-        }
-        Some(Right(code)) => format!(in alloc; "Right({code})"),
-        None => String::from_str(alloc, "-"),
-    }
-}
-
-/// A territory as `id/code/pattern`, with the general pattern's text, or a hyphen.
-fn territory_words(alloc: Global, found: Option<&Metadata>) -> Result<String, AllocError> {
-    let Some(territory) = found else {
-        return String::from_str(alloc, "-");
-    };
-    let (id, code) = (territory.id(), territory.country_code());
-    let pattern = territory.descriptors().general().pattern_text();
-    format!(in alloc; "={id}/{code}/{pattern}")
+    let kind = around(alloc, begin(alloc), validator::number_type(territory, text))?;
+    said(alloc, kind.name())
 }

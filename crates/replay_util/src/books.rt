@@ -5,11 +5,12 @@ use phone_book::{Book, BookError, Place};
 use phone_choice::Rules;
 use phone_values::ParseError;
 use phone_values::country::Id;
+use phonenumber::PhoneNumber;
 use replay_base::marks::{around, begin};
 use replay_base::table::Row;
-use replay_base::words::hint;
+use replay_base::words::{hint, said};
 use replay_database::named::load;
-use replay_numbers::facts::parts;
+use replay_numbers::facts::push_parts;
 use std::alloc::{AllocError, AllocGlobal, Global};
 use std::fs::Files;
 
@@ -33,7 +34,7 @@ pub fn answer<R: Files + AllocGlobal>(rt: &R, row: &Row) -> Result<Option<String
 fn of_book<R: Files + AllocGlobal>(rt: &R, row: &Row) -> Result<String> {
     match Book::new(load(rt, row.argument(0))?) {
         Ok(mut book) => in_book(rt.alloc(), row, &mut book),
-        Err(_) => Ok(String::from_str(rt.alloc(), "Ambiguous")?),
+        Err(_) => said(rt.alloc(), "Ambiguous"),
     }
 }
 
@@ -61,14 +62,11 @@ fn lines(alloc: Global, row: &Row, from: usize) -> Result<Vec<Hinted<'_>>> {
 /// The answers of a book to all lines at once, and its numbers.
 fn all_at_once(alloc: Global, rules: Rules, row: &Row, book: &mut Book) -> Result<String> {
     let lines = lines(alloc, row, 1)?;
-    match around(
-        alloc,
-        begin(alloc),
-        book.add_all_by(rules, lines.as_slice()),
-    )? {
+    let begun = begin(alloc);
+    match around(alloc, begun, book.add_all_by(rules, lines.as_slice())) {
         Ok(answers) => book_words(alloc, book, answers.as_slice()),
         Err(_) if book.len() == 0 => Err(anyhow!("out of memory")),
-        Err(_) => Ok(String::from_str(alloc, "numbers without answers")?),
+        Err(_) => said(alloc, "numbers without answers"),
     }
 }
 
@@ -80,7 +78,7 @@ fn one_by_one(alloc: Global, rules: Rules, row: &Row, book: &mut Book) -> Result
         alloc,
         begin(alloc),
         add_each(rules, book, lines.as_slice(), &mut answers),
-    )??;
+    )?;
     book_words(alloc, book, answers.as_slice())
 }
 
@@ -97,70 +95,66 @@ fn add_each(
     Ok(())
 }
 
-/// Whether an answer says that a number was added.
-fn is_added(answer: &Answer) -> bool {
-    matches!(answer, Ok(Place::Added(_)))
-}
-
-/// Whether an answer is want of memory.
-fn is_memory(answer: &Answer) -> bool {
-    matches!(answer, Err(BookError::Memory))
-}
-
-/// The answers of a book to lines, and its numbers. There must be as many numbers as were added,
-/// also where a line was answered by want of memory; that is then an error.
-fn book_words(alloc: Global, book: &Book, answers: &[Answer]) -> Result<String> {
-    if answers.iter().filter(|answer| is_added(answer)).count() != book.len() {
-        return Ok(String::from_str(alloc, "not the numbers that were added")?);
-    }
-    if answers.iter().any(|answer| is_memory(answer)) {
-        return Err(anyhow!("out of memory"));
-    }
-    Ok(status_after(alloc, book, answers)?)
-}
-
-/// Answers, a tab behind each; then an equals sign and the E.164 texts of a book's numbers in
-/// order, parted by spaces.
-fn status_after(alloc: Global, book: &Book, answers: &[Answer]) -> Result<String, AllocError> {
-    let (answers, numbers) = (words(alloc, answers)?, numbers(alloc, book)?);
-    format!(in alloc; "{answers}={numbers}")
-}
-
-/// Answers, a tab behind each.
-fn words(alloc: Global, answers: &[Answer]) -> Result<String, AllocError> {
-    let mut out = String::new(alloc);
+/// How many answers say that a number was added.
+fn count_added(answers: &[Answer]) -> usize {
+    let mut count = 0usize;
     for answer in answers {
-        out.push_str(word(alloc, answer)?.as_str())?;
-    }
-    Ok(out)
-}
-
-/// An answer, with a tab.
-fn word(alloc: Global, answer: &Answer) -> Result<String, AllocError> {
-    match answer {
-        Ok(Place::Added(place)) => format!(in alloc; "Added {place}\t"),
-        Ok(Place::Present(place)) => format!(in alloc; "Present {place}\t"),
-        Err(BookError::Refused(error)) => refusal_words(alloc, error),
-        Err(BookError::Memory) => String::from_str(alloc, "Memory\t"),
-    }
-}
-
-/// The E.164 texts of a book's numbers in order, parted by spaces.
-fn numbers(alloc: Global, book: &Book) -> Result<String, AllocError> {
-    let mut out = String::new(alloc);
-    for number in book.iter() {
-        if !out.is_empty() {
-            out.push(' ')?;
+        if let Ok(Place::Added(_)) = answer {
+            count = count.saturating_add(1);
         }
-        out.push_str(number.to_string(alloc)?.as_str())?;
     }
+    count
+}
+
+/// The answers of a book to lines, and its numbers: answers, a tab behind each; then an equals sign
+/// and the E.164 texts of the numbers in order, parted by spaces. There must be as many numbers as
+/// were added, also where a line was answered by want of memory; that is then an error.
+fn book_words(alloc: Global, book: &Book, answers: &[Answer]) -> Result<String> {
+    if count_added(answers) != book.len() {
+        return said(alloc, "not the numbers that were added");
+    }
+    let mut out = String::new(alloc);
+    push_answers(&mut out, answers)?;
+    push_numbers(&mut out, book)?;
     Ok(out)
 }
 
-/// `Refused`, and the number of a refusal, with a tab.
-fn refusal_words(alloc: Global, error: &ParseError) -> Result<String, AllocError> {
+/// Writes answers, a tab behind each.
+fn push_answers(out: &mut String, answers: &[Answer]) -> Result<()> {
+    for answer in answers {
+        push_answer(out, answer)?;
+    }
+    Ok(())
+}
+
+/// Writes an answer, with a tab.
+fn push_answer(out: &mut String, answer: &Answer) -> Result<()> {
+    let written = match answer {
+        Ok(Place::Added(place)) => write!(out, "Added {place}\t"),
+        Ok(Place::Present(place)) => write!(out, "Present {place}\t"),
+        Err(BookError::Refused(error)) => push_refused(out, error),
+        Err(BookError::Memory) => return Err(anyhow!("out of memory")),
+    };
+    Ok(written?)
+}
+
+/// Writes `Refused`, and the number of a refusal, with a tab.
+fn push_refused(out: &mut String, error: &ParseError) -> Result<(), AllocError> {
     let number = error.number();
-    format!(in alloc; "Refused {number}\t")
+    write!(out, "Refused {number}\t")
+}
+
+/// Writes an equals sign and the E.164 texts of a book's numbers in order, parted by spaces.
+fn push_numbers(out: &mut String, book: &Book) -> Result<(), AllocError> {
+    let mut sign = '=';
+    for number in book.iter() {
+        write!(out, "{sign}{number}")?;
+        sign = ' ';
+    }
+    if sign == '=' {
+        return out.push(sign);
+    }
+    Ok(())
 }
 
 /// How many numbers a book has that was given all lines, and the number at a place as it was
@@ -168,12 +162,18 @@ fn refusal_words(alloc: Global, error: &ParseError) -> Result<String, AllocError
 fn entry(alloc: Global, rules: Rules, row: &Row, book: &mut Book) -> Result<String> {
     let place = row.argument(1).parse::<usize>()?;
     add_all(alloc, rules, row, book)?;
-    let count = book.len();
-    let number = match book.get(place) {
-        Some(number) => parts(alloc, number)?,
-        None => String::from_str(alloc, "-")?,
-    };
-    Ok(format!(in alloc; "{count}\t{number}")?)
+    let mut out = book.len().to_string(alloc)?;
+    push_entry(&mut out, book.get(place))?;
+    Ok(out)
+}
+
+/// Writes a tab and a number as it was written, or a hyphen.
+fn push_entry(out: &mut String, number: Option<&PhoneNumber>) -> Result<(), AllocError> {
+    out.push('\t')?;
+    match number {
+        Some(number) => push_parts(out, number),
+        None => out.push('-'),
+    }
 }
 
 /// Adds the lines behind a place.

@@ -8,6 +8,7 @@ use phone_values::country::Id;
 use phonenumber::PhoneNumber;
 use replay_base::marks::{around, begin};
 use replay_base::table::Row;
+use replay_base::words::{part_of, said};
 use replay_numbers::given::with_extension;
 use std::alloc::Global;
 
@@ -15,11 +16,12 @@ use std::alloc::Global;
 /// told in that text and whether the premises hold; none for any other call. An error where a line
 /// names a region that isn't there or gives a number that is none, and where memory is refused.
 pub fn answer(alloc: Global, row: &Row, db: &Database) -> Result<Option<String>> {
-    match row.call() {
-        "dialled-from" => Ok(Some(of_text(alloc, row, db)?)),
-        "dial-premises" => Ok(Some(of_premises(alloc, row, db)?)),
-        _ => Ok(None),
-    }
+    let answer = match row.call() {
+        "dialled-from" => of_text(alloc, row, db),
+        "dial-premises" => of_premises(alloc, row, db),
+        _ => return Ok(None),
+    };
+    Ok(Some(answer?))
 }
 
 /// How a line's number is dialled.
@@ -31,17 +33,10 @@ fn of_text(alloc: Global, row: &Row, db: &Database) -> Result<String> {
 /// How a number is dialled from a line's region.
 fn dialling_words(alloc: Global, row: &Row, db: &Database, number: &PhoneNumber) -> Result<String> {
     let region = row.argument(5).parse::<Id>()?;
-    let dialled = around(alloc, begin(alloc), dialled_from(db, region, number))?;
-    text(alloc, &dialled)
-}
-
-/// The text that is dialled behind an equals sign, or why there is none. An error where memory was
-/// refused.
-fn text(alloc: Global, dialled: &Result<String, DialError>) -> Result<String> {
-    match dialled {
-        Ok(text) => Ok(format!(in alloc; "={text}")?),
-        Err(DialError::UnknownRegion) => Ok(String::from_str(alloc, "UnknownRegion")?),
-        Err(DialError::UnknownCode) => Ok(String::from_str(alloc, "UnknownCode")?),
+    match around(alloc, begin(alloc), dialled_from(db, region, number)) {
+        Ok(text) => part_of(alloc, text.as_str()),
+        Err(DialError::UnknownRegion) => said(alloc, "UnknownRegion"),
+        Err(DialError::UnknownCode) => said(alloc, "UnknownCode"),
         Err(DialError::Memory) => Err(anyhow!("out of memory")),
     }
 }

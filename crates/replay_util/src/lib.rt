@@ -1,7 +1,8 @@
 //! Rows of answers to what stands on phone numbers: whether a number is possible, what a database
 //! lists, whether two texts are one number, how a number is dialled from a region, which numbers
-//! stand in a text; and, of many lines, what a run reports, a line's JSON object, what a
-//! contact book keeps, and how programs end.
+//! stand in a text, what a field shows while a number is typed into it; tables of prefixes; and, of
+//! many lines, what a run reports, a line's JSON object, what a contact book keeps, and how
+//! programs end.
 #![tactic(auto)]
 
 pub mod books;
@@ -11,12 +12,14 @@ pub mod found;
 pub mod listed;
 pub mod objects;
 pub mod possibilities;
+pub mod prefixes;
 mod premises;
 pub mod programs;
 pub mod report_rows;
 pub mod reports;
 pub mod sameness;
 pub mod tables;
+pub mod typed;
 
 use anyhow::Result;
 use phone_meta::Database;
@@ -27,6 +30,9 @@ use std::fs::Files;
 /// The answer to a call that takes its database for itself; none for any other call.
 pub fn without_database<R: Files + AllocGlobal>(rt: &R, row: &Row) -> Result<Option<String>> {
     if let Some(found) = books::answer(rt, row)? {
+        return Ok(Some(found));
+    }
+    if let Some(found) = prefixes::answer(rt, row)? {
         return Ok(Some(found));
     }
     programs::answer(rt, row)
@@ -53,6 +59,9 @@ pub fn answer(alloc: Global, row: &Row, db: &Database) -> Result<Option<String>>
         return Ok(Some(found));
     }
     if let Some(found) = objects::answer(alloc, row, db)? {
+        return Ok(Some(found));
+    }
+    if let Some(found) = typed::answer(alloc, row, db)? {
         return Ok(Some(found));
     }
     if let Some(found) = tables::answer(alloc, row, db)? {

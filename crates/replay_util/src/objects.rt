@@ -20,6 +20,6 @@ pub fn answer(alloc: Global, row: &Row, db: &Database) -> Result<Option<String>>
         alloc,
         begin(alloc),
         object_line(alloc, rules, db, None, hint, place, line),
-    )??;
+    )?;
     Ok(Some(object))
 }

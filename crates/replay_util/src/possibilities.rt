@@ -15,11 +15,12 @@ use std::alloc::Global;
 /// What its length says of a number, as the table writes it; none for any other call. An error
 /// where a line gives a number that is none, and where memory is refused.
 pub fn answer(alloc: Global, row: &Row, db: &Database) -> Result<Option<String>> {
-    match by_rules(row) {
-        (rules, "possible") => Ok(Some(of_number(alloc, rules, row, db)?)),
-        (rules, "possible-text") => Ok(Some(of_text(alloc, rules, row, db)?)),
-        _ => Ok(None),
-    }
+    let answer = match by_rules(row) {
+        (rules, "possible") => of_number(alloc, rules, row, db),
+        (rules, "possible-text") => of_text(alloc, rules, row, db),
+        _ => return Ok(None),
+    };
+    Ok(Some(answer?))
 }
 
 /// What is said of a line's number.
@@ -35,7 +36,7 @@ fn possibility_words(
     db: &Database,
     number: &PhoneNumber,
 ) -> Result<String> {
-    let found = around(alloc, begin(alloc), possibility_of(rules, db, number))??;
+    let found = around(alloc, begin(alloc), possibility_of(rules, db, number))?;
     Ok(format!(in alloc; "{found:?}")?)
 }
 
@@ -46,7 +47,7 @@ fn of_text(alloc: Global, rules: Rules, row: &Row, db: &Database) -> Result<Stri
         alloc,
         begin(alloc),
         possibility_of_text(rules, db, hint, text),
-    )? {
+    ) {
         Ok(found) => Ok(format!(in alloc; "{found:?}")?),
         Err(error) => refusal(alloc, &error),
     }

@@ -4,16 +4,10 @@
 use anyhow::Result;
 use phone_chars::chars::is_digit;
 use phone_meta::{Database, Metadata};
-use phone_read::Number;
-use phone_read::helper::national_number;
-use phone_read::validator::length_of;
-use phone_values::{Mode, Type, Validation};
+use phone_values::Mode;
 use phonenumber::PhoneNumber;
-use replay_numbers::premises::Premises;
+use replay_numbers::premises::{Premises, leaves_all};
 use std::alloc::{AllocError, Global};
-
-/// The greatest calling code that is found at the front of digits.
-const GREATEST_CODE: u16 = 999;
 
 /// How the code of a number is told in the text that is dialled from a territory: by the
 /// territory itself where it is its own code, else by a prefix or a plus sign.
@@ -30,10 +24,11 @@ pub fn how_told(from: &Metadata, number: &PhoneNumber) -> &'static str {
 /// Whether a number that is dialled from a territory lies within the premises. An error where
 /// memory is refused.
 pub fn is_within(db: &Database, from: &Metadata, number: &PhoneNumber) -> Result<bool> {
-    if is_own(from, number) || !has_found_code(db, number) {
+    let premises = Premises::under(db);
+    if is_own(from, number) || !premises.is_found(number) {
         return Ok(false);
     }
-    Ok(is_plain(db, number)? && is_kept(db.allocator(), from, number)?)
+    Ok(is_plain(&premises, number)? && is_kept(db.allocator(), from, number)?)
 }
 
 /// Whether a number has the code of a territory.
@@ -41,18 +36,10 @@ fn is_own(from: &Metadata, number: &PhoneNumber) -> bool {
     from.country_code() == number.code().value()
 }
 
-/// Whether the code ends where it ends in digits alone.
-fn has_found_code(db: &Database, number: &PhoneNumber) -> bool {
-    let code = number.code().value();
-    1 <= code && code <= GREATEST_CODE && db.codes_prefix_free()
-}
-
 /// Whether the number is plain for international text, and an extension, if there is one, announced
 /// in a way that free text knows. An error where memory is refused.
-fn is_plain(db: &Database, number: &PhoneNumber) -> Result<bool> {
-    let premises = Premises::under(db);
-    let is_announced = number.extension().is_none() || premises.is_benign(number)?;
-    Ok(is_announced && premises.is_plain(Mode::International, number)?)
+fn is_plain(premises: &Premises<'_>, number: &PhoneNumber) -> Result<bool> {
+    Ok(premises.is_announced(number)? && premises.is_plain(Mode::International, number)?)
 }
 
 /// Whether a territory takes just what is dialled before the code for an international prefix, and
@@ -70,23 +57,6 @@ fn leaves_national(
 ) -> Result<bool, AllocError> {
     let digits = number.national().to_string(alloc)?;
     leaves_all(from, digits.as_str())
-}
-
-/// Whether a territory's rules leave all digits: national prefix and carrier are cut off in one
-/// step, then the national prefix once more, and all digits stay where too few would be left.
-fn leaves_all(territory: &Metadata, digits: &str) -> Result<bool, AllocError> {
-    let stepped = national_number(territory, Number::of(digits))?;
-    let left = without_prefix(territory, stepped.national.as_str());
-    let verdict = length_of(territory, left.len(), Type::Unknown);
-    Ok(left == digits || matches!(verdict, Validation::TooShort))
-}
-
-/// The digits without the national prefix of a territory, where it has one and they begin with it.
-fn without_prefix<'a>(territory: &Metadata, digits: &'a str) -> &'a str {
-    match territory.national_prefix() {
-        Some(prefix) => digits.strip_prefix(prefix).unwrap_or(digits),
-        None => digits,
-    }
 }
 
 /// Whether a territory's pattern of international prefixes finds, in front of code and national

@@ -26,12 +26,15 @@ struct Ended {
 /// it writes, parted by tabs; none for any other call. An error where memory is refused.
 pub fn answer<R: Files + AllocGlobal>(rt: &R, row: &Row) -> Result<Option<String>> {
     match row.call() {
-        "phone" | "phone-tool" => {
-            let ended = run(rt, row)?;
-            Ok(Some(status_after(rt.alloc(), row, &ended)?))
-        }
+        "phone" | "phone-tool" => Ok(Some(end_words(rt, row)?)),
         _ => Ok(None),
     }
+}
+
+/// How the program of a line ends.
+fn end_words<R: Files + AllocGlobal>(rt: &R, row: &Row) -> Result<String> {
+    let ended = run(rt, row)?;
+    status_after(rt.alloc(), row, &ended)
 }
 
 /// Runs the program.
@@ -51,7 +54,7 @@ fn run<R: Files + AllocGlobal>(rt: &R, row: &Row) -> Result<Ended> {
         &mut written,
         &mut told,
     );
-    let status = around(alloc, begun, status)?;
+    let status = around(alloc, begun, status);
     Ok(Ended {
         status,
         written,

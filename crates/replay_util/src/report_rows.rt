@@ -7,7 +7,7 @@ use phone_meta::Database;
 use phone_report::{RunError, report_line, run};
 use replay_base::marks::{around, begin};
 use replay_base::table::Row;
-use replay_base::words::hint;
+use replay_base::words::{hint, said};
 use std::alloc::Global;
 
 /// How many bytes are taken of a report.
@@ -16,22 +16,22 @@ const ROOM: usize = 4096;
 /// What is reported, as the table writes it; none for any other call. An error where memory is
 /// refused.
 pub fn answer(alloc: Global, row: &Row, db: &Database) -> Result<Option<String>> {
-    match by_rules(row) {
-        (rules, "report-line") => Ok(Some(of_line(alloc, rules, row, db)?)),
-        (rules, "report-lines") => Ok(Some(of_bytes(alloc, rules, row, db)?)),
-        _ => Ok(None),
-    }
+    let answer = match by_rules(row) {
+        (rules, "report-line") => of_line(alloc, rules, row, db),
+        (rules, "report-lines") => of_bytes(alloc, rules, row, db),
+        _ => return Ok(None),
+    };
+    Ok(Some(answer?))
 }
 
 /// The report line of a line, under its hint.
 fn of_line(alloc: Global, rules: Rules, row: &Row, db: &Database) -> Result<String> {
-    let hint = hint(row.argument(1))?;
-    let line = around(
+    let (hint, line) = (hint(row.argument(1))?, row.argument_bytes(2));
+    Ok(around(
         alloc,
         begin(alloc),
-        report_line(alloc, rules, db, hint, row.argument_bytes(2)),
-    )??;
-    Ok(line)
+        report_line(alloc, rules, db, hint, line),
+    )?)
 }
 
 /// The report on bytes, under their hint.
@@ -43,13 +43,13 @@ fn of_bytes(alloc: Global, rules: Rules, row: &Row, db: &Database) -> Result<Str
         alloc,
         begin(alloc),
         run(alloc, rules, db, hint, &mut source, &mut sink),
-    )?;
+    );
     match end {
-        Ok(()) => {
-            let written = std::str::from_utf8(sink.bytes()).unwrap_or("no UTF-8");
-            Ok(String::from_str(alloc, written)?)
-        }
+        Ok(()) => said(
+            alloc,
+            std::str::from_utf8(sink.bytes()).unwrap_or("no UTF-8"),
+        ),
         Err(RunError::Memory) => Err(anyhow!("out of memory")),
-        Err(_) => Ok(String::from_str(alloc, "another end")?),
+        Err(_) => said(alloc, "another end"),
     }
 }

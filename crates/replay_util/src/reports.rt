@@ -7,8 +7,8 @@ use phonenumber::report::{RunError, run};
 use replay_base::devices::{fault, then};
 use replay_base::marks::{around, begin};
 use replay_base::table::Row;
-use replay_base::words::hint;
-use std::alloc::{AllocError, Global};
+use replay_base::words::{hint, said};
+use std::alloc::Global;
 
 /// How many bytes the sink of a run takes that isn't to fail.
 const ROOM: usize = 4096;
@@ -17,22 +17,22 @@ const ROOM: usize = 4096;
 /// no place or no end of a device, and where memory is refused.
 pub fn answer(alloc: Global, row: &Row, db: &Database) -> Result<Option<String>> {
     let answer = match row.call() {
-        "run" => number_of_row(alloc, row, db)?,
-        "run-source" => from_source(alloc, row, db)?,
-        "run-sink" => to_sink(alloc, row, db)?,
-        "run-each-sink" => to_each_sink(alloc, row, db)?,
+        "run" => of_row(alloc, row, db),
+        "run-source" => from_source(alloc, row, db),
+        "run-sink" => to_sink(alloc, row, db),
+        "run-each-sink" => to_each_sink(alloc, row, db),
         _ => return Ok(None),
     };
-    Ok(Some(answer))
+    Ok(Some(answer?))
 }
 
 /// The report on a line's input. An error where memory is refused behind whole first lines of the
 /// report that is wanted.
-fn number_of_row(alloc: Global, row: &Row, db: &Database) -> Result<String> {
+fn of_row(alloc: Global, row: &Row, db: &Database) -> Result<String> {
     let mut sink = Limit::new(alloc, ROOM, Then::Fail)?;
     let end = run_to(alloc, row, db, &mut sink)?;
     if end == Err(RunError::Memory) && !are_first_lines(sink.bytes(), row.answer()) {
-        return Ok(String::from_str(alloc, "another end")?);
+        return said(alloc, "another end");
     }
     report(alloc, end, sink.bytes())
 }
@@ -46,15 +46,15 @@ fn run_to(
 ) -> Result<Result<(), RunError>> {
     let hint = hint(row.argument(1))?;
     let mut source = MemorySource::new(row.argument_bytes(2));
-    Ok(around(alloc, begin(alloc), run(db, hint, &mut source, sink))?)
+    Ok(around(alloc, begin(alloc), run(db, hint, &mut source, sink)))
 }
 
 /// What a run wrote that came to its end. An error where memory was refused.
 fn report(alloc: Global, end: Result<(), RunError>, written: &[u8]) -> Result<String> {
     match end {
-        Ok(()) => Ok(text(alloc, written)?),
+        Ok(()) => said(alloc, text(written)),
         Err(RunError::Memory) => Err(anyhow!("out of memory")),
-        Err(_) => Ok(String::from_str(alloc, "another end")?),
+        Err(_) => said(alloc, "another end"),
     }
 }
 
@@ -65,8 +65,8 @@ fn are_first_lines(written: &[u8], report: &[u8]) -> bool {
 
 /// What was written. The texts of reports are UTF-8, and of a report that breaks off in a character
 /// nothing is told.
-fn text(alloc: Global, written: &[u8]) -> Result<String, AllocError> {
-    String::from_str(alloc, std::str::from_utf8(written).unwrap_or("no UTF-8"))
+fn text(written: &[u8]) -> &str {
+    std::str::from_utf8(written).unwrap_or("no UTF-8")
 }
 
 /// How a run ended, and what it wrote, parted by a tab. An error where memory was refused.
@@ -77,7 +77,7 @@ fn status_after(alloc: Global, end: Result<(), RunError>, written: &[u8]) -> Res
         Err(RunError::Output) => "Output",
         Err(RunError::Memory) => return Err(anyhow!("out of memory")),
     };
-    let written = text(alloc, written)?;
+    let written = text(written);
     Ok(format!(in alloc; "{end}\t{written}")?)
 }
 
@@ -87,7 +87,7 @@ fn from_source(alloc: Global, row: &Row, db: &Database) -> Result<String> {
     let bytes = Vec::from_slice(alloc, row.argument_bytes(2))?;
     let mut source = Script::new(bytes, at);
     let mut sink = Limit::new(alloc, ROOM, Then::Fail)?;
-    let end = around(alloc, begin(alloc), run(db, hint, &mut source, &mut sink))?;
+    let end = around(alloc, begin(alloc), run(db, hint, &mut source, &mut sink));
     status_after(alloc, end, sink.bytes())
 }
 

@@ -1,6 +1,7 @@
 //! The call that asks whether two texts are one number.
 use crate::by_rules::by_rules;
 use anyhow::Result;
+use phone_choice::Rules;
 use phone_meta::Database;
 use phone_util::compare_texts;
 use replay_base::marks::{around, begin};
@@ -11,12 +12,17 @@ use std::alloc::Global;
 /// How like the numbers of a line's two texts are, or the refusal of one; none for any other call.
 /// An error where memory is refused.
 pub fn answer(alloc: Global, row: &Row, db: &Database) -> Result<Option<String>> {
-    let (rules, "same") = by_rules(row) else {
-        return Ok(None);
-    };
+    match by_rules(row) {
+        (rules, "same") => Ok(Some(likeness(alloc, rules, row, db)?)),
+        _ => Ok(None),
+    }
+}
+
+/// How like the numbers of a line's two texts are, or the refusal of one.
+fn likeness(alloc: Global, rules: Rules, row: &Row, db: &Database) -> Result<String> {
     let (a, b) = (row.argument(1), row.argument(2));
-    match around(alloc, begin(alloc), compare_texts(rules, db, a, b))? {
-        Ok(found) => Ok(Some(format!(in alloc; "{found:?}")?)),
-        Err(error) => Ok(Some(refusal(alloc, &error)?)),
+    match around(alloc, begin(alloc), compare_texts(rules, db, a, b)) {
+        Ok(found) => Ok(format!(in alloc; "{found:?}")?),
+        Err(error) => refusal(alloc, &error),
     }
 }

@@ -5,7 +5,7 @@ use phone_choice::Rules;
 use phone_csv::RunError;
 use phone_device::{Limit, MemorySource, Then};
 use phone_meta::Database;
-use phone_table::{Asked, Counts, Extra, TableError, write_table};
+use phone_table::{Asked, Counts, TableError, write_table};
 use phone_values::country::Id;
 use replay_base::marks::{around, begin};
 use replay_base::table::Row;
@@ -19,20 +19,24 @@ const ROOM: usize = 4096;
 /// line has the column of the numbers, that of the regions or a hyphen, the hint, `mark` where bad
 /// records are marked, and the table. An error where memory is refused.
 pub fn answer(alloc: Global, row: &Row, db: &Database) -> Result<Option<String>> {
-    let (rules, "given-table") = by_rules(row) else {
-        return Ok(None);
-    };
-    let further: Vec<Extra<'_>> = Vec::new(alloc);
-    let asked = asked(rules, row, hint(row.argument(3))?, further.as_slice());
-    let mut source = MemorySource::new(row.argument_bytes(5));
-    let mut sink = Limit::new(alloc, ROOM, Then::Fail)?;
-    let end = write_table(db, asked, &mut source, &mut sink);
-    let end = around(alloc, begin(alloc), end)?;
-    Ok(Some(status_after(alloc, &end, sink.bytes())?))
+    match by_rules(row) {
+        (rules, "given-table") => Ok(Some(given(alloc, rules, row, db)?)),
+        _ => Ok(None),
+    }
 }
 
-/// What a row asks for of its table, with these further columns and without short numbers.
-fn asked<'r>(rules: Rules, row: &'r Row, hint: Option<Id>, extra: &'r [Extra<'r>]) -> Asked<'r> {
+/// How a line's table is given back, and what was written.
+fn given(alloc: Global, rules: Rules, row: &Row, db: &Database) -> Result<String> {
+    let asked = asked(rules, row, hint(row.argument(3))?);
+    let mut source = MemorySource::new(row.argument_bytes(5));
+    let mut sink = Limit::new(alloc, ROOM, Then::Fail)?;
+    let begun = begin(alloc);
+    let end = write_table(db, asked, &mut source, &mut sink);
+    end_words(alloc, around(alloc, begun, end), sink.bytes())
+}
+
+/// What a row asks for of its table, without further columns and short numbers.
+fn asked<'r>(rules: Rules, row: &'r Row, hint: Option<Id>) -> Asked<'r> {
     Asked {
         rules,
         number: row.argument(1),
@@ -41,7 +45,7 @@ fn asked<'r>(rules: Rules, row: &'r Row, hint: Option<Id>, extra: &'r [Extra<'r>
         hint,
         else_hint: false,
         mark_bad: row.argument(4) == "mark",
-        extra,
+        extra: &[],
         short: None,
     }
 }
@@ -52,25 +56,29 @@ fn region(name: &str) -> Option<&str> {
 }
 
 /// How the run ended, and what it wrote.
-fn status_after(alloc: Global, end: &Result<Counts, TableError>, written: &[u8]) -> Result<String> {
-    let end = word(alloc, end)?;
+fn end_words(alloc: Global, end: Result<Counts, TableError>, written: &[u8]) -> Result<String> {
+    let mut out = String::new(alloc);
+    push_end(&mut out, end)?;
     let written = std::str::from_utf8(written).unwrap_or("no UTF-8");
-    Ok(format!(in alloc; "{end}\t{written}")?)
+    write!(out, "\t{written}")?;
+    Ok(out)
 }
 
-/// How the run ended, in a word.
-fn word(alloc: Global, end: &Result<Counts, TableError>) -> Result<String> {
-    match end {
-        Ok(counts) => Ok(numbers(alloc, counts)?),
-        Err(TableError::Rows(RunError::Record(feeds))) => Ok(record(alloc, *feeds)?),
-        Err(TableError::Rows(RunError::Memory)) => Err(anyhow!("out of memory")),
-        Err(_) => Ok(String::from_str(alloc, "another end")?),
-    }
+/// Writes how the run ended, in a word: with its counts, or at a record that isn't answered, by the
+/// line feeds in front of it.
+fn push_end(out: &mut String, end: Result<Counts, TableError>) -> Result<()> {
+    let written = match end {
+        Ok(counts) => push_counts(out, &counts),
+        Err(TableError::Rows(RunError::Record(feeds))) => write!(out, "Record {feeds}"),
+        Err(TableError::Rows(RunError::Memory)) => return Err(anyhow!("out of memory")),
+        Err(_) => out.push_str("another end"),
+    };
+    Ok(written?)
 }
 
-/// How many records there were, and how many with an unknown region, an empty field, a wrong count
-/// of fields, without a number, and with one that isn't valid, parted by spaces.
-fn numbers(alloc: Global, counts: &Counts) -> Result<String, AllocError> {
+/// Writes how many records there were, and how many with an unknown region, an empty field, a wrong
+/// count of fields, without a number, and with one that isn't valid, parted by spaces.
+fn push_counts(out: &mut String, counts: &Counts) -> Result<(), AllocError> {
     let Counts {
         records,
         unknown_region,
@@ -79,10 +87,8 @@ fn numbers(alloc: Global, counts: &Counts) -> Result<String, AllocError> {
         no_number,
         invalid,
     } = counts;
-    format!(in alloc; "{records} {unknown_region} {empty} {wrong_count} {no_number} {invalid}")
-}
-
-/// A record that isn't answered, by the line feeds in front of it.
-fn record(alloc: Global, feeds: u64) -> Result<String, AllocError> {
-    format!(in alloc; "Record {feeds}")
+    write!(
+        out,
+        "{records} {unknown_region} {empty} {wrong_count} {no_number} {invalid}"
+    )
 }

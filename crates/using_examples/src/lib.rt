@@ -1,6 +1,6 @@
 //! Five things that a user of this library does, one module each: it reads lines, prints a number,
-//! checks a form field, keys a table by numbers, and makes a database. Its stored run shows what
-//! each prints; `docs/USING.md` tells of them.
+//! checks a form field, keys a table by numbers, and makes a database. The stored run of `replay`
+//! ends with what each prints; `docs/USING.md` tells of them.
 #![tactic(auto)]
 
 mod database;
@@ -13,18 +13,12 @@ use anyhow::Result;
 use phonenumber::metadata::Database;
 use std::alloc::AllocGlobal;
 use std::fs::Files;
-use std::process::ExitCode;
 
-fn main(rt: HostRuntime) -> Result<ExitCode> {
-    on_three(&rt)?;
-    database::example(&rt)?;
-    Ok(ExitCode::from(0))
-}
-
-/// What is done under the database of a file.
-fn on_three<R: Files + AllocGlobal + Print>(rt: &R) -> Result<()> {
-    let database = Database::load(rt, "three.json")?;
-    each(rt, &database)
+/// Prints what each example does, most of them under the database in a file of three territories.
+pub fn examples<R: Files + AllocGlobal + Print>(rt: &R, three: &str) -> Result<()> {
+    let database = Database::load(rt, three)?;
+    each(rt, &database)?;
+    database::example(rt)
 }
 
 /// What is done under a database.

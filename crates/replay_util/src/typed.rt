@@ -1,6 +1,4 @@
-//! Rows of what a field shows while a number is typed into it.
-#![tactic(auto)]
-
+//! The call that tells what a field shows while a number is typed into it.
 use anyhow::{Result, anyhow};
 use phone_meta::Database;
 use phone_typed::{Typing, typed};

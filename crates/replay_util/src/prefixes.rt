@@ -1,12 +1,11 @@
-//! Rows of answers about tables of prefixes.
-#![tactic(auto)]
-
+//! The calls of `phone_prefixes`: tables of prefixes.
 use anyhow::Result;
 use phone_device::{MemorySource, Script};
 use phone_prefixes::{Prefixes, PrefixesError};
 use replay_base::devices::fault;
 use replay_base::marks::{around, begin};
 use replay_base::table::Row;
+use replay_base::words::said;
 use std::alloc::{AllocError, AllocGlobal, Global};
 use std::fs::{self, Files};
 
@@ -15,12 +14,12 @@ use std::fs::{self, Files};
 pub fn answer<R: Files + AllocGlobal>(rt: &R, row: &Row) -> Result<Option<String>> {
     let alloc = rt.alloc();
     let answer = match row.call() {
-        "prefix" => in_text(alloc, row)?,
-        "prefixes-read" => read(alloc, row)?,
-        "prefixes-of-map" => in_map(rt, row)?,
+        "prefix" => in_text(alloc, row),
+        "prefixes-read" => read(alloc, row),
+        "prefixes-of-map" => in_map(rt, row),
         _ => return Ok(None),
     };
-    Ok(Some(answer))
+    Ok(Some(answer?))
 }
 
 /// The table of these bytes.
@@ -30,10 +29,10 @@ fn table(alloc: Global, bytes: &[u8]) -> Result<Prefixes, PrefixesError> {
 
 /// The entry of the longest prefix that begins digits, by a table whose text a line has.
 fn in_text(alloc: Global, row: &Row) -> Result<String> {
-    let table = around(alloc, begin(alloc), table(alloc, row.argument_bytes(0)))??;
+    let table = around(alloc, begin(alloc), table(alloc, row.argument_bytes(0)))?;
     match table.longest(row.argument(1)) {
         Some((prefix, text)) => Ok(format!(in alloc; "{prefix}: {text}")?),
-        None => Ok(String::from_str(alloc, "none")?),
+        None => said(alloc, "none"),
     }
 }
 
@@ -41,7 +40,7 @@ fn in_text(alloc: Global, row: &Row) -> Result<String> {
 fn read(alloc: Global, row: &Row) -> Result<String> {
     let bytes = Vec::from_slice(alloc, row.argument_bytes(1))?;
     let mut source = Script::new(bytes, fault(row.argument(0))?);
-    let table = around(alloc, begin(alloc), Prefixes::read(alloc, &mut source))??;
+    let table = around(alloc, begin(alloc), Prefixes::read(alloc, &mut source))?;
     Ok(entries(alloc, &table)?)
 }
 
