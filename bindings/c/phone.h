@@ -4,9 +4,10 @@
  * What a caller owes, and nothing checks:
  *   - A handle begins as PHONE_CLOSED, and only these calls write it. It is not copied: two copies
  *     would own one database. So with a table of prefixes.
- *   - One call at a time on a handle, on the thread that opened it; not from a signal handler, nor in
- *     the forked child of a process with threads. Each thread that reads has a handle of its own; the
- *     table of the world takes some 57 MB for each.
+ *   - One call at a time on a handle. It is of no thread: one thread opens it, others use it in turn, any
+ *     closes it, with a lock or a join between two calls. Threads that read at once have handles of
+ *     their own; the table of the world takes some 57 MB for each. No call is made from a signal
+ *     handler, nor in a forked child on a handle that another thread's call was on at the fork.
  *   - A length is not past its buffer. A buffer that is written is memory that may be read: what was
  *     allocated is set to something first. What one call is given does not overlap.
  *   - `phone_text(p, n)` makes of a null text of length 0 one that may be passed; no pointer that is

@@ -12,7 +12,6 @@ import shutil
 import subprocess
 import sys
 import tempfile
-import threading
 from pathlib import Path
 
 import phonenumber_proved
@@ -214,12 +213,7 @@ def texts_are_str_or_bytes(world, table):
     check("long", refused(world.parse, "+64" + "3" * 100_000), ("NoNumber", "the number is too long"))
 
 
-def one_thread_has_a_database(world):
-    told = []
-    other = threading.Thread(target=lambda: told.append(refused(world.parse, "03-331 6005", "NZ")))
-    other.start()
-    other.join()
-    check("thread", told, [("RuntimeError", "it is used on the thread that made it")])
+def what_is_closed_is_refused(_):
     check("closed", refused(closed().parse, "03-331 6005", "NZ"), ("Closed", "closed"))
 
 
@@ -414,7 +408,7 @@ def main(words):
     folder = Path(words[0]) if words else REPLAY
     with Database.load() as world, ShortNumbers.load() as table:
         for case in (rules_are_the_callers, numbers_are_told, numbers_are_keys_of_tables, numbers_come_from_parts,
-                     errors_are_values, one_thread_has_a_database):
+                     errors_are_values, what_is_closed_is_refused):
             case(world)
         for case in (lone_surrogates_are_refused, what_is_no_region_is_refused, texts_are_str_or_bytes):
             case(world, table)

@@ -10,10 +10,8 @@ import io
 import pickle
 import re
 import sys
-import threading
 from pathlib import Path
 
-from phonenumber_proved import Database
 from phonenumber_proved import phonenumbers as names
 from phonenumber_proved.phonenumbers import NumberParseException as Refused
 from phonenumber_proved.phonenumbers import Leniency, MatchType, PhoneNumber, PhoneNumberFormat, PhoneNumberType, ValidationResult
@@ -177,23 +175,6 @@ def numbers_are_data():
             pass
 
 
-def threads_free_what_they_open():
-    freed, free = [], Database._free
-
-    def count(handle):
-        freed.append(threading.get_ident())
-        free(handle)
-
-    Database._free = staticmethod(count)
-    threads = [threading.Thread(target=names.parse, args=("+64 3 331 6005",)) for _ in range(3)]
-    for it in threads:
-        it.start()
-    for it in threads:
-        it.join()
-    del Database._free
-    check("threads", (len(freed), threading.get_ident() in freed), (3, False))
-
-
 def readme():
     """The examples of README.md print what stands behind their lines."""
     text = Path(__file__).with_name("README.md").read_text(encoding="utf-8")
@@ -206,7 +187,7 @@ def readme():
 
 def main():
     for case in (numbers_are_read, numbers_are_told, numbers_are_compared_and_found, regions_are_told, short_numbers_are_told,
-                 numbers_are_data, threads_free_what_they_open, readme):
+                 numbers_are_data, readme):
         case()
     missing = [name for name in names.__all__ if not hasattr(names, name)]
     check("names", missing, [])

@@ -1,5 +1,5 @@
 /* The extension for SQLite: README.md says what its functions answer. Each thread that calls one has a
- * table of its own, opened at its first call: a table is read by the thread that opened it alone. */
+ * table of its own, opened at its first call, so that none waits for another's call. */
 #include <sqlite3ext.h>
 SQLITE_EXTENSION_INIT1
 #include <pthread.h>

@@ -1,8 +1,8 @@
 """A web form with one field, in which a phone number is formatted while one types.
 
 `FormServer` is given what makes its backend: `backend.Backend`, or anything with the same `regions`,
-`typed`, `pasted` and `told`. All calls of the backend are on one thread, which made it: so a database
-wants it. The server keeps nothing of what is typed and logs nothing of it.
+`typed`, `pasted` and `told`. All calls of the backend are on one thread, which made it. The server
+keeps nothing of what is typed and logs nothing of it.
 """
 
 from __future__ import annotations

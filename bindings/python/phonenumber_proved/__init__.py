@@ -15,12 +15,13 @@
     >>> is_viable("call me"), is_viable("03-331 6005")
     (False, True)
 
-A `Database` is used on the thread that made it, by one call at a time; so are `ShortNumbers` and
-`Prefixes`. Each database has a table of its own; that of the world takes some 57 MB. `close`, or
-`with`, frees it. A text is `str` or UTF-8 in `bytes`; a lone surrogate, or bytes that aren't UTF-8,
-are refused. PHONE_LIBRARY names the shared library, else `libphone.so` beside these files is
-taken, and else the one that `make` leaves in bindings/c/out. The table of the world is a file
-beside these, or else the one in the library; PHONE_TABLE names another file.
+Any thread may use and close a `Database`, `ShortNumbers` or `Prefixes`, and so may the child of a
+fork: a call waits until no other is on it, and a fork until there is none. Each database has a
+table of its own; that of the world takes some 57 MB. `close`, or `with`, frees it. A text is `str`
+or UTF-8 in `bytes`; a lone surrogate, or bytes that aren't UTF-8, are refused. PHONE_LIBRARY names
+the shared library, else `libphone.so` beside these files is taken, and else the one that `make`
+leaves in bindings/c/out. The table of the world is a file beside these, or else the one in the
+library; PHONE_TABLE names another file.
 The module `phonenumber_proved.phonenumbers` has the names of the package `phonenumbers`.
 """
 

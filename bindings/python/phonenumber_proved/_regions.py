@@ -1,13 +1,13 @@
-"""The databases of a thread, and what the table of the world says of regions and codes."""
+"""The databases of `phonenumbers`, and what the table of the world says of regions and codes."""
 
 from __future__ import annotations
 
 import functools
 import json
-import threading
 from pathlib import Path
-from typing import Any, Dict, List, Optional, Tuple
+from typing import Any, Callable, Dict, List, Optional, Tuple
 
+from ._locks import new_lock
 from .database import Database
 from .short import ShortNumbers
 from .tables import SHORT_TABLE, table_text
@@ -15,21 +15,26 @@ from .tables import SHORT_TABLE, table_text
 #: The region of a code that is no region's, as 800, and that of no code.
 NO_REGION, UNKNOWN = "001", "ZZ"
 
-_here = threading.local()
+_opening = new_lock()
+_opened: Dict[Any, Any] = {}
+
+
+def _once(key: Any, opened: Callable[[], Any]) -> Any:
+    """What is opened once for all threads."""
+    with _opening:
+        if key not in _opened:
+            _opened[key] = opened()
+        return _opened[key]
 
 
 def world() -> Database:
-    """The table of the world, opened once on each thread that asks it."""
-    if not hasattr(_here, "world"):
-        _here.world = Database.load()
-    return _here.world  # type: ignore[no-any-return]
+    """The table of the world, opened once for all threads."""
+    return _once("world", Database.load)  # type: ignore[no-any-return]
 
 
 def short_numbers() -> ShortNumbers:
-    """The table of short numbers, opened once on each thread that asks it."""
-    if not hasattr(_here, "short"):
-        _here.short = ShortNumbers.load()
-    return _here.short  # type: ignore[no-any-return]
+    """The table of short numbers, opened once for all threads."""
+    return _once("short", ShortNumbers.load)  # type: ignore[no-any-return]
 
 
 @functools.lru_cache(maxsize=None)
@@ -73,8 +78,5 @@ def alone(code: int, region: str) -> Optional[Database]:
     record = records().get((code, region))
     if record is None:
         return None
-    if not hasattr(_here, "alone"):
-        _here.alone = {}
-    if (code, region) not in _here.alone:
-        _here.alone[code, region] = Database(json.dumps([record]))
-    return _here.alone[code, region]  # type: ignore[no-any-return]
+    opened = _once((code, region), lambda: Database(json.dumps([record])))
+    return opened  # type: ignore[no-any-return]

@@ -104,10 +104,11 @@ class Database(Held):
         CRATE +4402079460018 False
         """
         data, region, by = bytes_of(text), hint_of(hint), Rules(rules)
-        number, handle = Number(), self._borrowed()
+        number = Number()
         texts = written(
-            lambda *out: lib.phone_parse_by(
-                handle, by, region, len(region), data, len(data), ctypes.byref(number), *out
+            lambda *out: self._call(
+                lib.phone_parse_by, by, region, len(region), data, len(data),
+                ctypes.byref(number), *out,
             ),
             region=hint,
         )
@@ -118,10 +119,9 @@ class Database(Held):
     ) -> str:
         """The report line of a line, without a line feed."""
         data, region, by = bytes_of(line), hint_of(hint), Rules(rules)
-        handle = self._borrowed()
         return written(
-            lambda *out: lib.phone_report_by(
-                handle, by, region, len(region), data, len(data), *out
+            lambda *out: self._call(
+                lib.phone_report_by, by, region, len(region), data, len(data), *out
             ),
             512,
             hint,
@@ -138,10 +138,10 @@ class Database(Held):
         ...     world.typed("0333160", "NZ"), world.typed("+6433316005")
         ('03 331 60', '+64 3 331 6005')
         """
-        data, region, handle = bytes_of(keys), hint_of(hint), self._borrowed()
+        data, region = bytes_of(keys), hint_of(hint)
         return written(
-            lambda *out: lib.phone_typing_shown(
-                handle, region, len(region), data, len(data), *out
+            lambda *out: self._call(
+                lib.phone_typing_shown, region, len(region), data, len(data), *out
             ),
             region=hint,
         ).decode()
@@ -156,8 +156,8 @@ class Database(Held):
             raise ValueError("keys are counted from 1")
         at = ctypes.byref(told)
         places = min(n, len(data) + 1)  # no text has more keys than bytes
-        status = lib.phone_typing_caret(
-            self._borrowed(), region, len(region), data, len(data), places, at
+        status = self._call(
+            lib.phone_typing_caret, region, len(region), data, len(data), places, at
         )
         return int(told.value) if status == OK else refuse(status, hint)
 
@@ -176,9 +176,9 @@ class Database(Held):
         'TOO_SHORT'
         """
         data, region, told = bytes_of(text), hint_of(hint), ctypes.c_uint32()
-        handle, by, at = self._borrowed(), Rules(rules), ctypes.byref(told)
-        status = lib.phone_text_possibility_by(
-            handle, by, region, len(region), data, len(data), at
+        by, at = Rules(rules), ctypes.byref(told)
+        status = self._call(
+            lib.phone_text_possibility_by, by, region, len(region), data, len(data), at
         )
         return Possibility(told.value) if status == OK else refuse(status, hint)
 
@@ -193,8 +193,8 @@ class Database(Held):
         'END'
         """
         one, two, told = bytes_of(first), bytes_of(second), ctypes.c_uint32()
-        handle, by, at = self._borrowed(), Rules(rules), ctypes.byref(told)
-        status = lib.phone_compare_by(handle, by, one, len(one), two, len(two), at)
+        by, at = Rules(rules), ctypes.byref(told)
+        status = self._call(lib.phone_compare_by, by, one, len(one), two, len(two), at)
         return Sameness(told.value) if status == OK else refuse(status)
 
     def find(
@@ -209,10 +209,10 @@ class Database(Held):
         [Found(start=5, end=16, number=<PhoneNumber +6433316005>)]
         """
         data, region = bytes_of(text), hint_of(hint)
-        handle, by, level = self._borrowed(), Rules(rules), Leniency(leniency)
+        by, level = Rules(rules), Leniency(leniency)
         places = items(
-            Place, 8, lambda *out: lib.phone_find_by(
-                handle, by, region, len(region), level, data, len(data), *out
+            Place, 8, lambda *out: self._call(
+                lib.phone_find_by, by, region, len(region), level, data, len(data), *out
             ), hint,
         )
         found, last, end = [], 0, 0
@@ -236,12 +236,13 @@ class Database(Held):
         ...     world.example("NZ", Kind.MOBILE).kind.name, world.example("NZ", Kind.UNKNOWN)
         ('MOBILE', None)
         """
-        at, number, handle, by = hint_of(region or ""), Number(), self._borrowed(), Rules(rules)
+        at, number, by = hint_of(region or ""), Number(), Rules(rules)
         is_there, of_kind = [], Kind(kind)
 
         def call(*out: Any) -> int:
             into = ctypes.byref(number)
-            status: int = lib.phone_example_by(handle, by, at, len(at), of_kind, into, *out)
+            args = by, at, len(at), of_kind, into
+            status: int = self._call(lib.phone_example_by, *args, *out)
             is_there.append(status != NO_EXAMPLE)
             return status if is_there[-1] else OK
 
@@ -250,8 +251,7 @@ class Database(Held):
 
     def regions(self) -> List[str]:
         """The ids of the database's regions, by the alphabet."""
-        handle = self._borrowed()
-        ids = written(lambda *out: lib.phone_regions(handle, *out), 512).decode()
+        ids = written(lambda *out: self._call(lib.phone_regions, *out), 512).decode()
         return [ids[at : at + 2] for at in range(0, len(ids), 2)]
 
     def codes(self) -> List[int]:
@@ -262,5 +262,5 @@ class Database(Held):
         ...     world.regions()[:3], world.codes()[:3]
         (['AC', 'AD', 'AE'], [1, 7, 20])
         """
-        handle = self._borrowed()
-        return list(items(ctypes.c_uint16, 256, lambda *out: lib.phone_codes(handle, *out)))
+        codes = items(ctypes.c_uint16, 256, lambda *out: self._call(lib.phone_codes, *out))
+        return list(codes)

@@ -3,7 +3,6 @@
 from __future__ import annotations
 
 import ctypes
-import threading
 from pathlib import Path
 from types import TracebackType
 from typing import Any, Callable, NoReturn, Optional, Type, TypeVar, Union
@@ -11,18 +10,20 @@ from typing import Any, Callable, NoReturn, Optional, Type, TypeVar, Union
 import os
 
 from ._calls import Text, lib
+from ._locks import forget, new_lock
 
 Self = TypeVar("Self", bound="Held")
 PathText = Union[str, "os.PathLike[str]"]
 
 
 class Held:
-    """Something open: used on the thread that made it, by one call at a time, and freed by `close`.
+    """Something open: used by any thread, one call at a time, and freed by `close`.
 
-    It isn't copied: two copies would own one thing.
+    It isn't copied: two copies would own one thing. The child of a fork has it too.
     """
 
     _handle: Any
+    _lock: Any
     _free: Callable[..., None] = lib.phone_close
 
     def __init__(self, text: Text) -> None:
@@ -33,22 +34,17 @@ class Held:
         """Opens what a file holds."""
         return cls(Path(path).read_bytes())
 
-    def _borrowed(self) -> Any:
-        """The handle for a call."""
-        self._check_thread()
-        return ctypes.byref(self._handle)
-
-    def _check_thread(self) -> None:
-        if threading.get_ident() != self._thread:
-            raise RuntimeError("it is used on the thread that made it")
+    def _call(self, call: Callable[..., Any], *args: Any) -> Any:
+        """What a call on the handle gives, once no other thread's call is on it."""
+        with self._lock:
+            return call(ctypes.byref(self._handle), *args)
 
     def _hold(self, handle: Any) -> None:
-        self._handle, self._thread = handle, threading.get_ident()
+        self._lock, self._handle = new_lock(), handle
 
     def close(self) -> None:
         """Frees it; nothing where that was done. A later call raises `Closed`."""
-        if self._handle.at:
-            type(self)._free(self._borrowed())
+        self._call(type(self)._free)
 
     def __enter__(self: Self) -> Self:
         return self
@@ -66,5 +62,6 @@ class Held:
 
     def __del__(self) -> None:
         handle = getattr(self, "_handle", None)
-        if handle is not None and handle.at and threading.get_ident() == self._thread:
+        if handle is not None:
+            forget(self._lock)
             type(self)._free(ctypes.byref(handle))

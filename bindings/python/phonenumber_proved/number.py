@@ -5,7 +5,7 @@ from __future__ import annotations
 import ctypes
 import enum
 import functools
-from typing import TYPE_CHECKING, Any, Optional, Tuple
+from typing import TYPE_CHECKING, Any, Callable, Optional, Tuple
 
 from ._calls import IS_CLOSED, OK, Number, Part, hint_of, lib, refuse, written
 from .errors import Closed
@@ -166,10 +166,9 @@ class PhoneNumber:
     def format(self, mode: Mode = Mode.E164) -> str:
         """The text in a mode; `UnknownCode` where the database lists no territory of the code."""
         number, texts, printed = ctypes.byref(self._number), self._texts, int(Mode(mode))
-        handle, rules = self._borrowed(), self._rules
         return written(
-            lambda *out: lib.phone_format_by(
-                handle, rules, number, texts, len(texts), printed, *out
+            lambda *out: self._call(
+                lib.phone_format_by, self._rules, number, texts, len(texts), printed, *out
             )
         ).decode()
 
@@ -183,14 +182,14 @@ class PhoneNumber:
         """The kind of the number."""
         told = ctypes.c_uint32()
         number, answer = ctypes.byref(self._number), ctypes.byref(told)
-        status = lib.phone_kind_by(self._borrowed(), self._rules, number, answer)
+        status = self._call(lib.phone_kind_by, self._rules, number, answer)
         return Kind(told.value) if status == OK else refuse(status)
 
     @property
     def region(self) -> Optional[str]:
         """The id of the number's region, as `NZ`; `None` where it has none."""
-        number, handle, rules = ctypes.byref(self._number), self._borrowed(), self._rules
-        region = written(lambda *out: lib.phone_region_by(handle, rules, number, *out), 8)
+        number, rules = ctypes.byref(self._number), self._rules
+        region = written(lambda *out: self._call(lib.phone_region_by, rules, number, *out), 8)
         return region.decode() or None
 
     @property
@@ -198,7 +197,7 @@ class PhoneNumber:
         """Whether such numbers are given out."""
         told = ctypes.c_uint8()
         number, answer = ctypes.byref(self._number), ctypes.byref(told)
-        status = lib.phone_is_valid_by(self._borrowed(), self._rules, number, answer)
+        status = self._call(lib.phone_is_valid_by, self._rules, number, answer)
         return told.value == 1 if status == OK else refuse(status)
 
     @property
@@ -206,7 +205,7 @@ class PhoneNumber:
         """Whether the count of its digits is possible."""
         told = ctypes.c_uint32()
         number, answer = ctypes.byref(self._number), ctypes.byref(told)
-        status = lib.phone_possibility_by(self._borrowed(), self._rules, number, answer)
+        status = self._call(lib.phone_possibility_by, self._rules, number, answer)
         return Possibility(told.value) if status == OK else refuse(status)
 
     def dialled_from(self, region: str) -> str:
@@ -219,18 +218,18 @@ class PhoneNumber:
         ('00 64 3 331 6005', '03 331 6005')
         """
         at, number, texts = hint_of(region or ""), ctypes.byref(self._number), self._texts
-        handle = self._borrowed()
         return written(
-            lambda *out: lib.phone_dialled_from(
-                handle, at, len(at), number, texts, len(texts), *out
+            lambda *out: self._call(
+                lib.phone_dialled_from, at, len(at), number, texts, len(texts), *out
             ),
             region=region,
         ).decode()
 
-    def _borrowed(self) -> Any:
+    def _call(self, call: Callable[..., int], *args: Any) -> Any:
+        """What a call on the number's database gives."""
         if self._database is None:
             raise Closed(IS_CLOSED, "the number has no database: on(database) gives it one")
-        return self._database._borrowed()
+        return self._database._call(call, *args)
 
     def _part(self, part: Part) -> Optional[str]:
         if not part.is_there:

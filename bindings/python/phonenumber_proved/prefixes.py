@@ -44,11 +44,12 @@ class Prefixes(Held):
         The digits are those of an E.164 number without its plus sign: `number.e164[1:]`. `None`
         exactly where no prefix begins them.
         """
-        data, handle, prefix_len = bytes_of(digits), self._borrowed(), ctypes.c_size_t()
+        data, prefix_len = bytes_of(digits), ctypes.c_size_t()
 
         def call(*out: Any) -> int:
             at = ctypes.byref(prefix_len)
-            status: int = lib.phone_prefixes_longest(handle, data, len(data), *out, at)
+            args = data, len(data), *out, at
+            status: int = self._call(lib.phone_prefixes_longest, *args)
             return OK if status == NO_PREFIX else status
 
         text = written(call)

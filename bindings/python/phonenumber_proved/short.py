@@ -61,7 +61,7 @@ class ShortNumbers(Held):
         """What is known of a text as a short number of a region; `UnknownRegion` where it is none."""
         data, at, facts = bytes_of(text), hint_of(region or ""), Facts()
         told = ctypes.byref(facts)
-        status = lib.phone_short(self._borrowed(), at, len(at), data, len(data), told)
+        status = self._call(lib.phone_short, at, len(at), data, len(data), told)
         if status != OK:
             refuse(status, region)
         return ShortFacts(

@@ -5,10 +5,9 @@ use crate::ffi;
 use crate::number::{Mode, PhoneNumber, TYPES, Type};
 use crate::records::Records;
 use crate::typing::Typing;
-use std::cell::RefCell;
 use std::fmt;
 use std::path::Path;
-use std::rc::Rc;
+use std::sync::{Mutex, PoisonError};
 
 /// By whose rules a text is read and a number described.
 #[derive(Clone, Copy, Debug, Default, PartialEq, Eq, Hash, PartialOrd, Ord)]
@@ -20,14 +19,16 @@ pub enum Rules {
     Crate,
 }
 
-/// A database. It is neither `Send` nor `Sync`: a handle is used on the thread that opened it.
+/// A database. Any thread may use it and drop it: each call waits until no other is on it, so that threads
+/// that read at once do well to have one each.
 ///
 /// A hint is the id of the region in which a text was written, as `NZ`; `Error::NoRegion` where it is
 /// none. What has no rules of its own is by libphonenumber's.
 ///
-/// ```compile_fail
-/// fn sent<T: Send>() {}
-/// sent::<phonenumber_proved::Database>();
+/// ```
+/// use phonenumber_proved::{Database, Prefixes, ShortNumbers, Typing};
+/// fn any_thread<T: Send + Sync>() {}
+/// any_thread::<(Database, Prefixes, ShortNumbers, Typing<'_>)>();
 /// ```
 pub struct Database {
     records: Records,
@@ -39,16 +40,16 @@ impl fmt::Debug for Database {
     }
 }
 
-thread_local! {
-    static OF_THREAD: RefCell<Option<Rc<Database>>> = const { RefCell::new(None) };
-}
-
-/// What the table of the world answers that the thread has open, or opens at this call.
-pub(crate) fn of_thread<T>(call: impl FnOnce(&Database) -> T) -> Result<T, Error> {
-    let open = OF_THREAD.with_borrow(Clone::clone);
-    let world = open.map_or_else(|| Database::world().map(Rc::new), Ok)?;
-    OF_THREAD.set(Some(Rc::clone(&world)));
-    Ok(call(&world))
+/// What a table of the world answers that no other thread asks meanwhile: one that is open, or that is opened at
+/// this call and stays so.
+pub(crate) fn of_world<T>(call: impl FnOnce(&Database) -> T) -> Result<T, Error> {
+    static IDLE: Mutex<Vec<Database>> = Mutex::new(Vec::new());
+    let idle = || IDLE.lock().unwrap_or_else(PoisonError::into_inner);
+    let open = idle().pop();
+    let world = open.map_or_else(Database::world, Ok)?;
+    let answer = call(&world);
+    idle().push(world);
+    Ok(answer)
 }
 
 impl Database {

@@ -24,8 +24,8 @@
 //! # Ok::<(), phonenumber_proved::Error>(())
 //! ```
 //!
-//! A [`PhoneNumber`] is plain data, which any thread may have. A [`Database`] stays on its thread, and
-//! each has a table of its own; that of the world takes some 57 MB. It is the calls that are proved, not
+//! A [`PhoneNumber`] is plain data. A [`Database`] is used by any thread, one call at a time behind a lock;
+//! it has a table of its own, and that of the world takes some 57 MB. It is the calls that are proved, not
 //! this crate: that the declarations of `phonenumber-proved-sys` fit, and that memory is given back, is
 //! tested. The module `compat` has the names of the crate `phonenumber`.
 mod call;

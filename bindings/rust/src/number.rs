@@ -1,6 +1,6 @@
 //! A phone number.
 use crate::call::text_of;
-use crate::database::of_thread;
+use crate::database::of_world;
 use crate::error::Error;
 use crate::ffi;
 use std::fmt;
@@ -219,7 +219,7 @@ impl FromStr for PhoneNumber {
     type Err = Error;
 
     /// The number that a text is without a hint, by libphonenumber's rules, under the table of the world,
-    /// which a thread opens at its first call.
+    /// which the first call opens.
     ///
     /// ```
     /// let number: phonenumber_proved::PhoneNumber = "+64 3 331 6005".parse()?;
@@ -227,7 +227,7 @@ impl FromStr for PhoneNumber {
     /// # Ok::<(), phonenumber_proved::Error>(())
     /// ```
     fn from_str(text: &str) -> Result<PhoneNumber, Error> {
-        of_thread(|world| world.parse(None, text))?
+        of_world(|world| world.parse(None, text))?
     }
 }
 

@@ -2,12 +2,12 @@
 use crate::call::text_of;
 use crate::error::Error;
 use crate::ffi;
-use std::cell::RefCell;
+use crate::records::Open;
 use std::fmt;
 use std::path::Path;
 
-/// A table of prefixes: each line of its text is a prefix of 1 to 15 digits, a tab, and a text. Like a
-/// database it stays on its thread.
+/// A table of prefixes: each line of its text is a prefix of 1 to 15 digits, a tab, and a text. Threads use
+/// it in turn, as they do a [`Database`](crate::Database).
 ///
 /// ```
 /// use phonenumber_proved::{Error, LineFault, Prefixes};
@@ -20,7 +20,7 @@ use std::path::Path;
 /// # Ok::<(), Error>(())
 /// ```
 pub struct Prefixes {
-    handle: RefCell<ffi::Prefixes>,
+    open: Open<ffi::Prefixes>,
 }
 
 impl fmt::Debug for Prefixes {
@@ -34,9 +34,9 @@ impl Prefixes {
     pub fn of(text: impl AsRef<[u8]>) -> Result<Prefixes, Error> {
         let text = text.as_ref();
         let (mut handle, mut line) = (ffi::Prefixes { at: std::ptr::null_mut() }, 0);
-        // SAFETY: the slice is valid for its length, and the handle is closed and borrowed for the call alone.
+        // SAFETY: the slice is valid for its length, and the handle is closed and lent to the call alone.
         match unsafe { ffi::phone_prefixes_open(text.as_ptr(), text.len(), &mut handle, &mut line) } {
-            ffi::OK => Ok(Prefixes { handle: RefCell::new(handle) }),
+            ffi::OK => Ok(Prefixes { open: Open::of(handle) }),
             status => Err(Error::of_prefixes(status, line)),
         }
     }
@@ -51,14 +51,11 @@ impl Prefixes {
     pub fn longest<'t>(&self, digits: &'t str) -> Result<Option<(&'t str, String)>, Error> {
         let mut prefix_len = 0;
         let text = text_of(64, |out, len, wrote| {
-            let handle = &mut *self.handle.borrow_mut();
-            // SAFETY: the handle is open, and borrowed for the call alone; the slices are valid, apart and initialized.
-            match unsafe {
+            // SAFETY: the handle is open, and lent to the call alone; the slices are valid, apart and initialized.
+            let status = self.open.with(|handle| unsafe {
                 ffi::phone_prefixes_longest(handle, digits.as_ptr(), digits.len(), out, len, wrote, &mut prefix_len)
-            } {
-                ffi::NO_PREFIX => ffi::OK,
-                status => status,
-            }
+            });
+            if status == ffi::NO_PREFIX { ffi::OK } else { status }
         })?;
         Ok((prefix_len > 0).then(|| (&digits[..prefix_len], text)))
     }
@@ -67,6 +64,6 @@ impl Prefixes {
 impl Drop for Prefixes {
     fn drop(&mut self) {
         // SAFETY: the handle is open, and not used afterwards.
-        unsafe { ffi::phone_prefixes_close(self.handle.get_mut()) }
+        self.open.with(|handle| unsafe { ffi::phone_prefixes_close(handle) })
     }
 }

@@ -1,12 +1,36 @@
-//! An open handle.
+//! An open handle, which any thread may use and close.
 use crate::error::Error;
 use crate::ffi;
-use std::cell::RefCell;
+use std::sync::{Mutex, PoisonError};
 
-/// The records that a JSON text has, behind a handle that is open until this is dropped. The pointer in
-/// it keeps it on its thread.
+/// A handle of either kind, which goes from thread to thread.
+struct Moved<H>(H);
+
+// SAFETY: a handle is of no thread: phone.h lets one after another use it, by one call at a time, and any close it.
+// What it points to is reached by the calls on it alone, shares nothing with another handle, and is known to no thread.
+unsafe impl Send for Moved<ffi::Handle> {}
+// SAFETY: as above.
+unsafe impl Send for Moved<ffi::Prefixes> {}
+
+/// A handle that is open, for the calls of all threads in turn.
+pub(crate) struct Open<H> {
+    handle: Mutex<Moved<H>>,
+}
+
+impl<H> Open<H> {
+    pub(crate) fn of(handle: H) -> Open<H> {
+        Open { handle: Mutex::new(Moved(handle)) }
+    }
+
+    /// What a call on the handle gives: it is open, and lent to the call alone.
+    pub(crate) fn with<T>(&self, call: impl FnOnce(*mut H) -> T) -> T {
+        call(&mut self.handle.lock().unwrap_or_else(PoisonError::into_inner).0)
+    }
+}
+
+/// The records that a JSON text has, behind a handle that is open until this is dropped.
 pub(crate) struct Records {
-    handle: RefCell<ffi::Handle>,
+    open: Open<ffi::Handle>,
 }
 
 impl Records {
@@ -24,20 +48,20 @@ impl Records {
     fn of(open: impl FnOnce(*mut ffi::Handle) -> u32) -> Result<Records, Error> {
         let mut handle = ffi::Handle { at: std::ptr::null_mut() };
         match open(&mut handle) {
-            ffi::OK => Ok(Records { handle: RefCell::new(handle) }),
+            ffi::OK => Ok(Records { open: Open::of(handle) }),
             status => Err(Error::of_database(status)),
         }
     }
 
     /// What a call on the handle gives: it is open, and lent to the call alone.
     pub(crate) fn with<T>(&self, call: impl FnOnce(*mut ffi::Handle) -> T) -> T {
-        call(&mut *self.handle.borrow_mut())
+        self.open.with(call)
     }
 }
 
 impl Drop for Records {
     fn drop(&mut self) {
         // SAFETY: the handle is open, and not used afterwards.
-        unsafe { ffi::phone_close(self.handle.get_mut()) }
+        self.with(|handle| unsafe { ffi::phone_close(handle) })
     }
 }

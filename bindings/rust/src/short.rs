@@ -34,7 +34,7 @@ pub struct ShortFacts {
     pub reaches_emergency: bool,
 }
 
-/// A table of short numbers. Like a database it stays on its thread.
+/// A table of short numbers. Threads use it in turn, as they do a [`Database`](crate::Database).
 ///
 /// ```
 /// use phonenumber_proved::{Cost, Error, SHORT, ShortNumbers};

@@ -3,9 +3,10 @@
 //! belongs to neither.
 use phonenumber_proved::{
     Cost, Database, Error, Found, Leniency, LineFault, Mode, PhoneNumber, Prefixes, Rules, SHORT, ShortNumbers, Source,
-    TABLE_VERSION, Type, WORLD, is_viable,
+    TABLE_VERSION, TIME_ZONES, Type, WORLD, is_viable,
 };
 use std::collections::{BTreeSet, HashMap, HashSet};
+use std::sync::Arc;
 
 fn world() -> Database {
     Database::from_json(WORLD).expect("the table of the world is read")
@@ -207,7 +208,7 @@ fn viability_is_told() {
 }
 
 #[test]
-fn each_thread_has_a_table_of_its_own() {
+fn each_thread_may_have_a_table_of_its_own() {
     let threads: Vec<_> = (0..4)
         .map(|_| {
             std::thread::spawn(|| {
@@ -221,6 +222,47 @@ fn each_thread_has_a_table_of_its_own() {
     for thread in threads {
         thread.join().unwrap();
     }
+}
+
+/// What a function gives in a thread of its own.
+fn elsewhere<T: Send + 'static>(made: impl FnOnce() -> T + Send + 'static) -> T {
+    std::thread::spawn(made).join().unwrap()
+}
+
+#[test]
+fn what_is_open_goes_from_thread_to_thread() {
+    let (world, zones) = elsewhere(|| (world(), Prefixes::of(TIME_ZONES).unwrap()));
+    let (world, zones, number, zone) = elsewhere(move || {
+        let number = world.parse(Some("NZ"), "03-331 6005").unwrap();
+        let zone = zones.longest("12015550123").unwrap();
+        (world, zones, number, zone)
+    });
+    assert_eq!((world.region(&number).unwrap().as_deref(), zone.unwrap().0), (Some("NZ"), "1201"));
+    elsewhere(move || drop((world, zones)));
+}
+
+#[test]
+fn threads_use_one_table_in_turn() {
+    let (world, zones) = (Arc::new(world()), Arc::new(Prefixes::of(TIME_ZONES).unwrap()));
+    let threads: Vec<_> = (0..8)
+        .map(|_| {
+            let (world, zones) = (Arc::clone(&world), Arc::clone(&zones));
+            std::thread::spawn(move || {
+                for (text, region, kind) in KINDS.iter().cycle().take(20 * KINDS.len()) {
+                    let number = world.parse(None, text).unwrap();
+                    assert_eq!(world.region(&number).unwrap().as_deref(), *region, "{text}");
+                    assert_eq!(world.number_type(&number).unwrap(), *kind, "{text}");
+                    let has_zone = zones.longest(&number.to_string()[1..]).unwrap().is_some();
+                    assert_eq!(has_zone, region.is_some(), "{text}");
+                }
+                let mut field = world.typing(Some("US")).unwrap();
+                field.push_str("6502530").unwrap();
+                assert_eq!(field.shown(), "650-2530");
+            })
+        })
+        .collect();
+    drop((world, zones));
+    threads.into_iter().for_each(|thread| thread.join().unwrap());
 }
 
 /// Hint, text, E.164 text by libphonenumber's rules, E.164 text by the crate's, whether that one is valid.

@@ -69,7 +69,16 @@ fn ids_are_texts() {
 }
 
 #[test]
-fn each_thread_has_a_table() {
-    let number = phonenumber::parse(None, "+64 3 331 6005").unwrap();
-    assert!(std::thread::spawn(move || number.is_valid()).join().unwrap());
+fn threads_ask_at_once() {
+    let numbers = READ.map(|(hint, text, ..)| phonenumber::parse(hint, text).unwrap());
+    std::thread::scope(|threads| {
+        for number in numbers.iter().cycle().take(2 * READ.len()) {
+            threads.spawn(move || {
+                for _ in 0..50 {
+                    assert!(number.is_valid(), "{number}");
+                    assert_eq!(number.to_string().parse::<PhoneNumber>().unwrap().national(), number.national());
+                }
+            });
+        }
+    });
 }

@@ -12,10 +12,11 @@
 //! assert_eq!(number.country().id(), Some(phonenumber::country::DE));
 //! ```
 //!
-//! There is one table, [`metadata::DATABASE`]; what it has of a region isn't shown. A thread opens its own
-//! at its first call, of some 57 MB. A call ends the program where memory is refused.
+//! There is one table, [`metadata::DATABASE`]; what it has of a region isn't shown. The first call opens it,
+//! and a call beside others opens it once more: so many stay open as threads asked at once, each of some
+//! 57 MB. A call ends the program where memory is refused.
 use crate::Rules;
-use crate::database::{By, of_thread};
+use crate::database::{By, of_world};
 use crate::number::PhoneNumber as Read;
 use std::fmt;
 use std::ops::Deref;
@@ -28,7 +29,7 @@ pub mod country;
 
 /// The table.
 pub mod metadata {
-    /// The table of the world, which each thread opens at its first call.
+    /// The table of the world, which the first call opens.
     #[derive(Debug)]
     pub struct Database(());
 
@@ -36,9 +37,9 @@ pub mod metadata {
     pub static DATABASE: Database = Database(());
 }
 
-/// What the thread's table answers by the rules of the crate.
+/// What the table answers by the rules of the crate.
 fn asked<T>(call: impl FnOnce(By<'_>) -> T) -> T {
-    of_thread(|world| call(world.by(Rules::Crate))).expect("memory is given")
+    of_world(|world| call(world.by(Rules::Crate))).expect("memory is given")
 }
 
 /// The number that a text is.

@@ -1,0 +1,127 @@
+/* Handles in threads, by a small table or by the one of a file: threads [TABLE]. A handle is opened in one thread, used in
+ * a second and closed in a third; threads use one in turn, behind a lock; and each has its own, all at once. All are told
+ * what the first thread is. The last line is `threads: ok`, else the number of the first check that failed is printed. */
+#include "phone.h"
+#include <pthread.h>
+#include <stdio.h>
+#include <stdlib.h>
+#include <string.h>
+#define CHECK(n, is) do { if (!(is)) { printf("threads: %d\n", n); exit(1); } } while (0)
+enum { THREADS = 4, ROUNDS = 50, LINES = 4, LINE = 256 };
+
+static const char SMALL[] = "[{\"id\": \"NZ\", \"country_code\": 64, \"international_prefix\": \"00\","
+    "\"national_prefix\": \"0\", \"general\": {\"national_number\": \"[2-9]\\\\d{7,9}\", \"possible_length\": [8, 9, 10]},"
+    "\"fixed_line\": {\"national_number\": \"[34679]\\\\d{7}\", \"possible_length\": [8]},"
+    "\"formats\": [{\"pattern\": \"(\\\\d)(\\\\d{3})(\\\\d{4})\", \"format\": \"$1-$2 $3\"}]}]";
+static const char PREFIXES[] = "64\tNew Zealand\n643\tSouth Island\n";
+static const char *const lines[LINES] = {"03-331 6005", "+64 3 331 6005 ext. 12", "call me", "+64 21 387 835"};
+static const uint8_t *table = (const uint8_t *)SMALL;
+static size_t table_len = sizeof SMALL - 1;
+
+/* What stands behind a handle is told to a thread by these alone. */
+typedef struct {
+    phone_handle world;
+    phone_prefixes prefixes;
+    pthread_mutex_t lock;
+    char wanted[LINES][LINE];
+} shared;
+
+static void open_both(phone_handle *world, phone_prefixes *prefixes) {
+    size_t line = 0;
+    CHECK(1, phone_open(table, table_len, world) == PHONE_OK);
+    CHECK(2, phone_prefixes_open((const uint8_t *)PREFIXES, sizeof PREFIXES - 1, prefixes, &line) == PHONE_OK);
+}
+
+static void close_both(phone_handle *world, phone_prefixes *prefixes) {
+    uint32_t told = 99;
+    uint8_t out[LINE] = {0};
+    size_t wrote = 0;
+    phone_close(world);
+    phone_prefixes_close(prefixes);
+    CHECK(3, phone_text_possibility_by(world, PHONE_LIBRARY, phone_text("NZ", 2), 2, phone_text("3", 1), 1, &told) == PHONE_IS_CLOSED);
+    CHECK(4, phone_regions(world, out, sizeof out, &wrote) == PHONE_IS_CLOSED);
+}
+
+/* The report of a line, and the longest prefix of some digits, behind it. */
+static void ask(phone_handle *world, phone_prefixes *prefixes, const char *line, char *told) {
+    uint8_t out[LINE] = {0};
+    size_t wrote = 0, more = 0, prefix_len = 0;
+    const uint8_t *text = phone_text(line, strlen(line));
+    CHECK(5, phone_report_by(world, PHONE_LIBRARY, phone_text("NZ", 2), 2, text, strlen(line), out, LINE - 32, &wrote) == PHONE_OK);
+    CHECK(6, phone_prefixes_longest(prefixes, phone_text("6433316005", 10), 10, out + wrote, 32, &more, &prefix_len) == PHONE_OK);
+    CHECK(7, prefix_len == 3 && wrote + more < LINE);
+    memcpy(told, out, LINE);
+}
+
+/* All lines, often; what is told of each is what was wanted. */
+static void ask_all(phone_handle *world, phone_prefixes *prefixes, pthread_mutex_t *lock, char wanted[LINES][LINE]) {
+    for (int round = 0; round < ROUNDS; round++) {
+        for (int i = 0; i < LINES; i++) {
+            char told[LINE];
+            if (lock) pthread_mutex_lock(lock);
+            ask(world, prefixes, lines[i], told);
+            if (lock) pthread_mutex_unlock(lock);
+            CHECK(8, !memcmp(told, wanted[i], LINE));
+        }
+    }
+}
+
+static void *opens(void *it) {
+    open_both(&((shared *)it)->world, &((shared *)it)->prefixes);
+    return NULL;
+}
+static void *learns(void *it) {
+    shared *all = (shared *)it;
+    for (int i = 0; i < LINES; i++) ask(&all->world, &all->prefixes, lines[i], all->wanted[i]);
+    return NULL;
+}
+static void *asks_in_turn(void *it) {
+    shared *all = (shared *)it;
+    ask_all(&all->world, &all->prefixes, &all->lock, all->wanted);
+    return NULL;
+}
+static void *asks_its_own(void *it) {
+    phone_handle world = PHONE_CLOSED;
+    phone_prefixes prefixes = PHONE_CLOSED;
+    open_both(&world, &prefixes);
+    ask_all(&world, &prefixes, NULL, ((shared *)it)->wanted);
+    close_both(&world, &prefixes);
+    return NULL;
+}
+static void *closes(void *it) {
+    close_both(&((shared *)it)->world, &((shared *)it)->prefixes);
+    return NULL;
+}
+
+/* Runs so many threads at once, and waits for all. */
+static void run(int count, void *(*what)(void *), shared *all) {
+    pthread_t threads[THREADS];
+    for (int i = 0; i < count; i++) CHECK(9, !pthread_create(&threads[i], NULL, what, all));
+    for (int i = 0; i < count; i++) CHECK(10, !pthread_join(threads[i], NULL));
+}
+
+/* Takes the table from a file. */
+static void load(const char *name) {
+    static uint8_t text[1 << 22];
+    FILE *file = fopen(name, "rb");
+    CHECK(11, file != NULL);
+    table_len = fread(text, 1, sizeof text, file);
+    CHECK(12, table_len > 0 && table_len < sizeof text);
+    fclose(file);
+    table = text;
+}
+
+int main(int count, char **words) {
+    static shared all;
+    if (count > 1) load(words[1]);
+    CHECK(13, !pthread_mutex_init(&all.lock, NULL));
+    run(1, opens, &all);
+    run(1, learns, &all);
+    CHECK(14, !strncmp(all.wanted[0], "ok\t+6433316005\t", 15) && !strncmp(all.wanted[2], "error\t1\t", 8));
+    run(THREADS, asks_in_turn, &all);
+    run(THREADS, asks_its_own, &all);
+    run(1, closes, &all);
+    pthread_mutex_destroy(&all.lock);
+    puts("threads: ok");
+    return 0;
+}
