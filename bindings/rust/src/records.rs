@@ -6,8 +6,8 @@ use std::sync::{Mutex, PoisonError};
 /// A handle of either kind, which goes from thread to thread.
 struct Moved<H>(H);
 
-// SAFETY: a handle is of no thread: phone.h lets one after another use it, by one call at a time, and any close it.
-// What it points to is reached by the calls on it alone, shares nothing with another handle, and is known to no thread.
+// SAFETY: a handle is of no thread. The crate phone_c_base proves that of a database and of a table of prefixes (`Handle`
+// and `Table`, by `Send`), and phone.h lets one thread after another use and close it, by one call at a time.
 unsafe impl Send for Moved<ffi::Handle> {}
 // SAFETY: as above.
 unsafe impl Send for Moved<ffi::Prefixes> {}
