@@ -1,5 +1,5 @@
 -- An automaton of the tree cut to ASCII finds in ASCII texts what the tree finds, and its cells hold the groups' slots.
-use Rattle.std.proofs.Common.{◌≡◌, ◌<◌, ◌≤◌, ◌+◌, ◌-◌, ◌*◌, ℕ, zero, suc, true, cond, List, length, take, drop, ◌++◌, Option, None, Some, All, IfSome, MatchOption, option_map, slice_index, refl, sym, subst, ap, ap₂, ◌∙◌, inl, inr, arith, ne_eqb, false, IsSome, is_some}
+use Rattle.std.proofs.Common.{◌≡◌, ◌<◌, ◌≤◌, ◌+◌, ◌-◌, ◌*◌, ℕ, zero, suc, true, cond, List, length, take, drop, ◌++◌, Option, None, Some, All, IfSome, MatchOption, option_map, slice_index, refl, sym, ap, ap₂, ◌∙◌, inl, inr, arith, ne_eqb, false, IsSome, is_some}
 use Rattle.std.proofs.lemmas.Bool.{cases_lt, cond-true, cond-false}
 use Rattle.std.proofs.lemmas.Bool.Decides.{nat_tests}
 use Rattle.std.proofs.lemmas.List.FromFn.{get_or-map-range_with_len}
@@ -8,7 +8,6 @@ use Rattle.std.specs.Option.{option_or}
 use Rattle.phone_automaton.specs.Ascii.{AsciiSame}
 use Rattle.phone_automaton.specs.Groups.{captured_at, IsFoundIn}
 use Rattle.phone_automaton.specs.Finds.{at_front, captured, found_by, front_end, group, group_at, position, FindsInAscii}
-use Rattle.phone_automaton.specs.declared.machine.Captured.{Captured}
 use Rattle.phone_automaton.specs.Templates.{with_match_replaced, AreTexts, IsWritten}
 use Rattle.regex.specs.Replace.{bytes_of}
 use Rattle.regex.specs.Writes.{both}

@@ -3,4 +3,5 @@ pub mod Finds
 pub mod Fronts
 pub mod Groups
 pub mod Lengths
+pub mod Parts
 pub mod Templates

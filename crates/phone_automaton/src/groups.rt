@@ -1,6 +1,7 @@
 //! Searches with groups.
-ghost use Rattle.std.specs.Prelude.{◌≡◌, IfOk, IfSome, length, vec_len};
+ghost use Rattle.std.specs.Prelude.{◌≡◌, ◌<◌, ◌≤◌, ◌^◌, IfOk, IfSome, length, vec_len};
 ghost use Rattle.phone_automaton.specs.Groups.{AreGroupsFor, IsFoundIn};
+ghost use Rattle.phone_automaton.specs.Parts.{with_end};
 ghost use Rattle.regex_tagged.specs.Valid.{IsFor};
 
 use regex_dfa::Dfa;
@@ -50,6 +51,19 @@ impl Groups {
         ensures len { length result.now ≡ vec_len self.now.cells }
     {
         self.cells.as_slice()
+    }
+
+    /// Makes these cells, with the end of a match put in, the groups of the last match.
+    pub(crate) fn put(&mut self, front: &[usize], end: usize)
+        requires width { length front.now ≡ vec_len self.old.cells }
+        requires place { 3 ≤ length front.now }
+        requires end { end < 2 ^ 63 }
+        ensures items { self.new.cells.items ≡ with_end front.now end }
+        ensures width { vec_len self.new.cells ≡ vec_len self.old.cells }
+        ensures steps { self.new.tagged ≡ self.old.tagged }
+    {
+        self.cells.copy_from_slice(front);
+        self.cells[front.len() - 3] = end + 1;
     }
 
     /// What the first match spans. The cells are its groups then. None where the automaton gives

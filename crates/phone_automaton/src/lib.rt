@@ -2,13 +2,16 @@
 //! search of it works out its steps, and the next ones only walk them.
 #![tactic(auto)]
 
+mod automaton;
 mod fronts;
 mod groups;
 mod lengths;
 mod machine;
 mod narrow;
+mod parts;
 mod template;
 
+pub use automaton::Automaton;
 pub use fronts::Fronts;
 pub use lengths::Lengths;
 pub use machine::{Captured, Machine};

@@ -1,28 +1,23 @@
-//! A machine: a pattern's automaton for ASCII texts, and the steps that its searches have worked
-//! out.
+//! A machine: a pattern's automaton for ASCII texts, which it shares, and the steps that its own
+//! searches have worked out.
 ghost use Rattle.std.specs.Prelude.{◌≡◌, ◌-◌, ◌+◌, ◌*◌, ◌≤◌, ℕ, length, vec_len, string_bytes};
 ghost use Rattle.std.specs.Prelude.{IfOk, IfSome, option_map};
-ghost use Rattle.phone_automaton.specs.Ascii.{AsciiSame};
+ghost use Rattle.std.specs.Arc.{arc_value};
 ghost use Rattle.phone_automaton.specs.Finds.{at_front, captured, finds, front_end, group_at};
-ghost use Rattle.phone_automaton.specs.Finds.{FindsInAscii};
 ghost use Rattle.phone_automaton.specs.Groups.{AreGroupsFor, captured_at};
 ghost use Rattle.phone_automaton.specs.Templates.{with_match_replaced};
-ghost use Rattle.regex_compile.specs.Implements.{Implements};
 ghost use Rattle.regex_dfa.specs.Search.{IsForwardFor};
-ghost use Rattle.regex_hir.specs.Meaning.{meaning};
-ghost use Rattle.regex_hir.specs.Re.{Re};
 ghost use Rattle.regex_syntax.specs.Grammar.{Names};
 ghost use Rattle.regex_vm.specs.Found.{span};
 
+use crate::automaton::{Automaton, Tables};
 use crate::groups::Groups;
-use crate::narrow::narrow_classes;
+use crate::parts::find_groups;
 use crate::template;
-use regex_dfa::{Dfa, End, Forward};
-use regex_hir::Hir;
-use regex_nfa::Nfa;
-use regex_syntax::Parsed;
+use regex_dfa::{End, Forward};
 use std::alloc::{AllocError, Global};
 use std::marker::Model;
+use std::sync::Arc;
 
 /// What the first match of a pattern spans, and its group 1 and its last group, each part by the
 /// bytes at which it begins and ends. Without a group, or where one took no part in the match, the
@@ -47,15 +42,12 @@ const WIDE: usize = 0x1000;
 
 const WIDE_PER_STATE: usize = 0x80;
 
-/// The greatest size of an automaton in bytes, as that of the patterns themselves.
-const LARGEST: usize = 10 << 20;
-
-/// A pattern's automaton for texts of ASCII, and the steps that its searches have worked out, with
-/// groups and without. Contracts see what it finds in each text, `finds`, and the number of the
-/// last group.
+/// A pattern's automaton for texts of ASCII, which it shares, and the steps that its own searches
+/// have worked out, with groups and without. Contracts see what it finds in each text, `finds`, and
+/// the number of the last group.
 pub struct Machine {
     alloc: Global,
-    dfa: Dfa,
+    tables: Arc<Tables>,
     forward: Forward,
     /// How many bytes `forward` was asked to search, and with how many it is made anew.
     read: usize,
@@ -63,17 +55,18 @@ pub struct Machine {
     groups: Groups,
     /// The number of the last group.
     last: usize,
-    ghost forth: { IsForwardFor forward dfa },
-    ghost own: { AreGroupsFor groups dfa },
+    ghost forth: { IsForwardFor forward (arc_value tables).dfa },
+    ghost own: { AreGroupsFor groups (arc_value tables).dfa },
     ghost room: { vec_len groups.cells ≡ 2 * last + 2 },
 }
 
 impl Model for Machine {
+    ghost use Rattle.std.specs.Arc.{arc_value};
     ghost use Rattle.phone_automaton.specs.Finds.{Searcher};
 
     ghost Value = { Searcher };
 
-    ghost view = { λ m. record { nfa = m.dfa.nfa; last = m.last } };
+    ghost view = { λ m. record { nfa = (arc_value m.tables).dfa.nfa; last = m.last } };
 }
 
 /// Drops the automaton and the steps. As a function it is proved here alone, and not in each crate
@@ -82,44 +75,17 @@ impl Drop for Machine {
     fn drop(self) {
         let Machine {
             alloc: _,
-            dfa,
+            tables,
             forward,
             read: _,
             most: _,
             groups,
             last: _,
         } = self;
-        drop(dfa);
+        drop(tables);
         drop(forward);
         drop(groups);
     }
-}
-
-/// The automaton of a tree with this many groups, group 0 included.
-fn compile(alloc: Global, hir: &Hir, groups: u32) -> Option<Nfa>
-    ensures { IfSome result (λ nfa. Implements nfa (meaning hir.now)) }
-{
-    match regex_compile::compile(alloc, hir, groups, LARGEST) {
-        Ok(nfa) => Some(nfa),
-        Err(_) => None,
-    }
-}
-
-/// The automaton of a pattern for ASCII texts, and the number of its last group; none where it is
-/// refused.
-fn narrow_compiled(alloc: Global, parsed: &Parsed) -> Option<(Nfa, usize)>
-    ensures nfa { IfSome result (λ p. (re : Re) × AsciiSame re (meaning parsed.now.hir) ×
-        Implements p.0 re) }
-    ensures last { IfSome result (λ p. p.1 ≡ length parsed.now.names.items - 1) }
-{
-    let Ok(groups) = u32::try_from(parsed.names.len()) else {
-        return None;
-    };
-    let Ok(hir) = narrow_classes(alloc, &parsed.hir) else {
-        return None;
-    };
-    let nfa = compile(alloc, &hir, groups)?;
-    Some((nfa, parsed.names.len().saturating_sub(1)))
 }
 
 /// What a group spans, by the cells from group 1 on.
@@ -156,28 +122,26 @@ fn captured_at(found: Option<(usize, usize)>, cells: &[usize], last: usize) -> O
 }
 
 impl Machine {
-    /// The machine of a pattern that was read. None where memory is refused or its automaton grows
-    /// too large.
+    /// A machine of an automaton, whose searches have worked out nothing yet. None where memory is
+    /// refused.
     #[cold]
     #[inline(never)]
-    pub fn new(alloc: Global, parsed: &Parsed) -> Option<Machine>
-        ensures finds { IfSome result (λ m. FindsInAscii (meaning parsed.now.hir) (finds m)) }
-        ensures last { IfSome result (λ m. m.last ≡ length parsed.now.names.items - 1) }
+    pub fn new(alloc: Global, automaton: &Automaton) -> Option<Machine>
+        ensures same { IfSome result (λ m. m ≡ automaton.now) }
     {
-        let (nfa, last) = narrow_compiled(alloc, parsed)?;
-        let most = WIDE.saturating_add(nfa.states.len().saturating_mul(WIDE_PER_STATE));
-        let Ok(dfa) = Dfa::new(alloc, nfa) else {
-            return None;
-        };
-        let Ok(forward) = Forward::with_budget(alloc, &dfa, false, KEPT) else {
-            return None;
-        };
+        let last = automaton.last_group();
         let Ok(groups) = Groups::new(alloc, 2 * last + 2) else {
+            return None;
+        };
+        let tables = automaton.share()?;
+        let states = tables.dfa.nfa.states.len();
+        let most = WIDE.saturating_add(states.saturating_mul(WIDE_PER_STATE));
+        let Ok(forward) = Forward::with_budget(alloc, &tables.dfa, false, KEPT) else {
             return None;
         };
         Some(Machine {
             alloc,
-            dfa,
+            tables,
             forward,
             read: 0,
             most,
@@ -197,13 +161,24 @@ impl Machine {
         }
     }
 
+    /// Counts the bytes of a search with groups, which is next: it begins as one without groups
+    /// where the cells of matches at the front are known.
+    #[inline]
+    fn attend_groups(&mut self, bytes: usize)
+        ensures { self.new ≡ self.old }
+    {
+        if !self.tables.front_cells.is_empty() {
+            self.attend(bytes);
+        }
+    }
+
     /// Forgets the states without groups; where memory is refused, they are kept.
     #[cold]
     #[inline(never)]
     fn renew(&mut self, bytes: usize)
         ensures { self.new ≡ self.old }
     {
-        if let Ok(forward) = Forward::with_budget(self.alloc, &self.dfa, false, KEPT) {
+        if let Ok(forward) = Forward::with_budget(self.alloc, &self.tables.dfa, false, KEPT) {
             self.forward = forward;
             self.read = bytes;
         }
@@ -232,7 +207,7 @@ impl Machine {
     {
         match self
             .forward
-            .find_end(&self.dfa, hay, 0, hay.len(), true, true)
+            .find_end(&self.tables.dfa, hay, 0, hay.len(), true, true)
         {
             End::At(_) => Some(true),
             End::NoMatch => Some(false),
@@ -259,7 +234,7 @@ impl Machine {
     {
         match self
             .forward
-            .find_end(&self.dfa, hay, 0, hay.len(), true, false)
+            .find_end(&self.tables.dfa, hay, 0, hay.len(), true, false)
         {
             End::At(end) => Some(Some(end)),
             End::NoMatch => Some(None),
@@ -284,7 +259,7 @@ impl Machine {
     {
         let front = self
             .forward
-            .find_end(&self.dfa, hay, 0, hay.len(), true, false);
+            .find_end(&self.tables.dfa, hay, 0, hay.len(), true, false);
         if let End::At(end) = front {
             return Some(Some((0, end)));
         }
@@ -297,7 +272,7 @@ impl Machine {
         ensures found { IfSome result (λ found. found ≡ option_map span (finds self.old hay.now)) }
         ensures same { self.new ≡ self.old }
     {
-        self.groups.find(&self.dfa, hay)
+        self.groups.find(&self.tables.dfa, hay)
     }
 
     /// The first match with its groups. None where the automaton gives up.
@@ -306,7 +281,9 @@ impl Machine {
             option_map (captured self.old.last) (finds self.old hay.now)) }
         ensures same { self.new ≡ self.old }
     {
-        let found = self.groups.find(&self.dfa, hay)?;
+        self.attend_groups(hay.len());
+        let tables = &*self.tables;
+        let found = find_groups(tables, &mut self.forward, &mut self.groups, hay)?;
         Some(captured_at(found, self.groups.cells(), self.last))
     }
 
@@ -325,7 +302,9 @@ impl Machine {
             (finds self.old hay.now))) }
         ensures same { self.new ≡ self.old }
     {
-        let Some(found) = self.groups.find(&self.dfa, hay.as_bytes()) else {
+        self.attend_groups(hay.len());
+        let (tables, bytes) = (&*self.tables, hay.as_bytes());
+        let Some(found) = find_groups(tables, &mut self.forward, &mut self.groups, bytes) else {
             return Ok(None);
         };
         template::replace_if_any(alloc, template, hay, found, self.groups.cells())

@@ -134,6 +134,11 @@ not_led texts others last text s parted shape none =
     let own : IsShape last s = subst (λ front. IsShapeOfFirst front s) turned shape in
     subst (λ front. led_by text front ≡ false) (sym turned) (none last own)
 
+-- what is made of the first of patterns turned round is made of their last
+pub shape_last : (texts others : List (List ℕ)) (last : List ℕ) (s : Shape) → texts ≡ others ++ last ∷ [] → IsShapeOfFirst (reverse texts) s → IsShape last s
+shape_last texts others last s parted is =
+    subst (λ front. IsShapeOfFirst front s) (ap reverse parted ∙ reverse-append others (last ∷ [])) is
+
 -- what is known of the last of patterns is known of the first of them turned round
 pub shape_of_last : (texts others : List (List ℕ)) (last : List ℕ) (s : Shape) → texts ≡ others ++ last ∷ [] → IsShape last s → IsShapeOfFirst (reverse texts) s
 shape_of_last texts others last s parted is =
@@ -143,11 +148,18 @@ shape_of_last texts others last s parted is =
 pub lengths_of_any : (pattern : List ℕ) (b : Bounds) → b ≡ any_length → AreLengths pattern b
 lengths_of_any pattern b e hay ok = rw e (λ short. absurd (omega (arith, short)), λ long. absurd long.0)
 
--- what is known of a tree's matches is known of the text that it is read from
+-- what serves the tree that a pattern text is read as serves the text, if it is there
+if_made : (pattern : List ℕ) (hir : Hir) (names : Names) (made : Option Searcher) → Reads verbose pattern hir names →
+    IfSome made (λ s. FindsInAscii (meaning hir) (finds s)) → IfSome made (λ s. s.last ≡ length names - 1) → IfSome made (Serves pattern)
+if_made pattern hir names None reads finds_it last = tt
+if_made pattern hir names (Some s) reads finds_it last = serves pattern hir names s reads finds_it last
+
+-- what is made of a tree is made of the text that it is read from
 pub shape_served : (pattern : List ℕ) (hir : Hir) (names : Names) (s : Shape) → Reads verbose pattern hir names →
-    BeginsIn s.fronts (meaning hir) → HasLengths s.lengths (meaning hir) → IsShape pattern s
-shape_served pattern hir names s reads begins lengths =
-    (fronts_served pattern hir names s.fronts reads begins, lengths_served pattern hir names s.lengths reads lengths)
+    BeginsIn s.fronts (meaning hir) → HasLengths s.lengths (meaning hir) →
+    IfSome s.searcher (λ s. FindsInAscii (meaning hir) (finds s)) → IfSome s.searcher (λ s. s.last ≡ length names - 1) → IsShape pattern s
+shape_served pattern hir names s reads begins lengths finds_it last =
+    (fronts_served pattern hir names s.fronts reads begins, lengths_served pattern hir names s.lengths reads lengths, if_made pattern hir names s.searcher reads finds_it last)
 
 module _ (pattern : List ℕ) (s : Shape) (is : IsShape pattern s) (text : List ℕ) (bytes : (k : ℕ) → get_or text k 0 < 256) where
   small : All (λ b. b < 256) text

@@ -1,13 +1,17 @@
--- What is known of the matches of pattern texts before any search.
+-- What is made of pattern texts at once.
 use Rattle.std.specs.Prelude.{◌≡◌, ◌<◌, ℕ, Bool, false, List, [], ◌∷◌, length, All}
+use Rattle.std.specs.Prelude.{Option, IfSome}
+use Rattle.phone_automaton.specs.Finds.{Searcher}
 use Rattle.phone_automaton.specs.Fronts.{may_begin}
 use Rattle.phone_automaton.specs.Lengths.{Bounds, IsTooLong, IsTooShort}
 use Rattle.phone_pattern.specs.First.{at_start, is_whole_match}
+use Rattle.phone_pattern.specs.MachineCaches.{Serves}
 
--- the bytes with which matches begin, and their lengths
+-- the bytes with which matches begin, their lengths, and what finds them
 pub record Shape : Type 0 where
   pub fronts : List Bool
   pub lengths : Bounds
+  pub searcher : Option Searcher
 
 -- a text that begins with another byte than these has no first match of the pattern text at its
 -- front
@@ -21,9 +25,10 @@ AreLengths pattern lengths = (hay : List ℕ) → All (λ b. b < 256) hay →
     (IsTooShort lengths (length hay) → at_start pattern hay ≡ false) ×
     (IsTooLong lengths hay → is_whole_match pattern hay ≡ false)
 
--- both hold of the matches of the pattern text
+-- both hold of the matches of the pattern text, and what finds them serves it, if it is there
 abbrev pub IsShape : List ℕ → Shape → Type 0
-IsShape pattern s = AreFronts pattern s.fronts × AreLengths pattern s.lengths
+IsShape pattern s =
+    AreFronts pattern s.fronts × AreLengths pattern s.lengths × IfSome s.searcher (Serves pattern)
 
 -- they are those of the first of these pattern texts, if there is one
 abbrev pub IsShapeOfFirst : List (List ℕ) → Shape → Type 0

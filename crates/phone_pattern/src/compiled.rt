@@ -2,8 +2,8 @@
 ghost use Rattle.std.specs.Prelude.{◌≡◌, [], ◌∷◌, IfErr, IfOk, IfSome, IsTrue, string_bytes};
 ghost use Rattle.std.specs.List.{AllByRecursion};
 ghost use Rattle.phone_pattern.specs.First.{at_start, captured, first_span, front_end};
-ghost use Rattle.phone_pattern.specs.First.{is_whole_match, replaced, AreCuts, ArePatternsOf, IsCut};
-ghost use Rattle.phone_pattern.specs.First.{IsPattern, IsPatternOf};
+ghost use Rattle.phone_pattern.specs.First.{is_whole_match, replaced, AreCuts, ArePatternsOf};
+ghost use Rattle.phone_pattern.specs.First.{IsCut, IsPattern, IsPatternOf};
 ghost use Rattle.phone_pattern.specs.Refusals.{IsPatternRefusal};
 
 use crate::machine_cache::MachineCache;
@@ -15,11 +15,11 @@ use regex::{Error, Regex, RegexBuilder};
 use std::alloc::{AllocError, Global};
 use std::marker::Model;
 
-/// A text that is compiled under flag x: white space and `#` comments in it don't count. Each of its
-/// searches is handed the place where its pattern keeps a machine.
+/// A text that is compiled under flag x: white space and `#` comments in it don't count. Each of
+/// its searches is handed the place where its pattern keeps a machine.
 pub(crate) struct Compiled {
     re: Regex,
-    /// What is known of its matches.
+    /// What is known of its matches, and the automaton that finds them.
     outline: Outline,
 }
 
@@ -40,8 +40,9 @@ impl Model for Compiled {
 /// Drops what was compiled: as a function it is proved once.
 impl Drop for Compiled {
     fn drop(self) {
-        let Compiled { re, outline: _ } = self;
+        let Compiled { re, outline } = self;
         drop(re);
+        drop(outline);
     }
 }
 
@@ -106,7 +107,7 @@ impl Compiled {
         if !self.outline.may_match_front(text) {
             return Ok(false);
         }
-        kept.is_at_start(&self.re, text)
+        kept.is_at_start(&self.re, &self.outline, text)
     }
 
     /// Where the first match ends, if it begins at the first byte; none where it doesn't, and where
@@ -123,7 +124,7 @@ impl Compiled {
         if !self.outline.may_match_front(text) {
             return Ok(None);
         }
-        kept.front_end(&self.re, text)
+        kept.front_end(&self.re, &self.outline, text)
     }
 
     /// The bytes at which the first match begins and ends; none where the text has no match.
@@ -137,7 +138,7 @@ impl Compiled {
         ensures span { IfOk result (λ found. found ≡ first_span self.now text.now) }
         ensures borders { IfOk result (λ found. IfSome found (IsCut text.now)) }
     {
-        kept.first_span(&self.re, text)
+        kept.first_span(&self.re, &self.outline, text)
     }
 
     /// Whether the first match begins at the first byte and ends after the last. Refused only for
@@ -165,7 +166,7 @@ impl Compiled {
         ensures found { IfOk result (λ found. found ≡ captured self.now text.now) }
         ensures borders { IfOk result (λ found. IfSome found (AreCuts text.now)) }
     {
-        kept.captures(&self.re, text)
+        kept.captures(&self.re, &self.outline, text)
     }
 
     /// The text with its first match replaced by a template, in which `$1` stands for the first
@@ -179,7 +180,7 @@ impl Compiled {
     ) -> Result<String, AllocError>
         ensures { IfOk result (λ out. string_bytes out ≡ replaced self.now template.now text.now) }
     {
-        kept.replace(&self.re, template, text)
+        kept.replace(&self.re, &self.outline, template, text)
     }
 }
 

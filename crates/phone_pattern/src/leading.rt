@@ -21,7 +21,7 @@ use std::sync::Arc;
 /// Contracts see their texts.
 pub(crate) struct CompiledList {
     patterns: Vec<Regex>,
-    /// What is known of the matches of the last of them.
+    /// What is made of the last of them.
     outline: Outline,
 }
 
@@ -43,11 +43,9 @@ impl Model for CompiledList {
 /// Drops what was compiled: as a function it is proved once.
 impl Drop for CompiledList {
     fn drop(self) {
-        let CompiledList {
-            patterns,
-            outline: _,
-        } = self;
+        let CompiledList { patterns, outline } = self;
         drop(patterns);
+        drop(outline);
     }
 }
 
@@ -97,7 +95,7 @@ impl CompiledList {
         if !self.outline.may_match_front(digits) {
             return Ok(false);
         }
-        kept.is_at_start(last, digits)
+        kept.is_at_start(last, &self.outline, digits)
     }
 }
 
@@ -163,7 +161,7 @@ impl Leading {
     }
 }
 
-/// What is known of the matches of the last of these patterns; nothing where there is none.
+/// What is made of the last of these patterns; nothing where there is none.
 fn outline_of_last(alloc: Global, patterns: &[Regex]) -> Outline
     ensures { IsShapeOfFirst (reverse (map regex_source patterns.now)) result }
 {

@@ -3,10 +3,12 @@ ghost use Rattle.std.specs.Prelude.{◌≡◌, ◌<◌, All, IfOk, IfSome, IsTru
 ghost use Rattle.regex.specs.Strings.{regex_source};
 ghost use Rattle.phone_pattern.specs.First.{at_start, captured, first_span, front_end, replaced};
 ghost use Rattle.phone_pattern.specs.First.{AreCuts, IsCut, IsUnderX};
-ghost use Rattle.phone_pattern.specs.MachineCaches.{as_captured, Serves};
+ghost use Rattle.phone_pattern.specs.MachineCaches.{as_captured};
+ghost use Rattle.phone_pattern.specs.Outlines.{IsShape};
 
+use crate::outline::Outline;
 use crate::pattern::Captured;
-use crate::{reading, uncached};
+use crate::uncached;
 use phone_automaton::Machine;
 use regex::Regex;
 use std::alloc::{AllocError, Global};
@@ -40,11 +42,12 @@ impl Drop for CachedMachine {
 }
 
 impl CachedMachine {
-    /// The machine of a pattern. None where memory is refused, or the machine would be too large.
-    fn new(alloc: Global, pattern: &str) -> Option<CachedMachine>
+    /// A machine of a pattern. None where the pattern has no automaton, or memory is refused.
+    fn new(alloc: Global, pattern: &str, outline: &Outline) -> Option<CachedMachine>
+        requires { IsShape pattern.now outline.now }
         ensures { IfSome result (λ h. h ≡ pattern.now) }
     {
-        let machine = reading::machine(alloc, pattern)?;
+        let machine = outline.machine(alloc)?;
         match String::from_str(alloc, pattern) {
             Ok(text) => Some(CachedMachine { text, machine }),
             Err(_) => None,
@@ -92,18 +95,28 @@ impl MachineCache {
     /// Takes the machine of a pattern out of its place, for a text of ASCII: that which was kept,
     /// if it is of this pattern, else a new one.
     #[inline]
-    fn take(&self, pattern: &str, text: &str) -> Option<Box<CachedMachine>>
-        ensures same { IfSome result (λ h. h.value ≡ pattern.now) }
+    fn take(&self, re: &Regex, outline: &Outline, text: &str) -> Option<Box<CachedMachine>>
+        requires { IsShape (regex_source re.now) outline.now }
+        ensures same { IfSome result (λ h. h.value ≡ regex_source re.now) }
         ensures ascii { IfSome result (λ h. All (λ x. x < 128) text.now) }
     {
-        if !text.is_ascii() {
+        if !is_ascii(text) {
             return None;
         }
+        self.take_any(re, outline)
+    }
+
+    /// The same for any text.
+    #[inline]
+    fn take_any(&self, re: &Regex, outline: &Outline) -> Option<Box<CachedMachine>>
+        requires { IsShape (regex_source re.now) outline.now }
+        ensures { IfSome result (λ h. h.value ≡ regex_source re.now) }
+    {
         let kept = self.slot.take();
-        if is_of(&kept, pattern) {
+        if is_of(&kept, re.as_str()) {
             return kept;
         }
-        self.machine_for(kept, pattern)
+        self.machine_for(kept, re.as_str(), outline)
     }
 
     /// Puts a machine in its place, for the next search.
@@ -121,22 +134,33 @@ impl MachineCache {
         &self,
         other: Option<Box<CachedMachine>>,
         pattern: &str,
+        outline: &Outline,
     ) -> Option<Box<CachedMachine>>
+        requires { IsShape pattern.now outline.now }
         ensures { IfSome result (λ h. h.value ≡ pattern.now) }
     {
         drop(other);
-        match Box::new(self.alloc, CachedMachine::new(self.alloc, pattern)?) {
+        match Box::new(
+            self.alloc,
+            CachedMachine::new(self.alloc, pattern, outline)?,
+        ) {
             Ok(made) => Some(made),
             Err(_) => None,
         }
     }
 
     /// Whether the first match of a pattern begins at the first byte. Refused only for memory.
-    pub(crate) fn is_at_start(&self, re: &Regex, text: &str) -> Result<bool, AllocError>
-        requires { IsUnderX re.now }
+    pub(crate) fn is_at_start(
+        &self,
+        re: &Regex,
+        outline: &Outline,
+        text: &str,
+    ) -> Result<bool, AllocError>
+        requires under_x { IsUnderX re.now }
+        requires shape { IsShape (regex_source re.now) outline.now }
         ensures { IfOk result (λ b. b ≡ at_start (regex_source re.now) text.now) }
     {
-        if let Some(mut held) = self.take(re.as_str(), text) {
+        if let Some(mut held) = self.take(re, outline, text) {
             let found = held.machine.is_at_front(text.as_bytes());
             self.keep(held);
             if let Some(found) = found {
@@ -148,12 +172,18 @@ impl MachineCache {
 
     /// Where the first match of a pattern ends, if it begins at the first byte. Refused only for
     /// memory.
-    pub(crate) fn front_end(&self, re: &Regex, text: &str) -> Result<Option<usize>, AllocError>
-        requires { IsUnderX re.now }
+    pub(crate) fn front_end(
+        &self,
+        re: &Regex,
+        outline: &Outline,
+        text: &str,
+    ) -> Result<Option<usize>, AllocError>
+        requires under_x { IsUnderX re.now }
+        requires shape { IsShape (regex_source re.now) outline.now }
         ensures end { IfOk result (λ end. end ≡ front_end (regex_source re.now) text.now) }
         ensures border { IfOk result (λ end. IfSome end (λ e. IsCut text.now (0, e))) }
     {
-        if let Some(mut held) = self.take(re.as_str(), text) {
+        if let Some(mut held) = self.take(re, outline, text) {
             let found = held.machine.front_end(text.as_bytes());
             self.keep(held);
             if let Some(end) = found {
@@ -167,13 +197,15 @@ impl MachineCache {
     pub(crate) fn first_span(
         &self,
         re: &Regex,
+        outline: &Outline,
         text: &str,
     ) -> Result<Option<(usize, usize)>, AllocError>
-        requires { IsUnderX re.now }
+        requires under_x { IsUnderX re.now }
+        requires shape { IsShape (regex_source re.now) outline.now }
         ensures span { IfOk result (λ found. found ≡ first_span (regex_source re.now) text.now) }
         ensures borders { IfOk result (λ found. IfSome found (IsCut text.now)) }
     {
-        if let Some(mut held) = self.take(re.as_str(), text) {
+        if let Some(mut held) = self.take(re, outline, text) {
             let found = held.machine.span(text.as_bytes());
             self.keep(held);
             if let Some(found) = found {
@@ -186,12 +218,18 @@ impl MachineCache {
     }
 
     /// What the first match of a pattern captures. Refused only for memory.
-    pub(crate) fn captures(&self, re: &Regex, text: &str) -> Result<Option<Captured>, AllocError>
-        requires { IsUnderX re.now }
+    pub(crate) fn captures(
+        &self,
+        re: &Regex,
+        outline: &Outline,
+        text: &str,
+    ) -> Result<Option<Captured>, AllocError>
+        requires under_x { IsUnderX re.now }
+        requires shape { IsShape (regex_source re.now) outline.now }
         ensures found { IfOk result (λ found. found ≡ captured (regex_source re.now) text.now) }
         ensures borders { IfOk result (λ found. IfSome found (AreCuts text.now)) }
     {
-        if let Some(mut held) = self.take(re.as_str(), text) {
+        if let Some(mut held) = self.take(re, outline, text) {
             let last = held.machine.last_group();
             let found = held.machine.captures(text.as_bytes());
             self.keep(held);
@@ -209,14 +247,16 @@ impl MachineCache {
     pub(crate) fn replace(
         &self,
         re: &Regex,
+        outline: &Outline,
         template: &str,
         text: &str,
     ) -> Result<String, AllocError>
-        requires { IsUnderX re.now }
+        requires under_x { IsUnderX re.now }
+        requires shape { IsShape (regex_source re.now) outline.now }
         ensures { IfOk result (λ out. string_bytes out ≡
             replaced (regex_source re.now) template.now text.now) }
     {
-        if let Some(mut held) = self.take(re.as_str(), text) {
+        if let Some(mut held) = self.take(re, outline, text) {
             let found = held.machine.replace(self.alloc, template, text);
             self.keep(held);
             if let Some(out) = found? {
@@ -225,6 +265,15 @@ impl MachineCache {
         }
         uncached::replace(self.alloc, re, template, text)
     }
+}
+
+/// Whether a text is of ASCII. Most texts that are searched have some ten bytes: for so few a plain
+/// loop takes half the instructions that `str::is_ascii` does.
+#[inline]
+fn is_ascii(text: &str) -> bool
+    ensures { IsTrue result → All (λ x. x < 128) text.now }
+{
+    text.as_bytes().iter().all(|byte| *byte < 128)
 }
 
 /// Whether there is a machine, and it is of this pattern.

@@ -1,23 +1,27 @@
-//! What is known of a pattern's matches before any search: the bytes with which they begin, and how
-//! long they are.
-ghost use Rattle.std.specs.Prelude.{◌≡◌, ℕ, false, List};
+//! What is made of a pattern's text at once: what is known of its matches before any search, and
+//! the automaton that searches texts of ASCII.
+ghost use Rattle.std.specs.Prelude.{◌≡◌, ◌-◌, ℕ, false, length, List, IfSome};
+ghost use Rattle.phone_automaton.specs.Finds.{finds, FindsInAscii};
 ghost use Rattle.phone_automaton.specs.Fronts.{BeginsIn};
 ghost use Rattle.phone_automaton.specs.Lengths.{HasLengths};
 ghost use Rattle.phone_pattern.specs.First.{at_start, is_whole_match};
+ghost use Rattle.phone_pattern.specs.MachineCaches.{Serves};
 ghost use Rattle.phone_pattern.specs.Outlines.{IsShape};
 ghost use Rattle.regex_hir.specs.Meaning.{meaning};
 
-use phone_automaton::{Fronts, Lengths};
-use regex_hir::Hir;
+use phone_automaton::{Automaton, Fronts, Lengths, Machine};
+use regex_syntax::Parsed;
 use std::alloc::Global;
 use std::marker::Model;
 
-/// What is known of the matches of a pattern.
-#[derive(Drop)]
+/// What is made of a pattern's text at once, for all patterns of that text. Contracts see what is
+/// known of its matches, and what its automaton finds.
 pub(crate) struct Outline {
-    /// The bytes with which they may begin.
+    /// The bytes with which matches may begin.
     fronts: Fronts,
     lengths: Lengths,
+    /// None where memory was refused for it, or it would be too large.
+    automaton: Option<Automaton>,
 }
 
 impl Model for Outline {
@@ -25,7 +29,25 @@ impl Model for Outline {
 
     ghost Value = { Shape };
 
-    ghost view = { λ o. record { fronts = o.fronts; lengths = o.lengths } };
+    ghost view = { λ o. record {
+      fronts = o.fronts;
+      lengths = o.lengths;
+      searcher = o.automaton;
+    } };
+}
+
+/// Drops what was made: as a function it is proved once.
+impl Drop for Outline {
+    fn drop(self) {
+        let Outline {
+            fronts,
+            lengths,
+            automaton,
+        } = self;
+        drop(fronts);
+        drop(lengths);
+        drop(automaton);
+    }
 }
 
 impl Outline {
@@ -36,17 +58,32 @@ impl Outline {
         Outline {
             fronts: Fronts::any(),
             lengths: Lengths::any(),
+            automaton: None,
         }
     }
 
-    /// That of the matches of a tree.
-    pub(crate) fn of(alloc: Global, hir: &Hir) -> Outline
-        ensures fronts { BeginsIn result.fronts (meaning hir.now) }
-        ensures lengths { HasLengths result.lengths (meaning hir.now) }
+    /// That of a pattern that was read.
+    pub(crate) fn of(alloc: Global, parsed: &Parsed) -> Outline
+        ensures fronts { BeginsIn result.fronts (meaning parsed.now.hir) }
+        ensures lengths { HasLengths result.lengths (meaning parsed.now.hir) }
+        ensures finds { IfSome result.searcher (λ s.
+            FindsInAscii (meaning parsed.now.hir) (finds s)) }
+        ensures last { IfSome result.searcher (λ s. s.last ≡ length parsed.now.names.items - 1) }
     {
         Outline {
-            fronts: Fronts::of(hir),
-            lengths: Lengths::of(alloc, hir),
+            fronts: Fronts::of(&parsed.hir),
+            lengths: Lengths::of(alloc, &parsed.hir),
+            automaton: Automaton::new(alloc, parsed),
+        }
+    }
+
+    /// A machine of the automaton. None where there is no automaton, and where memory is refused.
+    pub(crate) fn machine(&self, alloc: Global) -> Option<Machine>
+        ensures { (pattern : List ℕ) → IsShape pattern self.now → IfSome result (Serves pattern) }
+    {
+        match &self.automaton {
+            Some(automaton) => Machine::new(alloc, automaton),
+            None => None,
         }
     }
 

@@ -1,11 +1,9 @@
-//! What a pattern's text is read as: its tree, its machine, and what is known of its matches.
-ghost use Rattle.std.specs.Prelude.{◌≡◌, IfSome};
+//! What a pattern's text is read as.
+ghost use Rattle.std.specs.Prelude.{◌≡◌};
 ghost use Rattle.phone_pattern.specs.First.{verbose};
-ghost use Rattle.phone_pattern.specs.MachineCaches.{Serves};
 ghost use Rattle.phone_pattern.specs.Outlines.{IsShape};
 
 use crate::outline::Outline;
-use phone_automaton::Machine;
 use regex_syntax::Config;
 use std::alloc::Global;
 
@@ -18,22 +16,12 @@ fn under_x() -> Config
     config
 }
 
-/// A machine that serves a pattern. None where memory is refused, or it would be too large.
-pub(crate) fn machine(alloc: Global, pattern: &str) -> Option<Machine>
-    ensures { IfSome result (Serves pattern.now) }
-{
-    match regex_syntax::parse(alloc, pattern, &under_x()) {
-        Ok(parsed) => Machine::new(alloc, &parsed),
-        Err(_) => None,
-    }
-}
-
-/// What is known of a pattern's matches; nothing where memory is refused.
+/// What is made of a pattern's text at once; nothing where memory is refused.
 pub(crate) fn outline(alloc: Global, pattern: &str) -> Outline
     ensures { IsShape pattern.now result }
 {
     match regex_syntax::parse(alloc, pattern, &under_x()) {
-        Ok(parsed) => Outline::of(alloc, &parsed.hir),
+        Ok(parsed) => Outline::of(alloc, &parsed),
         Err(_) => Outline::any(),
     }
 }

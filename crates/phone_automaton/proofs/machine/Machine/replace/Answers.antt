@@ -1,6 +1,7 @@
 use Rattle.std.proofs.Common.{◌≡◌, List, ℕ, Option, Some, None, MatchOption, Result, Ok, Err, IfOk, IfSome, String, Global, string_bytes, ap, ◌∙◌}
 use Rattle.std.specs.declared.alloc.AllocError.{AllocError}
 use Rattle.regex_syntax.specs.Grammar.{Names}
+use Rattle.phone_automaton.specs.declared.automaton.Tables.{Tables}
 use Rattle.phone_automaton.specs.Finds.{finds, found_by, Searcher}
 use Rattle.phone_automaton.specs.Groups.{IsFoundIn}
 use Rattle.phone_automaton.specs.Templates.{with_match_replaced}
@@ -18,12 +19,14 @@ pub returns-clause-replaced : goal.returns-clause-replaced
 returns-clause-replaced c =
     let template = c.args.template.now in
     let hay = c.args.hay.now in
-    let nfa = c.self.inside.dfa.nfa in
-    let cells = c.find.new.self.cells.items in
+    let nfa = c.deref.result.now.dfa.nfa in
+    let cells = c.find_groups.new.groups.cells.items in
     let found = c.in-Some.found in
     let there : (names : Names) → with_match_replaced names template hay (found_by nfa hay) ≡ with_match_replaced names template hay (finds c.args.self.now hay) =
-    λ names. ap (λ (s : Searcher). with_match_replaced names template hay (finds s hay)) c.self.view_is in
-    let told : IsFoundIn nfa hay cells found = rw c.as_bytes.ensures.value at c.in-Some.ensures.found in
+    λ names.
+    ap (λ (d : Tables). with_match_replaced names template hay (found_by d.dfa.nfa hay)) c.deref.ensures
+    ∙ ap (λ (s : Searcher). with_match_replaced names template hay (finds s hay)) (c.self.view_is ∙ c.attend_groups.ensures) in
+    let told : IsFoundIn nfa hay cells found = rw c.as_bytes-bytes.ensures.value at c.in-Some.ensures.found in
     made_again
     (λ text. MatchOption found (text ≡ hay) (λ s. Parts template hay cells s text))
     (λ text. (names : Names) → text ≡ with_match_replaced names template hay (finds c.args.self.now hay))
