@@ -1,4 +1,5 @@
 pub mod AnnouncedParts
+pub mod Announcers
 pub mod Borders
 pub mod Closings
 pub mod CoreRows

@@ -1,9 +1,9 @@
 -- The three forms of an extension at the end of a text, after the pattern for them in the
 -- original's `consts`. Letters are compared by simple folding.
-use Rattle.std.specs.Prelude.{◌≡◌, ℕ, ◌≤◌, ◌<◌, ◌==◌, Bool, true, List, [], ◌∷◌, ◌++◌, length, drop}
-use Rattle.std.specs.Prelude.{codes, map}
+use Rattle.std.specs.Prelude.{◌≡◌, ℕ, ◌≤◌, ◌<◌, ◌==◌, Bool, true, ◌||◌, List, [], ◌∷◌, ◌++◌}
+use Rattle.std.specs.Prelude.{length, drop, codes, map}
 use Rattle.std.specs.List.{list_all, list_any}
-use Rattle.phone_chars.specs.Characters.{is_nd, is_one_of}
+use Rattle.phone_chars.specs.Characters.{is_digit, is_nd, is_one_of}
 use Rattle.phone_parts.specs.Texts.{is_like}
 use Rattle.phone_parts.specs.declared.suffix.Form.{Form}
 use Rattle.phone_parts.specs.declared.suffix.Form.TheVariants.{Parameter, Indicated, NumberSign}
@@ -146,6 +146,21 @@ suffix_starts =
 -- the character folds to one of these
 abbrev pub is_suffix_start : ℕ → Bool
 is_suffix_start c = is_one_of suffix_starts (simple_fold c)
+
+-- the foldings of characters of which each extension has one: they begin the indicators and the
+-- parameter, or are the number sign
+abbrev pub announcers : List ℕ
+announcers =
+    44 ∷ 59 ∷ 35 ∷ 126 ∷ 120 ∷ 101 ∷ 105 ∷ 97 ∷ 0xFF03 ∷ 0xFF5E ∷ 0xFF58 ∷ 0xFF45 ∷ 0xFF49 ∷ []
+
+-- the character folds to one of these
+abbrev pub announces : ℕ → Bool
+announces c = is_one_of announcers (simple_fold c)
+
+-- what most numbers are made of: digits, spaces, round brackets, plus signs, hyphens, full stops,
+-- slashes
+abbrev pub is_plain : ℕ → Bool
+is_plain c = is_digit c || is_one_of (32 ∷ 40 ∷ 41 ∷ 43 ∷ 45 ∷ 46 ∷ 47 ∷ []) c
 
 -- no end of the text is an extension
 abbrev pub HasNoSuffix : List ℕ → Type 0

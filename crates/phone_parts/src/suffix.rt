@@ -2,14 +2,15 @@
 ghost use Rattle.std.specs.Prelude.{◌≡◌, ℕ, List, ◌∷◌, ◌++◌, ◌&&◌, [], nat_le, length, MatchOption};
 ghost use Rattle.std.specs.Prelude.{IfSome, IsTrue, chars, map};
 ghost use Rattle.std.specs.Borrow.{Bor};
-ghost use Rattle.std.specs.List.{list_all};
+ghost use Rattle.std.specs.List.{list_all, list_any};
 ghost use Rattle.phone_chars.specs.Characters.{is_nd};
 ghost use Rattle.phone_parts.specs.Longest.{AreEndsUpTo, AreEndsWithin};
 ghost use Rattle.phone_parts.specs.Parts.{IsSlice};
 ghost use Rattle.phone_parts.specs.Texts.{begins};
 ghost use Rattle.phone_parts.specs.Suffixes.{IsParameter, IsNumberSigned, IsSomeNumberSigned};
 ghost use Rattle.phone_parts.specs.Suffixes.{IsIndicated, IsAnnounced, IsEnding, IsSomeEnding};
-ghost use Rattle.phone_parts.specs.Suffixes.{IsSuffix, indicators, is_lead, is_suffix_start};
+ghost use Rattle.phone_parts.specs.Suffixes.{IsSuffix, announces, indicators, is_lead, is_plain};
+ghost use Rattle.phone_parts.specs.Suffixes.{is_suffix_start};
 ghost use Rattle.phone_parts.specs.Suffixes.{IsSomeSuffix, HasNoSuffix, HasLongestSuffix};
 
 use crate::fronts::{is_nothing, skip_one, strip_char, strip_like};
@@ -78,6 +79,50 @@ fn begins_suffix(text: &str) -> bool
     text.starts_with(|c| is_suffix_start(c))
 }
 
+/// Whether the character is one of those that most numbers are made of: none of them announces an
+/// extension.
+fn is_plain(c: char) -> bool
+    ensures { result ≡ is_plain c }
+{
+    is_digit(c) || matches!(c, ' ' | '(' | ')' | '+' | '-' | '.' | '/')
+}
+
+/// Whether each extension has such a character: its folding begins an indicator or a parameter, or
+/// is the number sign.
+fn announces(c: char) -> bool
+    ensures { result ≡ announces c }
+{
+    !is_plain(c) && folds_to_announcer(c)
+}
+
+/// Whether the folding of this character is one that each extension has.
+fn folds_to_announcer(c: char) -> bool
+    ensures { result ≡ announces c }
+{
+    matches!(
+        simple_fold(c),
+        ',' | ';'
+            | '#'
+            | '~'
+            | 'x'
+            | 'e'
+            | 'i'
+            | 'a'
+            | '\u{FF03}'
+            | '\u{FF5E}'
+            | '\u{FF58}'
+            | '\u{FF45}'
+            | '\u{FF49}'
+    )
+}
+
+/// Whether a text has a character that each extension has.
+fn has_announcer(text: &str) -> bool
+    ensures { result ≡ list_any announces (chars text.now) }
+{
+    text.chars().any(|c| announces(c))
+}
+
 /// How many bytes the ends of a text may have that end an extension.
 #[derive(Clone, Copy)]
 struct Limits {
@@ -89,13 +134,29 @@ struct Limits {
 }
 
 /// What stands before the longest end of a text that is an extension, and the digits of that
+/// extension; none where no end is one. Most texts have no character that an extension has: these
+/// are passed over once.
+pub(crate) fn find_suffix(text: &str) -> Option<(&str, &str)>
+    ensures read { MatchOption result (HasNoSuffix (chars text.now))
+        (λ p. HasLongestSuffix (chars text.now) (chars p.0.now) (chars p.1.now)) }
+    ensures front { IfSome result (λ p. (v : List ℕ) × (text.now ≡ p.0.now ++ v)) }
+    ensures slice { IfSome result (λ p. IsSlice text.now p.1.now) }
+{
+    if has_announcer(text) {
+        longest_suffix(text)
+    } else {
+        None
+    }
+}
+
+/// What stands before the longest end of a text that is an extension, and the digits of that
 /// extension; none where no end is one. What an extension ends in is found out once, from the
 /// right. Then it is asked from the left, at each border between characters, whether an extension
 /// begins there, and a border whose character can't begin one is passed at once. The indicators are
 /// tried only where the character begins one, and what follows is compared by its length alone.
 /// Where a run of spaces, tabs and commas is followed by no indicator, that is found out once, at
 /// the front of the run. So the time is linear in the text.
-pub(crate) fn find_suffix(text: &str) -> Option<(&str, &str)>
+fn longest_suffix(text: &str) -> Option<(&str, &str)>
     ensures read { MatchOption result (HasNoSuffix (chars text.now))
         (λ p. HasLongestSuffix (chars text.now) (chars p.0.now) (chars p.1.now)) }
     ensures front { IfSome result (λ p. (v : List ℕ) × (text.now ≡ p.0.now ++ v)) }

@@ -3,7 +3,7 @@ use denote.Text.{Utf8}
 use denote.Shadow.{shadow}
 use Rattle.phone_parts.specs.Suffixes.{IsSuffix, IsIndicated}
 use Rattle.phone_parts.specs.declared.suffix.Form.{Form}
-use Rattle.phone_parts.proofs.suffix.find_suffix.Given as goal
+use Rattle.phone_parts.proofs.suffix.longest_suffix.Given as goal
 
 abbrev pub invariant-loop-c : goal.invariant-loop-c
 invariant-loop-c l =
