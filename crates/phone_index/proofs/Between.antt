@@ -1,7 +1,7 @@
 -- The part of a list that passes a test, where nothing before or after it does.
 use native.Mathlib.Numerals.{unary_clauses}
-use Rattle.std.proofs.Common.{◌≡◌, ℕ, zero, suc, ◌-◌, ◌≤◌, ◌<◌, Bool, true, false, cond, List, [], ◌∷◌, length, take, drop, filter, refl, sym, ap, ◌∙◌, arith, ◌==◌, ltb, leb, ne_eqb, eq-eqb, ltb-true, leb-true}
-use Rattle.std.proofs.lemmas.Bool.{ltb-false, leb-false}
+use Rattle.std.proofs.Common.{◌≡◌, ℕ, zero, suc, ◌-◌, ◌≤◌, ◌<◌, Bool, true, false, cond, List, [], ◌∷◌, length, take, drop, filter, refl, sym, ap, ◌∙◌, arith, ◌==◌, ltb, leb, ne_eqb, eq-eqb, ltb-true, leb-true, ◌+◌}
+use Rattle.std.proofs.lemmas.Bool.{false_from_ne_true, le-leb, ltb-false, leb-false}
 use Rattle.std.specs.List.{AllWithin}
 use Rattle.std.specs.List.Sorted.{IsPartitionPoint}
 
@@ -56,3 +56,12 @@ module _ {X : Type 0} (n : X → ℕ) (t : ℕ) (xs : List X) (i j : ℕ) (withi
 
       more : (m : ℕ) → leb m t ≡ false → m ≡ t → ⊥
       more m h e = omega (arith, leb-false m t h)
+
+-- numbers less than the next one are those of at most t
+pub up_to_next : {X : Type 0} (n : X → ℕ) (t : ℕ) (xs : List X) (j : ℕ) →
+    IsPartitionPoint (λ y. ltb (n y) (t + 1) ≡ true) (λ y. ltb (n y) (t + 1) ≡ false) xs j →
+    IsPartitionPoint (λ y. leb (n y) t ≡ true) (λ y. leb (n y) t ≡ false) xs j
+up_to_next n t xs j p = (
+  (λ k d a b. le-leb _ _ (omega (arith, ltb-true _ _ (p.0 k d a b)))),
+  (λ k d a b. false_from_ne_true _ (λ e. omega (arith, leb-true _ _ e, ltb-false _ _ (p.1 k d a b)))),
+)

@@ -6,6 +6,7 @@ pub mod Fronts
 pub mod Halves
 pub mod Listed
 pub mod Marks
+pub mod Starts
 pub mod Stays
 pub mod Texts
 pub mod Trees

@@ -1,6 +1,6 @@
-//! The index of a database: places of territories by id and by calling code, in orders that are
-//! searched by halves, calling codes as a trie of their decimal digits, and the steps that a
-//! look-up takes.
+//! The index of a database: places of territories by id, in an order that is searched by halves,
+//! and by calling code, in an order in which it is noted where each code starts; calling codes as a
+//! trie of their decimal digits; and the steps that a look-up takes.
 #![tactic(auto)]
 
 mod grouped;

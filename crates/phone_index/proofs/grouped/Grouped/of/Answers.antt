@@ -6,8 +6,15 @@ use Rattle.phone_index.specs.declared.grouped.Coded.{Coded}
 use Rattle.phone_index.proofs.Stays.{same_stay}
 use Rattle.phone_index.proofs.grouped.Grouped.of.Goals as goal
 
+pub starts_of-requires : goal.starts_of-requires
+starts_of-requires c =
+    rw c.deref.ensures.value (IsNonDecreasingBy-from_sort_by_key (λ e. e.code) _ c.in_ok-sort_by_key.ensures.sorted (λ a r q k. search rules))
+
 pub invariant_of-result : goal.invariant_of-result
-invariant_of-result c = IsNonDecreasingBy-from_sort_by_key (λ e. e.code) _ c.in_ok-sort_by_key.ensures.sorted (λ a r q k. search rules)
+invariant_of-result c = (
+  IsNonDecreasingBy-from_sort_by_key (λ e. e.code) _ c.in_ok-sort_by_key.ensures.sorted (λ a r q k. search rules),
+  (rw c.deref.ensures.value at c.in_ok-starts.ensures),
+)
 
 pub returns : goal.returns
 returns c = record {
