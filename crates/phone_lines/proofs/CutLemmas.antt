@@ -1,9 +1,9 @@
 -- Bytes cut at line feeds: how a cut grows, that there is one, and that there is no other.
-use Rattle.std.proofs.Common.{◌≡◌, ◌⊎◌, ◌==◌, ℕ, List, [], ◌∷◌, ◌++◌, false, inl, inr, refl, sym, ap, ◌∙◌, append_assoc, true≢false, arith}
-use Rattle.std.proofs.lemmas.Bool.{cases_eq, false_from_ne_true}
+use Rattle.std.proofs.Common.{◌≡◌, ◌≢◌, ◌⊎◌, ◌==◌, ℕ, ◌+◌, ◌<◌, ◌≤◌, List, [], ◌∷◌, ◌++◌, length, get_or, take, drop, false, inl, inr, refl, sym, ap, ◌∙◌, append_assoc, take-append-drop, true≢false, arith}
+use Rattle.std.proofs.lemmas.Bool.{cases_eq, false_from_ne_true, ne_eqb, or_from}
 use Rattle.std.proofs.lemmas.Grind.{common_steps, flat_map-append}
-use Rattle.std.proofs.lemmas.List.{same_from_push}
-use Rattle.std.proofs.lemmas.List.Folds.{list_any_at}
+use Rattle.std.proofs.lemmas.List.{drop_more, get_or-take, get_or_default, length-take-le, same_from_push}
+use Rattle.std.proofs.lemmas.List.Folds.{list_any_at, list_any_none, list_any-append}
 use Rattle.std.proofs.lemmas.List.Splits.{slice_split_at, slice_split_none}
 use Rattle.std.specs.List.{All, AllByRecursion, slice_split}
 use Rattle.phone_lines.specs.Lines.{AreCut, IsUnbroken, ended}
@@ -16,6 +16,28 @@ AreCut-nothing = record { whole = refl; unbroken = tt; last_unbroken = refl }
 pub AreCut-grown : (bytes : List ℕ) (lines : List (List ℕ)) (last : List ℕ) (x : ℕ) → AreCut bytes lines last → (x ≡ 10 → ⊥) →
     AreCut (bytes ++ x ∷ []) lines (last ++ x ∷ [])
 AreCut-grown bytes lines last x cut isnt = grind (arith, common_steps)
+
+-- bytes without a line feed go there, too
+pub AreCut-lengthened : (bytes : List ℕ) (lines : List (List ℕ)) (last more : List ℕ) → AreCut bytes lines last → IsUnbroken more →
+    AreCut (bytes ++ more) lines (last ++ more)
+AreCut-lengthened bytes lines last more cut unbroken = record {
+  whole = ap (λ t. t ++ more) cut.whole ∙ append_assoc (ended lines) last more;
+  unbroken = cut.unbroken;
+  last_unbroken = list_any-append (λ c. c == 10) last more ∙ or_from _ _ cut.last_unbroken unbroken;
+}
+
+-- bytes that are no line feed have none
+pub unbroken_where : (text : List ℕ) → ((k : ℕ) → k < length text → get_or text k 0 ≢ 10) → IsUnbroken text
+unbroken_where text none = list_any_none (λ c. c == 10) text (λ k d h. ne_eqb _ _ (λ is. none k h (sym (get_or_default text k d 0 h) ∙ is)))
+
+pub unbroken_front : (text : List ℕ) (i : ℕ) → i ≤ length text → ((k : ℕ) → k < i → get_or text k 0 ≢ 10) → IsUnbroken (take i text)
+unbroken_front text i within none =
+    unbroken_where (take i text) (λ k h is. let less : k < i = omega (arith, length-take-le i text within) in none k less (sym (get_or-take i text k 0 less) ∙ is))
+
+-- a text is what stands before a byte, the byte, and what follows it
+pub split_around : (text : List ℕ) (i x : ℕ) → i < length text → get_or text i 0 ≡ x → text ≡ take i text ++ x ∷ drop (i + 1) text
+split_around text i x inside here =
+    sym (take-append-drop i text) ∙ ap (λ l. take i text ++ l) (drop_more text i 0 inside ∙ ap (λ b. b ∷ drop (i + 1) text) here)
 
 unbroken-append : (xs ys : List (List ℕ)) → AllByRecursion IsUnbroken xs → AllByRecursion IsUnbroken ys → AllByRecursion IsUnbroken (xs ++ ys)
 unbroken-append [] ys p q = q

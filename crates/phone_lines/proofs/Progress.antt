@@ -1,20 +1,26 @@
--- How far a run is after one more byte, or after the sink has taken more.
+-- How far a run is after some more bytes, or after the sink has taken more.
 use Rattle.std.proofs.Common.{◌≡◌, ◌==◌, ℕ, false, length, List, [], ◌∷◌, ◌++◌, Option, Some, None, refl, ap, ◌∙◌, append_assoc, subst}
 use Rattle.phone_device.specs.Passing.{Takes, TakesFront}
 use Rattle.phone_device.proofs.PassingLemmas.{TakenSoFar-all, TakenSoFar-nothing}
-use Rattle.phone_lines.specs.Lines.{last_line, without_return}
+use Rattle.phone_lines.specs.Lines.{IsUnbroken, last_line, without_return}
 use Rattle.phone_lines.specs.LineReports.{AreAnswers, Gives, IsBeginning, IsReport, IsReportOnFirst, TakesA}
 use Rattle.phone_lines.specs.LineReports.AreAnswers.{none}
 use Rattle.phone_lines.specs.Runs.{Holds, IsSoFar, Stands}
 use Rattle.phone_lines.proofs.AnswerLemmas.{AreAnswers-then}
 use Rattle.phone_lines.proofs.Beginnings.{IsBeginning-front, IsReportSoFar}
-use Rattle.phone_lines.proofs.CutLemmas.{AreCut-ended, AreCut-grown, AreCut-nothing, AreCut-then, cut_of}
+use Rattle.phone_lines.proofs.CutLemmas.{AreCut-ended, AreCut-grown, AreCut-lengthened, AreCut-nothing, AreCut-then, cut_of}
 
 -- a byte that is no line feed
 pub IsSoFar-grown : (gives : Gives) (bytes line answers : List ℕ) (x : ℕ) → IsSoFar gives bytes line answers → (x ≡ 10 → ⊥) →
     IsSoFar gives (bytes ++ x ∷ []) (line ++ x ∷ []) answers
 IsSoFar-grown gives bytes line answers x s isnt =
     record { lines = s.lines; cut = AreCut-grown bytes s.lines line x s.cut isnt; answered = s.answered }
+
+-- bytes without a line feed
+pub IsSoFar-lengthened : (gives : Gives) (bytes line answers more : List ℕ) → IsSoFar gives bytes line answers → IsUnbroken more →
+    IsSoFar gives (bytes ++ more) (line ++ more) answers
+IsSoFar-lengthened gives bytes line answers more s unbroken =
+    record { lines = s.lines; cut = AreCut-lengthened bytes s.lines line more s.cut unbroken; answered = s.answered }
 
 answered : (gives : Gives) (bytes line written held answer : List ℕ) (s : IsSoFar gives bytes line (written ++ held)) → gives (without_return line) answer →
     AreAnswers gives (s.lines ++ line ∷ []) (written ++ (held ++ (answer ++ 10 ∷ [])))
@@ -29,6 +35,13 @@ IsSoFar-ended gives bytes line written held answer x s is given = record {
   cut = AreCut-ended bytes s.lines line x s.cut is;
   answered = answered gives bytes line written held answer s given;
 }
+
+-- the rest of a line, a line feed, and the answer to the line
+pub IsSoFar-line : (gives : Gives) (bytes line rest written held answer : List ℕ) → IsSoFar gives bytes line (written ++ held) → IsUnbroken rest →
+    gives (without_return (line ++ rest)) answer → IsSoFar gives (bytes ++ (rest ++ 10 ∷ [])) [] (written ++ (held ++ (answer ++ 10 ∷ [])))
+IsSoFar-line gives bytes line rest written held answer s unbroken given =
+    rw (← append_assoc bytes rest (10 ∷ []))
+    (IsSoFar-ended gives (bytes ++ rest) (line ++ rest) written held answer 10 (IsSoFar-lengthened gives bytes line (written ++ held) rest s unbroken) refl given)
 
 one_line : (line : List ℕ) → (length line == 0) ≡ false → last_line line ≡ line ∷ []
 one_line [] some = absurd (cc)

@@ -1,9 +1,10 @@
 //! What a run holds: the line that isn't ended yet, and answers that aren't written yet.
 ghost use Rattle.std.specs.Prelude.{◌≡◌, ◌+◌, ◌<◌, ◌++◌, ◌∷◌, [], ℕ, List, Option, Err, OnOk};
-ghost use Rattle.std.specs.Prelude.{OnErr, vec_len};
+ghost use Rattle.std.specs.Prelude.{OnErr, IfSome, MatchOption, length, vec_len};
 ghost use Rattle.phone_device.specs.Passing.{Takes, TakesFront};
 ghost use Rattle.phone_lines.specs.LineReports.{IsBeginning, IsReport, IsReportOnFirst, TakesA};
 ghost use Rattle.phone_lines.specs.Faults.{faults_of};
+ghost use Rattle.phone_lines.specs.Lines.{IsUnbroken};
 ghost use Rattle.phone_lines.specs.Runs.{Holds, IsSoFar, Stands};
 ghost use Rattle.phone_lines.specs.declared.pending_output.Refusal.TheVariants as refusal;
 
@@ -29,6 +30,18 @@ pub(crate) struct PendingOutput {
     pub answers: Vec<u8>,
 }
 
+/// What stands before the first line feed, and after it; none where there is no line feed.
+fn split_line(bytes: &[u8]) -> Option<(&[u8], &[u8])>
+    ensures line { MatchOption result (IsUnbroken bytes.now) (λ r. IsUnbroken r.0.now) }
+    ensures cut { IfSome result (λ r. bytes.now ≡ r.0.now ++ 10 ∷ r.1.now) }
+    ensures shorter { IfSome result (λ r. length r.1.now < length bytes.now) }
+{
+    match bytes.iter().position(|byte| *byte == b'\n') {
+        Some(at) => Some((&bytes[..at], &bytes[at + 1..])),
+        None => None,
+    }
+}
+
 impl PendingOutput {
     /// Holds nothing yet.
     pub fn new(alloc: Global) -> PendingOutput
@@ -41,26 +54,46 @@ impl PendingOutput {
         }
     }
 
-    /// Takes one more byte: a line feed ends the line, which is answered; another byte goes to the
-    /// line.
-    fn take_byte<A: Answers>(
+    /// Answers a line, of which nothing is held, where it stands.
+    fn take_whole_line<A: Answers>(
         &mut self,
         alloc: Global,
         answers: &A,
-        byte: u8,
+        line: &[u8],
     ) -> Result<(), AllocError>
+        requires unbroken { IsUnbroken line.now }
+        requires nothing { self.old.line.items ≡ [] }
         ensures taken { OnOk result ((bytes : List ℕ) (written : List ℕ) →
             IsSoFar (A.gives answers.now) bytes self.old.line.items
             (written ++ self.old.answers.items) →
-            IsSoFar (A.gives answers.now) (bytes ++ byte ∷ []) self.new.line.items
+            IsSoFar (A.gives answers.now) (bytes ++ (line.now ++ 10 ∷ [])) self.new.line.items
             (written ++ self.new.answers.items)) }
-        ensures line_kept { OnErr result (self.new.line.items ≡ self.old.line.items) }
         ensures answers_kept { OnErr result (self.new.answers.items ≡ self.old.answers.items) }
     {
-        if byte != b'\n' {
-            self.line.push(byte)?;
-            return Ok(());
+        add_answer(alloc, answers, line, &mut self.answers)?;
+        Ok(())
+    }
+
+    /// Takes the rest of a line, which a line feed ends, and answers the line. Where this is all of
+    /// it, it isn't copied.
+    fn take_line<A: Answers>(
+        &mut self,
+        alloc: Global,
+        answers: &A,
+        rest: &[u8],
+    ) -> Result<(), AllocError>
+        requires { IsUnbroken rest.now }
+        ensures taken { OnOk result ((bytes : List ℕ) (written : List ℕ) →
+            IsSoFar (A.gives answers.now) bytes self.old.line.items
+            (written ++ self.old.answers.items) →
+            IsSoFar (A.gives answers.now) (bytes ++ (rest.now ++ 10 ∷ [])) self.new.line.items
+            (written ++ self.new.answers.items)) }
+        ensures answers_kept { OnErr result (self.new.answers.items ≡ self.old.answers.items) }
+    {
+        if self.line.is_empty() {
+            return self.take_whole_line(alloc, answers, rest);
         }
+        self.line.extend_from_slice(rest)?;
         add_answer(alloc, answers, self.line.as_slice(), &mut self.answers)?;
         self.line.clear();
         Ok(())
@@ -86,8 +119,9 @@ impl PendingOutput {
         Ok(())
     }
 
-    /// Takes the bytes of a block, one after the other. Refused by `Fault` where the sink fails,
-    /// and by `Memory` where there is no memory for a line or its answer.
+    /// Takes the lines of a block, one after the other, and holds what follows its last line feed.
+    /// Refused by `Fault` where the sink fails, and by `Memory` where there is no memory for a line
+    /// or its answer.
     pub fn take_block<A: Answers, W: ByteSink>(
         &mut self,
         alloc: Global,
@@ -113,15 +147,20 @@ impl PendingOutput {
         ensures faults { W.faults sink.new ≡ W.faults sink.old + faults_of result }
         ensures short { OnOk result (vec_len self.new.answers < BLOCK_LENGTH) }
     {
-        for byte in block {
-            let Ok(()) = self.take_byte(alloc, answers, *byte) else {
+        let mut rest = block;
+        while let Some((line, after)) = split_line(rest) {
+            let Ok(()) = self.take_line(alloc, answers, line) else {
                 return Err(Refusal::Memory);
             };
             let Ok(()) = self.hand_on(sink) else {
                 return Err(Refusal::Fault);
             };
+            rest = after;
         }
-        Ok(())
+        match self.line.extend_from_slice(rest) {
+            Ok(()) => Ok(()),
+            Err(_) => Err(Refusal::Memory),
+        }
     }
 
     /// Writes all answers that are held, and has the sink hand on what it holds back.

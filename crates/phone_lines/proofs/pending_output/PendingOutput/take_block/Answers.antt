@@ -1,39 +1,61 @@
-use Rattle.std.proofs.Common.{◌++◌, ◌∷◌, ◌+◌, [], append_assoc, ◌∙◌, drop, slice_index_or, take}
-use Rattle.std.proofs.lemmas.List.{take-append-drop, take_more}
+use Rattle.std.proofs.Common.{◌≡◌, ◌++◌, ◌∷◌, [], ap, sym, append_assoc, ◌∙◌}
 use Rattle.phone_lines.proofs.Beginnings.{IsReportOnFirst-so_far}
-use Rattle.phone_lines.proofs.Progress.{Holds-breaks, Holds-handed, Holds-on, IsSoFar-first}
+use Rattle.phone_lines.proofs.Progress.{Holds-breaks, Holds-handed, Holds-on, IsSoFar-first, IsSoFar-lengthened}
 use Rattle.phone_lines.proofs.pending_output.PendingOutput.take_block.Goals as goal
 
-pub returns-in_default-clause-memory : goal.returns-in_default-clause-memory
-returns-in_default-clause-memory g c is bytes before s =
-    let i = c.loop-byte.byte-index in
+pub returns-in_default-take_line-clause-memory : goal.returns-in_default-take_line-clause-memory
+returns-in_default-take_line-clause-memory g c is bytes before s =
+    let i = c.loop-line.invariant in
     let block = c.args.block.now in
-    rw c.in_default.ensures.answers_kept
-    (Holds-on (λ written. IsSoFar-first _ (bytes ++ take i block) (drop i block) (bytes ++ block) _ _ (rw (append_assoc, take-append-drop)))
-    (c.loop-byte.invariant.on bytes before s))
+    let rest = c.loop-line.rest.now in
+    rw c.in_default-take_line.ensures.answers_kept
+    (Holds-on (λ written. IsSoFar-first _ (bytes ++ i.taken) rest (bytes ++ block) _ _ (append_assoc bytes i.taken rest ∙ ap (λ t. bytes ++ t) (sym i.whole)))
+    (i.on bytes before s))
 
 pub returns-in_default-hand_on-clause-broken : goal.returns-in_default-hand_on-clause-broken
 returns-in_default-hand_on-clause-broken g c is bytes before to_come s =
     let gives = g.A.Answers.gives c.args.answers.now in
-    let i = c.loop-byte.byte-index in
+    let i = c.loop-line.invariant in
     let block = c.args.block.now in
-    let lt = c.loop-byte-test.true in
-    let on = Holds-on (c.in-Ok.ensures.taken (bytes ++ take i block)) (c.loop-byte.invariant.on bytes before s) in
+    let ended = c.in-Some.line.now ++ 10 ∷ [] in
+    let after = c.in-Some.after.now in
+    let on = Holds-on (c.in-Ok.ensures.taken (bytes ++ i.taken)) (i.on bytes before s) in
+    let whole : block ≡ i.taken ++ (ended ++ after) = i.whole ∙ ap (λ t. i.taken ++ t) (c.in-Some.ensures.cut ∙ sym (append_assoc c.in-Some.line.now (10 ∷ []) after)) in
     Holds-breaks gives to_come (bytes ++ block) (λ text so_far. IsReportOnFirst-so_far gives to_come (bytes ++ block) text
-    (IsSoFar-first gives ((bytes ++ take i block) ++ slice_index_or block i 0 ∷ []) (drop (i + 1) block) (bytes ++ block) c.take_byte.new.self.line.items text
-    (rw (append_assoc bytes (take i block), ← take_more block i 0 lt, append_assoc, take-append-drop)) so_far))
+    (IsSoFar-first gives ((bytes ++ i.taken) ++ ended) after (bytes ++ block) c.take_line.new.self.line.items text
+    (append_assoc (bytes ++ i.taken) ended after ∙ append_assoc bytes i.taken (ended ++ after) ∙ ap (λ t. bytes ++ t) (sym whole)) so_far))
     on c.in_default-hand_on.ensures.front
 
-pub loop-byte-preserved : goal.loop-byte-preserved
-loop-byte-preserved g c = record {
-  on = λ bytes before s.
-      let i = c.loop-byte.byte-index in
-      let block = c.args.block.now in
-      let lt = c.loop-byte-test.true in
-      let on = Holds-on (c.in-Ok.ensures.taken (bytes ++ take i block)) (c.loop-byte.invariant.on bytes before s) in
-      let handed = c.in-Ok-hand_on.ensures.handed in
-      rw (c.in-Ok-hand_on.ensures.line, take_more block i 0 lt, ← append_assoc bytes (take i block))
-      (Holds-handed handed.0 c.hand_on.new.self.answers.items _ on handed.1 handed.2);
-  short = c.in-Ok-hand_on.ensures.short;
-  same_faults = c.in-Ok-hand_on.ensures.no_fault ∙ c.loop-byte.invariant.same_faults;
-}
+pub loop-line-preserved : goal.loop-line-preserved
+loop-line-preserved g c =
+    let i = c.loop-line.invariant in
+    let ended = c.in-Some.line.now ++ 10 ∷ [] in
+    let after = c.in-Some.after.now in
+    record {
+      taken = i.taken ++ ended;
+      whole = i.whole ∙ ap (λ t. i.taken ++ t) (c.in-Some.ensures.cut ∙ sym (append_assoc c.in-Some.line.now (10 ∷ []) after)) ∙ sym (append_assoc i.taken ended after);
+      on = λ bytes before s.
+          let on = Holds-on (c.in-Ok.ensures.taken (bytes ++ i.taken)) (i.on bytes before s) in
+          let handed = c.in-Ok-hand_on.ensures.handed in
+          rw (c.in-Ok-hand_on.ensures.line, ← append_assoc bytes i.taken ended)
+          (Holds-handed handed.0 c.hand_on.new.self.answers.items _ on handed.1 handed.2);
+      short = c.in-Ok-hand_on.ensures.short;
+      same_faults = c.in-Ok-hand_on.ensures.no_fault ∙ i.same_faults;
+    }
+
+pub returns-in-Ok-extend_from_slice-clause-taken : goal.returns-in-Ok-extend_from_slice-clause-taken
+returns-in-Ok-extend_from_slice-clause-taken g c bytes before s =
+    let gives = g.A.Answers.gives c.args.answers.now in
+    let i = c.loop-line.invariant in
+    let rest = c.loop-line.rest.now in
+    let line = c.loop-line.self.line.items in
+    rw (c.in-Ok-extend_from_slice.ensures.items, i.whole, ← append_assoc bytes i.taken rest)
+    (Holds-on (λ written so_far. IsSoFar-lengthened gives (bytes ++ i.taken) line _ rest so_far c.in_default.ensures.line) (i.on bytes before s))
+
+pub returns-in-Err-clause-memory : goal.returns-in-Err-clause-memory
+returns-in-Err-clause-memory g c is bytes before s =
+    let i = c.loop-line.invariant in
+    let block = c.args.block.now in
+    let rest = c.loop-line.rest.now in
+    Holds-on (λ written. IsSoFar-first _ (bytes ++ i.taken) rest (bytes ++ block) _ _ (append_assoc bytes i.taken rest ∙ ap (λ t. bytes ++ t) (sym i.whole)))
+    (i.on bytes before s)
