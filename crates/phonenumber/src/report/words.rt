@@ -4,6 +4,7 @@ ghost use Rattle.phone_values.specs.declared.error.ParseError.TheVariants as ref
 ghost use Rattle.phonenumber.specs.Reports.{kind_word, refusal_line, region_word, source_word};
 ghost use Rattle.phonenumber.specs.Reports.{validity_word};
 
+use phone_print::written::text_of_value;
 use phone_values::country::{Id, Source};
 use phone_values::{ParseError, Type};
 use std::alloc::{AllocError, Global};
@@ -54,5 +55,5 @@ pub fn refusal_line(alloc: Global, error: ParseError) -> Result<String, AllocErr
     }
     let number = error.number();
     let words = error.report_words();
-    format!(in alloc; "error\t{number}\t{words}")
+    text_of_value(alloc, format_args!("error\t{number}\t{words}"))
 }
