@@ -5,5 +5,5 @@ use Rattle.phone_records.proofs.loader.forms.DefaultsRecord.read_field.Goals as 
 
 pub returns : goal.returns
 returns g c =
-    (but_for-cons c.args.name.now (codes "format") _ _ _ _ (λ ne. ap (format_written) (c.in_ok-read.ensures ne))
-    (but_for-cons c.args.name.now (codes "descriptor") _ _ _ _ (λ ne. ap (descriptor_written) (c.in_ok-read-2.ensures ne)) refl))
+    (but_for-cons c.args.name.now (codes "format") _ _ _ _ (λ ne. ap (format_written) (c.read-done.ensures ne))
+    (but_for-cons c.args.name.now (codes "descriptor") _ _ _ _ (λ ne. ap (descriptor_written) (c.read-done-2.ensures ne)) refl))
