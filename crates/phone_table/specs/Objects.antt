@@ -1,7 +1,14 @@
 -- What a line is answered as a JSON object.
-use Rattle.std.specs.Prelude.{ℕ, List, [], ◌∷◌, Option, codes, get_or}
+use Rattle.std.specs.Prelude.{◌≡◌, ℕ, List, [], ◌∷◌, Option, Result, IfOk, codes, get_or}
+use Rattle.std.specs.Prelude.{String}
+use Rattle.std.specs.BTreeMap.{BTreeMap}
 use Rattle.std.specs.Str.{IsUtf8}
-use Rattle.serde_json.specs.Data.{Data, null, string, number, unsigned, object, member, no_members}
+use Rattle.std.specs.declared.alloc.AllocError.{AllocError}
+use Rattle.std.specs.declared.alloc.Global.{Global}
+use Rattle.serde_json.specs.Data.{Data, Members, null, string, number, unsigned, object, member}
+use Rattle.serde_json.specs.Data.{no_members, put}
+use Rattle.serde_json.specs.View.{members_view}
+use Rattle.serde_json.specs.declared.value.Value.{Value}
 use Rattle.phone_values.specs.declared.country.Id.{Id}
 use Rattle.phone_values.specs.declared.reading.Reading.{Reading}
 use Rattle.phone_csv.specs.Formats.{Record}
@@ -32,6 +39,20 @@ object_of line text fields = object (
     member (codes "text") text (
     member (codes "type") (field fields 3) (
     member (codes "validity") (field fields 5) no_members)))))))))
+
+-- the members of an object that is being made are these, unless memory was refused
+abbrev pub AreMade : Result (BTreeMap (String Global) Value) AllocError → Members → Type 0
+AreMade made ms = IfOk made (λ m. members_view m.entries ≡ ms)
+
+-- these members, and those of an answer's first six fields
+abbrev pub with_answer : Record → Members → Members
+with_answer fields ms =
+    put (codes "validity") (field fields 5) (
+    put (codes "region") (field fields 4) (
+    put (codes "type") (field fields 3) (
+    put (codes "national") (field fields 2) (
+    put (codes "international") (field fields 1) (
+    put (codes "e164") (field fields 0) ms)))))
 
 -- what a line is answered: its object, whose text is null where the line is none
 pub data IsObject (rules : Rules) (db : List Metadata) (short : Option (List Metadata))

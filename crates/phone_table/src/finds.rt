@@ -12,13 +12,13 @@ ghost use Rattle.phone_table.specs.Objects.{spelled_by};
 
 use crate::answer::known_of;
 use crate::names::push_three;
-use crate::objects::{Fields, parts_of_known};
+use crate::objects::{Fields, object_with, parts_of_known, with_answer, with_number, with_text};
 use csv::ByteRecord;
 use itoa::Buffer;
 use phone_choice::Rules;
 use phonenumber::metadata::Database;
 use phonenumber::{FormatError, PhoneNumber};
-use serde_json::{Value, json};
+use serde_json::{Map, Value};
 use std::alloc::{AllocError, Global};
 
 /// Where a number was found in a text.
@@ -147,16 +147,9 @@ fn object_of_found(
     ensures { IfOk result (λ v.
         view v ≡ object_of_found spot.entry extension.now (spelled_by fields.entry)) }
 {
-    json!(in alloc; {
-        "line": spot.line,
-        "column": spot.column,
-        "text": spot.piece,
-        "e164": fields.e164,
-        "international": fields.international,
-        "national": fields.national,
-        "type": fields.kind,
-        "region": fields.region,
-        "validity": fields.validity,
-        "extension": extension,
-    })
+    let members = with_number(Ok(Map::new(alloc)), alloc, "line", spot.line);
+    let members = with_number(members, alloc, "column", spot.column);
+    let members = with_text(members, alloc, "text", spot.piece);
+    let members = with_answer(members, alloc, fields);
+    object_with(with_text(members, alloc, "extension", extension))
 }

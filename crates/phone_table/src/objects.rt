@@ -1,19 +1,21 @@
 //! What a line is answered, as a JSON object.
 ghost use Rattle.std.specs.Prelude.{◌≡◌, ◌∷◌, ℕ, [], Some, IfOk, option_map, string_bytes};
 ghost use Rattle.std.specs.Str.{IsUtf8};
-ghost use Rattle.serde_json.specs.Data.{Data, null, string};
+ghost use Rattle.serde_json.specs.Data.{Data, null, put, string, unsigned};
+ghost use Rattle.serde_json.specs.Data as json;
 ghost use Rattle.serde_json.specs.Read.{read};
 ghost use Rattle.serde_json.specs.View.{view};
 ghost use Rattle.serde_json.specs.Written.{compact_text};
 ghost use Rattle.phone_table.specs.Spelled.{spelled, spelled_known};
-ghost use Rattle.phone_table.specs.Objects.{IsObject, object_of, spelled_by};
+ghost use Rattle.phone_table.specs.Objects.{AreMade, IsObject, object_of, spelled_by};
+ghost use Rattle.phone_table.specs.Objects.{with_answer};
 
 use crate::answer::{Answer, Known, answer_to};
 use phone_choice::Rules;
 use phonenumber::country::Id;
 use phonenumber::metadata::Database;
 use phonenumber::report::{kind_word, region_word, validity_word};
-use serde_json::{Value, json};
+use serde_json::{Map, Value};
 use std::alloc::{AllocError, Global};
 
 /// The seven fields of an answer.
@@ -126,6 +128,79 @@ pub(crate) fn parts_of(answer: &Answer) -> Fields<'_>
     }
 }
 
+/// The members of an object that is being made, unless memory was refused.
+pub(crate) type Members = Result<Map<String, Value>, AllocError>;
+
+/// These members and one more, unless memory was or is refused.
+fn with_value(
+    members: Members,
+    alloc: Global,
+    key: &str,
+    value: Result<Value, AllocError>,
+) -> Members
+    ensures { (ms : json.Members) (d : Data) → AreMade members ms →
+        IfOk value (λ v. view v ≡ d) → AreMade result (put key.now d ms) }
+{
+    let mut members = members?;
+    serde_json::put(&mut members, alloc, key, value?)?;
+    Ok(members)
+}
+
+/// These members and a text, unless memory was or is refused. An object of many members is made by
+/// calls of this one: it is refused in one place, where the members are dropped.
+pub(crate) fn with_text(members: Members, alloc: Global, key: &str, text: &str) -> Members
+    ensures { (ms : json.Members) → AreMade members ms →
+        AreMade result (put key.now (string text.now) ms) }
+{
+    with_value(members, alloc, key, Value::try_from_str(alloc, text))
+}
+
+/// These members and a number, unless memory was or is refused.
+pub(crate) fn with_number(members: Members, alloc: Global, key: &str, number: u64) -> Members
+    ensures { (ms : json.Members) → AreMade members ms →
+        AreMade result (put key.now (json.number (unsigned number)) ms) }
+{
+    with_value(members, alloc, key, Ok(Value::from(number)))
+}
+
+/// The object of these members.
+pub(crate) fn object_with(members: Members) -> Result<Value, AllocError>
+    ensures { (ms : json.Members) → AreMade members ms →
+        IfOk result (λ v. view v ≡ json.object ms) }
+{
+    Ok(Value::Object(members?))
+}
+
+/// These members, and those that an answer to a line has in common with what is told of a number
+/// that was found, unless memory was or is refused.
+pub(crate) fn with_answer(members: Members, alloc: Global, fields: Fields<'_>) -> Members
+    ensures { (ms : json.Members) → AreMade members ms →
+        AreMade result (with_answer (spelled_by fields.entry) ms) }
+{
+    let members = with_text(members, alloc, "e164", fields.e164);
+    let members = with_text(members, alloc, "international", fields.international);
+    let members = with_text(members, alloc, "national", fields.national);
+    let members = with_text(members, alloc, "type", fields.kind);
+    let members = with_text(members, alloc, "region", fields.region);
+    with_text(members, alloc, "validity", fields.validity)
+}
+
+/// The object of a line, by its text or null.
+fn object_of(
+    alloc: Global,
+    place: u64,
+    text: Result<Value, AllocError>,
+    fields: Fields<'_>,
+) -> Result<Value, AllocError>
+    ensures { (t : Data) → IfOk text (λ v. view v ≡ t) →
+        IfOk result (λ v. view v ≡ object_of place t (spelled_by fields.entry)) }
+{
+    let members = with_number(Ok(Map::new(alloc)), alloc, "line", place);
+    let members = with_value(members, alloc, "text", text);
+    let members = with_answer(members, alloc, fields);
+    object_with(with_text(members, alloc, "refusal", fields.refusal))
+}
+
 /// The object of a text.
 fn object_of_text(
     alloc: Global,
@@ -136,32 +211,12 @@ fn object_of_text(
     ensures { IfOk result
         (λ v. view v ≡ object_of place (string text.now) (spelled_by fields.entry)) }
 {
-    json!(in alloc; {
-        "line": place,
-        "text": text,
-        "e164": fields.e164,
-        "international": fields.international,
-        "national": fields.national,
-        "type": fields.kind,
-        "region": fields.region,
-        "validity": fields.validity,
-        "refusal": fields.refusal,
-    })
+    object_of(alloc, place, Value::try_from_str(alloc, text), fields)
 }
 
 /// The object of a line that is no text.
 fn object_without_text(alloc: Global, place: u64, fields: Fields<'_>) -> Result<Value, AllocError>
     ensures { IfOk result (λ v. view v ≡ object_of place null (spelled_by fields.entry)) }
 {
-    json!(in alloc; {
-        "line": place,
-        "text": null,
-        "e164": fields.e164,
-        "international": fields.international,
-        "national": fields.national,
-        "type": fields.kind,
-        "region": fields.region,
-        "validity": fields.validity,
-        "refusal": fields.refusal,
-    })
+    object_of(alloc, place, Ok(Value::Null), fields)
 }
