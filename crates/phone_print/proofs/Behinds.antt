@@ -1,5 +1,5 @@
 -- Texts that are put behind a text one after another.
-use Rattle.std.proofs.Common.{List, [], ℕ, ◌++◌, Result, Ok, Err, OnErr, append_assoc, append-nil, ap, sym, ◌∙◌}
+use Rattle.std.proofs.Common.{◌≡◌, List, [], ℕ, ◌++◌, Result, Ok, Err, IsOk, is_ok, if◌then◌else◌, OnErr, OnOk, true≢false, append_assoc, append-nil, refl, ap, sym, ◌∙◌}
 use Rattle.std.specs.Prelude.{⊤}
 use Rattle.phone_print.specs.Behind.{IsBehind}
 
@@ -7,12 +7,47 @@ use Rattle.phone_print.specs.Behind.{IsBehind}
 pub behind-then : (a b c : List ℕ) → IsBehind a b → IsBehind b c → IsBehind a c
 behind-then a b c (m, p) (n, q) = (m ++ n, q ∙ ap (λ t. t ++ n) p ∙ append_assoc a m n)
 
--- where the last of them is refused, a part of it stands behind the first text
-pub refused-behind : {E : Type 0} (r : Result ⊤ E) (a b c : List ℕ) → IsBehind a b → OnErr r (IsBehind b c) → OnErr r (IsBehind a c)
-refused-behind (Ok x) a b c h k = k
-refused-behind (Err e) a b c h k = behind-then a b c h k
+-- a text stands behind itself
+pub behind-same : (a : List ℕ) → IsBehind a a
+behind-same a = ([], sym (append-nil a))
 
 -- where nothing was put behind a text, it is as it was
 pub refused-unchanged : {E : Type 0} (r : Result ⊤ E) (a : List ℕ) → OnErr r (IsBehind a a)
 refused-unchanged (Ok x) a = tt
-refused-unchanged (Err e) a = ([], sym (append-nil a))
+refused-unchanged (Err e) a = behind-same a
+
+-- what was put behind a text, or refused, leaves the text in front
+pub behind-either : {E : Type 0} (r : Result ⊤ E) (a t b : List ℕ) → OnOk r (b ≡ a ++ t) → OnErr r (IsBehind a b) → IsBehind a b
+behind-either (Ok x) a t b done refused = (t, done)
+behind-either (Err e) a t b done refused = refused
+
+-- a text put behind another, and one behind that
+pub append-then : (a x b y c : List ℕ) → b ≡ a ++ x → c ≡ b ++ y → c ≡ a ++ (x ++ y)
+append-then a x b y c p q = q ∙ ap (λ t. t ++ y) p ∙ append_assoc a x y
+
+-- what holds where a step was done, from what follows where it was, and the other way round
+pub where_done : {T E P : Type 0} (r : Result T E) → (IsOk r → P) → OnOk r P
+where_done (Ok x) f = f refl
+where_done (Err e) f = tt
+
+pub of_done : {T E P : Type 0} (r : Result T E) → OnOk r P → IsOk r → P
+of_done (Ok x) h ok = h
+of_done (Err e) h ok = absurd (true≢false (sym ok))
+
+pub where_refused : {T E P : Type 0} (r : Result T E) → P → OnErr r P
+where_refused (Ok x) p = tt
+where_refused (Err e) p = p
+
+-- what a push says of the text, whether it was refused or not
+pub done-kept : {E P : Type 0} (r : Result ⊤ E) (a t b : List ℕ) → P → b ≡ (if is_ok r then a ++ t else a) → OnOk r (P × (b ≡ a ++ t))
+done-kept (Ok x) a t b p e = (p, e)
+done-kept (Err y) a t b p e = tt
+
+pub behind-kept : {E : Type 0} (r : Result ⊤ E) (a t b : List ℕ) → b ≡ (if is_ok r then a ++ t else a) → IsBehind a b
+behind-kept (Ok x) a t b e = (t, e)
+behind-kept (Err y) a t b e = ([], e ∙ sym (append-nil a))
+
+-- the same of a push that says so apart
+pub done-also : {E P : Type 0} (r : Result ⊤ E) (a t b : List ℕ) → P → OnOk r (b ≡ a ++ t) → OnOk r (P × (b ≡ a ++ t))
+done-also (Ok x) a t b p e = (p, e)
+done-also (Err y) a t b p e = tt

@@ -16,7 +16,7 @@ ghost use Rattle.phone_print.specs.Texts.{hyphenated, laid_out, text_by};
 
 use crate::Printable;
 use crate::appending::{
-    push_e164, push_extension, push_international, push_national, push_rfc3966,
+    push_e164, push_extension, push_international, push_national, push_rfc3966, push_text,
 };
 use crate::written::{ROOM, text_of_value};
 use itoa::Buffer;
@@ -285,14 +285,14 @@ fn push_coded(
         9 ∷ texts_laid m.now number.now code.now digits.now abroad.now at_home.now) }
     ensures behind { OnErr result (IsBehind (string_bytes line.old) (string_bytes line.new)) }
 {
-    line.push('\t')?;
-    push_e164(line, code, digits)?;
-    line.push('\t')?;
-    push_international(line, code, abroad, m, number)?;
-    line.push('\t')?;
-    push_national(line, at_home, m, number)?;
-    line.push('\t')?;
-    push_rfc3966(line, code, abroad, number)
+    let done = push_text(Ok(()), line, "\t");
+    let done = push_e164(done, line, code, digits);
+    let done = push_text(done, line, "\t");
+    let done = push_international(done, line, code, abroad, m, number);
+    let done = push_text(done, line, "\t");
+    let done = push_national(done, line, at_home, m, number);
+    let done = push_text(done, line, "\t");
+    push_rfc3966(done, line, code, abroad, number)
 }
 
 /// The international text of a number that is laid out so.
@@ -309,7 +309,7 @@ fn international(
     let mut buffer = Buffer::new();
     let code = buffer.format(number.code().value());
     let mut text = String::with_capacity(alloc, ROOM)?;
-    push_international(&mut text, code, laid, m, number)?;
+    push_international(Ok(()), &mut text, code, laid, m, number)?;
     Ok(text)
 }
 
@@ -323,7 +323,7 @@ fn rfc3966(alloc: Global, laid: &str, number: &Printable<'_>) -> Result<String, 
     let mut buffer = Buffer::new();
     let code = buffer.format(number.code().value());
     let mut text = String::with_capacity(alloc, ROOM)?;
-    push_rfc3966(&mut text, code, laid, number)?;
+    push_rfc3966(Ok(()), &mut text, code, laid, number)?;
     Ok(text)
 }
 
@@ -334,7 +334,7 @@ fn with_extension(text: String, m: &Metadata, number: &Printable<'_>) -> Result<
         extension_part m.now number.now.extension) }
 {
     let mut text = text;
-    push_extension(&mut text, m, number)?;
+    push_extension(Ok(()), &mut text, m, number)?;
     Ok(text)
 }
 
