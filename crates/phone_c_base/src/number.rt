@@ -1,7 +1,7 @@
 //! A phone number as plain numbers, and the bytes in which its texts stand.
 ghost use Rattle.std.specs.Prelude.{◌≡◌, ◌⊎◌, ℕ, ◌+◌, ◌<◌, List, Option, [], length, unwrap_or};
 ghost use Rattle.std.specs.Prelude.{◌↔◌, IfOk, IfErr};
-ghost use Rattle.std.specs.Prelude.{IfSome, IfNone};
+ghost use Rattle.std.specs.Prelude.{IfSome, IfNone, IsNone, None};
 ghost use Rattle.std.specs.Option.{option_copied};
 ghost use Rattle.phone_values.specs.declared.country.Source as source;
 ghost use Rattle.phone_c_base.specs.Numbers.{AreNoNumber, AreNone, HasNumbers, IsAt, IsNumber};
@@ -88,9 +88,11 @@ pub fn or_empty(text: Option<&str>) -> &str
 
 /// Where a text stands that begins at a place.
 pub fn part_of(text: Option<&str>, start: usize) -> Part
-    ensures { (bytes : List ℕ) →
+    ensures part { (bytes : List ℕ) →
         IsAt bytes start (unwrap_or (option_copied text.entry) []) →
         IsPart result bytes (option_copied text.entry) }
+    ensures place { result.start ≡ start }
+    ensures none { IsNone text.entry → result.len ≡ 0 }
 {
     match text {
         Some(text) => Part {
@@ -139,6 +141,7 @@ fn source_of(number: u8) -> Option<Source>
 /// The number of plain numbers, without its texts; none where they are no number's.
 pub fn bare(number: &Number) -> Option<PhoneNumber>
     ensures found { IfSome result (λ n. HasNumbers number.now n) }
+    ensures texts { IfSome result (λ n. (n.extension ≡ None) × (n.carrier ≡ None)) }
     ensures none { IfNone result (AreNone number.now) }
 {
     let source = source_of(number.source)?;

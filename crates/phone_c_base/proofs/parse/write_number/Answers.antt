@@ -10,7 +10,7 @@ returns-then-status-eq-OK-clause-number c = λ is_ok.
     record {
       numbers = c.number_of.ensures.numbers;
       extension = rw (c.number_of.ensures.extension, ← c.extension_of-extension.ensures)
-          (c.part_of.ensures _ (rw (text, ← front) (IsAt-front _ _ _)));
+          (c.part_of.ensures.part _ (rw (text, ← front) (IsAt-front _ _ _)));
       carrier = rw (c.number_of.ensures.carrier, ← c.carrier_of-carrier.ensures)
-          (c.part_of-then-status-eq-OK.ensures _ (rw (text, ← back, c.as_bytes.ensures.value) (IsAt-back _ _ _)));
+          (c.part_of-then-status-eq-OK.ensures.part _ (rw (text, ← back, c.as_bytes.ensures.value) (IsAt-back _ _ _)));
     }
