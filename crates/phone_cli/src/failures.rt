@@ -1,16 +1,15 @@
 //! What is told of a failure, by file and cause.
 ghost use Rattle.std.specs.Prelude.{◌≡◌, ◌≤◌};
 
-use crate::inputs::{Failure, is_standard};
-use crate::jobs::JobError;
 use crate::say::{say, say_columns};
 use itoa::Buffer;
-use phone_csv::{FirstError, RunError};
 use phone_device::ByteSink;
-use phone_table::{Column, TableError};
+use phone_jobs::{Failure, JobError, NoColumns, is_standard};
+use phone_prefixes::{LineFault, PrefixesError};
+use phone_table::{Column, FirstError, RunError, TableError};
 use phone_words::{Call, Command};
 use phonenumber::metadata::LoadMetadata;
-use std::alloc::Global;
+use std::alloc::{AllocError, Global};
 
 /// Tells why a database was refused: its file, the number of its refusal, and the words. It gives
 /// the status.
@@ -95,5 +94,39 @@ fn column_name<'w>(command: Command<'w>, column: Column) -> &'w str {
         (Command::Table(table), Column::Number) => table.column,
         (Command::Table(table), Column::Region) => table.region_column.unwrap_or(""),
         _ => "",
+    }
+}
+
+/// What is told of a line that has no tab. Refused only for memory.
+fn no_pair(alloc: Global, line: usize) -> Result<String, AllocError> {
+    format!(in alloc; "line {line}: the line has neither a tab nor two CSV fields")
+}
+
+/// Tells why a file holds no table of prefixes, and gives the status.
+fn say_refused<E: ByteSink>(alloc: Global, name: &str, error: PrefixesError, errors: &mut E) -> u8
+    ensures { result ≤ 3 }
+{
+    let words = match error {
+        PrefixesError::Line(line, LineFault::NoTab) => no_pair(alloc, line),
+        error => error.to_string(alloc),
+    };
+    match words {
+        Ok(words) => say(
+            errors,
+            &["the table ", name, " is refused: ", words.as_str()],
+            3,
+        ),
+        Err(_) => say(errors, &["out of memory"], 1),
+    }
+}
+
+/// Tells why further columns are not there, and gives the status.
+pub(crate) fn say_no_columns<E: ByteSink>(alloc: Global, why: NoColumns<'_>, errors: &mut E) -> u8
+    ensures { result ≤ 3 }
+{
+    match why {
+        NoColumns::Unopened(name) => say(errors, &["the table ", name, " can't be read"], 3),
+        NoColumns::Refused(name, error) => say_refused(alloc, name, error, errors),
+        NoColumns::Memory => say(errors, &["out of memory"], 1),
     }
 }

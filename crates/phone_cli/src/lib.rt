@@ -4,19 +4,10 @@
 
 mod about;
 mod failures;
-mod finder;
-mod firsts;
-mod further;
-mod inputs;
-mod jobs;
-mod lines;
+mod operands;
 mod outlet;
-mod reader;
 mod say;
-mod shorts;
-mod takers;
 mod tool;
-mod typist;
 mod usage;
 
 pub use outlet::{Input, Meter, Outlet, Output};

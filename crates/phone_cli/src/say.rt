@@ -2,11 +2,10 @@
 ghost use Rattle.std.specs.Prelude.{◌≡◌};
 ghost use Rattle.phone_cli.specs.Statuses.{status_of_words};
 
-use crate::jobs::Customers;
-use crate::takers::Firsts;
 use csv::ByteRecord;
 use itoa::Buffer;
 use phone_device::{ByteSink, Fault, write_all};
+use phone_jobs::{Customers, Firsts};
 use phone_words::{Mode, TableOption, WordError};
 
 /// Writes the program's name, these texts and a line feed.

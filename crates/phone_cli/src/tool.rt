@@ -4,23 +4,17 @@ ghost use Rattle.phone_words.specs.Parts.{texts_of};
 ghost use Rattle.phone_cli.specs.Statuses.{Acts};
 
 use crate::about::{write_help, write_regions, write_version};
-use crate::failures::{say_failure, say_refusal};
-use crate::finder::{Finder, FoundForm};
-use crate::further::{Loaded, say_no_columns};
-use crate::inputs::{hint_and_files, on_inputs, say_missing};
-use crate::jobs::{ByLines, Customers, Job, Report};
-use crate::lines::LineTaker;
+use crate::failures::{say_failure, say_no_columns, say_refusal};
+use crate::operands::{hint_and_files, say_missing};
 use crate::outlet::Outlet;
-use crate::reader::Reader;
 use crate::say::{say, say_firsts, say_records, say_word_error};
-use crate::shorts::Shorts;
-use crate::takers::{Firsts, Objects};
-use crate::typist::Typist;
-use phone_book::Book;
 use phone_choice::Rules;
 use phone_device::{ByteSink, ByteSource, Std};
+use phone_jobs::{
+    ByLines, Customers, Finder, Firsts, FoundForm, Job, LineTaker, Loaded, Objects, Reader, Report,
+    Shorts, Typist, on_inputs,
+};
 use phone_table::{Asked, Counts, Extra};
-use phone_typed::Typing;
 use phone_words::{Call, Command, Further, Table, call_of};
 use phonenumber::country::Id;
 use phonenumber::metadata::Database;
@@ -312,7 +306,7 @@ fn by_reader<R: Files + AllocGlobal, S: ByteSource, W: Outlet, E: ByteSink>(
             run_lines(rt, reading, &mut taker, input, output, errors)
         }
         Command::Typed => {
-            let mut taker = typist_of(reader);
+            let mut taker = Typist::new(reader.database, reader.hint);
             run_lines(rt, reading, &mut taker, input, output, errors)
         }
         Command::Table(table) => customers(rt, reading, table, reader, input, output, errors),
@@ -382,13 +376,6 @@ fn finder_of<'d, 'l>(reading: Reading<'l, 'l>, reader: Reader<'d>) -> Finder<'d,
     }
 }
 
-/// What shows each line as it is typed.
-fn typist_of<'d>(reader: Reader<'d>) -> Typist<'d> {
-    Typist {
-        field: Typing::new(reader.database, reader.hint),
-    }
-}
-
 /// The first line of each number; then their counts are told.
 fn firsts<R: Files + AllocGlobal, S: ByteSource, W: Outlet, E: ByteSink>(
     rt: &R,
@@ -400,17 +387,9 @@ fn firsts<R: Files + AllocGlobal, S: ByteSource, W: Outlet, E: ByteSink>(
 ) -> u8
     ensures { result ≤ 3 }
 {
-    let Ok(book) = Book::new(database) else {
+    let Some(mut taker) = Firsts::new(database, reading.call.rules, reading.hint) else {
         let more = " can't tell numbers apart: a calling code begins another";
         return say(errors, &["the database ", reading.path, more], 3);
-    };
-    let mut taker = Firsts {
-        book,
-        rules: reading.call.rules,
-        hint: reading.hint,
-        added: 0,
-        present: 0,
-        refused: 0,
     };
     match run_lines(rt, reading, &mut taker, input, output, errors) {
         0 => say_firsts(&taker, errors),

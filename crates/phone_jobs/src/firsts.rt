@@ -90,10 +90,14 @@ impl<'s, W: ByteSink> Filter<'s, W> {
     /// Whether the record has no number, or a new one, which is then kept in mind.
     fn is_first(&mut self) -> Result<bool, AllocError> {
         let mut source = MemorySource::new(self.record.as_slice());
-        let Ok(first) = first_record(self.alloc, self.delimiter, &mut source) else {
-            return Err(AllocError);
-        };
-        let text = e164_of(&first.fields);
+        match first_record(self.alloc, self.delimiter, &mut source) {
+            Ok(first) => self.is_new(e164_of(&first.fields)),
+            Err(_) => Err(AllocError),
+        }
+    }
+
+    /// Whether an E.164 text is empty, or a new one, which is then kept in mind.
+    fn is_new(&mut self, text: &[u8]) -> Result<bool, AllocError> {
         if text.is_empty() {
             return Ok(true);
         }

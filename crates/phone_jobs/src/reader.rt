@@ -6,7 +6,7 @@ use phonenumber::metadata::Database;
 /// A database that reads, prints and tells, by whose rules, the region under which numbers are
 /// read, and a database of short numbers.
 #[derive(Clone, Copy)]
-pub(crate) struct Reader<'d> {
+pub struct Reader<'d> {
     /// The database.
     pub database: &'d Database,
     /// The rules.

@@ -1,12 +1,11 @@
-//! The inputs of a call: files, one after the other, or standard input.
+//! The region and the files that a call names.
 ghost use Rattle.std.specs.Prelude.{◌≡◌, IfSome};
 
-use crate::jobs::{Job, JobError};
 use crate::say::say;
-use phone_device::{ByteSink, ByteSource, Std};
+use phone_device::ByteSink;
+use phone_jobs::is_standard;
 use phone_table::id_in;
 use phonenumber::country::Id;
-use std::alloc::AllocGlobal;
 use std::fs::{self, Files};
 
 /// The region and the files that operands name: the first one is a region's id, in capital or small
@@ -19,11 +18,6 @@ pub(crate) fn hint_and_files<'l, 'w>(operands: &'l [&'w str]) -> (Option<Id>, &'
         },
         [] => (None, operands),
     }
-}
-
-/// Whether a name is standard input's.
-pub(crate) fn is_standard(name: &str) -> bool {
-    name == "-"
 }
 
 /// Whether a name may be meant as a region's: it has two or three bytes.
@@ -75,52 +69,4 @@ pub(crate) fn say_missing<R: Files, E: ByteSink>(
         is_first = false;
     }
     None
-}
-
-/// Why a call was not answered whole: what failed, and in which file.
-#[derive(Drop)]
-pub(crate) enum Failure<'f> {
-    /// A file can't be opened.
-    Unopened(&'f str),
-    /// What failed in an input of this name.
-    In(&'f str, JobError),
-}
-
-/// Answers the file of a name, or standard input.
-fn on_input<'f, R: Files + AllocGlobal, S: ByteSource, W: ByteSink, J: Job>(
-    rt: &R,
-    name: &'f str,
-    input: &mut S,
-    sink: &mut W,
-    job: &mut J,
-) -> Result<(), Failure<'f>> {
-    let end = if is_standard(name) {
-        job.answer(rt.alloc(), input, sink)
-    } else {
-        match fs::open(rt, name) {
-            Ok(file) => job.answer(rt.alloc(), &mut Std::new(file), sink),
-            Err(_) => return Err(Failure::Unopened(name)),
-        }
-    };
-    match end {
-        Ok(()) => Ok(()),
-        Err(error) => Err(Failure::In(name, error)),
-    }
-}
-
-/// Answers each file in its turn; standard input where there is none.
-pub(crate) fn on_inputs<'f, R: Files + AllocGlobal, S: ByteSource, W: ByteSink, J: Job>(
-    rt: &R,
-    files: &[&'f str],
-    input: &mut S,
-    sink: &mut W,
-    job: &mut J,
-) -> Result<(), Failure<'f>> {
-    if files.is_empty() {
-        return on_input(rt, "-", input, sink, job);
-    }
-    for name in files {
-        on_input(rt, *name, input, sink, job)?;
-    }
-    Ok(())
 }

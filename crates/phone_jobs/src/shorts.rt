@@ -1,9 +1,9 @@
 //! What is known of short numbers.
 ghost use Rattle.std.specs.Prelude.{◌≡◌, IfOk, string_bytes};
-ghost use Rattle.phone_cli.specs.ShortLines.{short_fields, yes_or_no};
+ghost use Rattle.phone_jobs.specs.ShortLines.{short_fields, yes_or_no};
 
 use crate::lines::LineTaker;
-use crate::takers::push_text;
+use crate::text::push_line;
 use phone_short::{ShortFacts, short_facts};
 use phonenumber::country::Id;
 use phonenumber::metadata::Database;
@@ -11,11 +11,19 @@ use std::alloc::{AllocError, Global};
 
 /// Six answers on each line, as a short number that is dialled in a region.
 #[derive(Drop)]
-pub(crate) struct Shorts<'d> {
+pub struct Shorts<'d> {
     /// The database of short numbers.
     pub database: &'d Database,
     /// The region.
     pub region: Id,
+}
+
+impl<'d> Shorts<'d> {
+    /// What is known of a line. Refused only for memory.
+    fn facts_of(&self, alloc: Global, line: &[u8]) -> Result<ShortFacts, AllocError> {
+        let text = String::from_utf8_lossy(alloc, line)?;
+        short_facts(self.database, self.region, text.as_str())
+    }
 }
 
 impl<'d> LineTaker for Shorts<'d> {
@@ -25,11 +33,9 @@ impl<'d> LineTaker for Shorts<'d> {
         line: &[u8],
         answers: &mut Vec<u8>,
     ) -> Result<(), AllocError> {
-        let text = String::from_utf8_lossy(alloc, line)?;
-        let facts = short_facts(self.database, self.region, text.as_str())?;
+        let facts = self.facts_of(alloc, line)?;
         let fields = short_fields(alloc, facts)?;
-        push_text(answers, fields.as_str())?;
-        push_text(answers, "\n")
+        push_line(answers, fields.as_str())
     }
 }
 

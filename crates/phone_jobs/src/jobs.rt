@@ -11,7 +11,7 @@ use std::alloc::Global;
 
 /// Why an input was not answered whole.
 #[derive(Drop)]
-pub(crate) enum JobError {
+pub enum JobError {
     /// The input failed.
     Input,
     /// The output failed, or took no byte of some.
@@ -23,8 +23,8 @@ pub(crate) enum JobError {
 }
 
 /// What is done with each input.
-pub(crate) trait Job {
-    /// Answers an input to its end.
+pub trait Job {
+    /// Answers an input to its end. Where it is refused, what was answered before may be written.
     fn answer<S: ByteSource, W: ByteSink>(
         &mut self,
         alloc: Global,
@@ -45,7 +45,7 @@ fn ended(end: Result<(), RunError>) -> Result<(), JobError> {
 
 /// The report on lines.
 #[derive(Drop)]
-pub(crate) struct Report<'d> {
+pub struct Report<'d> {
     /// What reads the lines.
     pub reader: Reader<'d>,
 }
@@ -65,7 +65,7 @@ impl<'d> Job for Report<'d> {
 
 /// What takes each line in its turn.
 #[derive(Drop)]
-pub(crate) struct ByLines<'t, T> {
+pub struct ByLines<'t, T> {
     /// What takes the lines.
     pub taker: &'t mut T,
 }
@@ -83,8 +83,10 @@ impl<'t, T: LineTaker> Job for ByLines<'t, T> {
 
 /// A table of customers.
 #[derive(Drop)]
-pub(crate) struct Customers<'d, 'w> {
+pub struct Customers<'d, 'w> {
+    /// The database that reads and tells.
     pub database: &'d Database,
+    /// What is asked of it.
     pub asked: Asked<'w>,
     /// Whether the first record of each number is kept alone.
     pub is_unique: bool,

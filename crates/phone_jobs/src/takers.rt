@@ -1,20 +1,20 @@
 //! What lines are answered by commands that count them or keep numbers.
+ghost use Rattle.std.specs.Prelude.{◌≡◌, ◌↔◌, IsNone, false};
+ghost use Rattle.phone_meta.specs.CodeLookUps.{is_prefix_free};
+
 use crate::lines::LineTaker;
 use crate::reader::Reader;
+use crate::text::{push_line, push_text};
 use phone_book::{Book, BookError, Place};
 use phone_choice::Rules;
 use phone_table::objects::object_line;
 use phonenumber::country::Id;
+use phonenumber::metadata::Database;
 use std::alloc::{AllocError, Global};
-
-/// Puts a text at the end of bytes. Refused only for memory.
-pub(crate) fn push_text(bytes: &mut Vec<u8>, text: &str) -> Result<(), AllocError> {
-    bytes.extend_from_slice(text.as_bytes())
-}
 
 /// A JSON object for each line.
 #[derive(Drop)]
-pub(crate) struct Objects<'d> {
+pub struct Objects<'d> {
     /// What reads the lines.
     pub reader: Reader<'d>,
     /// The number of the next line.
@@ -33,20 +33,19 @@ impl<'d> LineTaker for Objects<'d> {
         let place = self.place;
         let object = object_line(alloc, reader.rules, database, short, hint, place, line)?;
         self.place = self.place.saturating_add(1);
-        push_text(answers, object.as_str())?;
-        push_text(answers, "\n")
+        push_line(answers, object.as_str())
     }
 }
 
 /// The first line of each number.
 #[derive(Drop)]
-pub(crate) struct Firsts {
+pub struct Firsts {
     /// The numbers so far.
-    pub book: Book,
+    book: Book,
     /// By whose rules lines are read.
-    pub rules: Rules,
+    rules: Rules,
     /// The region under which lines are read.
-    pub hint: Option<Id>,
+    hint: Option<Id>,
     /// How many lines had a new number.
     pub added: u64,
     /// How many had one that was there.
@@ -56,6 +55,24 @@ pub(crate) struct Firsts {
 }
 
 impl Firsts {
+    /// What keeps the first line of each number, of which there is none yet. None where the
+    /// database can't tell numbers apart: a listed calling code begins another.
+    pub fn new(database: Database, rules: Rules, hint: Option<Id>) -> Option<Firsts>
+        ensures { IsNone result ↔ (is_prefix_free database ≡ false) }
+    {
+        let Ok(book) = Book::new(database) else {
+            return None;
+        };
+        Some(Firsts {
+            book,
+            rules,
+            hint,
+            added: 0,
+            present: 0,
+            refused: 0,
+        })
+    }
+
     /// Puts the line of a new number at the end of the answers.
     fn push_added(
         &mut self,

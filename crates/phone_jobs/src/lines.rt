@@ -1,6 +1,6 @@
 //! Lines of a source, each taken in its turn by what may keep something from line to line.
 ghost use Rattle.std.specs.Prelude.{◌≡◌, ◌+◌, Err, OnErr, OnOk};
-ghost use Rattle.phone_cli.specs.Runs.{sink_faults, source_faults};
+ghost use Rattle.phone_jobs.specs.Runs.{sink_faults, source_faults};
 ghost use Rattle.phone_device.specs.Passing.{IsAtEnd};
 ghost use Rattle.phone_lines.specs.declared.blocks.RunError.TheVariants as error;
 
@@ -9,7 +9,7 @@ use phone_lines::{RunError, without_return};
 use std::alloc::{AllocError, Global};
 
 /// What takes lines.
-pub(crate) trait LineTaker {
+pub trait LineTaker {
     /// Begins an input, and puts what stands in front of its answers at their end. Refused only for
     /// memory.
     fn begin(&mut self, _alloc: Global, _answers: &mut Vec<u8>) -> Result<(), AllocError> {
@@ -65,8 +65,8 @@ impl Held {
         Ok(())
     }
 
-    /// Writes all answers that are held, where the block that was taken isn't full: the next read may
-    /// wait then, as that of a pipe or a terminal does.
+    /// Writes all answers that are held, where the block that was taken isn't full: the next read
+    /// may wait then, as that of a pipe or a terminal does.
     fn hand_on_short<W: ByteSink>(&mut self, sink: &mut W, block_length: usize) -> Result<(), Fault>
         ensures no_fault { OnOk result (W.faults sink.new ≡ W.faults sink.old) }
         ensures fault { OnErr result (W.faults sink.new ≡ W.faults sink.old + 1) }

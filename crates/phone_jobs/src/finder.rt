@@ -1,10 +1,10 @@
 //! The numbers that stand in running text.
-ghost use Rattle.std.specs.Prelude.{◌≡◌, [], IfOk};
+ghost use Rattle.std.specs.Prelude.{◌≡◌, [], IfOk, OnOk};
 ghost use Rattle.csv.specs.Records.{partial_of};
 
 use crate::lines::LineTaker;
 use crate::reader::Reader;
-use crate::takers::push_text;
+use crate::text::{push_line, push_text};
 use csv::ByteRecord;
 use phone_csv::{Format, LineEnd, add_record};
 use phone_find::{Found, find_numbers};
@@ -14,7 +14,7 @@ use std::alloc::{AllocError, Global};
 
 /// How a number is told that was found in a text.
 #[derive(Clone, Copy, PartialEq, Eq, Debug)]
-pub(crate) enum FoundForm {
+pub enum FoundForm {
     /// As fields that are parted by tabs.
     Fields,
     /// As a JSON object.
@@ -31,7 +31,7 @@ const RECORDS: Format = Format {
 
 /// The valid numbers that stand in each line.
 #[derive(Drop)]
-pub(crate) struct Finder<'d, 'f> {
+pub struct Finder<'d, 'f> {
     /// What reads the numbers.
     pub reader: Reader<'d>,
     /// How each is told.
@@ -91,10 +91,7 @@ impl<'d, 'f> Finder<'d, 'f> {
             piece,
         };
         match found_object(alloc, reader.rules, reader.database, spot, number) {
-            Ok(object) => {
-                push_text(answers, object.as_str())?;
-                push_text(answers, "\n")
-            }
+            Ok(object) => push_line(answers, object.as_str()),
             // of a number that was read the code is listed
             Err(FormatError::UnknownCode) => Ok(()),
             Err(FormatError::Memory) => Err(AllocError),
@@ -117,20 +114,9 @@ impl<'d, 'f> Finder<'d, 'f> {
             column,
             piece,
         };
-        let mut record = record_of(alloc, self.name())?;
-        match push_found(
-            alloc,
-            reader.rules,
-            reader.database,
-            spot,
-            number,
-            &mut record,
-        ) {
-            Ok(()) => add_record(alloc, RECORDS, &record, answers),
-            // of a number that was read the code is listed
-            Err(FormatError::UnknownCode) => Ok(()),
-            Err(FormatError::Memory) => Err(AllocError),
-        }
+        let (database, mut record) = (reader.database, record_of(alloc, self.name())?);
+        let found = push_found(alloc, reader.rules, database, spot, number, &mut record);
+        add_found(alloc, found, &record, answers)
     }
 
     /// Puts the header of the records at the end of the answers.
@@ -140,8 +126,7 @@ impl<'d, 'f> Finder<'d, 'f> {
             None => None,
         };
         let mut header = record_of(alloc, heading)?;
-        push_found_names(&mut header)?;
-        add_record(alloc, RECORDS, &header, answers)
+        add_names(alloc, &mut header, answers)
     }
 
     /// Puts what is told of one number at the end of the answers.
@@ -179,6 +164,67 @@ impl<'d, 'f> Finder<'d, 'f> {
         }
         Ok(())
     }
+
+    /// Puts what is told of all numbers that stand in a text at the end of the answers.
+    fn take_text(
+        &self,
+        alloc: Global,
+        text: &str,
+        answers: &mut Vec<u8>,
+    ) -> Result<(), AllocError> {
+        let reader = self.reader;
+        let all = find_numbers(reader.rules, reader.database, reader.hint, text)?;
+        self.push_all(alloc, text, all.as_slice(), answers)
+    }
+
+    /// The same of a line, whose bytes that aren't UTF-8 are replaced.
+    fn take_line(
+        &self,
+        alloc: Global,
+        line: &[u8],
+        answers: &mut Vec<u8>,
+    ) -> Result<(), AllocError> {
+        let text = String::from_utf8_lossy(alloc, line)?;
+        self.take_text(alloc, text.as_str(), answers)
+    }
+}
+
+/// Puts a record that tells a number at the end of the answers, where it was made.
+fn add_found(
+    alloc: Global,
+    made: Result<(), FormatError>,
+    record: &ByteRecord,
+    answers: &mut Vec<u8>,
+) -> Result<(), AllocError> {
+    match made {
+        Ok(()) => add_record(alloc, RECORDS, record, answers),
+        // of a number that was read the code is listed
+        Err(FormatError::UnknownCode) => Ok(()),
+        Err(FormatError::Memory) => Err(AllocError),
+    }
+}
+
+/// Puts the names of the fields at the end of a header, and this at the end of the answers.
+fn add_names(
+    alloc: Global,
+    header: &mut ByteRecord,
+    answers: &mut Vec<u8>,
+) -> Result<(), AllocError>
+    requires { partial_of header.old ≡ [] }
+{
+    push_found_names(header)?;
+    add_record(alloc, RECORDS, header, answers)
+}
+
+/// Puts a field at the end of a record, where there is one. Refused only for memory.
+fn push_optional(record: &mut ByteRecord, field: Option<&str>) -> Result<(), AllocError>
+    requires { partial_of record.old ≡ [] }
+    ensures { OnOk result (partial_of record.new ≡ []) }
+{
+    match field {
+        Some(field) => record.push_field(field.as_bytes()),
+        None => Ok(()),
+    }
 }
 
 /// A record of one field, or of none. Refused only for memory.
@@ -186,9 +232,7 @@ fn record_of(alloc: Global, field: Option<&str>) -> Result<ByteRecord, AllocErro
     ensures { IfOk result (λ r. partial_of r ≡ []) }
 {
     let mut record = ByteRecord::new(alloc);
-    if let Some(field) = field {
-        record.push_field(field.as_bytes())?;
-    }
+    push_optional(&mut record, field)?;
     Ok(record)
 }
 
@@ -211,10 +255,7 @@ impl<'d, 'f> LineTaker for Finder<'d, 'f> {
         line: &[u8],
         answers: &mut Vec<u8>,
     ) -> Result<(), AllocError> {
-        let reader = self.reader;
-        let text = String::from_utf8_lossy(alloc, line)?;
-        let all = find_numbers(reader.rules, reader.database, reader.hint, text.as_str())?;
-        self.push_all(alloc, text.as_str(), all.as_slice(), answers)?;
+        self.take_line(alloc, line, answers)?;
         self.place = self.place.saturating_add(1);
         Ok(())
     }

@@ -1,5 +1,5 @@
 use Rattle.std.proofs.Common.{◌≡◌}
-use Rattle.phone_cli.proofs.lines.take_blocks.Given as goal
+use Rattle.phone_jobs.proofs.lines.take_blocks.Given as goal
 
 abbrev pub invariant-loop-block : goal.invariant-loop-block
 invariant-loop-block g l = record {

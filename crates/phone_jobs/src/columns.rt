@@ -1,14 +1,12 @@
 //! The further columns of a table, and the tables of prefixes by which they tell.
-ghost use Rattle.std.specs.Prelude.{◌≡◌, ◌≤◌};
 
 use crate::lines::{LineTaker, take_lines};
-use crate::say::say;
-use crate::takers::push_text;
+use crate::text::push_text;
 use csv::ByteRecord;
 use phone_csv::{First, FirstError, first_record};
-use phone_device::{ByteSink, MemorySink, MemorySource, Std};
+use phone_device::{ByteSource, MemorySink, MemorySource, Std};
 use phone_lines::RunError;
-use phone_prefixes::{LineFault, Prefixes, PrefixesError};
+use phone_prefixes::{Prefixes, PrefixesError};
 use phone_table::{Extra, Owner, Told};
 use phone_words::Further;
 use std::alloc::{AllocError, AllocGlobal, Global};
@@ -42,29 +40,29 @@ fn push_wanted<'w>(
     Ok(())
 }
 
-/// The columns that are asked for, in their order: that of one's own, `time_zone`, `carrier`,
-/// `first_carrier`, `area`. Refused only for memory.
-fn columns_wanted<'w>(alloc: Global, further: Further<'w>) -> Result<Vec<Wanted<'w>>, AllocError> {
-    let mut columns = Vec::new(alloc);
+/// Puts the columns that are asked for at the end of others, in their order: that of one's own,
+/// `time_zone`, `carrier`, `first_carrier`, `area`. Refused only for memory.
+fn push_further<'w>(columns: &mut Vec<Wanted<'w>>, further: Further<'w>) -> Result<(), AllocError> {
     if let Some(own) = further.prefixes {
-        push_wanted(&mut columns, own.name, Told::Prefix, Some(own.file))?;
+        push_wanted(columns, own.name, Told::Prefix, Some(own.file))?;
     }
     let (today, first) = (Told::Carrier(Owner::Today), Told::Carrier(Owner::First));
-    push_wanted(
-        &mut columns,
-        "time_zone",
-        Told::TimeZones,
-        further.time_zones,
-    )?;
-    push_wanted(&mut columns, "carrier", today, further.carriers)?;
-    push_wanted(&mut columns, "first_carrier", first, further.first_carriers)?;
-    push_wanted(&mut columns, "area", Told::Area, further.areas)?;
+    push_wanted(columns, "time_zone", Told::TimeZones, further.time_zones)?;
+    push_wanted(columns, "carrier", today, further.carriers)?;
+    push_wanted(columns, "first_carrier", first, further.first_carriers)?;
+    push_wanted(columns, "area", Told::Area, further.areas)
+}
+
+/// The columns that are asked for. Refused only for memory.
+fn columns_wanted<'w>(alloc: Global, further: Further<'w>) -> Result<Vec<Wanted<'w>>, AllocError> {
+    let mut columns = Vec::new(alloc);
+    push_further(&mut columns, further)?;
     Ok(columns)
 }
 
 /// Why further columns are not there, and by which file.
 #[derive(Clone, Copy)]
-pub(crate) enum NoColumns<'w> {
+pub enum NoColumns<'w> {
     /// The file can't be read.
     Unopened(&'w str),
     /// What it holds is no table of prefixes.
@@ -107,6 +105,19 @@ fn push_pair(bytes: &mut Vec<u8>, pair: &ByteRecord) -> Result<(), AllocError> {
     bytes.extend_from_slice(pair.get(1).unwrap_or(&[]))
 }
 
+/// Puts two fields at the end of bytes, with a tab between, or else the line. Refused only for
+/// memory.
+fn push_with_tab(
+    bytes: &mut Vec<u8>,
+    pair: Option<&ByteRecord>,
+    line: &[u8],
+) -> Result<(), AllocError> {
+    match pair {
+        Some(pair) => push_pair(bytes, pair),
+        None => bytes.extend_from_slice(line),
+    }
+}
+
 impl LineTaker for Tabs {
     fn take(
         &mut self,
@@ -114,11 +125,29 @@ impl LineTaker for Tabs {
         line: &[u8],
         answers: &mut Vec<u8>,
     ) -> Result<(), AllocError> {
-        match pair_of(alloc, line)? {
-            Some(pair) => push_pair(answers, &pair)?,
-            None => answers.extend_from_slice(line)?,
-        }
+        let pair = pair_of(alloc, line)?;
+        push_with_tab(answers, pair.as_ref(), line)?;
         push_text(answers, "\n")
+    }
+}
+
+/// The bytes of a source, each of its lines with a tab.
+fn bytes_with_tabs<S: ByteSource>(alloc: Global, source: &mut S) -> Result<Vec<u8>, PrefixesError> {
+    let mut text = MemorySink::new(alloc);
+    let end = take_lines(alloc, &mut Tabs {}, source, &mut text);
+    copy_after(alloc, end, text.bytes())
+}
+
+/// A copy of bytes that a run over lines wrote, where it came to its end.
+fn copy_after(
+    alloc: Global,
+    end: Result<(), RunError>,
+    bytes: &[u8],
+) -> Result<Vec<u8>, PrefixesError> {
+    match end {
+        Ok(()) => Ok(bytes.to_vec(alloc)?),
+        Err(RunError::Input) => Err(PrefixesError::Source),
+        Err(_) => Err(PrefixesError::Memory),
     }
 }
 
@@ -127,12 +156,7 @@ fn with_tabs<R: Files + AllocGlobal>(rt: &R, name: &str) -> Result<Vec<u8>, Pref
     let Ok(file) = fs::open(rt, name) else {
         return Err(PrefixesError::Source);
     };
-    let mut text = MemorySink::new(rt.alloc());
-    match take_lines(rt.alloc(), &mut Tabs {}, &mut Std::new(file), &mut text) {
-        Ok(()) => Ok(text.bytes().to_vec(rt.alloc())?),
-        Err(RunError::Input) => Err(PrefixesError::Source),
-        Err(_) => Err(PrefixesError::Memory),
-    }
+    bytes_with_tabs(rt.alloc(), &mut Std::new(file))
 }
 
 /// The table of prefixes in a file.
@@ -156,24 +180,43 @@ fn refused<'w>(name: &'w str, error: PrefixesError) -> NoColumns<'w> {
     }
 }
 
+/// Puts the table of a file at the end of others.
+fn push_table<'w, R: Files + AllocGlobal>(
+    rt: &R,
+    file: &'w str,
+    tables: &mut Vec<Prefixes>,
+) -> Result<(), NoColumns<'w>> {
+    match tables.push(table_in(rt, file)?) {
+        Ok(()) => Ok(()),
+        Err(_) => Err(NoColumns::Memory),
+    }
+}
+
+/// Puts the tables of columns at the end of others, in their order.
+fn push_tables<'w, R: Files + AllocGlobal>(
+    rt: &R,
+    columns: &[Wanted<'w>],
+    tables: &mut Vec<Prefixes>,
+) -> Result<(), NoColumns<'w>> {
+    for column in columns {
+        push_table(rt, column.file, tables)?;
+    }
+    Ok(())
+}
+
 /// The tables of columns, in their order.
 fn tables_of<'w, R: Files + AllocGlobal>(
     rt: &R,
     columns: &[Wanted<'w>],
 ) -> Result<Vec<Prefixes>, NoColumns<'w>> {
     let mut tables = Vec::new(rt.alloc());
-    for column in columns {
-        let table = table_in(rt, column.file)?;
-        let Ok(()) = tables.push(table) else {
-            return Err(NoColumns::Memory);
-        };
-    }
+    push_tables(rt, columns, &mut tables)?;
     Ok(tables)
 }
 
 /// The further columns of a table, loaded.
 #[derive(Drop)]
-pub(crate) struct Loaded<'w> {
+pub struct Loaded<'w> {
     columns: Vec<Wanted<'w>>,
     /// The table of each.
     tables: Vec<Prefixes>,
@@ -195,6 +238,12 @@ impl<'w> Loaded<'w> {
     /// The columns with their tables. Refused only for memory.
     pub fn extra<'s>(&'s self, alloc: Global) -> Result<Vec<Extra<'s>>, AllocError> {
         let mut extra = Vec::new(alloc);
+        self.push_extra(&mut extra)?;
+        Ok(extra)
+    }
+
+    /// Puts the columns with their tables at the end of others. Refused only for memory.
+    fn push_extra<'s>(&'s self, extra: &mut Vec<Extra<'s>>) -> Result<(), AllocError> {
         for (place, column) in self.columns.iter().enumerate() {
             if let Some(table) = self.tables.get(place) {
                 extra.push(Extra {
@@ -204,40 +253,6 @@ impl<'w> Loaded<'w> {
                 })?;
             }
         }
-        Ok(extra)
-    }
-}
-
-/// What is told of a line that has no tab. Refused only for memory.
-fn no_pair(alloc: Global, line: usize) -> Result<String, AllocError> {
-    format!(in alloc; "line {line}: the line has neither a tab nor two CSV fields")
-}
-
-/// Tells why a file holds no table of prefixes, and gives the status.
-fn say_refused<E: ByteSink>(alloc: Global, name: &str, error: PrefixesError, errors: &mut E) -> u8
-    ensures { result ≤ 3 }
-{
-    let words = match error {
-        PrefixesError::Line(line, LineFault::NoTab) => no_pair(alloc, line),
-        error => error.to_string(alloc),
-    };
-    match words {
-        Ok(words) => say(
-            errors,
-            &["the table ", name, " is refused: ", words.as_str()],
-            3,
-        ),
-        Err(_) => say(errors, &["out of memory"], 1),
-    }
-}
-
-/// Tells why further columns are not there, and gives the status.
-pub(crate) fn say_no_columns<E: ByteSink>(alloc: Global, why: NoColumns<'_>, errors: &mut E) -> u8
-    ensures { result ≤ 3 }
-{
-    match why {
-        NoColumns::Unopened(name) => say(errors, &["the table ", name, " can't be read"], 3),
-        NoColumns::Refused(name, error) => say_refused(alloc, name, error, errors),
-        NoColumns::Memory => say(errors, &["out of memory"], 1),
+        Ok(())
     }
 }

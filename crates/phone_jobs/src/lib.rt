@@ -1,0 +1,26 @@
+//! What a call of `./phone` does with its inputs, files or standard input, one after the other: the
+//! report on lines, a table, or lines that are taken one by one: for the numbers in them, as keys,
+//! as numbers that are dialled, as JSON objects, or for the first line of each number.
+#![tactic(auto)]
+
+mod columns;
+mod finder;
+mod firsts;
+mod inputs;
+mod jobs;
+mod lines;
+mod reader;
+mod shorts;
+mod takers;
+mod text;
+mod typist;
+
+pub use columns::{Loaded, NoColumns};
+pub use finder::{Finder, FoundForm};
+pub use inputs::{Failure, is_standard, on_inputs};
+pub use jobs::{ByLines, Customers, Job, JobError, Report};
+pub use lines::LineTaker;
+pub use reader::Reader;
+pub use shorts::Shorts;
+pub use takers::{Firsts, Objects};
+pub use typist::Typist;
