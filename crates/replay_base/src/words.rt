@@ -1,4 +1,5 @@
 //! How tables write what the crates answer.
+use crate::answers::written;
 use anyhow::{Result, anyhow};
 use phone_values::country::{Id, Source};
 use phone_values::{Mode, ParseError, Type};
@@ -91,8 +92,8 @@ pub fn source(source: Source) -> &'static str {
 /// error.
 pub fn refusal(alloc: Global, error: &ParseError) -> Result<String> {
     let mut out = String::new(alloc);
-    push_refusal(&mut out, error)?;
-    Ok(out)
+    let end = push_refusal(&mut out, error);
+    written(end, out)
 }
 
 /// Writes a refusal like that.

@@ -4,6 +4,7 @@ use anyhow::Result;
 use phone_meta::Database;
 use phone_short::{ShortFacts, short_facts, short_kind};
 use phone_values::country::Id;
+use replay_base::answers::known;
 use replay_base::marks::{around, begin};
 use replay_base::table::Row;
 use replay_base::words::said;
@@ -16,7 +17,7 @@ pub fn answer(alloc: Global, row: &Row, db: &Database) -> Result<Option<String>>
         "short-kind" => kind(alloc, row, db),
         _ => return Ok(None),
     };
-    Ok(Some(answer?))
+    known(answer)
 }
 
 /// The answers of the six calls.
