@@ -1,5 +1,5 @@
-//! An automaton: a pattern compiled for texts of ASCII. Nothing in it changes, so it is made once,
-//! and all machines of the pattern share it.
+//! An automaton: a pattern compiled for texts of ASCII, made once, and the machine that it keeps
+//! from one search to the next.
 ghost use Rattle.std.specs.Prelude.{◌≡◌, ◌<◌, ◌-◌, ◌^◌, ℕ, length, IfSome};
 ghost use Rattle.std.specs.Arc.{arc_value};
 ghost use Rattle.phone_automaton.specs.Ascii.{AsciiSame};
@@ -9,8 +9,10 @@ ghost use Rattle.regex_compile.specs.Implements.{Implements};
 ghost use Rattle.regex_hir.specs.Meaning.{meaning};
 ghost use Rattle.regex_hir.specs.Re.{Re};
 
+use crate::machine::Machine;
 use crate::narrow::narrow_classes;
 use crate::parts::front_cells;
+use crate::place::Place;
 use regex_dfa::Dfa;
 use regex_hir::Hir;
 use regex_nfa::Nfa;
@@ -40,50 +42,50 @@ impl Drop for Tables {
     }
 }
 
-/// A pattern's automaton for texts of ASCII. Contracts see what it finds in each text, `finds`, and
+/// What all machines of an automaton share. Contracts see what it finds in each text, `finds`, and
 /// the number of the last group.
-pub struct Automaton {
+pub(crate) struct Core {
     tables: Arc<Tables>,
     /// The number of the last group.
     last: u32,
 }
 
-impl Model for Automaton {
+impl Model for Core {
     ghost use Rattle.std.specs.Arc.{arc_value};
     ghost use Rattle.phone_automaton.specs.Finds.{Searcher};
 
     ghost Value = { Searcher };
 
-    ghost view = { λ a. record { nfa = (arc_value a.tables).dfa.nfa; last = a.last } };
+    ghost view = { λ c. record { nfa = (arc_value c.tables).dfa.nfa; last = c.last } };
 }
 
 /// Drops what is shared: as a function it is proved once.
-impl Drop for Automaton {
+impl Drop for Core {
     fn drop(self) {
-        let Automaton { tables, last: _ } = self;
+        let Core { tables, last: _ } = self;
         drop(tables);
     }
 }
 
-impl Automaton {
-    /// The automaton of a pattern that was read. None where memory is refused, or it grows too
+impl Core {
+    /// That of a pattern that was read. None where memory is refused, or the automaton grows too
     /// large.
-    pub fn new(alloc: Global, parsed: &Parsed) -> Option<Automaton>
-        ensures finds { IfSome result (λ a. FindsInAscii (meaning parsed.now.hir) (finds a)) }
-        ensures last { IfSome result (λ a. a.last ≡ length parsed.now.names.items - 1) }
+    fn new(alloc: Global, parsed: &Parsed) -> Option<Core>
+        ensures finds { IfSome result (λ c. FindsInAscii (meaning parsed.now.hir) (finds c)) }
+        ensures last { IfSome result (λ c. c.last ≡ length parsed.now.names.items - 1) }
     {
         let (nfa, last, front_cells) = narrow_compiled(alloc, parsed)?;
         let Ok(dfa) = Dfa::new(alloc, nfa) else {
             return None;
         };
         match Arc::new(alloc, Tables { dfa, front_cells }) {
-            Ok(tables) => Some(Automaton { tables, last }),
+            Ok(tables) => Some(Core { tables, last }),
             Err(_) => None,
         }
     }
 
     /// The number of the last group; 0 where the pattern has none.
-    pub fn last_group(&self) -> usize
+    pub(crate) fn last_group(&self) -> usize
         ensures is { result ≡ self.now.last }
         ensures small { result < 2 ^ 32 }
     {
@@ -98,6 +100,79 @@ impl Automaton {
             Ok(tables) => Some(tables),
             Err(_) => None,
         }
+    }
+}
+
+/// A pattern's automaton for texts of ASCII, with a place in which it keeps a machine from one
+/// search to the next. Threads may share it. Contracts see what it finds in each text, `finds`, and
+/// the number of the last group.
+pub struct Automaton {
+    core: Core,
+    place: Place,
+}
+
+impl Model for Automaton {
+    ghost use Rattle.std.specs.Prelude.{◌≡◌};
+    ghost use Rattle.phone_automaton.specs.Finds.{Searcher};
+
+    ghost Value = { Searcher };
+
+    ghost view = { λ a. a.core };
+
+    ghost invariant = { λ a. a.place ≡ a.core };
+}
+
+/// Drops the automaton and its machine: as a function it is proved once.
+impl Drop for Automaton {
+    fn drop(self) {
+        let Automaton { core, place } = self;
+        drop(core);
+        drop(place);
+    }
+}
+
+impl Automaton {
+    /// The automaton of a pattern that was read. None where memory is refused, or it grows too
+    /// large.
+    pub fn new(alloc: Global, parsed: &Parsed) -> Option<Automaton>
+        ensures finds { IfSome result (λ a. FindsInAscii (meaning parsed.now.hir) (finds a)) }
+        ensures last { IfSome result (λ a. a.last ≡ length parsed.now.names.items - 1) }
+    {
+        let core = Core::new(alloc, parsed)?;
+        let place = Place::new(&core);
+        Some(Automaton { core, place })
+    }
+
+    /// A machine for a search: the one that is kept, or a new one where there is none yet, and
+    /// where another thread has it. None where memory is refused.
+    #[inline]
+    pub fn take(&self, alloc: Global) -> Option<Box<Machine>>
+        ensures { IfSome result (λ m. m.value ≡ self.now) }
+    {
+        match self.place.take() {
+            Some(machine) => Some(machine),
+            None => self.machine(alloc),
+        }
+    }
+
+    /// A new machine. None where memory is refused.
+    #[cold]
+    #[inline(never)]
+    fn machine(&self, alloc: Global) -> Option<Box<Machine>>
+        ensures { IfSome result (λ m. m.value ≡ self.now) }
+    {
+        match Box::new(alloc, Machine::new(alloc, &self.core)?) {
+            Ok(machine) => Some(machine),
+            Err(_) => None,
+        }
+    }
+
+    /// Keeps a machine for the next search.
+    #[inline]
+    pub fn keep(&self, machine: Box<Machine>)
+        requires { machine.value ≡ self.now }
+    {
+        self.place.put(machine);
     }
 }
 

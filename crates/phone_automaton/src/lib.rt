@@ -9,6 +9,7 @@ mod lengths;
 mod machine;
 mod narrow;
 mod parts;
+mod place;
 mod template;
 
 pub use automaton::Automaton;

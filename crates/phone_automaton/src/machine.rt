@@ -10,7 +10,7 @@ ghost use Rattle.regex_dfa.specs.Search.{IsForwardFor};
 ghost use Rattle.regex_syntax.specs.Grammar.{Names};
 ghost use Rattle.regex_vm.specs.Found.{span};
 
-use crate::automaton::{Automaton, Tables};
+use crate::automaton::{Core, Tables};
 use crate::groups::Groups;
 use crate::parts::find_groups;
 use crate::template;
@@ -126,14 +126,14 @@ impl Machine {
     /// refused.
     #[cold]
     #[inline(never)]
-    pub fn new(alloc: Global, automaton: &Automaton) -> Option<Machine>
-        ensures same { IfSome result (λ m. m ≡ automaton.now) }
+    pub(crate) fn new(alloc: Global, core: &Core) -> Option<Machine>
+        ensures { IfSome result (λ m. m ≡ core.now) }
     {
-        let last = automaton.last_group();
+        let last = core.last_group();
         let Ok(groups) = Groups::new(alloc, 2 * last + 2) else {
             return None;
         };
-        let tables = automaton.share()?;
+        let tables = core.share()?;
         let states = tables.dfa.nfa.states.len();
         let most = WIDE.saturating_add(states.saturating_mul(WIDE_PER_STATE));
         let Ok(forward) = Forward::with_budget(alloc, &tables.dfa, false, KEPT) else {

@@ -35,7 +35,6 @@ use Rattle.regex_syntax.proofs.Config.TheSendSync as config
 use Rattle.regex.specs.contracts.pattern.Pattern as Source
 use Rattle.regex.specs.contracts.string.regex.Regex as Regex
 use Rattle.phone_base.proofs.text.Text.TheSendSync as text
-use Rattle.phone_pattern.proofs.machine_cache.MachineCache.TheSendSync as cache
 use Rattle.phone_pattern.proofs.outline.Outline.TheSendSync as outline
 use Rattle.phone_pattern.proofs.ruled.KeptRuled.TheSendSync as ruled
 use Rattle.phone_pattern.specs.contracts.compiled.Compiled as Compiled
@@ -172,14 +171,14 @@ Regex-send = recorded_send (Regex.the_field).row _ _ (Regex.the_type).to_one Reg
 
 Compiled-inside-send : IsSend Compiled-in.the_row
 Compiled-inside-send = recorded_send (Compiled-in.the_field).row _ _ (Compiled-in.the_type).to_one
-    (struct_send (S.shape Compiled-in.the_type) (Regex-field-send, (outline.the_send, tt)))
+    (struct_send (S.shape Compiled-in.the_type) (heap.the_field_send, (Regex-field-send, (outline.the_send, tt))))
 
 Compiled-send : IsSend Compiled.the_row
 Compiled-send = view_send _ _ _ _ _ Compiled-inside-send
 
 CompiledList-inside-send : IsSend CompiledList-in.the_row
 CompiledList-inside-send = recorded_send (CompiledList-in.the_field).row _ _ (CompiledList-in.the_type).to_one
-    (struct_send (S.shape CompiledList-in.the_type) (Vec-send _ Regex-send, (outline.the_send, tt)))
+    (struct_send (S.shape CompiledList-in.the_type) (heap.the_field_send, (Vec-send _ Regex-send, (outline.the_send, tt))))
 
 CompiledList-send : IsSend CompiledList.the_row
 CompiledList-send = view_send _ _ _ _ _ CompiledList-inside-send
@@ -294,23 +293,23 @@ Regex-sync = recorded_sync (Regex.the_field).row _ _ (Regex.the_type).to_one Reg
 
 Compiled-inside-sync : IsSync Compiled-in.the_row
 Compiled-inside-sync = recorded_sync (Compiled-in.the_field).row _ _ (Compiled-in.the_type).to_one
-    (struct_sync (S.shape Compiled-in.the_type) (Regex-field-sync, (outline.the_sync, tt)))
+    (struct_sync (S.shape Compiled-in.the_type) (heap.the_field_sync, (Regex-field-sync, (outline.the_sync, tt))))
 
 Compiled-sync : IsSync Compiled.the_row
 Compiled-sync = view_sync _ _ _ _ _ Compiled-inside-sync
 
 CompiledList-inside-sync : IsSync CompiledList-in.the_row
 CompiledList-inside-sync = recorded_sync (CompiledList-in.the_field).row _ _ (CompiledList-in.the_type).to_one
-    (struct_sync (S.shape CompiledList-in.the_type) (Vec-sync _ Regex-sync, (outline.the_sync, tt)))
+    (struct_sync (S.shape CompiledList-in.the_type) (heap.the_field_sync, (Vec-sync _ Regex-sync, (outline.the_sync, tt))))
 
 CompiledList-sync : IsSync CompiledList.the_row
 CompiledList-sync = view_sync _ _ _ _ _ CompiledList-inside-sync
 
--- ---- what holds a machine in a cell: passed on, and not shared
+-- ---- what holds these
 Pattern-inside-send : IsSend Pattern-in.the_row
 Pattern-inside-send = recorded_send (Pattern-in.the_field).row _ _ (Pattern-in.the_type).to_one
     (struct_send (S.shape Pattern-in.the_type)
-    (Arc-send _ Compiled-send Compiled-sync, (cache.the_send, tt)))
+    (Arc-send _ Compiled-send Compiled-sync, tt))
 
 Pattern-send : IsSend Pattern.the_row
 Pattern-send = view_send _ _ _ _ _ Pattern-inside-send
@@ -318,7 +317,7 @@ Pattern-send = view_send _ _ _ _ _ Pattern-inside-send
 Leading-inside-send : IsSend Leading-in.the_row
 Leading-inside-send = recorded_send (Leading-in.the_field).row _ _ (Leading-in.the_type).to_one
     (struct_send (S.shape Leading-in.the_type)
-    (Arc-send _ CompiledList-send CompiledList-sync, (cache.the_send, tt)))
+    (Arc-send _ CompiledList-send CompiledList-sync, tt))
 
 Leading-send : IsSend Leading.the_row
 Leading-send = view_send _ _ _ _ _ Leading-inside-send

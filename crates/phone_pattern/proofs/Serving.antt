@@ -7,7 +7,7 @@ use Rattle.std.specs.declared.alloc.AllocError.{AllocError}
 use Rattle.std.specs.Option.{option_and_then, option_map_or}
 use Rattle.std.specs.Str.{chars}
 use Rattle.phone_pattern.specs.First.{at_start, front_end, is_whole_match, captured, captured_by, first_match, first_span, led_by, names_in, replaced, verbose, with_first_replaced, IsCut, Seen, seen_of}
-use Rattle.phone_pattern.specs.MachineCaches.{as_captured, Serves}
+use Rattle.phone_pattern.specs.Machines.{as_captured, Serves}
 use Rattle.phone_pattern.proofs.Matches.{found, named}
 use Rattle.phone_automaton.specs.Finds.{at_front, finds, FindsInAscii, Searcher}
 use Rattle.phone_automaton.specs.Finds as searched

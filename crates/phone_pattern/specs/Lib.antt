@@ -1,5 +1,5 @@
 pub mod First
-pub mod MachineCaches
+pub mod Machines
 pub mod Outlines
 pub mod Refusals
 pub mod Rules

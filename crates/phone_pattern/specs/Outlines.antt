@@ -5,7 +5,7 @@ use Rattle.phone_automaton.specs.Finds.{Searcher}
 use Rattle.phone_automaton.specs.Fronts.{may_begin}
 use Rattle.phone_automaton.specs.Lengths.{Bounds, IsTooLong, IsTooShort}
 use Rattle.phone_pattern.specs.First.{at_start, is_whole_match}
-use Rattle.phone_pattern.specs.MachineCaches.{Serves}
+use Rattle.phone_pattern.specs.Machines.{Serves}
 
 -- the bytes with which matches begin, their lengths, and what finds them
 pub record Shape : Type 0 where

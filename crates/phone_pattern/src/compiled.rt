@@ -6,18 +6,17 @@ ghost use Rattle.phone_pattern.specs.First.{is_whole_match, replaced, AreCuts, A
 ghost use Rattle.phone_pattern.specs.First.{IsCut, IsPattern, IsPatternOf};
 ghost use Rattle.phone_pattern.specs.Refusals.{IsPatternRefusal};
 
-use crate::machine_cache::MachineCache;
 use crate::outline::Outline;
 use crate::pattern::Captured;
-use crate::reading;
+use crate::{reading, searches};
 use phone_base::{LoadMetadata, Text};
 use regex::{Error, Regex, RegexBuilder};
 use std::alloc::{AllocError, Global};
 use std::marker::Model;
 
-/// A text that is compiled under flag x: white space and `#` comments in it don't count. Each of
-/// its searches is handed the place where its pattern keeps a machine.
+/// A text that is compiled under flag x: white space and `#` comments in it don't count.
 pub(crate) struct Compiled {
+    alloc: Global,
     re: Regex,
     /// What is known of its matches, and the automaton that finds them.
     outline: Outline,
@@ -40,7 +39,11 @@ impl Model for Compiled {
 /// Drops what was compiled: as a function it is proved once.
 impl Drop for Compiled {
     fn drop(self) {
-        let Compiled { re, outline } = self;
+        let Compiled {
+            alloc: _,
+            re,
+            outline,
+        } = self;
         drop(re);
         drop(outline);
     }
@@ -73,7 +76,12 @@ impl Compiled {
     {
         let re = compile(alloc, text)?;
         let outline = reading::outline(alloc, re.as_str());
-        Ok(Compiled { re, outline })
+        Ok(Compiled { alloc, re, outline })
+    }
+
+    /// The allocator of what was compiled, and of its searches.
+    pub(crate) fn allocator(&self) -> Global {
+        self.alloc
     }
 
     /// The compiled pattern.
@@ -101,55 +109,47 @@ impl Compiled {
     /// Whether the first match begins at the first byte; it need not reach the end. Refused only
     /// for memory.
     #[inline]
-    pub(crate) fn is_at_start(&self, kept: &MachineCache, text: &str) -> Result<bool, AllocError>
+    pub(crate) fn is_at_start(&self, text: &str) -> Result<bool, AllocError>
         ensures { IfOk result (λ b. b ≡ at_start self.now text.now) }
     {
         if !self.outline.may_match_front(text) {
             return Ok(false);
         }
-        kept.is_at_start(&self.re, &self.outline, text)
+        searches::is_at_start(self.alloc, &self.re, &self.outline, text)
     }
 
     /// Where the first match ends, if it begins at the first byte; none where it doesn't, and where
     /// the text has no match. Refused only for memory.
     #[inline]
-    pub(crate) fn front_end(
-        &self,
-        kept: &MachineCache,
-        text: &str,
-    ) -> Result<Option<usize>, AllocError>
+    pub(crate) fn front_end(&self, text: &str) -> Result<Option<usize>, AllocError>
         ensures end { IfOk result (λ end. end ≡ front_end self.now text.now) }
         ensures border { IfOk result (λ end. IfSome end (λ e. IsCut text.now (0, e))) }
     {
         if !self.outline.may_match_front(text) {
             return Ok(None);
         }
-        kept.front_end(&self.re, &self.outline, text)
+        searches::front_end(self.alloc, &self.re, &self.outline, text)
     }
 
     /// The bytes at which the first match begins and ends; none where the text has no match.
     /// Refused only for memory.
     #[inline]
-    pub(crate) fn first_span(
-        &self,
-        kept: &MachineCache,
-        text: &str,
-    ) -> Result<Option<(usize, usize)>, AllocError>
+    pub(crate) fn first_span(&self, text: &str) -> Result<Option<(usize, usize)>, AllocError>
         ensures span { IfOk result (λ found. found ≡ first_span self.now text.now) }
         ensures borders { IfOk result (λ found. IfSome found (IsCut text.now)) }
     {
-        kept.first_span(&self.re, &self.outline, text)
+        searches::first_span(self.alloc, &self.re, &self.outline, text)
     }
 
     /// Whether the first match begins at the first byte and ends after the last. Refused only for
     /// memory.
-    pub(crate) fn is_whole_match(&self, kept: &MachineCache, text: &str) -> Result<bool, AllocError>
+    pub(crate) fn is_whole_match(&self, text: &str) -> Result<bool, AllocError>
         ensures { IfOk result (λ b. b ≡ is_whole_match self.now text.now) }
     {
         if !self.outline.may_match_whole(text) {
             return Ok(false);
         }
-        match self.front_end(kept, text)? {
+        match self.front_end(text)? {
             Some(end) => Ok(end == text.len()),
             None => Ok(false),
         }
@@ -158,29 +158,20 @@ impl Compiled {
     /// What the first match spans, and its first and its last group; none where the text has no
     /// match. Refused only for memory.
     #[inline]
-    pub(crate) fn captures(
-        &self,
-        kept: &MachineCache,
-        text: &str,
-    ) -> Result<Option<Captured>, AllocError>
+    pub(crate) fn captures(&self, text: &str) -> Result<Option<Captured>, AllocError>
         ensures found { IfOk result (λ found. found ≡ captured self.now text.now) }
         ensures borders { IfOk result (λ found. IfSome found (AreCuts text.now)) }
     {
-        kept.captures(&self.re, &self.outline, text)
+        searches::captures(self.alloc, &self.re, &self.outline, text)
     }
 
     /// The text with its first match replaced by a template, in which `$1` stands for the first
     /// group; a text without a match stays as it is. Refused only for memory.
     #[inline]
-    pub(crate) fn replace(
-        &self,
-        kept: &MachineCache,
-        template: &str,
-        text: &str,
-    ) -> Result<String, AllocError>
+    pub(crate) fn replace(&self, template: &str, text: &str) -> Result<String, AllocError>
         ensures { IfOk result (λ out. string_bytes out ≡ replaced self.now template.now text.now) }
     {
-        kept.replace(&self.re, &self.outline, template, text)
+        searches::replace(self.alloc, &self.re, &self.outline, template, text)
     }
 }
 

@@ -8,9 +8,8 @@ ghost use Rattle.phone_pattern.specs.First.{led_by, ArePatternsOf, IsPattern};
 ghost use Rattle.phone_pattern.specs.Outlines.{IsShapeOfFirst};
 ghost use Rattle.phone_pattern.specs.Refusals.{IsPatternRefusal};
 
-use crate::machine_cache::MachineCache;
 use crate::outline::Outline;
-use crate::{compiled, reading};
+use crate::{compiled, reading, searches};
 use phone_base::{LoadMetadata, Text};
 use regex::Regex;
 use std::alloc::{AllocError, Global};
@@ -20,6 +19,7 @@ use std::sync::Arc;
 /// Patterns of digits in front, of which the last decides, compiled for all lists of these texts.
 /// Contracts see their texts.
 pub(crate) struct CompiledList {
+    alloc: Global,
     patterns: Vec<Regex>,
     /// What is made of the last of them.
     outline: Outline,
@@ -43,7 +43,11 @@ impl Model for CompiledList {
 /// Drops what was compiled: as a function it is proved once.
 impl Drop for CompiledList {
     fn drop(self) {
-        let CompiledList { patterns, outline } = self;
+        let CompiledList {
+            alloc: _,
+            patterns,
+            outline,
+        } = self;
         drop(patterns);
         drop(outline);
     }
@@ -59,7 +63,11 @@ impl CompiledList {
     {
         let patterns = compiled::compile_all(alloc, texts)?;
         let outline = outline_of_last(alloc, patterns.as_slice());
-        Ok(CompiledList { patterns, outline })
+        Ok(CompiledList {
+            alloc,
+            patterns,
+            outline,
+        })
     }
 
     /// The compiled patterns.
@@ -84,8 +92,8 @@ impl CompiledList {
         have_texts(self.patterns.as_slice(), texts)
     }
 
-    /// Whether digits are led by these patterns, searched by the machine that is kept there.
-    fn lead(&self, kept: &MachineCache, digits: &str) -> Result<bool, AllocError>
+    /// Whether digits are led by these patterns.
+    fn lead(&self, digits: &str) -> Result<bool, AllocError>
         ensures led { IfOk result (λ b. b ≡ led_by digits.now (reverse self.now)) }
         ensures unsearched { self.now ≡ [] → result ≡ Ok true }
     {
@@ -95,16 +103,14 @@ impl CompiledList {
         if !self.outline.may_match_front(digits) {
             return Ok(false);
         }
-        kept.is_at_start(last, &self.outline, digits)
+        searches::is_at_start(self.alloc, last, &self.outline, digits)
     }
 }
 
 /// Patterns of digits in front, of which the last decides. Contracts see their texts. What is
-/// compiled is shared with all lists of the same texts; the machine that searches is its own.
+/// compiled is shared with all lists of the same texts.
 pub struct Leading {
     compiled: Arc<CompiledList>,
-    /// What searches for the last of them.
-    kept: MachineCache,
 }
 
 impl Model for Leading {
@@ -119,21 +125,17 @@ impl Model for Leading {
 /// Drops what was compiled: as a function it is proved once.
 impl Drop for Leading {
     fn drop(self) {
-        let Leading { compiled, kept } = self;
+        let Leading { compiled } = self;
         drop(compiled);
-        drop(kept);
     }
 }
 
 impl Leading {
     /// The list of what was compiled.
-    pub(crate) fn of(alloc: Global, compiled: Arc<CompiledList>) -> Leading
+    pub(crate) fn of(compiled: Arc<CompiledList>) -> Leading
         ensures { result ≡ arc_value compiled }
     {
-        Leading {
-            compiled,
-            kept: MachineCache::new(alloc),
-        }
+        Leading { compiled }
     }
 
     /// The compiled patterns.
@@ -157,7 +159,7 @@ impl Leading {
         ensures led { IfOk result (λ b. b ≡ led_by digits.now (reverse self.now)) }
         ensures unsearched { self.now ≡ [] → result ≡ Ok true }
     {
-        self.compiled.lead(&self.kept, digits)
+        self.compiled.lead(digits)
     }
 }
 

@@ -5,13 +5,13 @@
 mod compiled;
 mod intern_table;
 mod leading;
-mod machine_cache;
 mod outline;
 mod pattern;
 mod pool;
 mod reading;
 mod ruled;
 mod rules;
+mod searches;
 mod uncached;
 
 pub use leading::Leading;

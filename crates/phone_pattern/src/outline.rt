@@ -1,11 +1,10 @@
 //! What is made of a pattern's text at once: what is known of its matches before any search, and
 //! the automaton that searches texts of ASCII.
-ghost use Rattle.std.specs.Prelude.{◌≡◌, ◌-◌, ℕ, false, length, List, IfSome};
+ghost use Rattle.std.specs.Prelude.{◌≡◌, ◌-◌, ℕ, false, length, List, Some, IfSome};
 ghost use Rattle.phone_automaton.specs.Finds.{finds, FindsInAscii};
 ghost use Rattle.phone_automaton.specs.Fronts.{BeginsIn};
 ghost use Rattle.phone_automaton.specs.Lengths.{HasLengths};
 ghost use Rattle.phone_pattern.specs.First.{at_start, is_whole_match};
-ghost use Rattle.phone_pattern.specs.MachineCaches.{Serves};
 ghost use Rattle.phone_pattern.specs.Outlines.{IsShape};
 ghost use Rattle.regex_hir.specs.Meaning.{meaning};
 
@@ -77,13 +76,25 @@ impl Outline {
         }
     }
 
-    /// A machine of the automaton. None where there is no automaton, and where memory is refused.
-    pub(crate) fn machine(&self, alloc: Global) -> Option<Machine>
-        ensures { (pattern : List ℕ) → IsShape pattern self.now → IfSome result (Serves pattern) }
+    /// A machine of the automaton, for a search. None where there is no automaton, and where memory
+    /// is refused.
+    #[inline]
+    pub(crate) fn take(&self, alloc: Global) -> Option<Box<Machine>>
+        ensures { IfSome result (λ m. self.now.searcher ≡ Some m.value) }
     {
         match &self.automaton {
-            Some(automaton) => Machine::new(alloc, automaton),
+            Some(automaton) => automaton.take(alloc),
             None => None,
+        }
+    }
+
+    /// Keeps a machine of the automaton for the next search.
+    #[inline]
+    pub(crate) fn keep(&self, machine: Box<Machine>)
+        requires { self.now.searcher ≡ Some machine.value }
+    {
+        if let Some(automaton) = &self.automaton {
+            automaton.keep(machine);
         }
     }
 

@@ -7,7 +7,6 @@ ghost use Rattle.phone_pattern.specs.First.{IsPattern, IsPatternOf};
 ghost use Rattle.phone_pattern.specs.Refusals.{IsPatternRefusal};
 
 use crate::compiled::Compiled;
-use crate::machine_cache::MachineCache;
 use phone_base::{LoadMetadata, Text};
 use regex::Regex;
 use std::alloc::{AllocError, Global};
@@ -15,12 +14,10 @@ use std::marker::Model;
 use std::sync::Arc;
 
 /// A compiled pattern of a database, read under flag x: white space and `#` comments in it don't
-/// count. What is compiled is shared with all patterns of the same text; the machine that searches
-/// is its own, so that a pattern may move to another thread.
+/// count. What is compiled, and the machine that searches, is shared with all patterns of the same
+/// text, and may be shared with other threads.
 pub struct Pattern {
     compiled: Arc<Compiled>,
-    /// What searches for it.
-    kept: MachineCache,
 }
 
 impl Model for Pattern {
@@ -35,9 +32,8 @@ impl Model for Pattern {
 /// Drops what was compiled: as a function it is proved once.
 impl Drop for Pattern {
     fn drop(self) {
-        let Pattern { compiled, kept } = self;
+        let Pattern { compiled } = self;
         drop(compiled);
-        drop(kept);
     }
 }
 
@@ -50,17 +46,14 @@ impl Pattern {
         ensures refused { IfErr result (IsPatternRefusal (text ∷ [])) }
     {
         let compiled = Arc::new(alloc, Compiled::new(alloc, text)?)?;
-        Ok(Pattern::of(alloc, compiled))
+        Ok(Pattern::of(compiled))
     }
 
     /// The pattern of what was compiled.
-    pub(crate) fn of(alloc: Global, compiled: Arc<Compiled>) -> Pattern
+    pub(crate) fn of(compiled: Arc<Compiled>) -> Pattern
         ensures { result ≡ arc_value compiled }
     {
-        Pattern {
-            compiled,
-            kept: MachineCache::new(alloc),
-        }
+        Pattern { compiled }
     }
 
     /// The compiled pattern.
@@ -79,7 +72,7 @@ impl Pattern {
 
     /// The allocator that the pattern keeps, for its searches.
     pub fn allocator(&self) -> Global {
-        self.kept.allocator()
+        self.compiled.allocator()
     }
 
     /// Whether the first match begins at the first byte; it need not reach the end. Refused only
@@ -88,7 +81,7 @@ impl Pattern {
     pub fn is_at_start(&self, text: &str) -> Result<bool, AllocError>
         ensures { IfOk result (λ b. b ≡ at_start self.now text.now) }
     {
-        self.compiled.is_at_start(&self.kept, text)
+        self.compiled.is_at_start(text)
     }
 
     /// Where the first match ends, if it begins at the first byte; none where it doesn't, and where
@@ -98,7 +91,7 @@ impl Pattern {
         ensures end { IfOk result (λ end. end ≡ front_end self.now text.now) }
         ensures border { IfOk result (λ end. IfSome end (λ e. IsCut text.now (0, e))) }
     {
-        self.compiled.front_end(&self.kept, text)
+        self.compiled.front_end(text)
     }
 
     /// The bytes at which the first match begins and ends; none where the text has no match.
@@ -108,7 +101,7 @@ impl Pattern {
         ensures span { IfOk result (λ found. found ≡ first_span self.now text.now) }
         ensures borders { IfOk result (λ found. IfSome found (IsCut text.now)) }
     {
-        self.compiled.first_span(&self.kept, text)
+        self.compiled.first_span(text)
     }
 
     /// Whether the first match begins at the first byte and ends after the last. Refused only for
@@ -117,7 +110,7 @@ impl Pattern {
     pub fn is_whole_match(&self, text: &str) -> Result<bool, AllocError>
         ensures { IfOk result (λ b. b ≡ is_whole_match self.now text.now) }
     {
-        self.compiled.is_whole_match(&self.kept, text)
+        self.compiled.is_whole_match(text)
     }
 
     /// What the first match spans, and its first and its last group; none where the text has no
@@ -127,7 +120,7 @@ impl Pattern {
         ensures found { IfOk result (λ found. found ≡ captured self.now text.now) }
         ensures borders { IfOk result (λ found. IfSome found (AreCuts text.now)) }
     {
-        self.compiled.captures(&self.kept, text)
+        self.compiled.captures(text)
     }
 
     /// The text with its first match replaced by a template, in which `$1` stands for the first
@@ -136,7 +129,7 @@ impl Pattern {
     pub fn replace(&self, template: &str, text: &str) -> Result<String, AllocError>
         ensures { IfOk result (λ out. string_bytes out ≡ replaced self.now template.now text.now) }
     {
-        self.compiled.replace(&self.kept, template, text)
+        self.compiled.replace(template, text)
     }
 }
 

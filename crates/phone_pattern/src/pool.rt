@@ -56,7 +56,7 @@ impl Pool {
         ensures read { IfOk result (λ p. IsPattern text) }
         ensures refused { IfErr result (IsPatternRefusal (text ∷ [])) }
     {
-        Ok(Pattern::of(self.alloc, self.compiled(text)?))
+        Ok(Pattern::of(self.compiled(text)?))
     }
 
     /// What is compiled of a text.
@@ -93,7 +93,7 @@ impl Pool {
         ensures read { IfOk result (λ l. AllByRecursion IsPattern texts.items) }
         ensures refused { IfErr result (IsPatternRefusal texts.items) }
     {
-        Ok(Leading::of(self.alloc, self.compiled_list(texts)?))
+        Ok(Leading::of(self.compiled_list(texts)?))
     }
 
     /// What is compiled of a list of texts.

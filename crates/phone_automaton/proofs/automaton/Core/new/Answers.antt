@@ -1,6 +1,6 @@
 use Rattle.regex_hir.specs.Meaning.{meaning}
 use Rattle.phone_automaton.proofs.Bridge.{finds_in_ascii}
-use Rattle.phone_automaton.proofs.automaton.Automaton.new.Goals as goal
+use Rattle.phone_automaton.proofs.automaton.Core.new.Goals as goal
 
 pub returns-in-Ok-new-clause-finds : goal.returns-in-Ok-new-clause-finds
 returns-in-Ok-new-clause-finds c =
