@@ -1,7 +1,6 @@
 //! The answer to a line, by the library that knows its call.
-use anyhow::Result;
+use anyhow::{Result, anyhow};
 use phone_meta::Database;
-use replay_base::answers::{answered, first_known};
 use replay_base::table::Row;
 use replay_database::look_ups;
 use replay_database::named::{Named, load, of_name};
@@ -12,11 +11,19 @@ use std::fs::Files;
 /// The answer to a call on no database, or on one that the call takes for itself; none for any
 /// other call.
 fn without_database<R: Files + AllocGlobal>(rt: &R, row: &Row) -> Result<Option<String>> {
-    let found = replay_base::answer(rt.alloc(), row);
-    let found = first_known(found, replay_database::without_database(rt, row));
-    let found = first_known(found, replay_numbers::without_database(rt.alloc(), row));
-    let found = first_known(found, replay_numbers::of_value(rt.alloc(), row));
-    first_known(found, replay_util::without_database(rt, row))
+    if let Some(found) = replay_base::answer(rt.alloc(), row)? {
+        return Ok(Some(found));
+    }
+    if let Some(found) = replay_database::without_database(rt, row)? {
+        return Ok(Some(found));
+    }
+    if let Some(found) = replay_numbers::without_database(rt.alloc(), row)? {
+        return Ok(Some(found));
+    }
+    if let Some(found) = replay_numbers::of_value(rt.alloc(), row)? {
+        return Ok(Some(found));
+    }
+    replay_util::without_database(rt, row)
 }
 
 /// The answer to a call on a database; none for any other call. `layouts` is the database whose
@@ -27,10 +34,16 @@ fn on_database(
     db: &Database,
     layouts: &Database,
 ) -> Result<Option<String>> {
-    let found = look_ups::answer(alloc, row, db);
-    let found = first_known(found, replay_numbers::of_text(alloc, row, db));
-    let found = first_known(found, replay_numbers::of_number(alloc, row, db, layouts));
-    first_known(found, replay_util::answer(alloc, row, db))
+    if let Some(found) = look_ups::answer(alloc, row, db)? {
+        return Ok(Some(found));
+    }
+    if let Some(found) = replay_numbers::of_text(alloc, row, db)? {
+        return Ok(Some(found));
+    }
+    if let Some(found) = replay_numbers::of_number(alloc, row, db, layouts)? {
+        return Ok(Some(found));
+    }
+    replay_util::answer(alloc, row, db)
 }
 
 /// The answer to a line. The database that it names is at hand for the next line.
@@ -39,19 +52,14 @@ pub fn answer<R: Files + AllocGlobal>(
     row: &Row,
     at_hand: &mut Option<Named>,
 ) -> Result<String> {
-    match without_database(rt, row) {
-        Ok(None) => answered(of_line(rt, row, at_hand)),
-        found => answered(found),
+    if let Some(found) = without_database(rt, row)? {
+        return Ok(found);
     }
-}
-
-/// The answer to a call on the database that a line names; none for any other call.
-fn of_line<R: Files + AllocGlobal>(
-    rt: &R,
-    row: &Row,
-    at_hand: &mut Option<Named>,
-) -> Result<Option<String>> {
-    under(rt, row, of_name(rt, at_hand, row.argument(0))?)
+    let db = of_name(rt, at_hand, row.argument(0))?;
+    match under(rt, row, db)? {
+        Some(found) => Ok(found),
+        None => Err(anyhow!("no call has this name")),
+    }
 }
 
 /// The answer to a call on this database; none for any other call.

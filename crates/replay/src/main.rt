@@ -19,37 +19,22 @@ mod told;
 mod whole;
 
 use anyhow::Result;
-use std::alloc::AllocGlobal;
 use std::env;
-use std::fs::Files;
 use std::process::ExitCode;
 
 fn main(rt: HostRuntime) -> Result<ExitCode> {
     let mut words = env::args(&rt)?.skip(1);
     let (first, file, line) = (words.next(), words.next(), words.next());
-    let agrees = by_words(&rt, text(&first), text(&file), text(&line))?;
+    let agrees = match (&first, &file, &line) {
+        (None, None, None) => whole::replay(&rt)?,
+        (Some(word), Some(file), None) if word.as_str() == "answers" => {
+            told::answers(&rt, file.as_str())?;
+            true
+        }
+        (Some(word), Some(file), Some(line)) if word.as_str() == "line" => {
+            alone::judge(&rt, file.as_str(), line.as_str().parse::<usize>()?)?
+        }
+        _ => false,
+    };
     Ok(ExitCode::from(if agrees { 0 } else { 1 }))
-}
-
-/// A word, empty where there is none.
-fn text(word: &Option<String>) -> &str {
-    match word {
-        Some(word) => word.as_str(),
-        None => "",
-    }
-}
-
-/// Does what these words say. Whether all agrees; not so where they say nothing that is known.
-fn by_words<R: Files + AllocGlobal + Print>(
-    rt: &R,
-    first: &str,
-    file: &str,
-    line: &str,
-) -> Result<bool> {
-    match first {
-        "" => whole::replay(rt),
-        "answers" => told::answers(rt, file),
-        "line" => alone::judge(rt, file, line),
-        _ => Ok(false),
-    }
 }

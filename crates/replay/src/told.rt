@@ -7,14 +7,14 @@ use std::alloc::AllocGlobal;
 use std::fs::{self, Files};
 
 /// Prints the answer to each line, with its escapes, or behind an exclamation mark why there is
-/// none. Gives that all went well.
-pub fn answers<R: Files + AllocGlobal + Print>(rt: &R, file: &str) -> Result<bool> {
+/// none.
+pub fn answers<R: Files + AllocGlobal + Print>(rt: &R, file: &str) -> Result<()> {
     let text = fs::read_to_string(rt, file)?;
     let mut at_hand = None;
     for line in text.as_str().lines() {
         tell(rt, line, &mut at_hand)?;
     }
-    Ok(true)
+    Ok(())
 }
 
 /// Prints the answer to one line.

@@ -2,7 +2,7 @@
 use crate::calls::answer_or_error;
 use anyhow::Result;
 use replay_base::table::Row;
-use replay_base::tally::{Count, Tally};
+use replay_base::tally::Tally;
 use replay_database::named::Named;
 use std::alloc::AllocGlobal;
 use std::fs::{self, Files};
@@ -41,27 +41,15 @@ const TABLES: [&str; 26] = [
 /// use print. Gives whether all lines agree.
 pub fn replay<R: Files + AllocGlobal + Print>(rt: &R) -> Result<bool> {
     let mut tally = Tally::new(rt.alloc());
-    replay_tables(rt, &mut tally)?;
-    print_counts(rt, tally.counts())?;
-    using_examples::examples(rt, "databases/three.json")?;
-    Ok(tally.all_agree())
-}
-
-/// The lines of all tables.
-fn replay_tables<R: Files + AllocGlobal + Print>(rt: &R, tally: &mut Tally) -> Result<()> {
-    for file in &TABLES {
-        replay_table(rt, file, tally)?;
+    for file in TABLES {
+        replay_table(rt, file, &mut tally)?;
     }
-    Ok(())
-}
-
-/// Prints how many lines of each call agree.
-fn print_counts<R: Print>(rt: &R, counts: &[Count]) -> Result<()> {
-    for count in counts {
+    for count in tally.counts() {
         let (call, agree, all) = (count.call.as_str(), count.agree, count.all);
         println!(rt; "{call}: {agree} of {all} lines agree")?;
     }
-    Ok(())
+    using_examples::examples(rt, "databases/three.json")?;
+    Ok(tally.all_agree())
 }
 
 /// The lines of one table.
@@ -89,8 +77,9 @@ fn replay_line<R: Files + AllocGlobal + Print>(
     let row = Row::read(alloc, line)?;
     let found = answer_or_error(rt, &row, at_hand)?;
     let agrees = found.as_str().as_bytes() == row.answer();
+    tally.count(alloc, row.call(), agrees)?;
     if !agrees {
         println!(rt; "{line}\n  but here: {found}")?;
     }
-    Ok(tally.count(alloc, row.call(), agrees)?)
+    Ok(())
 }

@@ -1,6 +1,5 @@
 //! The calls of `phone_device`: what a source gives and where it fails, what a sink takes and how
 //! it ends.
-use crate::answers::{known, written};
 use crate::marks::{around, begin};
 use crate::table::Row;
 use crate::words::said;
@@ -20,23 +19,17 @@ pub fn answer(alloc: Global, row: &Row) -> Result<Option<String>> {
         "write-all" => all_written(alloc, row),
         _ => return Ok(None),
     };
-    known(answer)
+    Ok(Some(answer?))
 }
 
 /// A piece of bytes, so many times.
 pub fn repeat_piece(alloc: Global, piece: &[u8], times: &str) -> Result<Vec<u8>> {
     let times = times.parse::<usize>()?;
     let mut bytes = Vec::new(alloc);
-    let end = push_times(&mut bytes, piece, times);
-    Ok(written(end, bytes)?)
-}
-
-/// Writes a piece of bytes so many times.
-fn push_times(bytes: &mut Vec<u8>, piece: &[u8], times: usize) -> Result<(), AllocError> {
     for _i in 0..times {
         bytes.extend_from_slice(piece)?;
     }
-    Ok(())
+    Ok(bytes)
 }
 
 /// Where a source fails: `call` or `byte` and its number, or a hyphen for nowhere.
@@ -126,18 +119,12 @@ impl Given {
 
 /// What a source gives to reads into rooms of these lengths.
 fn reads(alloc: Global, row: &Row) -> Result<String> {
+    let mut source = source(alloc, row)?;
     let mut given = Given::new(alloc);
-    let end = read_each(alloc, row, source(alloc, row), &mut given);
-    written(end, given)?.call_words(alloc, row)
-}
-
-/// Reads of a source into rooms of these lengths.
-fn read_each(alloc: Global, row: &Row, source: Result<Script>, given: &mut Given) -> Result<()> {
-    let mut source = source?;
     for length in row.argument(3).split(' ') {
-        read(alloc, &mut source, length, given)?;
+        read(alloc, &mut source, length, &mut given)?;
     }
-    Ok(())
+    given.call_words(alloc, row)
 }
 
 /// One read into a room of this length.
@@ -152,19 +139,13 @@ fn read(alloc: Global, source: &mut Script, length: &str, given: &mut Given) -> 
 
 /// What a block holds after each of its fills by at most so many bytes.
 fn fills(alloc: Global, row: &Row) -> Result<String> {
+    let mut source = source(alloc, row)?;
     let mut given = Given::new(alloc);
-    let end = fill_each(row, source(alloc, row), &mut given);
-    written(end, given)?.call_words(alloc, row)
-}
-
-/// Fills a block from a source by at most so many bytes each.
-fn fill_each(row: &Row, source: Result<Script>, given: &mut Given) -> Result<()> {
-    let mut source = source?;
     let mut block = Block::new();
     for most in row.argument(3).split(' ') {
-        fill(&mut block, &mut source, most, given)?;
+        fill(&mut block, &mut source, most, &mut given)?;
     }
-    Ok(())
+    given.call_words(alloc, row)
 }
 
 /// One fill by at most so many bytes.

@@ -4,7 +4,6 @@
 //! program `replay` goes over the tables.
 #![tactic(auto)]
 
-pub mod answers;
 pub mod characters;
 pub mod devices;
 pub mod lines;
@@ -15,15 +14,23 @@ pub mod tally;
 pub mod values;
 pub mod words;
 
-use answers::first_known;
 use anyhow::Result;
 use std::alloc::Global;
 use table::Row;
 
 /// The answer to a call of these crates; none for any other call.
 pub fn answer(alloc: Global, row: &Row) -> Result<Option<String>> {
-    let found = first_known(characters::answer(alloc, row), values::answer(alloc, row));
-    let found = first_known(found, readers::answer(alloc, row));
-    let found = first_known(found, devices::answer(alloc, row));
-    first_known(found, lines::answer(alloc, row))
+    if let Some(found) = characters::answer(alloc, row)? {
+        return Ok(Some(found));
+    }
+    if let Some(found) = values::answer(alloc, row)? {
+        return Ok(Some(found));
+    }
+    if let Some(found) = readers::answer(alloc, row)? {
+        return Ok(Some(found));
+    }
+    if let Some(found) = devices::answer(alloc, row)? {
+        return Ok(Some(found));
+    }
+    lines::answer(alloc, row)
 }

@@ -1,5 +1,4 @@
 //! The calls of `phone_lines`: lines that are answered one by one.
-use crate::answers::known;
 use crate::devices::{fault, push_counted, repeat_piece, sink, then};
 use crate::marks::{around, begin};
 use crate::table::Row;
@@ -16,7 +15,7 @@ pub fn answer(alloc: Global, row: &Row) -> Result<Option<String>> {
         "lines-refused" => refusal_words(alloc, row),
         _ => return Ok(None),
     };
-    known(answer)
+    Ok(Some(answer?))
 }
 
 /// Answers a line by its length, and perhaps by itself behind a colon.

@@ -1,6 +1,5 @@
 //! The calls of `phone_parts`: the two readers, and `extract`. They take no memory, so no marks
 //! stand around them.
-use crate::answers::{known, written};
 use crate::table::Row;
 use crate::words::{part, said, source};
 use anyhow::Result;
@@ -19,7 +18,7 @@ pub fn answer(alloc: Global, row: &Row) -> Result<Option<String>> {
         "natural-made" | "rfc3966-made" => made(alloc, row),
         _ => return Ok(None),
     };
-    known(answer)
+    Ok(Some(answer?))
 }
 
 /// What kind of reading one of the readers has of the text that a line makes.
@@ -34,18 +33,12 @@ fn made(alloc: Global, row: &Row) -> Result<String> {
 /// The text that a line makes, from an argument on: a front, a part so many times, and a back.
 pub fn text_of_row(alloc: Global, row: &Row, at: usize) -> Result<String> {
     let times = row.argument(at.saturating_add(2)).parse::<usize>()?;
-    let mut text = String::new(alloc);
-    let end = push_made(&mut text, row, at, times);
-    Ok(written(end, text)?)
-}
-
-/// Writes that text, with the part so many times.
-fn push_made(text: &mut String, row: &Row, at: usize, times: usize) -> Result<(), AllocError> {
-    text.push_str(row.argument(at))?;
+    let mut text = String::from_str(alloc, row.argument(at))?;
     for _ in 0..times {
         text.push_str(row.argument(at.saturating_add(1)))?;
     }
-    text.push_str(row.argument(at.saturating_add(3)))
+    text.push_str(row.argument(at.saturating_add(3)))?;
+    Ok(text)
 }
 
 /// What the reader of free text finds, or its kind alone; or why it finds nothing.
@@ -83,18 +76,13 @@ fn kind(found: &Number<'_>) -> &'static str {
 
 /// A number's source and its four parts, as the table writes them.
 pub fn number(alloc: Global, number: &Number<'_>) -> Result<String> {
-    let mut out = String::new(alloc);
-    let end = push_parts(&mut out, number);
-    Ok(written(end, out)?)
-}
-
-/// Writes source and parts.
-fn push_parts(out: &mut String, number: &Number<'_>) -> Result<(), AllocError> {
-    out.push_str(source(number.country))?;
-    push_part(out, Some(number.national.as_str()))?;
-    push_part(out, text(&number.prefix))?;
-    push_part(out, text(&number.extension))?;
-    push_part(out, text(&number.carrier))
+    let (source, national) = (source(number.country), number.national.as_str());
+    let mut out = String::from_str(alloc, source)?;
+    push_part(&mut out, Some(national))?;
+    push_part(&mut out, text(&number.prefix))?;
+    push_part(&mut out, text(&number.extension))?;
+    push_part(&mut out, text(&number.carrier))?;
+    Ok(out)
 }
 
 /// The text of a part that may be absent.

@@ -1,5 +1,4 @@
 //! The calls of `phone_values`.
-use crate::answers::{known, written};
 use crate::devices::push_word;
 use crate::marks::{around, begin};
 use crate::table::Row;
@@ -21,7 +20,7 @@ pub fn answer(alloc: Global, row: &Row) -> Result<Option<String>> {
         "refusal-text" => refusal_text(alloc, text),
         _ => return Ok(None),
     };
-    known(answer)
+    Ok(Some(answer?))
 }
 
 /// The number of this value and this many zeros.
@@ -46,18 +45,12 @@ fn number(alloc: Global, number: Result<NationalNumber, ParseError>) -> Result<S
 /// The pairs of these letters that are ids, parted by spaces.
 fn id_pairs(alloc: Global, letters: &str) -> Result<String> {
     let mut out = String::new(alloc);
-    let end = push_ids(alloc, &mut out, letters);
-    Ok(written(end, out)?)
-}
-
-/// Writes these pairs.
-fn push_ids(alloc: Global, out: &mut String, letters: &str) -> Result<(), AllocError> {
     for first in letters.chars() {
         for second in letters.chars() {
-            push_id(alloc, out, first, second)?;
+            push_id(alloc, &mut out, first, second)?;
         }
     }
-    Ok(())
+    Ok(out)
 }
 
 /// Writes a pair of letters, if it is an id.
@@ -85,15 +78,10 @@ fn verdict_of(name: &str) -> Validation {
 fn verdict(alloc: Global, name: &str) -> Result<String> {
     let verdict = verdict_of(name);
     let mut out = String::new(alloc);
-    let end = push_questions(&mut out, verdict);
-    Ok(written(end, out)?)
-}
-
-/// Writes these names.
-fn push_questions(out: &mut String, verdict: Validation) -> Result<(), AllocError> {
-    push_if(out, verdict.is_possible(), "is_possible")?;
-    push_if(out, verdict.is_invalid(), "is_invalid")?;
-    push_if(out, verdict.is_invalid_length(), "is_invalid_length")
+    push_if(&mut out, verdict.is_possible(), "is_possible")?;
+    push_if(&mut out, verdict.is_invalid(), "is_invalid")?;
+    push_if(&mut out, verdict.is_invalid_length(), "is_invalid_length")?;
+    Ok(out)
 }
 
 /// Writes the name of a question that is answered with yes.

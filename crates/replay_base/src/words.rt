@@ -1,5 +1,4 @@
 //! How tables write what the crates answer.
-use crate::answers::written;
 use anyhow::{Result, anyhow};
 use phone_values::country::{Id, Source};
 use phone_values::{Mode, ParseError, Type};
@@ -92,8 +91,8 @@ pub fn source(source: Source) -> &'static str {
 /// error.
 pub fn refusal(alloc: Global, error: &ParseError) -> Result<String> {
     let mut out = String::new(alloc);
-    let end = push_refusal(&mut out, error);
-    written(end, out)
+    push_refusal(&mut out, error)?;
+    Ok(out)
 }
 
 /// Writes a refusal like that.

@@ -9,14 +9,17 @@ pub mod records;
 pub mod texts;
 
 use anyhow::Result;
-use replay_base::answers::first_known;
 use replay_base::table::Row;
 use std::alloc::AllocGlobal;
 use std::fs::Files;
 
 /// The answer to a call on no database, or on a database text or file; none for any other call.
 pub fn without_database<R: Files + AllocGlobal>(rt: &R, row: &Row) -> Result<Option<String>> {
-    let alloc = rt.alloc();
-    let found = first_known(patterns::answer(alloc, row), records::answer(alloc, row));
-    first_known(found, texts::answer(rt, row))
+    if let Some(found) = patterns::answer(rt.alloc(), row)? {
+        return Ok(Some(found));
+    }
+    if let Some(found) = records::answer(rt.alloc(), row)? {
+        return Ok(Some(found));
+    }
+    texts::answer(rt, row)
 }

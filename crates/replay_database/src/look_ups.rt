@@ -2,7 +2,6 @@
 use crate::named::{code_of, territory};
 use anyhow::{Result, anyhow};
 use phone_meta::{Database, Descriptor, Metadata};
-use replay_base::answers::{known, written};
 use replay_base::marks::{around, begin};
 use replay_base::table::Row;
 use replay_base::words::{KINDS, kind, part_of, said, truth};
@@ -26,7 +25,7 @@ pub fn answer(alloc: Global, row: &Row, db: &Database) -> Result<Option<String>>
         "is-match-repeated" => is_match_repeated(alloc, db, row),
         _ => return Ok(None),
     };
-    known(answer)
+    Ok(Some(answer?))
 }
 
 /// A calling code, or a hyphen.
@@ -79,16 +78,10 @@ pub fn record(alloc: Global, found: Option<&Metadata>) -> Result<String> {
 /// Territories parted by spaces.
 fn records(alloc: Global, found: &[&Metadata]) -> Result<String> {
     let mut out = String::new(alloc);
-    let end = push_records(&mut out, found);
-    Ok(written(end, out)?)
-}
-
-/// Writes territories parted by spaces.
-fn push_records(out: &mut String, found: &[&Metadata]) -> Result<(), AllocError> {
     for record in found {
-        push_record(out, record)?;
+        push_record(&mut out, record)?;
     }
-    Ok(())
+    Ok(out)
 }
 
 /// Writes a territory, behind an equals sign if it is the first, else behind a space:
@@ -105,16 +98,10 @@ fn push_record(out: &mut String, record: &Metadata) -> Result<(), AllocError> {
 fn descriptors(alloc: Global, db: &Database, row: &Row) -> Result<String> {
     let territory = territory(db, row)?;
     let mut out = String::new(alloc);
-    let end = push_descriptors(&mut out, territory);
-    Ok(written(end, out)?)
-}
-
-/// Writes the same of a territory.
-fn push_descriptors(out: &mut String, territory: &Metadata) -> Result<(), AllocError> {
     for (_, kind) in &KINDS {
-        push_descriptor(out, territory.descriptors().get(*kind))?;
+        push_descriptor(&mut out, territory.descriptors().get(*kind))?;
     }
-    Ok(())
+    Ok(out)
 }
 
 /// Writes the text of a descriptor's pattern, or a hyphen, behind a tab where something stands

@@ -3,7 +3,6 @@
 use anyhow::Result;
 use phone_pattern::Pattern;
 use phone_records::loader::Text;
-use replay_base::answers::{known, written};
 use replay_base::marks::{around, begin};
 use replay_base::table::Row;
 use replay_base::words::{part_of, truth};
@@ -14,7 +13,7 @@ use std::alloc::{AllocError, Global};
 pub fn answer(alloc: Global, row: &Row) -> Result<Option<String>> {
     match row.call() {
         "first-span" | "at-start" | "whole-match" | "captured" | "replaced" => {
-            known(search(alloc, row))
+            Ok(Some(search(alloc, row)?))
         }
         _ => Ok(None),
     }
@@ -79,16 +78,10 @@ fn replace(alloc: Global, pattern: &Pattern, row: &Row) -> Result<String> {
 /// Where things begin and end, each a hyphen where it is absent, parted by tabs.
 fn spans(alloc: Global, found: &[Option<(usize, usize)>]) -> Result<String> {
     let mut out = String::new(alloc);
-    let end = push_spans(&mut out, found);
-    Ok(written(end, out)?)
-}
-
-/// Writes the same.
-fn push_spans(out: &mut String, found: &[Option<(usize, usize)>]) -> Result<(), AllocError> {
     for span in found {
-        push_span(out, *span)?;
+        push_span(&mut out, *span)?;
     }
-    Ok(())
+    Ok(out)
 }
 
 /// Writes where something begins and ends, or a hyphen, behind a tab where something stands before

@@ -5,7 +5,6 @@ use phone_base::MetadataError;
 use phone_base::together::both;
 use phone_records::LoadMetadata;
 use phone_records::loader::Metadata;
-use replay_base::answers::{known, written};
 use replay_base::marks::{around, begin};
 use replay_base::table::Row;
 use replay_base::words::said;
@@ -20,7 +19,7 @@ pub fn answer(alloc: Global, row: &Row) -> Result<Option<String>> {
         "load-metadata" => load_metadata(alloc, row.argument(0)),
         _ => return Ok(None),
     };
-    known(answer)
+    Ok(Some(answer?))
 }
 
 /// The records of a database text, made again, as serde writes them.
@@ -38,25 +37,10 @@ fn json_of_copies(alloc: Global, records: &[Metadata]) -> Result<String> {
 /// These records, made again.
 fn copies(alloc: Global, records: &[Metadata]) -> Result<Vec<Metadata>, AllocError> {
     let mut copies = Vec::new(alloc);
-    let end = push_copies(alloc, &mut copies, records);
-    written(end, copies)
-}
-
-/// Adds these records, made again.
-fn push_copies(
-    alloc: Global,
-    copies: &mut Vec<Metadata>,
-    records: &[Metadata],
-) -> Result<(), AllocError> {
     for record in records {
-        push_made(copies, record.clone(alloc))?;
+        copies.push(record.clone(alloc)?)?;
     }
-    Ok(())
-}
-
-/// Adds what was made.
-fn push_made<T: Drop>(all: &mut Vec<T>, made: Result<T, AllocError>) -> Result<(), AllocError> {
-    Ok(all.push(made?)?)
+    Ok(copies)
 }
 
 /// The records that serde reads of a text, as it writes them, or a hyphen where it reads none.
@@ -95,30 +79,19 @@ fn in_words(alloc: Global, refusal: &LoadMetadata) -> Result<String> {
 
 /// The refusal of this name, which speaks of `metadata` and `id`.
 fn refusal(alloc: Global, refusal: &str) -> Result<LoadMetadata> {
-    match refusal {
-        "MissingValue" => {
-            let (phase, name) = words(alloc)?;
-            Ok(LoadMetadata::Metadata(MetadataError::MissingValue { phase, name }))
-        }
-        "UnhandledElement" => {
-            let (phase, name) = words(alloc)?;
-            Ok(LoadMetadata::Metadata(MetadataError::UnhandledElement { phase, name }))
-        }
-        "Kind" => {
-            let (phase, name) = words(alloc)?;
-            Ok(LoadMetadata::Kind { phase, name })
-        }
-        "Regex" => Ok(LoadMetadata::Regex(String::from_str(alloc, "id")?)),
-        _ => refusal_without_words(refusal),
-    }
-}
-
-/// The words of which a refusal speaks.
-fn words(alloc: Global) -> Result<(String, String), AllocError> {
-    both(
+    let (phase, name) = both(
         String::from_str(alloc, "metadata"),
         String::from_str(alloc, "id"),
-    )
+    )?;
+    match refusal {
+        "MissingValue" => Ok(LoadMetadata::Metadata(MetadataError::MissingValue { phase, name })),
+        "UnhandledElement" => {
+            Ok(LoadMetadata::Metadata(MetadataError::UnhandledElement { phase, name }))
+        }
+        "Kind" => Ok(LoadMetadata::Kind { phase, name }),
+        "Regex" => Ok(LoadMetadata::Regex(name)),
+        _ => refusal_without_words(refusal),
+    }
 }
 
 /// The refusal of this name, of those that speak of nothing.

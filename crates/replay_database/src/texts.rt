@@ -2,13 +2,12 @@
 //! answer is, told as the tables tell it.
 use anyhow::{Result, anyhow};
 use phone_base::MetadataError;
-use phone_device::{At, ByteSource, MemorySource, Script};
+use phone_device::{ByteSource, MemorySource, Script};
 use phone_meta::{Database, LoadMetadata};
-use replay_base::answers::{known, written};
 use replay_base::devices::fault;
 use replay_base::marks::{around, begin};
 use replay_base::table::Row;
-use std::alloc::{AllocError, AllocGlobal, Global};
+use std::alloc::{AllocGlobal, Global};
 use std::fs::Files;
 
 /// What the tables have in place of a word that an answer lacks.
@@ -25,7 +24,7 @@ pub fn answer<R: Files + AllocGlobal>(rt: &R, row: &Row) -> Result<Option<String
         "load" => load(rt, row.argument(0)),
         _ => return Ok(None),
     };
-    known(answer)
+    Ok(Some(answer?))
 }
 
 /// The database that a text is; bytes that are no text come from a source in memory.
@@ -61,64 +60,41 @@ fn of_source<S: ByteSource>(alloc: Global, source: &mut S) -> Result<String> {
 /// says.
 fn read_from(alloc: Global, row: &Row) -> Result<String> {
     let at = fault(row.argument(2))?;
-    let bytes = behind_spaces(
-        alloc,
-        row.argument_bytes(1),
-        row.argument(0).parse::<usize>()?,
-    )?;
+    let spaces = row.argument(0).parse::<usize>()?;
+    let mut bytes = vec![in alloc; b' '; spaces]?;
+    bytes.extend_from_slice(row.argument_bytes(1))?;
     of_source(alloc, &mut Script::new(bytes, at))
-}
-
-/// So many spaces, and these bytes.
-fn behind_spaces(alloc: Global, bytes: &[u8], spaces: usize) -> Result<Vec<u8>, AllocError> {
-    let mut all = vec![in alloc; b' '; spaces]?;
-    let end = all.extend_from_slice(bytes);
-    written(end, all)
 }
 
 /// A source of these bytes fails at each place in turn, from the first on: how many times the
 /// answer is that a read failed, and what is answered to the next one.
 fn each_fault(alloc: Global, kind: &str, bytes: &[u8]) -> Result<String> {
     for number in 0..=bytes.len().saturating_add(1) {
-        let told = with_fault(alloc, bytes, fault_at(alloc, kind, number)?)?;
+        let at = format!(in alloc; "{kind} {number}")?;
+        let at = fault(at.as_str())?;
+        let bytes = Vec::from_slice(alloc, bytes)?;
+        let told = of_source(alloc, &mut Script::new(bytes, at))?;
         if !told.as_str().starts_with("Io") {
-            return behind_count(alloc, number, told.as_str());
+            return Ok(format!(in alloc; "{number}\t{told}")?);
         }
     }
     Err(anyhow!("a read failed that was never made"))
 }
 
-/// Where a source fails: the call or the byte of this number.
-fn fault_at(alloc: Global, kind: &str, number: usize) -> Result<Option<At>> {
-    let at = format!(in alloc; "{kind} {number}")?;
-    fault(at.as_str())
-}
-
-/// What is answered to a source of these bytes that fails there.
-fn with_fault(alloc: Global, bytes: &[u8], at: Option<At>) -> Result<String> {
-    let bytes = Vec::from_slice(alloc, bytes)?;
-    of_source(alloc, &mut Script::new(bytes, at))
-}
-
-/// A count, and behind a tab what was answered.
-fn behind_count(alloc: Global, count: usize, told: &str) -> Result<String> {
-    Ok(format!(in alloc; "{count}\t{told}")?)
-}
-
 /// Each front of a text in turn, from the empty one on, is taken for a database: how many times the
 /// answer is that it is no JSON, and what is answered to the next one.
 fn each_front(alloc: Global, text: &str) -> Result<String> {
-    let mut fronts = 0usize;
+    let mut fronts = 0u64;
     for end in 0..=text.len() {
         if text.is_char_boundary(end) {
             let told = answer_words(alloc, Database::parse(alloc, &text[..end]))?;
             if !told.as_str().starts_with("Json") {
-                return behind_count(alloc, fronts, told.as_str());
+                return Ok(format!(in alloc; "{fronts}\t{told}")?);
             }
             fronts = fronts.saturating_add(1);
         }
     }
-    behind_count(alloc, fronts, NO_WORD)
+    Ok(format!(in alloc; "{fronts}\t{NO_WORD}")?)
 }
 
 /// The database in the file at a path.

@@ -8,7 +8,6 @@ use phone_base::together::beside;
 use phone_meta::Database;
 use phone_values::{Mode, ParseError};
 use phonenumber::{PhoneNumber, format_with, round_trip};
-use replay_base::answers::known;
 use replay_base::marks::{around, begin};
 use replay_base::table::Row;
 use replay_base::words::{mode, truth};
@@ -23,7 +22,7 @@ pub fn answer(alloc: Global, row: &Row, db: &Database) -> Result<Option<String>>
         "again" => printed_and_read(alloc, row, db),
         _ => return Ok(None),
     };
-    known(answer)
+    Ok(Some(answer?))
 }
 
 /// The number and the mode that a line gives. An error for national text, which is not read back.

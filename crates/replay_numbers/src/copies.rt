@@ -5,11 +5,10 @@ use phone_values::equality::{SameValue, hash_of};
 use phone_values::{Carrier, Extension};
 use phonenumber::metadata::Database;
 use phonenumber::{PhoneNumber, Texts, format_with, laws, parse_with};
-use replay_base::answers::known;
 use replay_base::marks::{around, begin};
 use replay_base::table::Row;
 use replay_base::words::{hint, truth};
-use std::alloc::{AllocError, Global};
+use std::alloc::Global;
 use std::hash::Hash;
 
 /// What a copy is beside its value, as the table writes it; none for any other call. An error where
@@ -22,7 +21,7 @@ pub fn answer(alloc: Global, row: &Row) -> Result<Option<String>> {
         "copied-texts" => texts(alloc, row),
         _ => return Ok(None),
     };
-    known(answer)
+    Ok(Some(answer?))
 }
 
 /// Whether a value is as its copy, as the table writes it.
@@ -41,27 +40,18 @@ fn are_alike<T: PartialEq + SameValue + Hash>(a: &T, b: &T) -> bool {
     a == b && a.is_same(b) && hash_of(a) == hash_of(b)
 }
 
-/// Whether a value and its copy are alike.
-fn is_copied<T: PartialEq + SameValue + Hash + Drop>(
-    value: T,
-    copy: Result<T, AllocError>,
-) -> Result<bool, AllocError> {
-    let copy = copy?;
-    Ok(are_alike(&value, &copy))
-}
-
 /// Whether the extension of a text and its copy are alike.
 fn is_extension_copied(alloc: Global, text: &str) -> Result<bool> {
     let extension = Extension::from(String::from_str(alloc, text)?);
-    let copy = around(alloc, begin(alloc), extension.clone());
-    Ok(is_copied(extension, copy)?)
+    let copy = around(alloc, begin(alloc), extension.clone())?;
+    Ok(are_alike(&extension, &copy))
 }
 
 /// Whether the carrier of a text and its copy are alike.
 fn is_carrier_copied(alloc: Global, text: &str) -> Result<bool> {
     let carrier = Carrier::from(String::from_str(alloc, text)?);
-    let copy = around(alloc, begin(alloc), carrier.clone());
-    Ok(is_copied(carrier, copy)?)
+    let copy = around(alloc, begin(alloc), carrier.clone())?;
+    Ok(are_alike(&carrier, &copy))
 }
 
 /// Whether a number and its copy are alike.

@@ -1,11 +1,10 @@
 //! Readers and writers of std as devices, and a count that only contracts read.
 use anyhow::{Result, anyhow};
 use phone_device::{ByteSink, ByteSource, Count, ReadError, Std, read_all, write_all};
-use replay_base::answers::{known, written};
 use replay_base::marks::{around, begin};
 use replay_base::table::Row;
 use replay_base::words::{part_of, said};
-use std::alloc::{AllocError, Global};
+use std::alloc::Global;
 use std::io::{self, BufWriter, Error, ErrorKind, Read, Write};
 
 /// What a device of std answers, as the table writes it; none for any other call.
@@ -19,7 +18,7 @@ pub fn answer(alloc: Global, row: &Row) -> Result<Option<String>> {
         "bytes-of-count" => bytes_of_count(alloc),
         _ => return Ok(None),
     };
-    known(answer)
+    Ok(Some(answer?))
 }
 
 /// A reader and writer that gives and takes one byte, and is then interrupted, once and again.
@@ -76,72 +75,27 @@ fn all_read(alloc: Global, row: &Row) -> Result<String> {
 /// What a buffered writer to a vector answers to two texts, how many bytes the vector has then,
 /// what the writer answers to a flush, and what the vector has.
 fn buffer_words(alloc: Global, row: &Row) -> Result<String> {
-    let mut sink = Std::new(BufWriter::new(alloc, Vec::new(alloc))?);
-    let mut out = String::new(alloc);
-    let end = push_buffered(&mut out, &mut sink, row);
-    Ok(written(end, out)?)
-}
-
-/// Writes the same.
-fn push_buffered(
-    out: &mut String,
-    sink: &mut Std<BufWriter<Vec<u8>>>,
-    row: &Row,
-) -> Result<(), AllocError> {
-    push_writes(out, sink, row.argument_bytes(0), row.argument_bytes(1))?;
-    push_count(out, sink.device.get_ref().as_slice())?;
-    push_flush(out, sink)?;
-    push_text(out, sink.device.get_ref().as_slice())
-}
-
-/// Writes what a sink answers to two texts.
-fn push_writes<S: ByteSink>(
-    out: &mut String,
-    sink: &mut S,
-    first: &[u8],
-    second: &[u8],
-) -> Result<(), AllocError> {
-    let (first, second) = (write_all(sink, first), write_all(sink, second));
-    write!(out, "{first:?} {second:?}")
-}
-
-/// Writes how many bytes these are, between spaces.
-fn push_count(out: &mut String, bytes: &[u8]) -> Result<(), AllocError> {
-    let count = bytes.len();
-    write!(out, " {count} ")
-}
-
-/// Writes what a sink answers to a flush.
-fn push_flush<S: ByteSink>(out: &mut String, sink: &mut S) -> Result<(), AllocError> {
+    let mut written = Vec::new(alloc);
+    let mut sink = Std::new(BufWriter::new(alloc, &mut written)?);
+    let first = write_all(&mut sink, row.argument_bytes(0));
+    let second = write_all(&mut sink, row.argument_bytes(1));
+    let before = sink.device.get_ref().len();
     let flushed = sink.flush();
-    write!(out, "{flushed:?}")
-}
-
-/// Writes these bytes as a text.
-fn push_text(out: &mut String, bytes: &[u8]) -> Result<(), AllocError> {
-    let taken = text(bytes);
-    write!(out, "\t={taken}")
+    let taken = text(sink.device.get_ref().as_slice());
+    Ok(format!(in alloc; "{first:?} {second:?} {before} {flushed:?}\t={taken}")?)
 }
 
 /// What a slice with room for a text answers to the text, to nothing, and to one more text: to a
 /// write of it, and to writing it whole.
 fn in_room(alloc: Global, row: &Row) -> Result<String> {
-    let mut room = Vec::from_slice(alloc, row.argument_bytes(0))?;
-    let mut out = String::new(alloc);
-    let end = push_in_room(&mut out, &mut Std::new(room.as_mut_slice()), row);
-    Ok(written(end, out)?)
-}
-
-/// Writes what a sink with room for a line's first text answers.
-fn push_in_room<S: ByteSink>(out: &mut String, sink: &mut S, row: &Row) -> Result<(), AllocError> {
-    push_writes(out, sink, row.argument_bytes(0), b"")?;
-    push_more(out, sink, row.argument_bytes(1))
-}
-
-/// Writes, behind a space each, what a sink answers to a write of a text, and to writing it whole.
-fn push_more<S: ByteSink>(out: &mut String, sink: &mut S, more: &[u8]) -> Result<(), AllocError> {
-    let (count, last) = (sink.write(more), write_all(sink, more));
-    write!(out, " {count:?} {last:?}")
+    let (whole, more) = (row.argument_bytes(0), row.argument_bytes(1));
+    let mut room = Vec::from_slice(alloc, whole)?;
+    let mut sink = Std::new(room.as_mut_slice());
+    let first = write_all(&mut sink, whole);
+    let nothing = write_all(&mut sink, b"");
+    let count = sink.write(more);
+    let last = write_all(&mut sink, more);
+    Ok(format!(in alloc; "{first:?} {nothing:?} {count:?} {last:?}")?)
 }
 
 /// What an interrupted device answers to two reads and to reading all.

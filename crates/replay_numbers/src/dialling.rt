@@ -5,7 +5,6 @@ use phone_meta::Database;
 use phone_read::{Number, helper};
 use phone_values::country::Source;
 use regex::{Regex, RegexBuilder};
-use replay_base::answers::{known, words_of};
 use replay_base::marks::{around, begin};
 use replay_base::readers::number;
 use replay_base::table::Row;
@@ -17,7 +16,7 @@ use std::borrow::CowStr;
 /// What is dialled before a calling code, by a pattern of the line's own; none for any other call.
 pub fn without_database(alloc: Global, row: &Row) -> Result<Option<String>> {
     match row.call() {
-        "international-prefix" => known(international_prefix(alloc, row)),
+        "international-prefix" => Ok(Some(international_prefix(alloc, row)?)),
         _ => Ok(None),
     }
 }
@@ -30,9 +29,12 @@ fn international_prefix(alloc: Global, row: &Row) -> Result<String> {
 
 /// The number behind what is dialled before a calling code.
 fn behind_prefix(alloc: Global, pattern: Option<&Regex>, handed: Number<'_>) -> Result<String> {
-    let begun = begin(alloc);
-    let found = helper::international_prefix(alloc, pattern, handed);
-    words_of(alloc, around(alloc, begun, found)?, number)
+    let found = around(
+        alloc,
+        begin(alloc),
+        helper::international_prefix(alloc, pattern, handed),
+    )?;
+    number(alloc, &found)
 }
 
 /// What the port answers to a call of this module on a database, as the table writes it; none for
@@ -44,14 +46,14 @@ pub fn answer(alloc: Global, row: &Row, db: &Database) -> Result<Option<String>>
         "national-number" => national_number(alloc, row, db),
         _ => return Ok(None),
     };
-    known(answer)
+    Ok(Some(answer?))
 }
 
 /// The number with its calling code, or the refusal.
 fn country_code(alloc: Global, row: &Row, db: &Database) -> Result<String> {
     let (hint, handed) = (hint(row.argument(1))?, number_of_row(row, 2));
     match around(alloc, begin(alloc), helper::country_code(db, hint, handed)) {
-        Ok(found) => words_of(alloc, found, number),
+        Ok(found) => number(alloc, &found),
         Err(error) => refusal(alloc, &error),
     }
 }
@@ -59,9 +61,12 @@ fn country_code(alloc: Global, row: &Row, db: &Database) -> Result<String> {
 /// The number without its national prefix.
 fn national_number(alloc: Global, row: &Row, db: &Database) -> Result<String> {
     let (territory, handed) = (territory(db, row)?, number_of_row(row, 2));
-    let begun = begin(alloc);
-    let found = helper::national_number(territory, handed);
-    words_of(alloc, around(alloc, begun, found)?, number)
+    let found = around(
+        alloc,
+        begin(alloc),
+        helper::national_number(territory, handed),
+    )?;
+    number(alloc, &found)
 }
 
 /// A pattern as the records' patterns are read, without regard to its white space and comments; or

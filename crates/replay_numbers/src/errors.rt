@@ -5,7 +5,6 @@ use phone_base::together::both;
 use phone_book::{BookError, BookNewError};
 use phone_values::country::UnknownId;
 use phonenumber::{FormatError, ParseError};
-use replay_base::answers::known;
 use replay_base::marks::{around, begin};
 use replay_base::table::Row;
 use std::alloc::{AllocError, Global};
@@ -19,7 +18,7 @@ pub fn answer(alloc: Global, row: &Row) -> Result<Option<String>> {
         "record-error" => of_line(alloc, row),
         _ => return Ok(None),
     };
-    known(answer)
+    Ok(Some(answer?))
 }
 
 /// The text of the record's error that a line names, and whether a copy is equal to it.
@@ -65,40 +64,18 @@ fn equality_words(alloc: Global, error: &MetadataError, copy: &MetadataError) ->
 
 /// The record's error that a line names, of the words behind the name.
 fn record_error(alloc: Global, row: &Row) -> Result<MetadataError> {
-    match row.argument(0) {
-        "UnexpectedEof" => Ok(MetadataError::UnexpectedEof),
-        "MismatchedTag" => {
-            let name = String::from_str(alloc, row.argument(2))?;
-            Ok(MetadataError::MismatchedTag(name))
-        }
-        "MissingValue" => {
-            let (phase, name) = phase_and_name(alloc, row)?;
-            Ok(MetadataError::MissingValue { phase, name })
-        }
-        "UnhandledElement" => {
-            let (phase, name) = phase_and_name(alloc, row)?;
-            Ok(MetadataError::UnhandledElement { phase, name })
-        }
-        "UnhandledAttribute" => unhandled_attribute(alloc, row),
-        "UnhandledEvent" => {
-            let (phase, event) = phase_and_name(alloc, row)?;
-            Ok(MetadataError::UnhandledEvent { phase, event })
-        }
-        _ => Err(anyhow!("no error of a record has this name")),
-    }
-}
-
-/// The first two words behind the name of a record's error.
-fn phase_and_name(alloc: Global, row: &Row) -> Result<(String, String), AllocError> {
-    both(
+    let words = both(
         String::from_str(alloc, row.argument(1)),
         String::from_str(alloc, row.argument(2)),
-    )
-}
-
-/// The record's error of three words.
-fn unhandled_attribute(alloc: Global, row: &Row) -> Result<MetadataError> {
-    let value = String::from_str(alloc, row.argument(3));
-    let ((phase, name), value) = both(phase_and_name(alloc, row), value)?;
-    Ok(MetadataError::UnhandledAttribute { phase, name, value })
+    );
+    let ((phase, name), value) = both(words, String::from_str(alloc, row.argument(3)))?;
+    match row.argument(0) {
+        "UnexpectedEof" => Ok(MetadataError::UnexpectedEof),
+        "MismatchedTag" => Ok(MetadataError::MismatchedTag(name)),
+        "MissingValue" => Ok(MetadataError::MissingValue { phase, name }),
+        "UnhandledElement" => Ok(MetadataError::UnhandledElement { phase, name }),
+        "UnhandledAttribute" => Ok(MetadataError::UnhandledAttribute { phase, name, value }),
+        "UnhandledEvent" => Ok(MetadataError::UnhandledEvent { phase, event: name }),
+        _ => Err(anyhow!("no error of a record has this name")),
+    }
 }

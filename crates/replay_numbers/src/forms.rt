@@ -4,7 +4,6 @@ use anyhow::{Result, anyhow};
 use phone_values::country::{self, Code, Id, Source};
 use phone_values::{Carrier, Extension, NationalNumber, Type};
 use phonenumber::PhoneNumber;
-use replay_base::answers::known;
 use replay_base::marks::{around, begin};
 use replay_base::table::Row;
 use replay_base::words::said;
@@ -23,7 +22,7 @@ pub fn answer(alloc: Global, row: &Row) -> Result<Option<String>> {
         "form-of-number" => form_of_number(alloc, row),
         _ => return Ok(None),
     };
-    known(answer)
+    Ok(Some(answer?))
 }
 
 /// What serde writes of a line's number.
@@ -101,15 +100,11 @@ fn has_its_name_as_form(alloc: Global, id: &Id) -> Result<bool> {
     has_as_form(alloc, id, form.as_str())
 }
 
-/// Whether serde writes a value as this form, and reads the value from it.
-fn has_as_form<'a, T: Serialize + Deserialize<'a> + PartialEq + Drop>(
-    alloc: Global,
-    value: &T,
-    form: &'a str,
-) -> Result<bool> {
-    let read = read::<T>(alloc, form)?;
-    let written = serde_json::to_string(alloc, value)?;
-    Ok(written.as_str() == form && read == *value)
+/// Whether serde writes an id as this form, and reads the id from it.
+fn has_as_form(alloc: Global, id: &Id, form: &str) -> Result<bool> {
+    let read = read::<Id>(alloc, form)?;
+    let written = serde_json::to_string(alloc, id)?;
+    Ok(written.as_str() == form && read == *id)
 }
 
 /// A name in quotes.

@@ -23,23 +23,32 @@ pub mod validating;
 
 use anyhow::Result;
 use phone_meta::Database;
-use replay_base::answers::first_known;
 use replay_base::table::Row;
 use std::alloc::Global;
 
 /// The answer to a call on no database; none for any other call.
 pub fn without_database(alloc: Global, row: &Row) -> Result<Option<String>> {
-    let found = dialling::without_database(alloc, row);
-    first_known(found, printing::without_database(alloc, row))
+    if let Some(found) = dialling::without_database(alloc, row)? {
+        return Ok(Some(found));
+    }
+    printing::without_database(alloc, row)
 }
 
 /// The answer to a call on a text under a database; none for any other call.
 pub fn of_text(alloc: Global, row: &Row, db: &Database) -> Result<Option<String>> {
-    let found = dialling::answer(alloc, row, db);
-    let found = first_known(found, validating::answer(alloc, row, db));
-    let found = first_known(found, library::answer(alloc, row, db));
-    let found = first_known(found, short::answer(alloc, row, db));
-    first_known(found, reading::answer(alloc, row, db))
+    if let Some(found) = dialling::answer(alloc, row, db)? {
+        return Ok(Some(found));
+    }
+    if let Some(found) = validating::answer(alloc, row, db)? {
+        return Ok(Some(found));
+    }
+    if let Some(found) = library::answer(alloc, row, db)? {
+        return Ok(Some(found));
+    }
+    if let Some(found) = short::answer(alloc, row, db)? {
+        return Ok(Some(found));
+    }
+    reading::answer(alloc, row, db)
 }
 
 /// The answer to a call on a number that a line gives by its parts; none for any other call.
@@ -50,17 +59,28 @@ pub fn of_number(
     db: &Database,
     layouts: &Database,
 ) -> Result<Option<String>> {
-    let found = first_known(
-        back::answer(alloc, row, db),
-        queries::answer(alloc, row, db),
-    );
-    let found = first_known(found, premises::answer(alloc, row, db));
-    first_known(found, printing::answer(alloc, row, db, layouts))
+    if let Some(found) = back::answer(alloc, row, db)? {
+        return Ok(Some(found));
+    }
+    if let Some(found) = queries::answer(alloc, row, db)? {
+        return Ok(Some(found));
+    }
+    if let Some(found) = premises::answer(alloc, row, db)? {
+        return Ok(Some(found));
+    }
+    printing::answer(alloc, row, db, layouts)
 }
 
 /// The answer to a call on values without a database; none for any other call.
 pub fn of_value(alloc: Global, row: &Row) -> Result<Option<String>> {
-    let found = first_known(forms::answer(alloc, row), copies::answer(alloc, row));
-    let found = first_known(found, errors::answer(alloc, row));
-    first_known(found, devices::answer(alloc, row))
+    if let Some(found) = forms::answer(alloc, row)? {
+        return Ok(Some(found));
+    }
+    if let Some(found) = copies::answer(alloc, row)? {
+        return Ok(Some(found));
+    }
+    if let Some(found) = errors::answer(alloc, row)? {
+        return Ok(Some(found));
+    }
+    devices::answer(alloc, row)
 }

@@ -5,7 +5,6 @@ use anyhow::Result;
 use phone_library::{NumberFacts, facts, parse, without_carrier};
 use phone_meta::Database;
 use phonenumber::{Facts, ParseError, PhoneNumber, format_with};
-use replay_base::answers::{known, written};
 use replay_base::marks::{around, begin};
 use replay_base::table::Row;
 use replay_base::words::{hint, push_refusal};
@@ -14,7 +13,7 @@ use std::alloc::Global;
 /// What is read of a line's text by these rules, as the table writes it; none for any other call.
 pub fn answer(alloc: Global, row: &Row, db: &Database) -> Result<Option<String>> {
     match row.call() {
-        "library" => known(read(alloc, row, db)),
+        "library" => Ok(Some(read(alloc, row, db)?)),
         _ => Ok(None),
     }
 }
@@ -23,9 +22,13 @@ pub fn answer(alloc: Global, row: &Row, db: &Database) -> Result<Option<String>>
 fn read(alloc: Global, row: &Row, db: &Database) -> Result<String> {
     let hint = hint(row.argument(1))?;
     let mut out = String::new(alloc);
-    let found = around(alloc, begin(alloc), parse(db, hint, row.argument(2)));
-    let end = push_read(alloc, &mut out, db, found);
-    written(end, out)
+    push_read(
+        alloc,
+        &mut out,
+        db,
+        around(alloc, begin(alloc), parse(db, hint, row.argument(2))),
+    )?;
+    Ok(out)
 }
 
 /// Writes the report on the number that was read, or the refusal.

@@ -11,7 +11,6 @@ use phone_read::validator::{length_of, territory_of};
 use phone_values::consts::{MAX_LENGTH_FOR_NSN, MIN_LENGTH_FOR_NSN};
 use phone_values::{Mode, Type, Validation};
 use phonenumber::{FormatError, PhoneNumber, format_with};
-use replay_base::answers::known;
 use replay_base::table::Row;
 use replay_base::words::{mode, truth};
 use std::alloc::{AllocError, Global};
@@ -31,8 +30,8 @@ const GREATEST_CODE: u16 = 999;
 /// there or gives a number that is none.
 pub fn answer(alloc: Global, row: &Row, db: &Database) -> Result<Option<String>> {
     match row.call() {
-        "plain" | "premises" => known(in_mode(alloc, row, &Premises::under(db))),
-        "benign" | "idle" => known(in_any_mode(alloc, row, &Premises::under(db))),
+        "plain" | "premises" => Ok(Some(in_mode(alloc, row, &Premises::under(db))?)),
+        "benign" | "idle" => Ok(Some(in_any_mode(alloc, row, &Premises::under(db))?)),
         _ => Ok(None),
     }
 }

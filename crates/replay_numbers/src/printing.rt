@@ -4,10 +4,9 @@ use crate::given::{number, number_of_row};
 use crate::page::Page;
 use anyhow::{Result, anyhow};
 use phone_base::together::both;
-use phone_meta::{Database, Format};
+use phone_meta::{Database, Format, Metadata};
 use phone_values::{Carrier, Extension};
 use phonenumber::{Facts, FormatError, Formatter, PhoneNumber, format_with};
-use replay_base::answers::{known, written};
 use replay_base::marks::{around, begin};
 use replay_base::table::Row;
 use replay_base::words::{mode, part_of, said};
@@ -21,7 +20,7 @@ pub fn without_database(alloc: Global, row: &Row) -> Result<Option<String>> {
         "display-carrier" => display_carrier(alloc, row.argument(0)),
         _ => return Ok(None),
     };
-    known(answer)
+    Ok(Some(answer?))
 }
 
 /// What a line's number is printed as.
@@ -57,7 +56,7 @@ pub fn answer(
         "display-formatter" => display(alloc, row, db),
         _ => return Ok(None),
     };
-    known(answer)
+    Ok(Some(answer?))
 }
 
 /// The name of the database whose layout a line hands in; none where it hands in none.
@@ -71,23 +70,17 @@ pub fn layouts_of(row: &Row) -> Option<&str> {
 /// The texts of a line's number, perhaps by a layout that the line hands in, and what the database
 /// tells of the number.
 fn format(alloc: Global, row: &Row, db: &Database, layouts: &Database) -> Result<String> {
-    let mut out = String::new(alloc);
-    let end = push_number(alloc, &mut out, row, db, layouts);
-    written(end, out)
-}
-
-/// Writes these texts, and what the database tells.
-fn push_number(
-    alloc: Global,
-    out: &mut String,
-    row: &Row,
-    db: &Database,
-    layouts: &Database,
-) -> Result<()> {
     let number = number_of_row(alloc, row, 1)?;
-    let printer = format_with(db, &number);
-    push_by_layout(alloc, out, printer, layouts, row.argument(6))?;
-    Ok(push_behind_texts(out, number.facts(db)?)?)
+    let mut out = String::new(alloc);
+    push_by_layout(
+        alloc,
+        &mut out,
+        format_with(db, &number),
+        layouts,
+        row.argument(6),
+    )?;
+    push_behind_texts(&mut out, number.facts(db)?)?;
+    Ok(out)
 }
 
 /// Writes a tab and what a database tells of a number.
@@ -117,7 +110,7 @@ fn layout<'a>(layouts: &'a Database, name: &str) -> Result<&'a Format> {
         return Err(anyhow!("a layout is named otherwise"));
     };
     match layouts.by_id(id) {
-        Some(territory) => layout_at(territory.formats(), place),
+        Some(territory) => layout_at(territory, place),
         None => Err(anyhow!("the layout's database has no territory of this id")),
     }
 }
@@ -132,8 +125,8 @@ fn id_and_place(name: &str) -> Option<(&str, &str)> {
 }
 
 /// The layout at this place of a territory's national list.
-fn layout_at<'a>(layouts: &'a [Format], place: &str) -> Result<&'a Format> {
-    match layouts.get(place.parse::<usize>()?) {
+fn layout_at<'a>(territory: &'a Metadata, place: &str) -> Result<&'a Format> {
+    match territory.formats().get(place.parse::<usize>()?) {
         Some(layout) => Ok(layout),
         None => Err(anyhow!("the territory has no layout at this place")),
     }

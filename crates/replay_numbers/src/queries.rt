@@ -4,7 +4,6 @@ use crate::given::number;
 use anyhow::Result;
 use phone_meta::Database;
 use phonenumber::{PhoneNumber, is_valid_with};
-use replay_base::answers::{known, written};
 use replay_base::marks::{around, begin};
 use replay_base::table::Row;
 use replay_base::words::{said, truth};
@@ -16,7 +15,7 @@ use std::alloc::Global;
 pub fn answer(alloc: Global, row: &Row, db: &Database) -> Result<Option<String>> {
     match row.call() {
         "metadata" | "country-id" | "kind" | "queried" | "is-valid" | "is-valid-with" => {
-            known(of_number(alloc, row, db))
+            Ok(Some(of_number(alloc, row, db)?))
         }
         _ => Ok(None),
     }
@@ -61,8 +60,8 @@ fn kind(alloc: Global, db: &Database, number: &PhoneNumber) -> Result<String> {
 fn facts(alloc: Global, db: &Database, number: &PhoneNumber) -> Result<String> {
     let found = around(alloc, begin(alloc), number.facts(db))?;
     let mut out = String::new(alloc);
-    let end = push_facts(&mut out, found);
-    Ok(written(end, out)?)
+    push_facts(&mut out, found)?;
+    Ok(out)
 }
 
 /// Whether a number is valid, by its own call.

@@ -6,7 +6,6 @@ use crate::fronts::fronts;
 use anyhow::Result;
 use phone_meta::Database;
 use phonenumber::{Facts, Formatter, ParseError, PhoneNumber, format_with, parse_with};
-use replay_base::answers::{known, written};
 use replay_base::marks::{around, begin};
 use replay_base::readers::text_of_row;
 use replay_base::table::Row;
@@ -22,16 +21,18 @@ pub fn answer(alloc: Global, row: &Row, db: &Database) -> Result<Option<String>>
         "fronts" => fronts(alloc, row, db),
         _ => return Ok(None),
     };
-    known(answer)
+    Ok(Some(answer?))
 }
 
 /// The parts of the number that is read of a text under a line's hint, or the refusal.
 fn parse(alloc: Global, row: &Row, db: &Database, text: &str) -> Result<String> {
     let hint = hint(row.argument(1))?;
     let mut out = String::new(alloc);
-    let found = around(alloc, begin(alloc), parse_with(db, hint, text));
-    let end = push_parts_or_refusal(&mut out, found);
-    written(end, out)
+    push_parts_or_refusal(
+        &mut out,
+        around(alloc, begin(alloc), parse_with(db, hint, text)),
+    )?;
+    Ok(out)
 }
 
 /// The same of the text that a line makes.
@@ -55,9 +56,13 @@ pub fn push_parts_or_refusal(
 fn report(alloc: Global, row: &Row, db: &Database) -> Result<String> {
     let hint = hint(row.argument(1))?;
     let mut out = String::new(alloc);
-    let found = around(alloc, begin(alloc), parse_with(db, hint, row.argument(2)));
-    let end = push_report_or_refusal(alloc, &mut out, db, found);
-    written(end, out)
+    push_report_or_refusal(
+        alloc,
+        &mut out,
+        db,
+        around(alloc, begin(alloc), parse_with(db, hint, row.argument(2))),
+    )?;
+    Ok(out)
 }
 
 /// Writes the report on the number that was read, or the refusal.

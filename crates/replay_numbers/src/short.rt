@@ -4,7 +4,6 @@ use anyhow::Result;
 use phone_meta::Database;
 use phone_short::{ShortFacts, short_facts, short_kind};
 use phone_values::country::Id;
-use replay_base::answers::known;
 use replay_base::marks::{around, begin};
 use replay_base::table::Row;
 use replay_base::words::said;
@@ -17,7 +16,7 @@ pub fn answer(alloc: Global, row: &Row, db: &Database) -> Result<Option<String>>
         "short-kind" => kind(alloc, row, db),
         _ => return Ok(None),
     };
-    known(answer)
+    Ok(Some(answer?))
 }
 
 /// The answers of the six calls.

@@ -3,7 +3,6 @@ use anyhow::Result;
 use either::{Left, Right};
 use phone_meta::Database;
 use phone_read::{Number, validator};
-use replay_base::answers::known;
 use replay_base::marks::{around, begin};
 use replay_base::table::Row;
 use replay_base::words::{kind, said};
@@ -24,7 +23,7 @@ pub fn answer(alloc: Global, row: &Row, db: &Database) -> Result<Option<String>>
         "home" => territory_of(alloc, db, row),
         _ => return Ok(None),
     };
-    known(answer)
+    Ok(Some(answer?))
 }
 
 /// The same as of a length, of a text that comes so many times.

@@ -6,7 +6,6 @@ use phone_choice::Rules;
 use phone_values::ParseError;
 use phone_values::country::Id;
 use phonenumber::PhoneNumber;
-use replay_base::answers::{known, written};
 use replay_base::marks::{around, begin};
 use replay_base::table::Row;
 use replay_base::words::{hint, said};
@@ -25,7 +24,7 @@ type Answer = Result<Place, BookError>;
 /// other call. An error where the line's text has no hint, and where memory is refused.
 pub fn answer<R: Files + AllocGlobal>(rt: &R, row: &Row) -> Result<Option<String>> {
     match by_rules(row) {
-        (_, "book" | "book-add" | "book-get") => known(of_book(rt, row)),
+        (_, "book" | "book-add" | "book-get") => Ok(Some(of_book(rt, row)?)),
         _ => Ok(None),
     }
 }
@@ -51,41 +50,20 @@ fn in_book(alloc: Global, row: &Row, book: &mut Book) -> Result<String> {
 /// The lines from an argument on, each a hint, a space and the text.
 fn lines(alloc: Global, row: &Row, from: usize) -> Result<Vec<Hinted<'_>>> {
     let mut lines = Vec::new(alloc);
-    let end = push_lines(&mut lines, row, from);
-    written(end, lines)
-}
-
-/// Adds these lines.
-fn push_lines<'a>(lines: &mut Vec<Hinted<'a>>, row: &'a Row, from: usize) -> Result<()> {
     for at in from..row.arguments() {
-        lines.push(hinted(row.argument(at))?)?;
+        let Some((word, text)) = row.argument(at).split_once(' ') else {
+            return Err(anyhow!("a line of a book has no hint"));
+        };
+        lines.push((hint(word)?, text))?;
     }
-    Ok(())
-}
-
-/// A line's text, and its hint.
-fn hinted(line: &str) -> Result<Hinted<'_>> {
-    match line.split_once(' ') {
-        Some((word, text)) => Ok((hint(word)?, text)),
-        None => Err(anyhow!("a line of a book has no hint")),
-    }
+    Ok(lines)
 }
 
 /// The answers of a book to all lines at once, and its numbers.
 fn all_at_once(alloc: Global, rules: Rules, row: &Row, book: &mut Book) -> Result<String> {
     let lines = lines(alloc, row, 1)?;
-    answers_at_once(alloc, rules, lines.as_slice(), book)
-}
-
-/// The answers of a book to these lines at once, and its numbers.
-fn answers_at_once(
-    alloc: Global,
-    rules: Rules,
-    lines: &[Hinted<'_>],
-    book: &mut Book,
-) -> Result<String> {
     let begun = begin(alloc);
-    match around(alloc, begun, book.add_all_by(rules, lines)) {
+    match around(alloc, begun, book.add_all_by(rules, lines.as_slice())) {
         Ok(answers) => book_words(alloc, book, answers.as_slice()),
         Err(_) if book.len() == 0 => Err(anyhow!("out of memory")),
         Err(_) => said(alloc, "numbers without answers"),
@@ -95,24 +73,13 @@ fn answers_at_once(
 /// The same, line by line.
 fn one_by_one(alloc: Global, rules: Rules, row: &Row, book: &mut Book) -> Result<String> {
     let lines = lines(alloc, row, 1)?;
-    let answers = answers_one_by_one(alloc, rules, lines.as_slice(), book)?;
-    book_words(alloc, book, answers.as_slice())
-}
-
-/// The answers of a book to these lines, line by line.
-fn answers_one_by_one(
-    alloc: Global,
-    rules: Rules,
-    lines: &[Hinted<'_>],
-    book: &mut Book,
-) -> Result<Vec<Answer>, AllocError> {
     let mut answers = Vec::with_capacity(alloc, lines.len())?;
-    let end = around(
+    around(
         alloc,
         begin(alloc),
-        add_each(rules, book, lines, &mut answers),
-    );
-    written(end, answers)
+        add_each(rules, book, lines.as_slice(), &mut answers),
+    )?;
+    book_words(alloc, book, answers.as_slice())
 }
 
 /// Adds each line, and keeps its answer, for which there is room.
@@ -147,16 +114,17 @@ fn book_words(alloc: Global, book: &Book, answers: &[Answer]) -> Result<String> 
         return said(alloc, "not the numbers that were added");
     }
     let mut out = String::new(alloc);
-    let end = push_book(&mut out, book, answers);
-    written(end, out)
+    push_answers(&mut out, answers)?;
+    push_numbers(&mut out, book)?;
+    Ok(out)
 }
 
-/// Writes answers, a tab behind each, and a book's numbers.
-fn push_book(out: &mut String, book: &Book, answers: &[Answer]) -> Result<()> {
+/// Writes answers, a tab behind each.
+fn push_answers(out: &mut String, answers: &[Answer]) -> Result<()> {
     for answer in answers {
         push_answer(out, answer)?;
     }
-    Ok(push_numbers(out, book)?)
+    Ok(())
 }
 
 /// Writes an answer, with a tab.
@@ -194,18 +162,14 @@ fn push_numbers(out: &mut String, book: &Book) -> Result<(), AllocError> {
 fn entry(alloc: Global, rules: Rules, row: &Row, book: &mut Book) -> Result<String> {
     let place = row.argument(1).parse::<usize>()?;
     add_all(alloc, rules, row, book)?;
-    let mut out = String::new(alloc);
-    let end = push_entry(&mut out, book.len(), book.get(place));
-    Ok(written(end, out)?)
+    let mut out = book.len().to_string(alloc)?;
+    push_entry(&mut out, book.get(place))?;
+    Ok(out)
 }
 
-/// Writes a count, a tab and a number as it was written, or a hyphen.
-fn push_entry(
-    out: &mut String,
-    count: usize,
-    number: Option<&PhoneNumber>,
-) -> Result<(), AllocError> {
-    write!(out, "{count}\t")?;
+/// Writes a tab and a number as it was written, or a hyphen.
+fn push_entry(out: &mut String, number: Option<&PhoneNumber>) -> Result<(), AllocError> {
+    out.push('\t')?;
     match number {
         Some(number) => push_parts(out, number),
         None => out.push('-'),

@@ -6,7 +6,6 @@ use phone_meta::{Database, Metadata};
 use phone_util::dialled::{DialError, dialled_from};
 use phone_values::country::Id;
 use phonenumber::PhoneNumber;
-use replay_base::answers::known;
 use replay_base::marks::{around, begin};
 use replay_base::table::Row;
 use replay_base::words::{part_of, said};
@@ -22,7 +21,7 @@ pub fn answer(alloc: Global, row: &Row, db: &Database) -> Result<Option<String>>
         "dial-premises" => of_premises(alloc, row, db),
         _ => return Ok(None),
     };
-    known(answer)
+    Ok(Some(answer?))
 }
 
 /// How a line's number is dialled.

@@ -5,7 +5,6 @@ use phone_choice::Rules;
 use phone_find::{Found, find_numbers};
 use phone_meta::Database;
 use phonenumber::PhoneNumber;
-use replay_base::answers::{known, written};
 use replay_base::marks::{around, begin};
 use replay_base::table::Row;
 use replay_base::words::hint;
@@ -15,7 +14,7 @@ use std::alloc::{AllocError, Global};
 /// memory is refused.
 pub fn answer(alloc: Global, row: &Row, db: &Database) -> Result<Option<String>> {
     match by_rules(row) {
-        (rules, "found") => known(of_text(alloc, rules, row, db)),
+        (rules, "found") => Ok(Some(of_text(alloc, rules, row, db)?)),
         _ => Ok(None),
     }
 }
@@ -30,14 +29,9 @@ fn of_text(alloc: Global, rules: Rules, row: &Row, db: &Database) -> Result<Stri
 /// A text with each piece that is a number in braces, and the numbers, each behind a tab.
 fn found_words(alloc: Global, text: &str, all: &[Found<PhoneNumber>]) -> Result<String> {
     let mut out = String::new(alloc);
-    let end = push_found(&mut out, text, all);
-    written(end, out)
-}
-
-/// Writes the same.
-fn push_found(out: &mut String, text: &str, all: &[Found<PhoneNumber>]) -> Result<()> {
-    push_marked(out, text, all)?;
-    Ok(push_numbers(out, all)?)
+    push_marked(&mut out, text, all)?;
+    push_numbers(&mut out, all)?;
+    Ok(out)
 }
 
 /// Writes a text with each piece that is a number in braces.

@@ -23,27 +23,49 @@ pub mod typed;
 
 use anyhow::Result;
 use phone_meta::Database;
-use replay_base::answers::first_known;
 use replay_base::table::Row;
 use std::alloc::{AllocGlobal, Global};
 use std::fs::Files;
 
 /// The answer to a call that takes its database for itself; none for any other call.
 pub fn without_database<R: Files + AllocGlobal>(rt: &R, row: &Row) -> Result<Option<String>> {
-    let found = first_known(books::answer(rt, row), prefixes::answer(rt, row));
-    first_known(found, programs::answer(rt, row))
+    if let Some(found) = books::answer(rt, row)? {
+        return Ok(Some(found));
+    }
+    if let Some(found) = prefixes::answer(rt, row)? {
+        return Ok(Some(found));
+    }
+    programs::answer(rt, row)
 }
 
 /// The answer to a call on a database; none for any other call.
 pub fn answer(alloc: Global, row: &Row, db: &Database) -> Result<Option<String>> {
-    let found = possibilities::answer(alloc, row, db);
-    let found = first_known(found, listed::answer(alloc, row, db));
-    let found = first_known(found, sameness::answer(alloc, row, db));
-    let found = first_known(found, found::answer(alloc, row, db));
-    let found = first_known(found, reports::answer(alloc, row, db));
-    let found = first_known(found, report_rows::answer(alloc, row, db));
-    let found = first_known(found, objects::answer(alloc, row, db));
-    let found = first_known(found, typed::answer(alloc, row, db));
-    let found = first_known(found, tables::answer(alloc, row, db));
-    first_known(found, dialled::answer(alloc, row, db))
+    if let Some(found) = possibilities::answer(alloc, row, db)? {
+        return Ok(Some(found));
+    }
+    if let Some(found) = listed::answer(alloc, row, db)? {
+        return Ok(Some(found));
+    }
+    if let Some(found) = sameness::answer(alloc, row, db)? {
+        return Ok(Some(found));
+    }
+    if let Some(found) = found::answer(alloc, row, db)? {
+        return Ok(Some(found));
+    }
+    if let Some(found) = reports::answer(alloc, row, db)? {
+        return Ok(Some(found));
+    }
+    if let Some(found) = report_rows::answer(alloc, row, db)? {
+        return Ok(Some(found));
+    }
+    if let Some(found) = objects::answer(alloc, row, db)? {
+        return Ok(Some(found));
+    }
+    if let Some(found) = typed::answer(alloc, row, db)? {
+        return Ok(Some(found));
+    }
+    if let Some(found) = tables::answer(alloc, row, db)? {
+        return Ok(Some(found));
+    }
+    dialled::answer(alloc, row, db)
 }

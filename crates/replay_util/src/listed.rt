@@ -6,7 +6,6 @@ use phone_meta::Database;
 use phone_util::{codes, example, regions};
 use phone_values::country::Id;
 use phonenumber::PhoneNumber;
-use replay_base::answers::{known, written};
 use replay_base::marks::{around, begin};
 use replay_base::table::Row;
 use replay_base::words::{kind, refusal, said};
@@ -23,41 +22,27 @@ pub fn answer(alloc: Global, row: &Row, db: &Database) -> Result<Option<String>>
         (rules, "example") => example_of(alloc, rules, row, db),
         _ => return Ok(None),
     };
-    known(answer)
+    Ok(Some(answer?))
 }
 
 /// The regions of a database parted by spaces, behind an equals sign.
 fn all_regions(alloc: Global, db: &Database) -> Result<String> {
     let found = around(alloc, begin(alloc), regions(db))?;
-    let mut out = String::new(alloc);
-    let end = push_regions(&mut out, found.as_slice());
-    Ok(written(end, out)?)
-}
-
-/// Writes these regions.
-fn push_regions(out: &mut String, found: &[Id]) -> Result<(), AllocError> {
-    out.push('=')?;
-    for id in found {
-        push_value(out, &id.as_str())?;
+    let mut out = String::from_str(alloc, "=")?;
+    for id in found.as_slice() {
+        push_value(&mut out, &id.as_str())?;
     }
-    Ok(())
+    Ok(out)
 }
 
 /// The calling codes of a database parted by spaces, behind an equals sign.
 fn all_codes(alloc: Global, db: &Database) -> Result<String> {
     let found = around(alloc, begin(alloc), codes(db))?;
-    let mut out = String::new(alloc);
-    let end = push_codes(&mut out, found.as_slice());
-    Ok(written(end, out)?)
-}
-
-/// Writes these codes.
-fn push_codes(out: &mut String, found: &[u16]) -> Result<(), AllocError> {
-    out.push('=')?;
-    for code in found {
-        push_value(out, code)?;
+    let mut out = String::from_str(alloc, "=")?;
+    for code in found.as_slice() {
+        push_value(&mut out, code)?;
     }
-    Ok(())
+    Ok(out)
 }
 
 /// Writes a value, behind a space if it isn't the first.
@@ -82,6 +67,6 @@ fn example_of(alloc: Global, rules: Rules, row: &Row, db: &Database) -> Result<S
 /// A number's parts.
 fn part_words(alloc: Global, number: &PhoneNumber) -> Result<String> {
     let mut out = String::new(alloc);
-    let end = push_parts(&mut out, number);
-    Ok(written(end, out)?)
+    push_parts(&mut out, number)?;
+    Ok(out)
 }

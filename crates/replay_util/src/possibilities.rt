@@ -6,7 +6,6 @@ use phone_choice::Rules;
 use phone_meta::Database;
 use phone_util::{possibility_of, possibility_of_text};
 use phonenumber::PhoneNumber;
-use replay_base::answers::known;
 use replay_base::marks::{around, begin};
 use replay_base::table::Row;
 use replay_base::words::{hint, refusal};
@@ -21,7 +20,7 @@ pub fn answer(alloc: Global, row: &Row, db: &Database) -> Result<Option<String>>
         (rules, "possible-text") => of_text(alloc, rules, row, db),
         _ => return Ok(None),
     };
-    known(answer)
+    Ok(Some(answer?))
 }
 
 /// What is said of a line's number.

@@ -2,8 +2,7 @@
 use anyhow::Result;
 use phone_device::{MemorySource, Script};
 use phone_prefixes::{Prefixes, PrefixesError};
-use replay_base::answers::{known, written};
-use replay_base::devices::{fault, push_word};
+use replay_base::devices::fault;
 use replay_base::marks::{around, begin};
 use replay_base::table::Row;
 use replay_base::words::said;
@@ -20,7 +19,7 @@ pub fn answer<R: Files + AllocGlobal>(rt: &R, row: &Row) -> Result<Option<String
         "prefixes-of-map" => in_map(rt, row),
         _ => return Ok(None),
     };
-    known(answer)
+    Ok(Some(answer?))
 }
 
 /// The table of these bytes.
@@ -39,8 +38,8 @@ fn in_text(alloc: Global, row: &Row) -> Result<String> {
 
 /// The entries of a table that is read from a source, which may fail.
 fn read(alloc: Global, row: &Row) -> Result<String> {
-    let at = fault(row.argument(0))?;
-    let mut source = Script::new(Vec::from_slice(alloc, row.argument_bytes(1))?, at);
+    let bytes = Vec::from_slice(alloc, row.argument_bytes(1))?;
+    let mut source = Script::new(bytes, fault(row.argument(0))?);
     let table = around(alloc, begin(alloc), Prefixes::read(alloc, &mut source))?;
     Ok(entries(alloc, &table)?)
 }
@@ -48,51 +47,35 @@ fn read(alloc: Global, row: &Row) -> Result<String> {
 /// The entries of a table, in their order.
 fn entries(alloc: Global, table: &Prefixes) -> Result<String, AllocError> {
     let mut out = String::new(alloc);
-    let end = push_entries(&mut out, table);
-    written(end, out)
-}
-
-/// Writes these entries.
-fn push_entries(out: &mut String, table: &Prefixes) -> Result<(), AllocError> {
     for place in 0..table.len() {
         if let Some((prefix, text)) = table.get(place) {
             write!(out, "{prefix}: {text}; ")?;
         }
     }
-    Ok(())
+    Ok(out)
 }
 
 /// The longest prefixes that begin each of some digits, by the map of this name; a hyphen for none.
 fn in_map<R: Files + AllocGlobal>(rt: &R, row: &Row) -> Result<String> {
-    let table = Prefixes::of(rt.alloc(), bytes_of_map(rt, row.argument(0))?)?;
-    Ok(all_longest(rt.alloc(), &table, row.argument(1))?)
-}
-
-/// The bytes of the map of this name.
-fn bytes_of_map<R: Files + AllocGlobal>(rt: &R, name: &str) -> Result<Vec<u8>> {
+    let name = row.argument(0);
     let path = format!(in rt.alloc(); "databases/world/{name}.tsv")?;
-    Ok(fs::read(rt, path.as_str())?)
+    let bytes = fs::read(rt, path.as_str())?;
+    let table = Prefixes::of(rt.alloc(), bytes)?;
+    Ok(all_longest(rt.alloc(), &table, row.argument(1))?)
 }
 
 /// The longest prefixes that begin each of some digits, which spaces part.
 fn all_longest(alloc: Global, table: &Prefixes, digits: &str) -> Result<String, AllocError> {
     let mut out = String::new(alloc);
-    let end = push_all_longest(&mut out, table, digits);
-    written(end, out)
-}
-
-/// Writes these prefixes.
-fn push_all_longest(out: &mut String, table: &Prefixes, digits: &str) -> Result<(), AllocError> {
     for some in digits.split(' ') {
-        push_word(out, longest(table, some))?;
+        let prefix = match table.longest(some) {
+            Some((prefix, _)) => prefix,
+            None => "-",
+        };
+        if !out.is_empty() {
+            out.push(' ')?;
+        }
+        out.push_str(prefix)?;
     }
-    Ok(())
-}
-
-/// The longest prefix that begins digits, or a hyphen.
-fn longest<'a>(table: &'a Prefixes, digits: &str) -> &'a str {
-    match table.longest(digits) {
-        Some((prefix, _)) => prefix,
-        None => "-",
-    }
+    Ok(out)
 }

@@ -5,7 +5,6 @@ use phone_choice::Rules;
 use phone_device::{Limit, MemorySource, Then};
 use phone_meta::Database;
 use phone_report::{RunError, report_line, run};
-use replay_base::answers::known;
 use replay_base::marks::{around, begin};
 use replay_base::table::Row;
 use replay_base::words::{hint, said};
@@ -22,7 +21,7 @@ pub fn answer(alloc: Global, row: &Row, db: &Database) -> Result<Option<String>>
         (rules, "report-lines") => of_bytes(alloc, rules, row, db),
         _ => return Ok(None),
     };
-    known(answer)
+    Ok(Some(answer?))
 }
 
 /// The report line of a line, under its hint.

@@ -4,7 +4,6 @@ use anyhow::{Result, anyhow};
 use phone_device::{Limit, MemorySource, Script, Then};
 use phone_meta::Database;
 use phonenumber::report::{RunError, run};
-use replay_base::answers::known;
 use replay_base::devices::{fault, then};
 use replay_base::marks::{around, begin};
 use replay_base::table::Row;
@@ -24,7 +23,7 @@ pub fn answer(alloc: Global, row: &Row, db: &Database) -> Result<Option<String>>
         "run-each-sink" => to_each_sink(alloc, row, db),
         _ => return Ok(None),
     };
-    known(answer)
+    Ok(Some(answer?))
 }
 
 /// The report on a line's input. An error where memory is refused behind whole first lines of the
@@ -84,21 +83,12 @@ fn status_after(alloc: Global, end: Result<(), RunError>, written: &[u8]) -> Res
 
 /// A run over a line's input by a source that fails where the line says.
 fn from_source(alloc: Global, row: &Row, db: &Database) -> Result<String> {
-    let mut sink = Limit::new(alloc, ROOM, Then::Fail)?;
-    let end = run_from(alloc, row, db, &mut sink)?;
-    status_after(alloc, end, sink.bytes())
-}
-
-/// How a run over a line's input ends that writes to a sink, by that source.
-fn run_from(
-    alloc: Global,
-    row: &Row,
-    db: &Database,
-    sink: &mut Limit,
-) -> Result<Result<(), RunError>> {
     let (hint, at) = (hint(row.argument(1))?, fault(row.argument(3))?);
-    let mut source = Script::new(Vec::from_slice(alloc, row.argument_bytes(2))?, at);
-    Ok(around(alloc, begin(alloc), run(db, hint, &mut source, sink)))
+    let bytes = Vec::from_slice(alloc, row.argument_bytes(2))?;
+    let mut source = Script::new(bytes, at);
+    let mut sink = Limit::new(alloc, ROOM, Then::Fail)?;
+    let end = around(alloc, begin(alloc), run(db, hint, &mut source, &mut sink));
+    status_after(alloc, end, sink.bytes())
 }
 
 /// A run over a line's input to a sink that takes so many bytes, and then does what the line says.
@@ -124,34 +114,18 @@ fn is_cut_short(written: &[u8], answer: &[u8]) -> bool {
 /// Of the sinks that take less than the report on a line's input, how many end the run by `Output`
 /// and hold what they take.
 fn to_each_sink(alloc: Global, row: &Row, db: &Database) -> Result<String> {
-    let report = whole_report(alloc, row, db)?;
-    held_words(alloc, row, db, report.as_str().as_bytes())
-}
-
-/// The report on a line's input.
-fn whole_report(alloc: Global, row: &Row, db: &Database) -> Result<String> {
+    let then = then(row.argument(3));
     let mut sink = Limit::new(alloc, ROOM, Then::Fail)?;
     let end = run_to(alloc, row, db, &mut sink)?;
-    report(alloc, end, sink.bytes())
-}
-
-/// Of the sinks that take less than this report, how many end the run so, of how many.
-fn held_words(alloc: Global, row: &Row, db: &Database, report: &[u8]) -> Result<String> {
+    let report = report(alloc, end, sink.bytes())?;
     let all = report.len();
-    let held = count_held(alloc, row, db, report)?;
-    Ok(format!(in alloc; "{held} of {all}")?)
-}
-
-/// Of the sinks that take less than this report, how many end the run so.
-fn count_held(alloc: Global, row: &Row, db: &Database, report: &[u8]) -> Result<u64> {
-    let then = then(row.argument(3));
     let mut held = 0u64;
-    for room in 0..report.len() {
-        if is_held(alloc, row, db, report, room, then)? {
+    for room in 0..all {
+        if is_held(alloc, row, db, report.as_str().as_bytes(), room, then)? {
             held = held.saturating_add(1);
         }
     }
-    Ok(held)
+    Ok(format!(in alloc; "{held} of {all}")?)
 }
 
 /// Whether a sink that takes so many bytes of a report ends the run by `Output` and holds these
@@ -167,11 +141,10 @@ fn is_held(
     let hint = hint(row.argument(1))?;
     let mut source = MemorySource::new(row.argument_bytes(2));
     let mut sink = Limit::new(alloc, room, then)?;
-    match run(db, hint, &mut source, &mut sink) {
-        Err(RunError::Memory) => Err(anyhow!("out of memory")),
-        Err(RunError::Output) => {
-            Ok(report.starts_with(sink.bytes()) && sink.bytes().len() == room)
-        }
-        _ => Ok(false),
+    let end = run(db, hint, &mut source, &mut sink);
+    if end == Err(RunError::Memory) {
+        return Err(anyhow!("out of memory"));
     }
+    let is_front = report.starts_with(sink.bytes()) && sink.bytes().len() == room;
+    Ok(is_front && end == Err(RunError::Output))
 }

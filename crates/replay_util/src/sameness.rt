@@ -4,7 +4,6 @@ use anyhow::Result;
 use phone_choice::Rules;
 use phone_meta::Database;
 use phone_util::compare_texts;
-use replay_base::answers::known;
 use replay_base::marks::{around, begin};
 use replay_base::table::Row;
 use replay_base::words::refusal;
@@ -14,7 +13,7 @@ use std::alloc::Global;
 /// An error where memory is refused.
 pub fn answer(alloc: Global, row: &Row, db: &Database) -> Result<Option<String>> {
     match by_rules(row) {
-        (rules, "same") => known(likeness(alloc, rules, row, db)),
+        (rules, "same") => Ok(Some(likeness(alloc, rules, row, db)?)),
         _ => Ok(None),
     }
 }

@@ -7,7 +7,6 @@ use phone_device::{Limit, MemorySource, Then};
 use phone_meta::Database;
 use phone_table::{Asked, Counts, TableError, write_table};
 use phone_values::country::Id;
-use replay_base::answers::{known, written};
 use replay_base::marks::{around, begin};
 use replay_base::table::Row;
 use replay_base::words::hint;
@@ -21,7 +20,7 @@ const ROOM: usize = 4096;
 /// records are marked, and the table. An error where memory is refused.
 pub fn answer(alloc: Global, row: &Row, db: &Database) -> Result<Option<String>> {
     match by_rules(row) {
-        (rules, "given-table") => known(given(alloc, rules, row, db)),
+        (rules, "given-table") => Ok(Some(given(alloc, rules, row, db)?)),
         _ => Ok(None),
     }
 }
@@ -57,17 +56,12 @@ fn region(name: &str) -> Option<&str> {
 }
 
 /// How the run ended, and what it wrote.
-fn end_words(alloc: Global, end: Result<Counts, TableError>, taken: &[u8]) -> Result<String> {
+fn end_words(alloc: Global, end: Result<Counts, TableError>, written: &[u8]) -> Result<String> {
     let mut out = String::new(alloc);
-    let text = std::str::from_utf8(taken).unwrap_or("no UTF-8");
-    let pushed = push_end_and_text(&mut out, end, text);
-    written(pushed, out)
-}
-
-/// Writes how the run ended, a tab, and what it wrote.
-fn push_end_and_text(out: &mut String, end: Result<Counts, TableError>, text: &str) -> Result<()> {
-    push_end(out, end)?;
-    Ok(write!(out, "\t{text}")?)
+    push_end(&mut out, end)?;
+    let written = std::str::from_utf8(written).unwrap_or("no UTF-8");
+    write!(out, "\t{written}")?;
+    Ok(out)
 }
 
 /// Writes how the run ended, in a word: with its counts, or at a record that isn't answered, by the

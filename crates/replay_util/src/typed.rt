@@ -2,8 +2,6 @@
 use anyhow::{Result, anyhow};
 use phone_meta::Database;
 use phone_typed::{Typing, typed};
-use phone_values::country::Id;
-use replay_base::answers::{known, written};
 use replay_base::table::Row;
 use replay_base::words::hint;
 use std::alloc::Global;
@@ -13,7 +11,7 @@ use std::alloc::Global;
 /// that is taken away and typed again changes it, or where memory is refused.
 pub fn answer(alloc: Global, row: &Row, db: &Database) -> Result<Option<String>> {
     match row.call() {
-        "typed" => known(each_text(alloc, row, db)),
+        "typed" => Ok(Some(each_text(alloc, row, db)?)),
         _ => Ok(None),
     }
 }
@@ -21,44 +19,19 @@ pub fn answer(alloc: Global, row: &Row, db: &Database) -> Result<Option<String>>
 /// What is shown after each character.
 fn each_text(alloc: Global, row: &Row, db: &Database) -> Result<String> {
     let hint = hint(row.argument(1))?;
-    let (mut texts, mut typed_so_far) = (String::new(alloc), String::new(alloc));
     let mut field = Typing::new(db, hint);
-    let keys = row.argument(2);
-    let end = push_texts(&mut texts, db, hint, keys, &mut typed_so_far, &mut field);
-    written(end, texts)
-}
-
-/// Writes what is shown after each of these characters, which are kept and typed into the field.
-fn push_texts(
-    texts: &mut String,
-    db: &Database,
-    hint: Option<Id>,
-    keys: &str,
-    typed_so_far: &mut String,
-    field: &mut Typing<'_>,
-) -> Result<()> {
-    for c in keys.chars() {
+    let mut texts = String::new(alloc);
+    let mut typed_so_far = String::new(alloc);
+    for c in row.argument(2).chars() {
         if !typed_so_far.is_empty() {
             texts.push('|')?;
         }
         typed_so_far.push(c)?;
-        push_text(texts, db, hint, typed_so_far.as_str(), field, c)?;
+        let text = typed(db, hint, typed_so_far.as_str())?;
+        type_again(&mut field, c, text.as_str())?;
+        texts.push_str(text.as_str())?;
     }
-    Ok(())
-}
-
-/// Writes what is shown of the characters so far, the last of which is typed into the field too.
-fn push_text(
-    texts: &mut String,
-    db: &Database,
-    hint: Option<Id>,
-    typed_so_far: &str,
-    field: &mut Typing<'_>,
-    last: char,
-) -> Result<()> {
-    let text = typed(db, hint, typed_so_far)?;
-    type_again(field, last, text.as_str())?;
-    Ok(texts.push_str(text.as_str())?)
+    Ok(texts)
 }
 
 /// Types a character, and if it has a key takes that away and types it again: an error where
@@ -70,8 +43,11 @@ fn type_again(field: &mut Typing<'_>, c: char, text: &str) -> Result<()> {
         field.back()?;
         field.push(c)?;
     }
-    if field.shown() != text || field.caret(keys + 1) > text.chars().count() {
-        return Err(anyhow!("the field shows another text, or its caret stands after the text"));
+    if field.shown() != text {
+        return Err(anyhow!("the field shows another text"));
+    }
+    if field.caret(keys + 1) > text.chars().count() {
+        return Err(anyhow!("the caret stands after the text"));
     }
     Ok(())
 }
