@@ -233,15 +233,24 @@ fn push_texts_of(
     push_laid(line, m, number, digits, laid, at_home.as_str())
 }
 
+/// Whether it is certain that the territory has the same layouts for national text as for other
+/// text.
+fn has_one_list(m: &Metadata) -> bool
+    ensures { IsTrue result →
+        layouts_for m.now mode.National ≡ layouts_for m.now mode.International }
+{
+    m.is_laid_out_alike() || m.international_formats().is_empty()
+}
+
 /// Whether it is certain that a number is laid out at home as it is abroad, by this layout: the
-/// territory has no layouts for abroad alone, no carrier was dialled, and the layout has no rule.
+/// territory has the same layouts for both, no carrier was dialled, and the layout has no rule.
 fn is_laid_alike(m: &Metadata, abroad: Option<&Format>, number: &Printable<'_>) -> bool
     ensures { IsTrue result → (own : Option loader.Format) → option_copied abroad.entry ≡
         layout_for m.now mode.International own (text_of number.now.national) →
         laid_out m.now mode.National own number.now ≡
         laid_out m.now mode.International own number.now }
 {
-    if !m.international_formats().is_empty() {
+    if !has_one_list(m) {
         return false;
     }
     match (number.carrier(), abroad) {
@@ -432,8 +441,8 @@ fn layouts_of<'a>(
     Ok(Layouts { abroad, at_home })
 }
 
-/// The layout at home, where the one abroad is known: it is the same, unless the territory has
-/// layouts for abroad alone.
+/// The layout at home, where the one abroad is known: it is the same where the territory has the
+/// same layouts for both.
 fn at_home<'a>(
     m: &'a Metadata,
     own: Option<&'a Format>,
@@ -445,7 +454,7 @@ fn at_home<'a>(
     ensures { IfOk result (λ f. option_copied f ≡
         layout_for m.entry.now mode.National (option_copied own.entry) digits.now) }
 {
-    if m.international_formats().is_empty() {
+    if has_one_list(m) {
         return Ok(abroad);
     }
     layout_for(m, Mode::National, own, digits)

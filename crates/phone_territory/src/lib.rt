@@ -1,6 +1,7 @@
 //! A territory: what is known of the numbers of a country or region, its patterns compiled once.
 #![tactic(auto)]
 
+mod alike;
 mod descriptor;
 mod descriptors;
 mod each;

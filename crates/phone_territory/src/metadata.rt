@@ -1,5 +1,5 @@
 //! A territory, with its patterns compiled.
-ghost use Rattle.std.specs.Prelude.{◌≡◌, None, Some, IfOk, IfErr};
+ghost use Rattle.std.specs.Prelude.{◌≡◌, None, Some, IfOk, IfErr, IsTrue};
 ghost use Rattle.std.specs.List.{AllByRecursion, flat_map};
 ghost use Rattle.std.specs.Option.{option_and_then, option_copied};
 ghost use Rattle.phone_values.specs.Ids.{id_of};
@@ -49,7 +49,7 @@ struct CompiledParts {
 }
 
 impl Model for Metadata {
-    ghost use Rattle.std.specs.Prelude.{Some};
+    ghost use Rattle.std.specs.Prelude.{◌≡◌, IsTrue, Some};
     ghost use Rattle.phone_records.specs.declared.loader.Metadata as loader;
 
     ghost Value = { loader.Metadata };
@@ -86,6 +86,9 @@ impl Model for Metadata {
       mobile_number_portable = m.kept.mobile_number_portable;
       defaults = m.kept.defaults;
     } };
+
+    ghost invariant = { λ m. IsTrue m.patterns.are_alike →
+        m.patterns.international_formats.items ≡ m.patterns.formats.items };
 }
 
 impl Compile for Metadata {
@@ -270,6 +273,14 @@ impl Metadata {
         ensures { result.now ≡ self.now.international_formats }
     {
         self.patterns.international_formats.as_slice()
+    }
+
+    /// Whether it is certain that these are the layouts of national text. It was found out when the
+    /// territory was made.
+    pub fn is_laid_out_alike(&self) -> bool
+        ensures { IsTrue result → self.now.international_formats ≡ self.now.formats }
+    {
+        self.patterns.are_alike
     }
 
     /// Whether the territory is the main one of its calling code.

@@ -1,9 +1,10 @@
 //! What is compiled of a territory's record besides its descriptors.
-ghost use Rattle.std.specs.Prelude.{◌≡◌, None, IfOk, map};
+ghost use Rattle.std.specs.Prelude.{◌≡◌, None, IfOk, IsTrue, map};
 ghost use Rattle.std.specs.Option.{option_to_list};
 ghost use Rattle.phone_territory.specs.Refusals.{AreRead, patterns_besides};
 ghost use Rattle.phone_records.specs.Missing.{first_given, missing_in_format};
 
+use crate::alike::are_same;
 use crate::each;
 use crate::format::Format;
 use crate::loader::{self, Text};
@@ -19,6 +20,8 @@ pub struct Patterns {
     pub(crate) leading_digits: Option<Pattern>,
     pub(crate) formats: Vec<Format>,
     pub(crate) international_formats: Vec<Format>,
+    /// Whether it is certain that both lists are of the same records.
+    pub(crate) are_alike: bool,
 }
 
 fn compile_text(pool: &Pool, text: Option<Text>) -> Result<Option<Pattern>, LoadMetadata>
@@ -50,10 +53,13 @@ impl Patterns {
         ensures national { IfOk result (λ all. all.formats.items ≡ national.items) }
         ensures international { IfOk result (λ all.
             all.international_formats.items ≡ international.items) }
+        ensures alike { IfOk result (λ all. IsTrue all.are_alike →
+            all.international_formats.items ≡ all.formats.items) }
         ensures read { AreRead
             (patterns_besides dialled parsing leading national.items international.items)
             result }
     {
+        let are_alike = are_same(international.as_slice(), national.as_slice());
         let dialled = compile_text(pool, dialled);
         let parsing = compile_text(pool, parsing);
         let leading = compile_text(pool, leading);
@@ -70,6 +76,7 @@ impl Patterns {
             leading_digits,
             formats,
             international_formats,
+            are_alike,
         })
     }
 }
