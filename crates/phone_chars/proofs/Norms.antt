@@ -1,8 +1,8 @@
 -- The digits of a text: they are digits alone, and a text of digits alone is its own.
-use Rattle.std.proofs.Common.{◌≡◌, ℕ, ◌+◌, ◌-◌, true, nat_le, nat_lt, List, [], ◌∷◌, Some, IfSome, encode_utf8_all, refl, ap, sym, subst, ◌∙◌, arith, ltb-true}
+use Rattle.std.proofs.Common.{◌≡◌, ℕ, ◌+◌, ◌-◌, Bool, true, false, nat_le, nat_lt, List, [], ◌∷◌, Some, IfSome, encode_utf8_all, IsUtf8, refl, ap, sym, subst, ◌∙◌, arith, ltb-true}
 use Rattle.std.proofs.lemmas.Bool.{and_from, and_parts, cond_both, leb-true, le-leb}
 use Rattle.std.proofs.lemmas.Fmt.{IsAscii-from_digits}
-use Rattle.std.proofs.lemmas.Str.{chars-IsAscii, encodes-IsAscii}
+use Rattle.std.proofs.lemmas.Str.{chars-IsAscii, encodes-IsAscii, encodes-chars}
 use Rattle.std.specs.List.{list_all, find}
 use Rattle.std.specs.Str.{chars}
 use Rattle.phone_chars.specs.Characters.{is_digit, is_one_of, is_in_run, script_zeros, key_letters, as_dec_digit, keypad, digit_of}
@@ -44,3 +44,20 @@ own_norm t e =
     let written : encode_utf8_all ds ≡ ds = encodes-IsAscii ds (IsAscii-from_digits ds (all_digits ds (list_all-norm (chars t)))) in
     let alone : list_all is_digit t ≡ true = subst (λ x. list_all is_digit x ≡ true) (sym written ∙ e) (list_all-norm (chars t)) in
     ap (list_all is_digit) (chars-IsAscii t (IsAscii-from_digits t (all_digits t alone))) ∙ alone
+
+-- a text's bytes are digits where its characters are
+pub digits_by_bytes : (t : List ℕ) → IsUtf8 t → list_all is_digit t ≡ list_all is_digit (chars t)
+digits_by_bytes t u = alike (list_all is_digit t) (list_all is_digit (chars t)) by_bytes by_chars
+  where
+    alike : (a b : Bool) → (a ≡ true → b ≡ true) → (b ≡ true → a ≡ true) → a ≡ b
+    alike true b f g = sym (f refl)
+    alike false true f g = g refl
+    alike false false f g = refl
+
+    by_bytes : list_all is_digit t ≡ true → list_all is_digit (chars t) ≡ true
+    by_bytes h = ap (list_all is_digit) (chars-IsAscii t (IsAscii-from_digits t (all_digits t h))) ∙ h
+
+    by_chars : list_all is_digit (chars t) ≡ true → list_all is_digit t ≡ true
+    by_chars h =
+        let written = encodes-IsAscii (chars t) (IsAscii-from_digits (chars t) (all_digits (chars t) h)) in
+        ap (list_all is_digit) (sym (encodes-chars t u) ∙ written) ∙ h

@@ -10,6 +10,19 @@ pub fn split_first(text: &str) -> Option<(char, &str)>
     ensures read { IfSome result (λ p. chars text.now ≡ p.0 ∷ chars p.1.now) }
     ensures shorter { IfSome result (λ p. length p.1.now < length text.now) }
 {
+    let (byte, _) = text.as_bytes().split_first()?;
+    if *byte < 128 {
+        return Some((char::from(*byte), &text[1..]));
+    }
+    split_first_char(text)
+}
+
+/// The same, whatever the first character is.
+fn split_first_char(text: &str) -> Option<(char, &str)>
+    ensures cut { MatchOption result (text.now ≡ []) (λ p. text.now ≡ encode_utf8 p.0 ++ p.1.now) }
+    ensures read { IfSome result (λ p. chars text.now ≡ p.0 ∷ chars p.1.now) }
+    ensures shorter { IfSome result (λ p. length p.1.now < length text.now) }
+{
     let mut rest = text.chars();
     let c = rest.next()?;
     Some((c, rest.as_str()))

@@ -1,6 +1,7 @@
 //! A text's digits: what is left of it once each character is read as a digit or dialled on a
 //! keypad.
-ghost use Rattle.std.specs.Prelude.{◌≡◌, string_bytes, encode_utf8_all, IfOk, Ok, IsTrue, chars};
+ghost use Rattle.std.specs.Prelude.{◌≡◌, ◌++◌, string_bytes, encode_utf8_all, IfOk, Ok};
+ghost use Rattle.std.specs.Prelude.{IsAscii, IsTrue, chars};
 ghost use Rattle.std.specs.Cow.{cow_str_bytes, IsBorrowedStr};
 ghost use Rattle.std.specs.List.{list_all};
 ghost use Rattle.std.specs.Option.{option_or};
@@ -25,8 +26,35 @@ fn digit_of(c: char) -> Option<char>
 fn digits(alloc: Global, text: &str) -> Result<String, AllocError>
     ensures { IfOk result (λ s. string_bytes s ≡ encode_utf8_all (norm (chars text.now))) }
 {
-    let mut out = String::with_capacity(alloc, text.len())?;
+    let out = String::with_capacity(alloc, text.len())?;
+    if text.is_ascii() {
+        return with_digits_of_bytes(out, text.as_bytes());
+    }
+    with_digits(out, text)
+}
+
+/// A text and the digits of another behind it.
+fn with_digits(before: String, text: &str) -> Result<String, AllocError>
+    ensures { IfOk result (λ s. string_bytes s ≡ string_bytes before ++
+        encode_utf8_all (norm (chars text.now))) }
+{
+    let mut out = before;
     out.extend(text.chars().filter_map(digit_of))?;
+    Ok(out)
+}
+
+/// The same where the other is of ASCII, given as its bytes.
+fn with_digits_of_bytes(before: String, bytes: &[u8]) -> Result<String, AllocError>
+    requires { IsAscii bytes.now }
+    ensures { IfOk result (λ s. string_bytes s ≡ string_bytes before ++
+        encode_utf8_all (norm bytes.now)) }
+{
+    let mut out = before;
+    for byte in bytes {
+        if let Some(digit) = digit_of(char::from(*byte)) {
+            out.push(digit)?;
+        }
+    }
     Ok(out)
 }
 
@@ -34,7 +62,14 @@ fn digits(alloc: Global, text: &str) -> Result<String, AllocError>
 pub(crate) fn has_digits_alone(text: &str) -> bool
     ensures { result ≡ list_all is_digit (chars text.now) }
 {
-    text.chars().all(|c| is_digit(c))
+    are_digits(text.as_bytes())
+}
+
+/// The same of bytes.
+fn are_digits(bytes: &[u8]) -> bool
+    ensures { result ≡ list_all is_digit bytes.now }
+{
+    bytes.iter().all(|byte| byte.is_ascii_digit())
 }
 
 /// Whether a text is digits from `0` to `9` alone, and so is its own digits; no other text is.

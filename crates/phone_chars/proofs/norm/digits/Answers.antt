@@ -1,15 +1,10 @@
-use Rattle.std.proofs.Common.{rules, ap, ◌∙◌}
-use Rattle.std.specs.Str.Iter.{chars_rest}
-use Rattle.std.proofs.lemmas.Iterator.{YieldsList-from_chars}
-use Rattle.std.proofs.lemmas.Iterator.Adapters.{items_from_extend}
-use Rattle.std.proofs.lemmas.Iterator.Consumers.{YieldsList-from_filter_map}
-use Rattle.phone_chars.specs.Characters.{digit_of}
+use Rattle.std.proofs.Common.{◌≡◌, IfOk, IsAscii, string_bytes, encode_utf8_all, sym, subst, rules}
+use Rattle.std.proofs.lemmas.Str.{chars-IsAscii}
+use Rattle.phone_chars.specs.Norm.{norm}
 use Rattle.phone_chars.proofs.norm.digits.Goals as goal
 
-pub returns : goal.returns
-returns c =
-    let every = YieldsList-from_chars c.args.text.now c.utf8.text (ap chars_rest c.filter_map.ensures.source ∙ c.chars.ensures.rest) in
-    let all = items_from_extend c.extend.result c.extend.ensures.ran
-    (YieldsList-from_filter_map _ digit_of every c.filter_map.ensures.closure (λ x r q h. search (rules, h))) in
-    let whole = rw c.in_ok-extend.was at all in
-    search (rules, whole, c.in_ok-out.ensures.bytes)
+pub returns-then-is_ascii : goal.returns-then-is_ascii
+returns-then-is_ascii c =
+    let ascii : IsAscii c.args.text.now = search rules in
+    let by_bytes : IfOk c.with_digits_of_bytes.result (λ s. string_bytes s ≡ encode_utf8_all (norm c.args.text.now)) = search rules in
+    subst (λ t. IfOk c.with_digits_of_bytes.result (λ s. string_bytes s ≡ encode_utf8_all (norm t))) (sym (chars-IsAscii c.args.text.now ascii)) by_bytes
