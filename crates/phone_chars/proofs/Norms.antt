@@ -1,5 +1,5 @@
 -- The digits of a text: they are digits alone, and a text of digits alone is its own.
-use Rattle.std.proofs.Common.{◌≡◌, ℕ, ◌+◌, ◌-◌, Bool, true, false, nat_le, nat_lt, List, [], ◌∷◌, Some, IfSome, encode_utf8_all, IsUtf8, refl, ap, sym, subst, ◌∙◌, arith, ltb-true}
+use Rattle.std.proofs.Common.{◌≡◌, ℕ, ◌+◌, ◌-◌, Bool, true, false, nat_le, nat_lt, List, [], ◌∷◌, Some, IfSome, encode_utf8_all, IsUtf8, All, IsAscii, get_or, ◌<◌, zero, suc, refl, ap, sym, subst, ◌∙◌, arith, ltb-true}
 use Rattle.std.proofs.lemmas.Bool.{and_from, and_parts, cond_both, leb-true, le-leb}
 use Rattle.std.proofs.lemmas.Fmt.{IsAscii-from_digits}
 use Rattle.std.proofs.lemmas.Str.{chars-IsAscii, encodes-IsAscii, encodes-chars}
@@ -61,3 +61,12 @@ digits_by_bytes t u = alike (list_all is_digit t) (list_all is_digit (chars t)) 
     by_chars h =
         let written = encodes-IsAscii (chars t) (IsAscii-from_digits (chars t) (all_digits (chars t) h)) in
         ap (list_all is_digit) (sym (encodes-chars t u) ∙ written) ∙ h
+
+-- bytes of ASCII, as the text's lemmas have it
+pub is_ascii_text : (bs : List ℕ) → All (λ b. b < 128) bs → IsAscii bs
+is_ascii_text bs h i = at bs h i
+  where
+    at : (bs : List ℕ) → All (λ b. b < 128) bs → (i : ℕ) → get_or bs i 0 < 128
+    at [] h i = omega arith
+    at (b ∷ bs) h zero = h 0 0 (omega arith)
+    at (b ∷ bs) h (suc i) = at bs (λ k d l. h (suc k) d (omega (arith, l))) i

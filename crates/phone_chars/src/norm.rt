@@ -1,14 +1,14 @@
 //! A text's digits: what is left of it once each character is read as a digit or dialled on a
 //! keypad.
-ghost use Rattle.std.specs.Prelude.{◌≡◌, ◌++◌, string_bytes, encode_utf8_all, IfOk, Ok};
-ghost use Rattle.std.specs.Prelude.{IsAscii, IsTrue, chars};
+ghost use Rattle.std.specs.Prelude.{◌≡◌, ◌<◌, ◌++◌, string_bytes, encode_utf8_all, IfOk, Ok};
+ghost use Rattle.std.specs.Prelude.{All, IsTrue, chars};
 ghost use Rattle.std.specs.Cow.{cow_str_bytes, IsBorrowedStr};
 ghost use Rattle.std.specs.List.{list_all};
 ghost use Rattle.std.specs.Option.{option_or};
 ghost use Rattle.phone_chars.specs.Characters.{is_digit, digit_of};
 ghost use Rattle.phone_chars.specs.Norm.{norm};
 
-use crate::chars::{as_dec_digit, is_digit, keypad};
+use crate::chars::{as_dec_digit, keypad};
 use std::alloc::{AllocError, Global};
 use std::borrow::CowStr;
 
@@ -27,7 +27,7 @@ fn digits(alloc: Global, text: &str) -> Result<String, AllocError>
     ensures { IfOk result (λ s. string_bytes s ≡ encode_utf8_all (norm (chars text.now))) }
 {
     let out = String::with_capacity(alloc, text.len())?;
-    if text.is_ascii() {
+    if is_ascii(text.as_bytes()) {
         return with_digits_of_bytes(out, text.as_bytes());
     }
     with_digits(out, text)
@@ -43,9 +43,16 @@ fn with_digits(before: String, text: &str) -> Result<String, AllocError>
     Ok(out)
 }
 
-/// The same where the other is of ASCII, given as its bytes.
+/// Whether bytes are ASCII. Most texts have so few that a plain loop takes less than
+/// `str::is_ascii`.
+fn is_ascii(bytes: &[u8]) -> bool
+    ensures { IsTrue result → All (λ b. b < 128) bytes.now }
+{
+    bytes.iter().all(|byte| *byte < 128)
+}
+
+/// A text and the digits of characters behind it, which are these bytes.
 fn with_digits_of_bytes(before: String, bytes: &[u8]) -> Result<String, AllocError>
-    requires { IsAscii bytes.now }
     ensures { IfOk result (λ s. string_bytes s ≡ string_bytes before ++
         encode_utf8_all (norm bytes.now)) }
 {

@@ -74,6 +74,15 @@ impl<'d, 'f> Finder<'d, 'f> {
         push_text(answers, told.as_str())
     }
 
+    /// Where a number stands that this finder found.
+    fn spot_of<'p>(&self, column: u64, piece: &'p str) -> Spot<'p> {
+        Spot {
+            line: self.place,
+            column,
+            piece,
+        }
+    }
+
     /// Puts the object of one number at the end of the answers.
     fn push_object(
         &self,
@@ -83,13 +92,7 @@ impl<'d, 'f> Finder<'d, 'f> {
         piece: &str,
         answers: &mut Vec<u8>,
     ) -> Result<(), AllocError> {
-        let reader = self.reader;
-        let line = self.place;
-        let spot = Spot {
-            line,
-            column,
-            piece,
-        };
+        let (reader, spot) = (self.reader, self.spot_of(column, piece));
         match found_object(alloc, reader.rules, reader.database, spot, number) {
             Ok(object) => push_line(answers, object.as_str()),
             // of a number that was read the code is listed
@@ -107,13 +110,7 @@ impl<'d, 'f> Finder<'d, 'f> {
         piece: &str,
         answers: &mut Vec<u8>,
     ) -> Result<(), AllocError> {
-        let reader = self.reader;
-        let line = self.place;
-        let spot = Spot {
-            line,
-            column,
-            piece,
-        };
+        let (reader, spot) = (self.reader, self.spot_of(column, piece));
         let (database, mut record) = (reader.database, record_of(alloc, self.name())?);
         let found = push_found(alloc, reader.rules, database, spot, number, &mut record);
         add_found(alloc, found, &record, answers)

@@ -74,6 +74,8 @@ pub fn push_found(
         (records.fields_of row.new ≡ records.fields_of row.old ++ fields)) }
     ensures unknown { result ≡ Err FormatError.UnknownCode →
         first_of (territories number.now.code.value database.now) ≡ None }
+    ensures kept { result ≡ Err FormatError.UnknownCode →
+        records.fields_of row.new ≡ records.fields_of row.old }
 {
     let known = known_of(alloc, rules, database, number)?;
     match push_spot(row, spot, extension_of(number), parts_of_known(&known)) {
