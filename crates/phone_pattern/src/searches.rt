@@ -1,5 +1,5 @@
-//! Searches of a pattern: by a machine of its automaton where the text is of ASCII, and by its `Regex`
-//! where it isn't, where the machine gives up, and where memory is refused for it.
+//! Searches of a pattern: by a machine of its automaton where the text is of ASCII, and by its
+//! `Regex` where it isn't, where the machine gives up, and where memory is refused for it.
 ghost use Rattle.std.specs.Prelude.{◌≡◌, ◌<◌, All, Some, IfOk, IfSome, IsTrue, option_map};
 ghost use Rattle.std.specs.Prelude.{string_bytes};
 ghost use Rattle.regex.specs.Strings.{regex_source};
@@ -15,8 +15,8 @@ use phone_automaton::Machine;
 use regex::Regex;
 use std::alloc::{AllocError, Global};
 
-/// A machine of a pattern's automaton for a text; none where the text isn't of ASCII, where there is
-/// no automaton, and where memory is refused.
+/// A machine of a pattern's automaton for a text; none where the text isn't of ASCII, where there
+/// is no automaton, and where memory is refused.
 #[inline]
 fn take(alloc: Global, outline: &Outline, text: &str) -> Option<Box<Machine>>
     ensures own { IfSome result (λ m. outline.now.searcher ≡ Some m.value) }
