@@ -434,7 +434,7 @@ Patterns-field-send =
             Vec-send _ Format-send,
             (
               Vec-send _ Format-send,
-              tt,
+              (search sendable, tt),
             ),
           ),
         ),
