@@ -18,7 +18,7 @@ use Rattle.phone_values.specs.declared.kind.«Type».TheVariants.{StandardRate, 
 use Rattle.phone_values.specs.declared.kind.«Type».TheVariants.{NoInternational, Unknown}
 use Rattle.phone_c_base.specs.Answers.{kind_number}
 use Rattle.phone_c_base.specs.Kinds.{kind_of}
-use Rattle.phone_c_base.specs.declared.asked.TheConstants.{KINDS}
+use Rattle.phone_values.specs.declared.named.TheConstants.{KINDS}
 
 pub kind_back : (k : «Type») → kind_of (kind_number k) ≡ Some k
 unfolding kind_of

@@ -43,27 +43,6 @@ fn kind_number(kind: Type) -> u32
     }
 }
 
-/// The kinds, in the order of their numbers.
-const KINDS: [Type; 17] = [
-    Type::FixedLine,
-    Type::Mobile,
-    Type::FixedLineOrMobile,
-    Type::TollFree,
-    Type::PremiumRate,
-    Type::SharedCost,
-    Type::PersonalNumber,
-    Type::Voip,
-    Type::Pager,
-    Type::Uan,
-    Type::Emergency,
-    Type::Voicemail,
-    Type::ShortCode,
-    Type::StandardRate,
-    Type::Carrier,
-    Type::NoInternational,
-    Type::Unknown,
-];
-
 /// The kind that has this number; none where it is above 16.
 #[tactic(auto, unfolding(crate::specs::Kinds::kind_of))]
 pub fn kind_of(number: u32) -> Option<Type>

@@ -2,7 +2,7 @@
 use Rattle.std.proofs.Common.{◌≡◌, ◌⊎◌, Bool, Result, Ok, Err, OnOk, if◌then◌else◌, inr, add-one, ℕ, ◌==◌, ◌+◌, ◌<◌, take, drop, length, get_or, List, [], ◌∷◌, ◌++◌, Option, Some, None, inl, true, false, refl, sym, ap, ◌∙◌, append_assoc, subst}
 use Rattle.std.proofs.lemmas.List.{append-nil, take-append-drop}
 use Rattle.std.proofs.Math.Seq.{take-suc}
-use Rattle.phone_device.specs.Passing.{IsAtEnd, Takes, TakesFront}
+use Rattle.phone_device.specs.Passing.{Holds, IsAtEnd, Takes, TakesFront}
 use Rattle.csv.specs.Machine.{Feeds, ends_at_end, field_after, fields_after, is_end, next_record, step}
 use Rattle.csv.specs.Reading.{records_next}
 use Rattle.csv.specs.Records.{fields_of}
@@ -19,7 +19,7 @@ use Rattle.phone_csv.specs.Records.{IsEnded, in_quotes}
 use Rattle.phone_csv.specs.RecordReports.{AreAnswers, Gives, IsBeginning, IsReport, IsReportBefore, IsReportBeforeQuote, IsReportOnEnded, IsReportOnFirst, last_record}
 use Rattle.phone_csv.specs.RecordReports.AreAnswers.{none as unanswered}
 use Rattle.phone_csv.specs.Records.AreCut.{none as uncut}
-use Rattle.phone_csv.specs.Runs.{BreaksOff, Holds, IsSoFar, Stands, TakesA}
+use Rattle.phone_csv.specs.Runs.{BreaksOff, IsSoFar, Stands, TakesA}
 use Rattle.phone_csv.specs.declared.cutter.Cutter.{Cutter}
 use Rattle.phone_csv.specs.declared.format.Format.{Format}
 use Rattle.phone_csv.proofs.AnswerLemmas.{AreAnswers-then}

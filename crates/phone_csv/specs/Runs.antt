@@ -7,7 +7,7 @@ use Rattle.csv.specs.Records.{fields_of}
 use Rattle.csv.specs.Writing.{escaped}
 use Rattle.csv.specs.declared.parser.State.{State}
 use Rattle.csv.specs.declared.parser.State.TheVariants as st
-use Rattle.phone_device.specs.Passing.{Passes, Takes, TakesFront}
+use Rattle.phone_device.specs.Passing.{Holds, Passes, Takes, TakesFront}
 use Rattle.phone_csv.specs.Feeds.{counted, feeds_before, line_feeds, past_line_ends}
 use Rattle.phone_csv.specs.Formats.{Record, reading, record_text, state_of, writing}
 use Rattle.phone_csv.specs.Quotes.{IsBeforeField}
@@ -68,13 +68,6 @@ pub record Stands (gives : Record → Record → Type 0) (start : State) (bytes 
   pub written : List ℕ
   pub taken : Takes before written after
   pub so_far : IsSoFar gives start bytes cutter (written ++ held)
-
--- what the sink took and what is held back is a text of which this holds
-pub record Holds (is_text : List ℕ → Type 0) (held : List ℕ)
-    (before after : Option (List ℕ)) : Type 0 where
-  pub written : List ℕ
-  pub taken : Takes before written after
-  pub text : is_text (written ++ held)
 
 -- a text is that of some rows, one after the other, each of which was counted
 pub record IsCounted {C : Type 0} (after : C → Record → C) (format : Format) (first : C)

@@ -3,14 +3,14 @@ ghost use Rattle.std.specs.Prelude.{◌≡◌, ◌≢◌, ◌<◌, ◌+◌, ◌�
 ghost use Rattle.std.specs.Prelude.{vec_len};
 ghost use Rattle.csv.specs.Records.{fields_of, partial_of};
 ghost use Rattle.csv.specs.declared.parser.State.{State};
-ghost use Rattle.phone_device.specs.Passing.{IsAtEnd};
+ghost use Rattle.phone_device.specs.Passing.{Holds, IsAtEnd};
 ghost use Rattle.phone_csv.specs.Faults.{sink_faults_of};
 ghost use Rattle.phone_csv.specs.Formats.{state_of};
 ghost use Rattle.phone_csv.specs.Feeds.{counted};
 ghost use Rattle.phone_csv.specs.RecordReports.{IsBeginning, IsReport, IsReportBefore};
 ghost use Rattle.phone_csv.specs.RecordReports.{IsReportBeforeQuote, IsReportOnEnded};
 ghost use Rattle.phone_csv.specs.RecordReports.{IsReportOnFirst};
-ghost use Rattle.phone_csv.specs.Runs.{BreaksOff, Holds, HoldsCounted, IsCounted, IsFresh};
+ghost use Rattle.phone_csv.specs.Runs.{BreaksOff, HoldsCounted, IsCounted, IsFresh};
 ghost use Rattle.phone_csv.specs.Runs.{OfRead, Stands, TakesA};
 ghost use Rattle.phone_csv.specs.Runs.{most_bytes};
 ghost use Rattle.phone_csv.specs.declared.blocks.End.TheVariants as end;
@@ -21,7 +21,7 @@ use crate::cutter::Start;
 use crate::format::Format;
 use crate::machine::in_quotes;
 use crate::pending_output::{PendingOutput, Stop};
-use phone_device::{BLOCK_LENGTH, Block, ByteSink, ByteSource, Fault};
+use phone_device::{BLOCK_LENGTH, Block, ByteSink, ByteSource, Fault, write_out};
 use std::alloc::Global;
 
 /// Why a run ended before all records were answered.
@@ -296,7 +296,7 @@ pub fn answer_records<A: Answers, C: Counter, S: ByteSource, W: ByteSink>(
     let Ok(end) = take_all(alloc, answers, counter, source, sink, &mut pending) else {
         return Err(RunError::Output);
     };
-    let Ok(()) = pending.write_out(sink) else {
+    let Ok(()) = write_out(sink, pending.answers.as_slice()) else {
         return Err(RunError::Output);
     };
     match end {

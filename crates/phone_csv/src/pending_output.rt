@@ -3,12 +3,12 @@ ghost use Rattle.std.specs.Prelude.{◌≡◌, ◌+◌, ◌<◌, ◌++◌, ◌�
 ghost use Rattle.std.specs.Prelude.{OnErr, false, vec_len};
 ghost use Rattle.csv.specs.Records.{fields_of, partial_of};
 ghost use Rattle.csv.specs.declared.parser.State.{State};
-ghost use Rattle.phone_device.specs.Passing.{IsAtEnd, Takes, TakesFront};
+ghost use Rattle.phone_device.specs.Passing.{Holds, IsAtEnd};
 ghost use Rattle.phone_csv.specs.Formats.{Record, record_text, state_of};
 ghost use Rattle.phone_csv.specs.Records.{in_quotes};
 ghost use Rattle.phone_csv.specs.Faults.{faults_of};
 ghost use Rattle.phone_csv.specs.RecordReports.{IsReport, IsReportBefore, IsReportOnFirst};
-ghost use Rattle.phone_csv.specs.Runs.{BreaksOff, Holds, HoldsCounted, IsSoFar, Stands};
+ghost use Rattle.phone_csv.specs.Runs.{BreaksOff, HoldsCounted, IsSoFar, Stands};
 ghost use Rattle.phone_csv.specs.declared.pending_output.Stop.TheVariants as stop;
 ghost use Rattle.phone_csv.specs.declared.answers.Refusal.TheVariants as refusal;
 
@@ -16,7 +16,7 @@ use crate::answers::{Answers, Counter, Refusal, add_record};
 use crate::cutter::Cutter;
 use crate::format::Format;
 use crate::machine::{Place, is_open};
-use phone_device::{BLOCK_LENGTH, ByteSink, Fault, write_all};
+use phone_device::{BLOCK_LENGTH, ByteSink, hand_on};
 use std::alloc::Global;
 
 /// Why a block was not taken whole.
@@ -168,40 +168,6 @@ impl PendingOutput {
         self.answer_record(alloc, answers, counter)
     }
 
-    /// Writes the answers that are held, once they fill a block.
-    fn hand_on<W: ByteSink>(&mut self, sink: &mut W) -> Result<(), Fault>
-        ensures cutter { self.new.cutter ≡ self.old.cutter }
-        ensures short { OnOk result (vec_len self.new.answers < BLOCK_LENGTH) }
-        ensures handed { OnOk result ((written : List ℕ) ×
-            (self.old.answers.items ≡ written ++ self.new.answers.items) ×
-            Takes (W.taken sink.old) written (W.taken sink.new)) }
-        ensures no_fault { OnOk result (W.faults sink.new ≡ W.faults sink.old) }
-        ensures front { OnErr result (TakesFront (W.taken sink.old) self.old.answers.items
-            (W.taken sink.new)) }
-        ensures fault { OnErr result (W.faults sink.new ≡ W.faults sink.old + 1) }
-    {
-        if self.answers.len() < BLOCK_LENGTH {
-            return Ok(());
-        }
-        write_all(sink, self.answers.as_slice())?;
-        self.answers.clear();
-        Ok(())
-    }
-
-    /// Writes all answers that are held, and has the sink hand on what it holds back.
-    pub fn write_out<W: ByteSink>(&self, sink: &mut W) -> Result<(), Fault>
-        ensures all { OnOk result (Takes (W.taken sink.old) self.now.answers.items
-            (W.taken sink.new)) }
-        ensures handed_on { OnOk result (W.unflushed sink.new ≡ 0) }
-        ensures no_fault { OnOk result (W.faults sink.new ≡ W.faults sink.old) }
-        ensures front { OnErr result (TakesFront (W.taken sink.old) self.now.answers.items
-            (W.taken sink.new)) }
-        ensures fault { OnErr result (W.faults sink.new ≡ W.faults sink.old + 1) }
-    {
-        write_all(sink, self.answers.as_slice())?;
-        sink.flush()
-    }
-
     /// Takes the bytes of a block, one after the other. Refused by `Fault` where the sink fails,
     /// by `Record` at a record that is not answered, and by `Memory`.
     pub fn take_block<A: Answers, C: Counter, W: ByteSink>(
@@ -253,7 +219,7 @@ impl PendingOutput {
                 Err(Refusal::Record) => return Err(Stop::Record),
                 Err(Refusal::Memory) => return Err(Stop::Memory),
             }
-            let Ok(()) = self.hand_on(sink) else {
+            let Ok(()) = hand_on(sink, &mut self.answers) else {
                 return Err(Stop::Fault);
             };
         }

@@ -38,6 +38,13 @@ pub record TakesFront (before : Option (List ℕ)) (bytes : List ℕ)
   pub whole : bytes ≡ front ++ rest
   pub taken : Takes before front after
 
+-- what the sink took and what is held back is a text of which this holds
+pub record Holds (is_text : List ℕ → Type 0) (held : List ℕ)
+    (before after : Option (List ℕ)) : Type 0 where
+  pub written : List ℕ
+  pub taken : Takes before written after
+  pub text : is_text (written ++ held)
+
 -- the faults of a write of these bytes that took n of them: one where it took none of some
 abbrev pub faults_of_write : ℕ → List ℕ → ℕ
 faults_of_write n bytes = if (n == 0) && nat_lt 0 (length bytes) then 1 else 0

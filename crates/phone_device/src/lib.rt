@@ -18,6 +18,6 @@ pub use fault::Fault;
 pub use limit::{Limit, Then};
 pub use memory::{MemorySink, MemorySource};
 pub use script::{At, Script};
-pub use sink::{ByteSink, write_all};
+pub use sink::{ByteSink, hand_on, write_all, write_out};
 pub use source::{ByteSource, ReadError, read_all};
 pub use standard::Std;

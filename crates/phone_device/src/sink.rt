@@ -1,9 +1,9 @@
 //! Sinks of bytes, and the writing of all bytes of a slice.
-ghost use Rattle.std.specs.Prelude.{◌≡◌, ℕ, ◌+◌, ◌≤◌, List, length, take, Option, IfOk, OnOk};
-ghost use Rattle.std.specs.Prelude.{OnErr};
+ghost use Rattle.std.specs.Prelude.{◌≡◌, ℕ, ◌+◌, ◌<◌, ◌≤◌, ◌++◌, List, length, take, Option, IfOk};
+ghost use Rattle.std.specs.Prelude.{OnErr, OnOk, vec_len};
 ghost use Rattle.phone_device.specs.Passing.{Takes, TakesFront, faults_of_write};
 
-use crate::Fault;
+use crate::{BLOCK_LENGTH, Fault};
 
 /// Where bytes go. A sink may tell the bytes that it has taken. Its faults are counted, and the
 /// writes that no flush has handed on.
@@ -56,4 +56,37 @@ pub fn write_all<S: ByteSink>(sink: &mut S, bytes: &[u8]) -> Result<(), Fault>
         rest = rest.split_at(n).1;
     }
     Ok(())
+}
+
+/// Writes the bytes that are held, once they fill a block; none are held then. At `Err` the sink
+/// failed, and has taken a beginning of them.
+pub fn hand_on<S: ByteSink>(sink: &mut S, held: &mut Vec<u8>) -> Result<(), Fault>
+    ensures short { OnOk result (vec_len held.new < BLOCK_LENGTH) }
+    ensures handed { OnOk result ((written : List ℕ) ×
+        (held.old.items ≡ written ++ held.new.items) ×
+        Takes (S.taken sink.old) written (S.taken sink.new)) }
+    ensures no_fault { OnOk result (S.faults sink.new ≡ S.faults sink.old) }
+    ensures front { OnErr result (TakesFront (S.taken sink.old) held.old.items
+        (S.taken sink.new)) }
+    ensures fault { OnErr result (S.faults sink.new ≡ S.faults sink.old + 1) }
+{
+    if held.len() < BLOCK_LENGTH {
+        return Ok(());
+    }
+    write_all(sink, held.as_slice())?;
+    held.clear();
+    Ok(())
+}
+
+/// Writes all bytes of a slice, and has the sink hand on what it holds back. At `Err` the sink
+/// failed, and has taken a beginning of the bytes.
+pub fn write_out<S: ByteSink>(sink: &mut S, bytes: &[u8]) -> Result<(), Fault>
+    ensures all { OnOk result (Takes (S.taken sink.old) bytes.now (S.taken sink.new)) }
+    ensures handed_on { OnOk result (S.unflushed sink.new ≡ 0) }
+    ensures no_fault { OnOk result (S.faults sink.new ≡ S.faults sink.old) }
+    ensures front { OnErr result (TakesFront (S.taken sink.old) bytes.now (S.taken sink.new)) }
+    ensures fault { OnErr result (S.faults sink.new ≡ S.faults sink.old + 1) }
+{
+    write_all(sink, bytes)?;
+    sink.flush()
 }

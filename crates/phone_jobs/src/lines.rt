@@ -4,7 +4,7 @@ ghost use Rattle.phone_jobs.specs.Runs.{sink_faults, source_faults};
 ghost use Rattle.phone_device.specs.Passing.{IsAtEnd};
 ghost use Rattle.phone_lines.specs.declared.blocks.RunError.TheVariants as error;
 
-use phone_device::{BLOCK_LENGTH, Block, ByteSink, ByteSource, Fault, write_all};
+use phone_device::{BLOCK_LENGTH, Block, ByteSink, ByteSource, Fault, hand_on, write_out};
 use phone_lines::{RunError, without_return};
 use std::alloc::{AllocError, Global};
 
@@ -52,19 +52,6 @@ impl Held {
         Ok(())
     }
 
-    /// Writes the answers that are held, once they fill a block.
-    fn hand_on<W: ByteSink>(&mut self, sink: &mut W) -> Result<(), Fault>
-        ensures no_fault { OnOk result (W.faults sink.new ≡ W.faults sink.old) }
-        ensures fault { OnErr result (W.faults sink.new ≡ W.faults sink.old + 1) }
-    {
-        if self.answers.len() < BLOCK_LENGTH {
-            return Ok(());
-        }
-        write_all(sink, self.answers.as_slice())?;
-        self.answers.clear();
-        Ok(())
-    }
-
     /// Writes all answers that are held, where the block that was taken isn't full: the next read
     /// may wait then, as that of a pipe or a terminal does.
     fn hand_on_short<W: ByteSink>(&mut self, sink: &mut W, block_length: usize) -> Result<(), Fault>
@@ -74,7 +61,7 @@ impl Held {
         if block_length >= BLOCK_LENGTH {
             return Ok(());
         }
-        self.write_out(sink)?;
+        write_out(sink, self.answers.as_slice())?;
         self.answers.clear();
         Ok(())
     }
@@ -94,7 +81,7 @@ impl Held {
             let Ok(()) = self.take_byte(alloc, taker, *byte) else {
                 return Err(RunError::Memory);
             };
-            let Ok(()) = self.hand_on(sink) else {
+            let Ok(()) = hand_on(sink, &mut self.answers) else {
                 return Err(RunError::Output);
             };
         }
@@ -111,16 +98,6 @@ impl Held {
             return Ok(());
         }
         taker.take(alloc, without_return(line), &mut self.answers)
-    }
-
-    /// Writes all answers that are held, and has the sink hand on what it holds back.
-    fn write_out<W: ByteSink>(&self, sink: &mut W) -> Result<(), Fault>
-        ensures no_fault { OnOk result (W.faults sink.new ≡ W.faults sink.old) }
-        ensures fault { OnErr result (W.faults sink.new ≡ W.faults sink.old + 1) }
-        ensures flushed { OnOk result (W.unflushed sink.new ≡ 0) }
-    {
-        write_all(sink, self.answers.as_slice())?;
-        sink.flush()
     }
 }
 
@@ -184,7 +161,7 @@ pub(crate) fn take_lines<T: LineTaker, S: ByteSource, W: ByteSink>(
     if let Err(RunError::Output) = end {
         return end;
     }
-    let Ok(()) = held.write_out(sink) else {
+    let Ok(()) = write_out(sink, held.answers.as_slice()) else {
         return Err(RunError::Output);
     };
     end

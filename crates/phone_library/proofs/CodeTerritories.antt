@@ -1,55 +1,14 @@
 -- The territory that has digits, by the territories of a code in their order of arrival.
-use Rattle.std.proofs.Common.{◌≡◌, ℕ, suc, ◌+◌, ◌<◌, ◌&&◌, not, Bool, true, false, cond, if◌then◌else◌, List, [], ◌∷◌, ◌++◌, length, filter, reverse, Option, None, Some, refl, ap, ap₂, sym, ◌∙◌, arith, length-append}
-use Rattle.std.proofs.lemmas.List.{length-reverse, reverse-append}
+use Rattle.std.proofs.Common.{◌≡◌, ℕ, suc, ◌<◌, ◌&&◌, not, Bool, true, false, cond, if◌then◌else◌, List, [], ◌∷◌, length, filter, reverse, Option, None, Some, refl, ap, sym, ◌∙◌, arith}
+use Rattle.std.proofs.lemmas.List.{reverse-append}
 use Rattle.std.proofs.lemmas.List.Folds.{find-append}
 use Rattle.std.specs.List.{find}
 use Rattle.std.specs.Option.{option_or}
 use Rattle.phone_library.specs.Kinds.{has_digits, territory_among, territory_in}
-use Rattle.phone_meta.proofs.CodeLemmas.{filter-filter}
-use Rattle.phone_meta.specs.CodeLookUps.{is_main_of, is_other_of, territories}
+use Rattle.phone_meta.proofs.InOrder.{alone, in_order, length-in_order, mains-filter, others-filter, territories-in_order}
+use Rattle.phone_meta.specs.CodeLookUps.{is_main, is_main_of, is_other, is_other_of, territories}
 use Rattle.phone_meta.specs.Records.{has_code}
 use Rattle.phone_records.specs.declared.loader.Metadata.{Metadata}
-
-abbrev is_main : Metadata → Bool
-is_main m = m.main_country_for_code
-
-abbrev is_other : Metadata → Bool
-is_other m = not m.main_country_for_code
-
-mains-filter : (code : ℕ) (db : List Metadata) → filter (is_main_of code) db ≡ filter is_main (filter (has_code code) db)
-mains-filter code db = sym (filter-filter (has_code code) is_main db)
-
-others-filter : (code : ℕ) (db : List Metadata) → filter (is_other_of code) db ≡ filter is_other (filter (has_code code) db)
-others-filter code db = sym (filter-filter (has_code code) is_other db)
-
--- the territories of a code, of which all are given in order of arrival
-abbrev in_order : List Metadata → List Metadata
-in_order all = reverse (filter is_main all) ++ filter is_other all
-
-territories-in_order : (code : ℕ) (db : List Metadata) → territories code db ≡ in_order (filter (has_code code) db)
-territories-in_order code db = ap₂ (λ xs ys. reverse xs ++ ys) (mains-filter code db) (others-filter code db)
-
-as_many : (all : List Metadata) → length (filter is_main all) + length (filter is_other all) ≡ length all
-as_many [] = refl
-as_many (m ∷ all) = step m.main_country_for_code (as_many all)
-  where
-    step : (b : Bool) → length (filter is_main all) + length (filter is_other all) ≡ length all →
-        length (cond b (m ∷ filter is_main all) (filter is_main all)) + length (cond (not b) (m ∷ filter is_other all) (filter is_other all)) ≡ length (m ∷ all)
-    step true e = omega (arith, e)
-    step false e = omega (arith, e)
-
-length-in_order : (all : List Metadata) → length (in_order all) ≡ length all
-length-in_order all =
-    length-append (reverse (filter is_main all)) (filter is_other all)
-    ∙ ap (λ n. n + length (filter is_other all)) (length-reverse (filter is_main all))
-    ∙ as_many all
-
-alone : (m : Metadata) → in_order (m ∷ []) ≡ m ∷ []
-alone m = step m.main_country_for_code
-  where
-    step : (b : Bool) → reverse (cond b (m ∷ []) []) ++ cond (not b) (m ∷ []) [] ≡ m ∷ []
-    step true = refl
-    step false = refl
 
 among_several : (digits : List ℕ) (ms : List Metadata) → 1 < length ms → territory_among digits ms ≡ find (has_digits digits) ms
 among_several digits [] h = absurd (omega (arith, h))

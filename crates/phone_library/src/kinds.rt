@@ -6,23 +6,10 @@ ghost use Rattle.phone_rules.specs.Kinds.{is_known};
 ghost use Rattle.phone_library.specs.Kinds.{is_number_of, kind_in, line_or_mobile, matches_whole};
 ghost use Rattle.phone_territory.specs.Kinds.{descriptor_for};
 
+use phone_rules::kinds::TRIED;
 use phone_territory::{Descriptor, Descriptors, Metadata};
 use phone_values::Type;
 use std::alloc::AllocError;
-
-/// The kinds in the order in which they are tried.
-const TRIED: [Type; 10] = [
-    Type::PremiumRate,
-    Type::TollFree,
-    Type::SharedCost,
-    Type::Voip,
-    Type::PersonalNumber,
-    Type::Pager,
-    Type::Uan,
-    Type::Voicemail,
-    Type::FixedLine,
-    Type::Mobile,
-];
 
 /// What kind of number digits are in a territory, leading zeros included: the first kind whose
 /// descriptor allows their count and matches all of them, in the order premium rate, toll free,

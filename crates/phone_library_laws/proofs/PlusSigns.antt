@@ -1,8 +1,7 @@
 -- No plus sign stands among the digits of a number, from those that are written to those that stripping leaves.
-use Rattle.std.proofs.Common.{◌≡◌, ◌≢◌, ℕ, ◌+◌, ◌-◌, ◌≤◌, ◌==◌, ◌&&◌, not, nat_le, Bool, true, false, if◌then◌else◌, List, [], ◌∷◌, length, filter, reverse, All, Option, None, Some, IfSome, refl, ap, arith, ne_eqb, leb-true}
+use Rattle.std.proofs.Common.{◌≡◌, ◌≢◌, ℕ, ◌+◌, ◌-◌, ◌≤◌, ◌==◌, ◌&&◌, not, nat_le, Bool, true, false, if◌then◌else◌, List, [], ◌∷◌, length, All, Option, None, Some, IfSome, refl, ap, arith, ne_eqb, leb-true}
 use Rattle.std.proofs.lemmas.Bool.{and_parts, cond_both}
-use Rattle.std.proofs.lemmas.List.Elements.{All-append, All-drop, All-filter, All-head}
-use Rattle.std.proofs.lemmas.List.Sorted.{All-permutation, IsPermutation-reverse}
+use Rattle.std.proofs.lemmas.List.Elements.{All-drop, All-head}
 use Rattle.std.proofs.lemmas.List.Sums.{AllPass-from_list_all}
 use Rattle.std.specs.List.{filter_map, find, list_all}
 use Rattle.std.specs.Option.{option_map_or}
@@ -12,7 +11,8 @@ use Rattle.phone_library.specs.Kinds.{matches_whole}
 use Rattle.phone_library.specs.Lengths.{length_in, may_be_left}
 use Rattle.phone_library.specs.Stripping.{left_by_match, left_by_pattern, left_by_prefix, left_by_text, strip, stripped, untouched}
 use Rattle.phone_library_text.specs.Letters.{digits_in, is_lettered, key_of, value_of, zeros}
-use Rattle.phone_meta.specs.CodeLookUps.{first_of, is_main_of, is_other_of, territories}
+use Rattle.phone_meta.proofs.InOrder.{All-territories}
+use Rattle.phone_meta.specs.CodeLookUps.{first_of, territories}
 use Rattle.phone_parts.specs.Texts.{is_front, without_front}
 use Rattle.phone_rules.specs.Strips.{Stripped}
 use Rattle.phone_read.proofs.ReadNumbers.{All-replaced}
@@ -110,16 +110,9 @@ module _ (P : ℕ → Type 0) where
 
 -- what every record of a database has, the first territory of a code has
 module _ (Q : Metadata → Type 0) (db : List Metadata) (h : All Q db) where
-  All-territories : (code : ℕ) → All Q (territories code db)
-  All-territories code =
-      let mains = filter (is_main_of code) db in
-      All-append Q (reverse mains) (filter (is_other_of code) db)
-      (All-permutation Q mains (reverse mains) (IsPermutation-reverse mains) (All-filter (is_main_of code) Q db h))
-      (All-filter (is_other_of code) Q db h)
-
   first_has : (ms : List Metadata) → All Q ms → IfSome (first_of ms) Q
   first_has [] all = tt
   first_has (m ∷ ms) all = All-head Q m ms all
 
   pub IfSome-first : (code : ℕ) → IfSome (first_of (territories code db)) Q
-  IfSome-first code = first_has (territories code db) (All-territories code)
+  IfSome-first code = first_has (territories code db) (All-territories Q db h code)

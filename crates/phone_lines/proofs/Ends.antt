@@ -2,11 +2,11 @@
 use Rattle.std.proofs.Common.{◌≡◌, ◌⊎◌, ◌+◌, ℕ, List, [], length, Option, Result, Ok, Err, ap, refl}
 use Rattle.std.proofs.lemmas.List.{append-nil}
 use Rattle.std.specs.Prelude.{⊤}
-use Rattle.phone_device.specs.Passing.{IsAtEnd, Passes}
+use Rattle.phone_device.specs.Passing.{Holds, IsAtEnd, Passes}
 use Rattle.phone_lines.specs.Ends.{Devices, Ends, most_bytes, seen}
 use Rattle.phone_lines.specs.Ends.Ends.{input_failed, no_memory, output_failed, whole}
 use Rattle.phone_lines.specs.LineReports.{Gives, IsReport, IsReportOnFirst, TakesA}
-use Rattle.phone_lines.specs.Runs.{Halts, Holds, IsSoFar}
+use Rattle.phone_lines.specs.Runs.{Halts, IsSoFar}
 use Rattle.phone_lines.specs.declared.blocks.RunError.{RunError}
 use Rattle.phone_lines.specs.declared.blocks.RunError.TheVariants.{Input, Memory}
 use Rattle.phone_lines.proofs.Beginnings.{IsReportOnFirst-so_far, IsReportSoFar, IsReport-so_far}

@@ -1,11 +1,11 @@
 -- How far a run is after some more bytes, or after the sink has taken more.
 use Rattle.std.proofs.Common.{◌≡◌, ◌==◌, ℕ, false, length, List, [], ◌∷◌, ◌++◌, Option, Some, None, refl, ap, ◌∙◌, append_assoc, subst}
-use Rattle.phone_device.specs.Passing.{Takes, TakesFront}
+use Rattle.phone_device.specs.Passing.{Holds, Takes, TakesFront}
 use Rattle.phone_device.proofs.PassingLemmas.{TakenSoFar-all, TakenSoFar-nothing}
 use Rattle.phone_lines.specs.Lines.{IsUnbroken, last_line, without_return}
 use Rattle.phone_lines.specs.LineReports.{AreAnswers, Gives, IsBeginning, IsReport, IsReportOnFirst, TakesA}
 use Rattle.phone_lines.specs.LineReports.AreAnswers.{none}
-use Rattle.phone_lines.specs.Runs.{Holds, IsSoFar, Stands}
+use Rattle.phone_lines.specs.Runs.{IsSoFar, Stands}
 use Rattle.phone_lines.proofs.AnswerLemmas.{AreAnswers-then}
 use Rattle.phone_lines.proofs.Beginnings.{IsBeginning-front, IsReportSoFar}
 use Rattle.phone_lines.proofs.CutLemmas.{AreCut-ended, AreCut-grown, AreCut-lengthened, AreCut-nothing, AreCut-then, cut_of}

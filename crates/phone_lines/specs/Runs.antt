@@ -1,6 +1,6 @@
 -- How far a run over lines is, and how it halts.
-use Rattle.std.specs.Prelude.{ℕ, ◌+◌, List, ◌++◌, Option, Result, Err, ⊤}
-use Rattle.phone_device.specs.Passing.{Takes, TakesFront}
+use Rattle.std.specs.Prelude.{ℕ, ◌+◌, List, Option, Result, Err, ⊤}
+use Rattle.phone_device.specs.Passing.{Holds, Takes, TakesFront}
 use Rattle.phone_lines.specs.Ends.{Devices, Ends, seen}
 use Rattle.phone_lines.specs.Lines.{AreCut}
 use Rattle.phone_lines.specs.LineReports.{AreAnswers, Gives}
@@ -13,13 +13,6 @@ pub record IsSoFar (gives : List ℕ → List ℕ → Type 0) (bytes line answer
   pub lines : List (List ℕ)
   pub cut : AreCut bytes lines line
   pub answered : AreAnswers gives lines answers
-
--- what the sink took and what is held back is a text of which this holds
-pub record Holds (is_text : List ℕ → Type 0) (held : List ℕ)
-    (before after : Option (List ℕ)) : Type 0 where
-  pub written : List ℕ
-  pub taken : Takes before written after
-  pub text : is_text (written ++ held)
 
 -- of the answers so far these are held back, and the others were taken by the sink
 abbrev pub Stands : Gives → (bytes line held : List ℕ) → Option (List ℕ) → Option (List ℕ) → Type 0

@@ -6,7 +6,7 @@ ghost use Rattle.phone_lines.specs.Runs.{Halts};
 
 use crate::answers::Answers;
 use crate::pending_output::{PendingOutput, Refusal};
-use phone_device::{Block, ByteSink, ByteSource, Fault};
+use phone_device::{Block, ByteSink, ByteSource, Fault, write_out};
 use std::alloc::Global;
 
 /// Why a run ended before all lines were answered.
@@ -116,7 +116,7 @@ pub fn answer_lines<A: Answers, S: ByteSource, W: ByteSink>(
     let Ok(end) = take_all(alloc, answers, source, sink, &mut pending) else {
         return Err(RunError::Output);
     };
-    let Ok(()) = pending.write_out(sink) else {
+    let Ok(()) = write_out(sink, pending.answers.as_slice()) else {
         return Err(RunError::Output);
     };
     end

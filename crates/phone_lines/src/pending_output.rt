@@ -1,15 +1,15 @@
 //! What a run holds: the line that isn't ended yet, and answers that aren't written yet.
 ghost use Rattle.std.specs.Prelude.{◌≡◌, ◌+◌, ◌<◌, ◌++◌, ◌∷◌, [], ℕ, List, Option, Err, OnOk};
 ghost use Rattle.std.specs.Prelude.{OnErr, IfSome, MatchOption, length, vec_len};
-ghost use Rattle.phone_device.specs.Passing.{Takes, TakesFront};
+ghost use Rattle.phone_device.specs.Passing.{Holds};
 ghost use Rattle.phone_lines.specs.LineReports.{IsBeginning, IsReport, IsReportOnFirst, TakesA};
 ghost use Rattle.phone_lines.specs.Faults.{faults_of};
 ghost use Rattle.phone_lines.specs.Lines.{IsUnbroken};
-ghost use Rattle.phone_lines.specs.Runs.{Holds, IsSoFar, Stands};
+ghost use Rattle.phone_lines.specs.Runs.{IsSoFar, Stands};
 ghost use Rattle.phone_lines.specs.declared.pending_output.Refusal.TheVariants as refusal;
 
 use crate::answers::{Answers, add_answer};
-use phone_device::{BLOCK_LENGTH, ByteSink, Fault, write_all};
+use phone_device::{BLOCK_LENGTH, ByteSink, hand_on};
 use std::alloc::{AllocError, Global};
 
 /// Why a block was not taken whole.
@@ -99,26 +99,6 @@ impl PendingOutput {
         Ok(())
     }
 
-    /// Writes the answers that are held, once they fill a block.
-    fn hand_on<W: ByteSink>(&mut self, sink: &mut W) -> Result<(), Fault>
-        ensures line { self.new.line.items ≡ self.old.line.items }
-        ensures short { OnOk result (vec_len self.new.answers < BLOCK_LENGTH) }
-        ensures handed { OnOk result ((written : List ℕ) ×
-            (self.old.answers.items ≡ written ++ self.new.answers.items) ×
-            Takes (W.taken sink.old) written (W.taken sink.new)) }
-        ensures no_fault { OnOk result (W.faults sink.new ≡ W.faults sink.old) }
-        ensures front { OnErr result (TakesFront (W.taken sink.old) self.old.answers.items
-            (W.taken sink.new)) }
-        ensures fault { OnErr result (W.faults sink.new ≡ W.faults sink.old + 1) }
-    {
-        if self.answers.len() < BLOCK_LENGTH {
-            return Ok(());
-        }
-        write_all(sink, self.answers.as_slice())?;
-        self.answers.clear();
-        Ok(())
-    }
-
     /// Takes the lines of a block, one after the other, and holds what follows its last line feed.
     /// Refused by `Fault` where the sink fails, and by `Memory` where there is no memory for a line
     /// or its answer.
@@ -152,7 +132,7 @@ impl PendingOutput {
             let Ok(()) = self.take_line(alloc, answers, line) else {
                 return Err(Refusal::Memory);
             };
-            let Ok(()) = self.hand_on(sink) else {
+            let Ok(()) = hand_on(sink, &mut self.answers) else {
                 return Err(Refusal::Fault);
             };
             rest = after;
@@ -161,20 +141,6 @@ impl PendingOutput {
             Ok(()) => Ok(()),
             Err(_) => Err(Refusal::Memory),
         }
-    }
-
-    /// Writes all answers that are held, and has the sink hand on what it holds back.
-    pub fn write_out<W: ByteSink>(&self, sink: &mut W) -> Result<(), Fault>
-        ensures all { OnOk result (Takes (W.taken sink.old) self.now.answers.items
-            (W.taken sink.new)) }
-        ensures handed_on { OnOk result (W.unflushed sink.new ≡ 0) }
-        ensures no_fault { OnOk result (W.faults sink.new ≡ W.faults sink.old) }
-        ensures front { OnErr result (TakesFront (W.taken sink.old) self.now.answers.items
-            (W.taken sink.new)) }
-        ensures fault { OnErr result (W.faults sink.new ≡ W.faults sink.old + 1) }
-    {
-        write_all(sink, self.answers.as_slice())?;
-        sink.flush()
     }
 
     /// Answers what stands after the last line feed, where it has a byte. Refused only for memory.

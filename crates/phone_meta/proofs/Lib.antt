@@ -1,5 +1,6 @@
 pub mod Chains
 pub mod CodeLemmas
+pub mod InOrder
 pub mod Indexes
 pub mod LastItems
 pub mod LastPlaces

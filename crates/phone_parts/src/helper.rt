@@ -8,8 +8,8 @@ use crate::fronts::{begins_with, is_nothing};
 use phone_chars::chars::{is_letter, is_nd, is_number, is_plus};
 use phone_chars::cuts::{CharSet, after_run, before, split_first};
 
-/// Characters at which no number starts.
-struct BeforeStart;
+/// Characters at which no number starts: all but plus signs and the digits of any script.
+pub struct BeforeStart;
 
 impl CharSet for BeforeStart {
     ghost use Rattle.std.specs.Prelude.{not};

@@ -1,5 +1,5 @@
 -- Texts that are put behind a text one after another.
-use Rattle.std.proofs.Common.{◌≡◌, List, [], ℕ, ◌++◌, Result, Ok, Err, IsOk, is_ok, if◌then◌else◌, OnErr, OnOk, true≢false, append_assoc, append-nil, refl, ap, sym, ◌∙◌}
+use Rattle.std.proofs.Common.{◌≡◌, List, [], ℕ, ◌++◌, Result, Ok, Err, is_ok, if◌then◌else◌, OnErr, OnOk, append_assoc, append-nil, ap, sym, ◌∙◌}
 use Rattle.std.specs.Prelude.{⊤}
 use Rattle.phone_print.specs.Behind.{IsBehind}
 
@@ -24,15 +24,6 @@ behind-either (Err e) a t b done refused = refused
 -- a text put behind another, and one behind that
 pub append-then : (a x b y c : List ℕ) → b ≡ a ++ x → c ≡ b ++ y → c ≡ a ++ (x ++ y)
 append-then a x b y c p q = q ∙ ap (λ t. t ++ y) p ∙ append_assoc a x y
-
--- what holds where a step was done, from what follows where it was, and the other way round
-pub where_done : {T E P : Type 0} (r : Result T E) → (IsOk r → P) → OnOk r P
-where_done (Ok x) f = f refl
-where_done (Err e) f = tt
-
-pub of_done : {T E P : Type 0} (r : Result T E) → OnOk r P → IsOk r → P
-of_done (Ok x) h ok = h
-of_done (Err e) h ok = absurd (true≢false (sym ok))
 
 pub where_refused : {T E P : Type 0} (r : Result T E) → P → OnErr r P
 where_refused (Ok x) p = tt

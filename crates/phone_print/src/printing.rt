@@ -477,7 +477,7 @@ fn layout_for<'a>(
 }
 
 /// The layouts that a territory has for a mode.
-fn layouts_for(m: &Metadata, mode: Mode) -> &[Format]
+pub fn layouts_for(m: &Metadata, mode: Mode) -> &[Format]
     ensures { result.now ≡ layouts_for m.now mode }
 {
     let others = m.international_formats();

@@ -1,9 +1,8 @@
 -- What holds of every number that is read, whatever the text.
-use Rattle.std.proofs.Common.{◌≡◌, ◌≢◌, ◌⊎◌, inl, inr, ℕ, zero, suc, ◌<◌, ◌≤◌, ◌^◌, ◌==◌, ◌&&◌, not, nat_lt, nat_le, Bool, true, false, if◌then◌else◌, List, [], ◌∷◌, ◌++◌, length, take, drop, filter, reverse, replicate, get_or, All, slice_index, Option, Some, None, IfSome, option_map, unwrap_or, Result, Ok, Err, IfOk, refl, ap, ap₂, sym, subst, ◌∙◌, true≢false, chars, arith, eqb-true, ne_eqb, leb-true, ltb-true}
+use Rattle.std.proofs.Common.{◌≡◌, ◌≢◌, ◌⊎◌, inl, inr, ℕ, zero, suc, ◌<◌, ◌≤◌, ◌^◌, ◌==◌, ◌&&◌, not, nat_lt, nat_le, Bool, true, false, if◌then◌else◌, List, [], ◌∷◌, ◌++◌, length, take, drop, replicate, get_or, All, slice_index, Option, Some, None, IfSome, option_map, unwrap_or, Result, Ok, Err, IfOk, refl, ap, ap₂, sym, subst, ◌∙◌, true≢false, chars, arith, eqb-true, ne_eqb, leb-true, ltb-true}
 use Rattle.std.proofs.lemmas.Bool.{and_parts, cases_lt, cond_both, eqb-false, ltb-false, not-false, not-true}
 use Rattle.std.proofs.lemmas.Fmt.{decimal_digit, decimal-digits_value}
-use Rattle.std.proofs.lemmas.List.Elements.{All-append, All-cons, All-drop, All-filter, All-head, All-nil, All-tail, All-take, All-weaker}
-use Rattle.std.proofs.lemmas.List.Sorted.{All-permutation, IsPermutation-reverse}
+use Rattle.std.proofs.lemmas.List.Elements.{All-append, All-cons, All-drop, All-head, All-nil, All-tail, All-take, All-weaker}
 use Rattle.std.proofs.lemmas.List.Sums.{AllPass-from_list_all}
 use Rattle.std.proofs.lemmas.Str.Parse.{numerals_by_value, tells_digits, without_leading_plus_none}
 use Rattle.std.specs.Char.{is_digit as is_digit_in}
@@ -30,7 +29,8 @@ use Rattle.phone_values.specs.declared.error.ParseError.TheVariants.{InvalidCoun
 use Rattle.phone_values.proofs.Finds.{IfSome-option_or}
 use Rattle.phone_chars.proofs.Norms.{list_all-norm}
 use Rattle.phone_values.proofs.ReadBack.{after_zeros_of}
-use Rattle.phone_meta.specs.CodeLookUps.{first_of, is_listed, is_main_of, is_other_of, shortest, territories}
+use Rattle.phone_meta.proofs.InOrder.{All-territories}
+use Rattle.phone_meta.specs.CodeLookUps.{first_of, is_listed, shortest, territories}
 use Rattle.phone_territory.specs.First.{Captured, Seen, captured, first_match, group_in, names_in, replaced, with_first_replaced}
 use Rattle.phone_territory.specs.Records.{code_of as code_of_territory}
 use Rattle.phone_meta.specs.Records.{has_id, last_where, last_with}
@@ -125,16 +125,9 @@ module _ {X : Type 0} (Q : X → Type 0) where
 
 -- what every record of a database has, the territory that strips has
 module _ (Q : Metadata → Type 0) (db : List Metadata) (h : All Q db) where
-  All-territories : (code : ℕ) → All Q (territories code db)
-  All-territories code =
-      let mains = filter (is_main_of code) db in
-      All-append Q (reverse mains) (filter (is_other_of code) db)
-      (All-permutation Q mains (reverse mains) (IsPermutation-reverse mains) (All-filter (is_main_of code) Q db h))
-      (All-filter (is_other_of code) Q db h)
-
   IfSome-territory_of : (region : Either Id ℕ) → IfSome (territory_of db region) Q
   IfSome-territory_of (Left id) = IfSome-last_where Q (has_id (name id)) db h
-  IfSome-territory_of (Right code) = IfSome-first_of Q (territories code db) (All-territories code)
+  IfSome-territory_of (Right code) = IfSome-first_of Q (territories code db) (All-territories Q db h code)
 
   IfSome-home : (code : ℕ) (digits : List ℕ) → IfSome (home db code digits) Q
   IfSome-home code digits = IfSome-option_and_then Q (territory_of db) (region_of db code digits) IfSome-territory_of

@@ -1,6 +1,6 @@
 -- The region of a number by the territories of its code, taken in order of arrival, each with the last one of its id.
-use Rattle.std.proofs.Common.{◌≡◌, ℕ, suc, ◌+◌, ◌<◌, ◌&&◌, not, Bool, true, false, cond, if◌then◌else◌, List, [], ◌∷◌, ◌++◌, length, map, filter, reverse, Option, None, Some, option_map, unwrap_or, codes, refl, ap, ap₂, sym, subst, ◌∙◌, arith, length-append}
-use Rattle.std.proofs.lemmas.List.{length-map, length-reverse, map-append, reverse-append}
+use Rattle.std.proofs.Common.{◌≡◌, ℕ, suc, ◌+◌, ◌<◌, ◌&&◌, not, Bool, true, false, cond, if◌then◌else◌, List, [], ◌∷◌, ◌++◌, length, map, filter, reverse, Option, None, Some, option_map, unwrap_or, codes, refl, ap, ap₂, sym, subst, ◌∙◌, arith}
+use Rattle.std.proofs.lemmas.List.{length-map, map-append, reverse-append}
 use Rattle.std.proofs.lemmas.List.Elements.{filter-append}
 use Rattle.std.proofs.lemmas.List.Folds.{find-append}
 use Rattle.std.proofs.lemmas.Option.{none-some}
@@ -13,6 +13,7 @@ use Rattle.phone_values.specs.Ids as ids
 use Rattle.phone_values.specs.declared.country.Id.{Id}
 use Rattle.phone_values.proofs.Texts.{name-id_of}
 use Rattle.phone_meta.proofs.CodeLemmas.{filter-filter, map-reverse}
+use Rattle.phone_meta.proofs.InOrder.{alone, in_order, length-in_order, territories-in_order}
 use Rattle.phone_meta.specs.CodeLookUps.{first_of, is_main_of, is_other_of, regions, territories}
 use Rattle.phone_meta.specs.Lasts.{with_last}
 use Rattle.phone_territory.specs.Records.{id_of}
@@ -22,41 +23,6 @@ use Rattle.phone_read.specs.Origins.{Given, by_name, first_given, first_other, l
 use Rattle.phone_read.specs.declared.validator.Origin.{Origin}
 use Rattle.phone_read.specs.Regions.{is_of_last, is_of_region, region_among, region_named, region_of, territory_of, with_territory}
 use Rattle.phone_records.specs.declared.loader.Metadata.{Metadata}
-
--- the territories of a code, of which all are given in order of arrival
-abbrev in_order : List Metadata → List Metadata
-in_order all = reverse (filter (λ m. m.main_country_for_code) all) ++ filter (λ m. not m.main_country_for_code) all
-
-territories-in_order : (code : ℕ) (db : List Metadata) → territories code db ≡ in_order (filter (has_code code) db)
-territories-in_order code db =
-    ap₂ (λ xs ys. reverse xs ++ ys) (sym (filter-filter (has_code code) (λ m. m.main_country_for_code) db)) (sym (filter-filter (has_code code) (λ m. not m.main_country_for_code) db))
-
-as_many : (all : List Metadata) → length (filter (λ (m : Metadata). m.main_country_for_code) all) + length (filter (λ (m : Metadata). not m.main_country_for_code) all) ≡ length all
-as_many [] = refl
-as_many (m ∷ all) = step m.main_country_for_code (as_many all)
-  where
-    mains : List Metadata
-    mains = filter (λ (m : Metadata). m.main_country_for_code) all
-
-    others : List Metadata
-    others = filter (λ (m : Metadata). not m.main_country_for_code) all
-
-    step : (b : Bool) → length mains + length others ≡ length all → length (cond b (m ∷ mains) mains) + length (cond (not b) (m ∷ others) others) ≡ length (m ∷ all)
-    step true e = omega (arith, e)
-    step false e = omega (arith, e)
-
-length-in_order : (all : List Metadata) → length (in_order all) ≡ length all
-length-in_order all =
-    length-append (reverse (filter (λ (m : Metadata). m.main_country_for_code) all)) (filter (λ (m : Metadata). not m.main_country_for_code) all)
-    ∙ ap (λ n. n + length (filter (λ (m : Metadata). not m.main_country_for_code) all)) (length-reverse (filter (λ (m : Metadata). m.main_country_for_code) all))
-    ∙ as_many all
-
-alone : (m : Metadata) → in_order (m ∷ []) ≡ m ∷ []
-alone m = step m.main_country_for_code
-  where
-    step : (b : Bool) → reverse (cond b (m ∷ []) []) ++ cond (not b) (m ∷ []) [] ≡ m ∷ []
-    step true = refl
-    step false = refl
 
 several : (db : List Metadata) (code : ℕ) (digits : List ℕ) (ids : List (List ℕ)) → 1 < length ids → region_among db code digits ids ≡ option_and_then region_named (find (is_of_region db digits) ids)
 several db code digits [] h = absurd (omega (arith, h))

@@ -14,4 +14,4 @@ pub mod validator;
 
 pub use phone_parts::{Number, natural, rfc3966};
 pub use phone_values::Reading;
-pub use reading::read;
+pub use reading::{nsn, read};

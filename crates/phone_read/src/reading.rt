@@ -155,7 +155,7 @@ fn carrier_of(alloc: Global, text: Option<CowStr<'_>>) -> Result<Option<Carrier>
 }
 
 /// The national number that a text of 2 to 17 bytes gives.
-fn nsn(text: &str) -> Result<NationalNumber, ParseError>
+pub fn nsn(text: &str) -> Result<NationalNumber, ParseError>
     ensures { result ≡ nsn text.now }
 {
     if text.len() < MIN_LENGTH_FOR_NSN {

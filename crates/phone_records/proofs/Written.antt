@@ -1,5 +1,5 @@
 -- What members, lists and objects are written as, from what their parts are.
-use Rattle.std.proofs.Common.{◌≡◌, ℕ, Bool, true, false, not, cond, List, [], ◌∷◌, ◌++◌, length, map, Option, Some, None, Result, Ok, Err, IsOk, OnOk, refl, subst, sym, ap, ap₂, ◌∙◌, append_assoc, append-nil, true≢false}
+use Rattle.std.proofs.Common.{◌≡◌, ℕ, Bool, true, false, not, cond, List, [], ◌∷◌, ◌++◌, length, map, Option, Some, None, refl, subst, sym, ap, ap₂, ◌∙◌, append_assoc, append-nil, true≢false}
 use Rattle.std.proofs.lemmas.Grind.{flat_map-append}
 use Rattle.std.proofs.lemmas.List.{length-map}
 use Rattle.std.proofs.lemmas.Slice.Eq.{bytes_eq-Decides}
@@ -8,15 +8,6 @@ use Rattle.std.specs.Str.{bytes_eq}
 use Rattle.serde.specs.Event.{Event, Log, Logs, WritesEach, WritesOption, WritesSeq, boolean, text, unsigned, nothing, field_key, seq_begins, seq_ends, map_begins, map_ends}
 use Rattle.serde.specs.declared.name.Case.TheVariants.{AsIs}
 use Rattle.phone_records.specs.Members.{GrowsBy, Member, WritesMember, given, keys, members_written, number_written, object, sequence, text_written}
-
--- what holds where a step was done, from what follows where it was, and the other way round
-pub where_done : {T E P : Type 0} (r : Result T E) → (IsOk r → P) → OnOk r P
-where_done (Ok x) f = f refl
-where_done (Err e) f = tt
-
-pub of_done : {T E P : Type 0} (r : Result T E) → OnOk r P → IsOk r → P
-of_done (Ok x) h ok = h
-of_done (Err e) h ok = absurd (true≢false (sym ok))
 
 pub GrowsBy-one : (old new : Log) (e : Event) → Logs old new e → GrowsBy (e ∷ []) old new
 unfolding GrowsBy

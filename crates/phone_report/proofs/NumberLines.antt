@@ -1,6 +1,6 @@
 -- The report line of a number, by its territory and by whose rules.
 use Rattle.std.proofs.Common.{◌≡◌, ℕ, List, ◌∷◌, ◌++◌, Option, None, Some, codes}
-use Rattle.std.proofs.Common.{option_map, append_assoc, refl, sym, ap, ◌∙◌}
+use Rattle.std.proofs.Common.{option_map, refl, sym, ap, ◌∙◌}
 use Rattle.std.proofs.lemmas.Option.{none-some, same_Some}
 use Rattle.phone_choice.specs.Facts.{printed_as}
 use Rattle.phone_choice.specs.declared.rules.Rules.{Rules}
@@ -9,6 +9,7 @@ use Rattle.phone_print.specs.Texts.{text_by}
 use Rattle.phone_records.specs.declared.loader.Metadata.{Metadata}
 use Rattle.phone_report.specs.Known.{known_words_by}
 use Rattle.phone_report.specs.ReportLines.{number_line_by}
+use Rattle.phonenumber.proofs.NumberLines.{parted}
 use Rattle.phone_values.specs.declared.mode.Mode.TheVariants.{E164, International, National, Rfc3966}
 use Rattle.phone_values.specs.declared.reading.Reading.{Reading}
 
@@ -17,15 +18,6 @@ pub by_first : (n : Reading) (o : Option Metadata) (texts before line : List ℕ
     line ≡ before ++ 9 ∷ texts → (m : Metadata) × (o ≡ Some m) × (line ≡ before ++ 9 ∷ texts_by m None n)
 by_first n None texts before line h is = absurd (none-some texts h)
 by_first n (Some m) texts before line h is = (m, refl, is ∙ sym (ap (λ t. before ++ 9 ∷ t) (same_Some (texts_by m None n) texts h)))
-
--- a front, four fields and a last one, parted by tabs
-parted : (o e i t r w : List ℕ) →
-    (o ++ 9 ∷ (e ++ 9 ∷ (i ++ 9 ∷ (t ++ 9 ∷ r)))) ++ 9 ∷ w ≡ o ++ 9 ∷ (e ++ 9 ∷ (i ++ 9 ∷ (t ++ 9 ∷ (r ++ 9 ∷ w))))
-parted o e i t r w =
-    append_assoc o (9 ∷ (e ++ 9 ∷ (i ++ 9 ∷ (t ++ 9 ∷ r)))) (9 ∷ w)
-    ∙ ap (λ z. o ++ 9 ∷ z)
-    (append_assoc e (9 ∷ (i ++ 9 ∷ (t ++ 9 ∷ r))) (9 ∷ w)
-    ∙ ap (λ z. e ++ 9 ∷ z) (append_assoc i (9 ∷ (t ++ 9 ∷ r)) (9 ∷ w) ∙ ap (λ z. i ++ 9 ∷ z) (append_assoc t (9 ∷ r) (9 ∷ w))))
 
 -- the line of a number is its texts, and what is known of it
 pub number_line-parted : (rules : Rules) (db : List Metadata) (m : Metadata) (n : Reading) (before line : List ℕ) → before ≡ codes "ok" →

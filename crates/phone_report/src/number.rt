@@ -1,6 +1,6 @@
 //! The report line of a number.
 ghost use Rattle.std.specs.Prelude.{◌≡◌, ◌∷◌, ◌++◌, None, Some, Err};
-ghost use Rattle.std.specs.Prelude.{IfOk, OnOk, codes, string_bytes};
+ghost use Rattle.std.specs.Prelude.{IfOk, OnOk, string_bytes};
 ghost use Rattle.phone_choice.specs.Facts.{printed_as};
 ghost use Rattle.phone_meta.specs.CodeLookUps.{first_of, territories};
 ghost use Rattle.phone_print.specs.Tabbed.{texts_by};
@@ -11,7 +11,9 @@ ghost use Rattle.phone_report.specs.ReportLines.{number_line_by};
 use phone_choice::{Rules, facts_by};
 use phone_library::without_carrier;
 use phone_meta::Database;
-use phonenumber::report::{kind_word, push_words, region_word, source_word, validity_word};
+use phonenumber::report::{
+    first_field, kind_word, push_words, region_word, source_word, validity_word,
+};
 use phonenumber::{FormatError, PhoneNumber, format_with};
 use std::alloc::{AllocError, Global};
 
@@ -33,18 +35,6 @@ pub(crate) fn number_line(
         return Err(FormatError::Memory);
     };
     push_number(&mut line, rules, database, number)?;
-    Ok(line)
-}
-
-/// How many bytes a report line has room for at first: more than most take.
-const ROOM: usize = 160;
-
-/// The first field of a number's line, with room for what follows it. Refused only for memory.
-fn first_field(alloc: Global) -> Result<String, AllocError>
-    ensures { IfOk result (λ line. string_bytes line ≡ codes "ok") }
-{
-    let mut line = String::with_capacity(alloc, ROOM)?;
-    line.push_str("ok")?;
     Ok(line)
 }
 

@@ -14,8 +14,8 @@ use phone_territory::{Descriptor, Descriptors, Metadata};
 use phone_values::{Type, Validation};
 use std::alloc::AllocError;
 
-/// The kinds in the order in which they are tried.
-const TRIED: [Type; 10] = [
+/// The kinds that a number is told to be of, in the order in which they are tried.
+pub const TRIED: [Type; 10] = [
     Type::PremiumRate,
     Type::TollFree,
     Type::SharedCost,

@@ -4,24 +4,11 @@ ghost use Rattle.std.specs.List.{list_all};
 ghost use Rattle.phone_chars.specs.Characters.{is_digit};
 ghost use Rattle.phone_short.specs.Texts.{digits_in, is_dialled_within};
 
-use phone_chars::chars::{is_nd, is_plus};
-use phone_chars::cuts::{CharSet, after_run, split_first};
+use phone_chars::chars::is_nd;
+use phone_chars::cuts::{after_run, split_first};
 use phone_library_text::digit_values;
+use phone_parts::helper::BeforeStart;
 use std::alloc::{AllocError, Global};
-
-/// Characters at which no number starts: all but plus signs and the digits of any script.
-struct BeforeStart;
-
-impl CharSet for BeforeStart {
-    ghost use Rattle.std.specs.Prelude.{not};
-    ghost use Rattle.phone_parts.specs.Cores.{is_start};
-
-    ghost members = { λ _ c. not (is_start c) };
-
-    fn has(&self, c: char) -> bool {
-        !(is_plus(c) || is_nd(c))
-    }
-}
 
 /// Whether a text is dialled within a region: the first of its plus signs and digits is a digit.
 /// It takes no memory.

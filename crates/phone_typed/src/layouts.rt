@@ -13,6 +13,7 @@ ghost use Rattle.std.specs.Option.{option_or};
 
 use crate::keys::{end_of_shown, shows};
 use phone_meta::Database;
+use phone_print::printing::layouts_for;
 use phone_territory::{FirstGroup, Format, Metadata};
 use phone_values::Mode;
 use std::alloc::AllocError;
@@ -37,18 +38,6 @@ fn as_text(bytes: &[u8]) -> &str
     ensures { result.now ≡ bytes.now }
 {
     std::str::from_utf8(bytes).unwrap_or("")
-}
-
-/// The layouts that a territory has for a mode.
-fn layouts_for(m: &Metadata, mode: Mode) -> &[Format]
-    ensures { result.now ≡ layouts_for m.now mode }
-{
-    let others = m.international_formats();
-    match mode {
-        Mode::National => m.formats(),
-        _ if others.is_empty() => m.formats(),
-        _ => others,
-    }
 }
 
 /// Whether a layout lays out all of these digits: it is meant for them, and its pattern matches

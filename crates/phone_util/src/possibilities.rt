@@ -20,6 +20,7 @@ use phone_choice::{Rules, parse_by};
 use phone_library::length_in;
 use phone_meta::{Database, Descriptor, Metadata};
 use phone_read::validator::territory_of;
+use phone_rules::kinds::TRIED;
 use phone_values::country::Id;
 use phone_values::{ParseError, Type, Validation};
 use phonenumber::PhoneNumber;
@@ -46,20 +47,6 @@ pub enum Possibility {
     /// No territory has the calling code.
     UnknownCode,
 }
-
-/// The kinds that a number is told to be of.
-const KINDS: [Type; 10] = [
-    Type::PremiumRate,
-    Type::TollFree,
-    Type::SharedCost,
-    Type::Voip,
-    Type::PersonalNumber,
-    Type::Pager,
-    Type::Uan,
-    Type::Voicemail,
-    Type::FixedLine,
-    Type::Mobile,
-];
 
 /// Whether a number is possible, by the count of its digits, leading zeros among them.
 ///
@@ -273,7 +260,7 @@ fn kind_descriptors(m: &Metadata) -> Result<Vec<&Descriptor>, AllocError>
     ensures { IfOk result (λ v. map (λ (d : Bor loader.Descriptor). d.now) v.items ≡
         kind_descriptors m.entry.now) }
 {
-    descriptors_of(m, &KINDS)
+    descriptors_of(m, &TRIED)
 }
 
 /// The descriptors of these kinds, of those that have one. Refused only for memory.

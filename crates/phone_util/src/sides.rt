@@ -17,8 +17,7 @@ use phone_library::national_number;
 use phone_library_text::{WrittenNumber, read_written};
 use phone_meta::Database;
 use phone_parts::{Number, parts};
-use phone_read::{Reading, read};
-use phone_values::consts::{MAX_LENGTH_FOR_NSN, MIN_LENGTH_FOR_NSN};
+use phone_read::{Reading, nsn, read};
 use phone_values::{Extension, NationalNumber, ParseError};
 use phonenumber::PhoneNumber;
 use std::alloc::{AllocError, Global};
@@ -227,17 +226,4 @@ fn digits(alloc: Global, text: &str) -> Result<CowStr<'_>, AllocError>
     ensures { IfOk result (λ d. cow_str_bytes d ≡ norm (chars text.entry.now)) }
 {
     normalize(alloc, CowStr::Borrowed(text))
-}
-
-/// The national number that a text of 2 to 17 bytes gives.
-fn nsn(text: &str) -> Result<NationalNumber, ParseError>
-    ensures { result ≡ nsn text.now }
-{
-    if text.len() < MIN_LENGTH_FOR_NSN {
-        return Err(ParseError::TooShortNsn);
-    }
-    if text.len() > MAX_LENGTH_FOR_NSN {
-        return Err(ParseError::TooLong);
-    }
-    text.parse::<NationalNumber>()
 }

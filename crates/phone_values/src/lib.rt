@@ -22,6 +22,7 @@ pub use error::ParseError;
 pub use extension::Extension;
 pub use kind::Type;
 pub use mode::Mode;
+pub use named::KINDS;
 pub use national_number::NationalNumber;
 pub use reading::Reading;
 pub use validator::Validation;

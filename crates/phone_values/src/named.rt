@@ -110,8 +110,8 @@ impl Serialize for Type {
     }
 }
 
-/// The kinds in their order.
-const KINDS: [Type; 17] = [
+/// The kinds, in the order in which they are declared.
+pub const KINDS: [Type; 17] = [
     Type::FixedLine,
     Type::Mobile,
     Type::FixedLineOrMobile,

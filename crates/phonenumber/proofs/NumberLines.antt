@@ -27,7 +27,7 @@ texts_by-from n (Some m) texts before known line h is =
     (m, refl, is ∙ sym (ap (λ t. (before ++ 9 ∷ t) ++ known) (same_Some (texts_by m None n) texts h)))
 
 -- a front, four fields and a last one, parted by tabs
-parted : (o e i t r w : List ℕ) →
+pub parted : (o e i t r w : List ℕ) →
     (o ++ 9 ∷ (e ++ 9 ∷ (i ++ 9 ∷ (t ++ 9 ∷ r)))) ++ 9 ∷ w ≡ o ++ 9 ∷ (e ++ 9 ∷ (i ++ 9 ∷ (t ++ 9 ∷ (r ++ 9 ∷ w))))
 parted o e i t r w =
     append_assoc o (9 ∷ (e ++ 9 ∷ (i ++ 9 ∷ (t ++ 9 ∷ r)))) (9 ∷ w)

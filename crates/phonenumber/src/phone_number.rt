@@ -6,7 +6,7 @@ ghost use Rattle.phonenumber.specs.Bounds.{IsBounded};
 use phone_print::Printable;
 use phone_values::country::Code;
 use phone_values::equality::SameValue;
-use phone_values::{Carrier, Extension, NationalNumber};
+use phone_values::{Carrier, Extension, NationalNumber, Reading};
 use serde::{Deserialize, DeserializeOwned, Deserializer, Format, Serialize};
 use std::alloc::{AllocError, Global};
 use std::fmt;
@@ -134,27 +134,17 @@ impl PhoneNumber {
     }
 }
 
-/// A number's fields, of any types: what reads them drops those that it has at each early exit, and
-/// of these types that is opaque.
-#[derive(Drop, Deserialize)]
-struct Fields<C, N, E, D> {
-    code: C,
-    national: N,
-    extension: Option<E>,
-    carrier: Option<D>,
-}
-
 impl<'de> Deserialize<'de> for PhoneNumber {
     fn deserialize<F: Format>(
         alloc: Global,
         from: &mut Deserializer<'de, '_, F>,
     ) -> Result<PhoneNumber, F::Error> {
-        let Fields {
+        let Reading {
             code,
             national,
             extension,
             carrier,
-        } = Fields::deserialize(alloc, from)?;
+        } = Reading::deserialize(alloc, from)?;
         Ok(PhoneNumber {
             code,
             national,

@@ -5,7 +5,7 @@ mod runs;
 mod tool;
 mod words;
 
-pub use line::{Reporter, push_words};
+pub use line::{Reporter, first_field, push_words};
 pub use phone_device::{ByteSink, ByteSource};
 pub use phone_lines::RunError;
 pub use runs::{begins_each_report, one_report_line, run, some_report, some_report_line};

@@ -48,7 +48,7 @@ fn number_line(
 const ROOM: usize = 160;
 
 /// The first field of a number's line, with room for what follows it. Refused only for memory.
-fn first_field(alloc: Global) -> Result<String, AllocError>
+pub fn first_field(alloc: Global) -> Result<String, AllocError>
     ensures { IfOk result (λ line. string_bytes line ≡ codes "ok") }
 {
     let mut line = String::with_capacity(alloc, ROOM)?;

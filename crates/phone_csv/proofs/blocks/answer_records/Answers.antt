@@ -1,8 +1,8 @@
 use Rattle.std.proofs.Common.{Ok, ap, inl, inr, refl, sym, ◌∙◌}
-use Rattle.phone_device.specs.Passing.{IsAtEnd}
+use Rattle.phone_device.specs.Passing.{Holds, IsAtEnd}
 use Rattle.phone_csv.specs.Formats.{state_of}
 use Rattle.phone_csv.specs.RecordReports.{IsBeginning, IsReport, IsReportBefore, IsReportOnEnded, IsReportOnFirst}
-use Rattle.phone_csv.specs.Runs.{Holds, IsCounted, IsFresh, OfRead, TakesA}
+use Rattle.phone_csv.specs.Runs.{IsCounted, IsFresh, OfRead, TakesA}
 use Rattle.phone_csv.proofs.Counted.{held-nothing}
 use Rattle.phone_csv.proofs.Ends.{by_end, same_feeds, same_line}
 use Rattle.phone_csv.proofs.Progress.{BreaksOff-begins, Holds-begins, Holds-out, IsReportBefore-from, Stands-nothing}
@@ -36,7 +36,7 @@ returns-in_default-write_out-clause-beginning g c is =
     let taken = g.W.ByteSink.taken c.args.sink.now in
     let middle = g.W.ByteSink.taken c.take_all.new.sink in
     let held = c.take_all.new.pending.answers.items in
-    let front = c.in_default-write_out.ensures.front in
+    let front = rw c.as_slice.ensures.value at c.in_default-write_out.ensures.front in
     by_end {A = IsAtEnd after × OfRead before after (λ bytes. Holds (IsReport gives d start bytes) held taken middle)}
     {B = OfRead before after (λ bytes. Holds (IsReportOnEnded gives d start bytes) held taken middle)}
     {C = OfRead before after (λ bytes. Holds (IsReportBefore gives refuses d start 0 c.take_all.new.pending.cutter.feeds_before after bytes) held taken middle)}
@@ -63,17 +63,17 @@ returns-in_default-write_out-clause-beginning g c is =
 pub returns-in-Whole-clause-report : goal.returns-in-Whole-clause-report
 returns-in-Whole-clause-report g c =
     let r = rw c.new-pending.ensures.format at (c.in-Ok.ensures.taken (ap Ok c.in-Whole.is) _ (fresh g (goal.at.returns-in-Whole-clause-report g c).After-new-pending)) in
-    (r.0, r.1, Holds-out _ c.take_all.new.pending.answers.items _ _ _ r.2 c.in-Ok-write_out.ensures.all)
+    (r.0, r.1, Holds-out _ c.take_all.new.pending.answers.items _ _ _ r.2 (rw c.as_slice.ensures.value at c.in-Ok-write_out.ensures.all))
 
 pub returns-in-Input-clause-ended : goal.returns-in-Input-clause-ended
 returns-in-Input-clause-ended g c is =
     let r = rw c.new-pending.ensures.format at (c.in-Ok.ensures.input (ap Ok c.in-Input.is) _ (fresh g (goal.at.returns-in-Input-clause-ended g c).After-new-pending)) in
-    (r.0, r.1, Holds-out (IsReportOnEnded (g.A.Answers.gives c.args.answers.now) c.args.format (state_of c.args.start.place) r.0) c.take_all.new.pending.answers.items _ _ _ r.2 c.in-Ok-write_out.ensures.all)
+    (r.0, r.1, Holds-out (IsReportOnEnded (g.A.Answers.gives c.args.answers.now) c.args.format (state_of c.args.start.place) r.0) c.take_all.new.pending.answers.items _ _ _ r.2 (rw c.as_slice.ensures.value at c.in-Ok-write_out.ensures.all))
 
 pub returns-in-Record-clause-before : goal.returns-in-Record-clause-before
 returns-in-Record-clause-before g c feeds is =
     let r = rw c.new-pending.ensures.format at (c.in-Ok.ensures.refused (ap Ok c.in-Record.is) _ (fresh g (goal.at.returns-in-Record-clause-before g c).After-new-pending)) in
-    let t = Holds-out _ c.take_all.new.pending.answers.items _ _ _ r.2 c.in-Ok-write_out.ensures.all in
+    let t = Holds-out _ c.take_all.new.pending.answers.items _ _ _ r.2 (rw c.as_slice.ensures.value at c.in-Ok-write_out.ensures.all) in
     let all = sym (same_feeds _ feeds is) ∙ c.saturating_add.ensures in
     (r.0, r.1, (t.0, IsReportBefore-from _ _ _ _ _ _ feeds _ _ _ all t.1, t.2))
 
@@ -82,12 +82,12 @@ returns-in-Quote-clause-quote g c line is =
     let told = sym (same_line _ line is) ∙ c.line_of_quote.ensures in
     let r = rw c.new-pending.ensures.format at
     (c.in-Ok.ensures.quote (ap Ok c.in-Quote.is) _ c.args.start.feeds line told (fresh g (goal.at.returns-in-Quote-clause-quote g c).After-new-pending)) in
-    (r.0, r.1, Holds-out _ c.take_all.new.pending.answers.items _ _ _ r.2 c.in-Ok-write_out.ensures.all)
+    (r.0, r.1, Holds-out _ c.take_all.new.pending.answers.items _ _ _ r.2 (rw c.as_slice.ensures.value at c.in-Ok-write_out.ensures.all))
 
 pub returns-clause-first : goal.returns-clause-first
 returns-clause-first g c is =
     let r = rw c.new-pending.ensures.format at (c.in-Ok.ensures.memory (ap Ok c.in-Memory.is) _ (fresh g (goal.at.returns-clause-first g c).After-new-pending)) in
-    (r.0, r.1, Holds-out _ c.take_all.new.pending.answers.items _ _ _ r.2 c.in-Ok-write_out.ensures.all)
+    (r.0, r.1, Holds-out _ c.take_all.new.pending.answers.items _ _ _ r.2 (rw c.as_slice.ensures.value at c.in-Ok-write_out.ensures.all))
 
 pub returns-in-Whole-clause-counted : goal.returns-in-Whole-clause-counted
 returns-in-Whole-clause-counted g c =
@@ -95,4 +95,4 @@ returns-in-Whole-clause-counted g c =
     let was = c.args.counter.now in
     let nothing = held-nothing after c.args.format was c.new-pending.result.answers.items (g.W.ByteSink.taken c.args.sink.now) c.new-pending.ensures.answers in
     let held = rw c.new-pending.ensures.format at (c.in-Ok.ensures.counted (ap Ok c.in-Whole.is) was) in
-    Holds-out (λ text. IsCounted after c.args.format was text c.take_all.new.counter) c.take_all.new.pending.answers.items _ _ _ (held nothing) c.in-Ok-write_out.ensures.all
+    Holds-out (λ text. IsCounted after c.args.format was text c.take_all.new.counter) c.take_all.new.pending.answers.items _ _ _ (held nothing) (rw c.as_slice.ensures.value at c.in-Ok-write_out.ensures.all)

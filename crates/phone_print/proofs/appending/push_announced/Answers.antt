@@ -1,4 +1,5 @@
-use Rattle.phone_print.proofs.Behinds.{append-then, behind-then, of_done, where_done}
+use Rattle.phone_base.proofs.Results.{of_done, where_done}
+use Rattle.phone_print.proofs.Behinds.{append-then, behind-then}
 use Rattle.phone_print.proofs.appending.push_announced.Goals as goal
 
 pub returns-clause-text : goal.returns-clause-text

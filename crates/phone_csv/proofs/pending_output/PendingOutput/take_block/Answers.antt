@@ -1,6 +1,7 @@
 use Rattle.std.proofs.Common.{◌++◌, ◌∷◌, ◌+◌, [], Err, take, drop, slice_index_or, ap, subst, ◌∙◌}
 use Rattle.phone_csv.specs.RecordReports.{IsReportBefore, IsReportOnFirst}
-use Rattle.phone_csv.specs.Runs.{Holds, Stands}
+use Rattle.phone_device.specs.Passing.{Holds}
+use Rattle.phone_csv.specs.Runs.{Stands}
 use Rattle.phone_csv.proofs.Progress.{Holds-breaks, Stands-advanced, Stands-first, Stands-handed, Stands-holds, at_place, from_place, next_place}
 use Rattle.phone_csv.proofs.Counted.{held-handed}
 use Rattle.phone_csv.proofs.pending_output.PendingOutput.take_block.Goals as goal
@@ -58,19 +59,18 @@ loop-byte-preserved g c = record {
       (c.loop-byte.invariant.on start bytes before s) (c.in-Ok.ensures.taken start) in
       let handed = c.in-Ok-hand_on.ensures.handed in
       let next = Stands-handed gives start ((bytes ++ take i block) ++ x ∷ []) c.take_byte.new.self.cutter c.take_byte.new.self.answers.items handed.0
-      c.hand_on.new.self.answers.items before (g.W.ByteSink.taken c.loop-byte.sink) (g.W.ByteSink.taken c.hand_on.new.sink) on handed.1 handed.2 in
-      rw c.in-Ok-hand_on.ensures.cutter
-      (subst (λ t. Stands gives start t c.take_byte.new.self.cutter c.hand_on.new.self.answers.items before (g.W.ByteSink.taken c.hand_on.new.sink))
-      (next_place bytes block i 0 c.loop-byte-test.true) next);
+      c.hand_on.new.held.items before (g.W.ByteSink.taken c.loop-byte.sink) (g.W.ByteSink.taken c.hand_on.new.sink) on handed.1 handed.2 in
+      subst (λ t. Stands gives start t c.take_byte.new.self.cutter c.hand_on.new.held.items before (g.W.ByteSink.taken c.hand_on.new.sink))
+      (next_place bytes block i 0 c.loop-byte-test.true) next;
   counted = λ first before s.
       let d = c.args.self.now.cutter.format in
       let was = c.loop-byte.invariant.counted first before s in
       let now = rw c.loop-byte.invariant.same_format at (c.in-Ok.ensures.counted first before (g.W.ByteSink.taken c.loop-byte.sink)) in
       let handed = c.in-Ok-hand_on.ensures.handed in
-      held-handed g.C.Counter.after d first c.take_byte.new.counter c.take_byte.new.self.answers.items handed.0 c.hand_on.new.self.answers.items before
+      held-handed g.C.Counter.after d first c.take_byte.new.counter c.take_byte.new.self.answers.items handed.0 c.hand_on.new.held.items before
       (g.W.ByteSink.taken c.loop-byte.sink) (g.W.ByteSink.taken c.hand_on.new.sink) (now was) handed.1 handed.2;
-  partial = rw c.in-Ok-hand_on.ensures.cutter c.in-Ok.ensures.partial;
-  same_format = rw c.in-Ok-hand_on.ensures.cutter (c.in-Ok.ensures.format ∙ c.loop-byte.invariant.same_format);
+  partial = c.in-Ok.ensures.partial;
+  same_format = c.in-Ok.ensures.format ∙ c.loop-byte.invariant.same_format;
   same_faults = c.in-Ok-hand_on.ensures.no_fault ∙ c.loop-byte.invariant.same_faults;
   short = c.in-Ok-hand_on.ensures.short;
 }

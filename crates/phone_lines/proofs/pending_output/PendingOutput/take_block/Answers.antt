@@ -37,8 +37,8 @@ loop-line-preserved g c =
       on = λ bytes before s.
           let on = Holds-on (c.in-Ok.ensures.taken (bytes ++ i.taken)) (i.on bytes before s) in
           let handed = c.in-Ok-hand_on.ensures.handed in
-          rw (c.in-Ok-hand_on.ensures.line, ← append_assoc bytes i.taken ended)
-          (Holds-handed handed.0 c.hand_on.new.self.answers.items _ on handed.1 handed.2);
+          rw (← append_assoc bytes i.taken ended)
+          (Holds-handed handed.0 c.hand_on.new.held.items _ on handed.1 handed.2);
       short = c.in-Ok-hand_on.ensures.short;
       same_faults = c.in-Ok-hand_on.ensures.no_fault ∙ i.same_faults;
     }
