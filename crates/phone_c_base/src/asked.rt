@@ -14,6 +14,7 @@ use crate::number::{Number, bare};
 use crate::status::{BAD_NUMBER, MEMORY, OK, TOO_SMALL};
 use phone_choice::{Rules, is_valid_by};
 use phone_meta::Database;
+use phone_values::KINDS;
 use phone_values::country::Id;
 use phonenumber::{PhoneNumber, Type};
 use std::alloc::{AllocError, Global};
