@@ -1,11 +1,12 @@
 //! What the premises of reading back take, and why each is there, on the databases B, C, D and E of
 //! the replayed tables; and what those of dialling and of finding take. These functions do nothing;
-//! their contracts say it.
+//! their contracts say it. And every public name, under its path.
 #![tactic(auto)]
 
 mod dialled;
 mod needed;
 mod plain;
+pub mod public_names;
 
 pub use dialled::{dialled_behind_a_plus, dialled_behind_a_prefix, found_in_a_text};
 pub use needed::{

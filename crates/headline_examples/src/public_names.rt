@@ -1,7 +1,5 @@
 //! Every public name that the documents promise, under the path that they give: where one is moved
 //! or lost, this crate is no longer built.
-#![tactic(auto)]
-
 pub mod books;
 pub mod numbers;
 pub mod programs;
