@@ -476,7 +476,8 @@ fn layout_for<'a>(
     }
 }
 
-/// The layouts that a territory has for a mode.
+/// The layouts by which a territory prints in a mode: its own in `National`, in the other modes
+/// those for international use, or its own where it lists none of these. No memory is taken.
 pub fn layouts_for(m: &Metadata, mode: Mode) -> &[Format]
     ensures { result.now ≡ layouts_for m.now mode }
 {

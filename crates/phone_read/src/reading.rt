@@ -154,7 +154,9 @@ fn carrier_of(alloc: Global, text: Option<CowStr<'_>>) -> Result<Option<Carrier>
     }
 }
 
-/// The national number that a text of 2 to 17 bytes gives.
+/// The national (significant) number that a text gives once code and prefixes are cut off: read as
+/// [`NationalNumber`] reads a text, and refused as that refuses one. `TooShortNsn` where the text
+/// has fewer than 2 bytes, `TooLong` where it has more than 17. No memory is taken.
 pub fn nsn(text: &str) -> Result<NationalNumber, ParseError>
     ensures { result ≡ nsn text.now }
 {
