@@ -164,12 +164,18 @@ fn is_of_columns(further: Further<'_>, name: &str) -> bool {
         || is_named(further.areas, name)
 }
 
+/// Whether a database is read from the file of a name.
+fn is_of_database(reading: Reading<'_, '_>, name: &str) -> bool {
+    reading.path == name || is_named(reading.call.short_database, name)
+}
+
 /// Whether the file of a name is read, so that it can't be written as well.
 fn is_read(reading: Reading<'_, '_>, name: &str) -> bool {
     let is_input = reading.files.iter().any(|file| *file == name);
+    let is_read = is_input || is_of_database(reading, name);
     match reading.call.command {
-        Command::Table(table) => is_input || is_of_columns(table.further, name),
-        _ => is_input,
+        Command::Table(table) => is_read || is_of_columns(table.further, name),
+        _ => is_read,
     }
 }
 
