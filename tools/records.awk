@@ -2,9 +2,10 @@
 # its begin, and a line end between quotes is the field's.
 #
 # LC_ALL=C awk -v delimiter=, -v front=PATH -v most=BYTES -f tools/records.awk FILE
-#     writes PATH.0001, PATH.0002, .. : the header, and records of at most so many bytes with their answers. For each of these
-#     files a line goes to standard output: its path, the lines of its header, and how many lines of FILE stand between the header
-#     and its first record. Where FILE has no line end at its end, -v unended=1 says so.
+#     writes PATH.0001, PATH.0002, .. : the header, behind the byte-order mark where FILE has one, and records of at most so many
+#     bytes with their answers. For each of these files, once it is whole, a line goes to standard output: its path, the lines of
+#     its header, and how many lines of FILE stand between the header and its first record. Where FILE has no line end at its end,
+#     -v unended=1 says so.
 BEGIN { state = "S"; lines = 0; quoted = "\"" }
 
 # the state after a line: S at a field's begin, F in a field, Q between quotes, A behind a quote between them
@@ -20,23 +21,31 @@ function walk(line,    i, c, n) {
     if (state != "Q") state = "S"
 }
 
+# the part that was begun is whole
+function end_part() {
+    if (path == "") return
+    close(path)
+    print path, header_lines, skipped
+    fflush()
+}
+
 # a new part begins, with the header in front, at this line
 function begin_part(at) {
-    if (path != "") close(path)
+    end_part()
     path = sprintf("%s.%04d", front, ++parts)
     printf "%s", header > path
-    print path, header_lines, at - 1 - header_lines
+    skipped = at - 1 - header_lines
     size = header_size
 }
 
-NR == 1 { sub(/^\357\273\277/, "") }
+NR == 1 && sub(/^\357\273\277/, "") { mark = "\357\273\277" }
 !has_header && record == "" && ($0 == "" || $0 ~ /^\r+$/) { next }
 {
     record = record $0 "\n"; lines++
     walk($0)
     if (state != "S") next
     if (!has_header) {
-        has_header = 1; header = record; header_lines = lines; header_size = length(record)
+        has_header = 1; header = mark record; header_lines = lines; header_size = length(header)
     } else {
         if (path == "" || size + length(record) + 250 > most) begin_part(NR - lines + 1)
         printf "%s", record > path
@@ -48,9 +57,10 @@ END {
     # a last record with a quote that isn't closed
     if (unended) record = substr(record, 1, length(record) - 1)
     if (record != "" && !has_header) {
-        header = record; header_lines = lines; begin_part(NR + 1)
+        header = mark record; header_lines = lines; begin_part(NR + 1)
     } else {
         if (path == "" && has_header) begin_part(NR - lines + 1)
         if (record != "") printf "%s", record > path
     }
+    end_part()
 }
