@@ -9,6 +9,7 @@ mod outlet;
 mod say;
 mod tool;
 mod usage;
+mod written;
 
 pub use outlet::{Input, Meter, Outlet, Output};
 pub use tool::program;

@@ -8,6 +8,7 @@ use crate::failures::{say_failure, say_no_columns, say_refusal};
 use crate::operands::{hint_and_files, say_missing};
 use crate::outlet::Outlet;
 use crate::say::{say, say_firsts, say_records, say_word_error};
+use crate::written::is_read;
 use phone_choice::Rules;
 use phone_device::{ByteSink, ByteSource, Std};
 use phone_jobs::{
@@ -15,7 +16,7 @@ use phone_jobs::{
     Shorts, Typist, on_inputs,
 };
 use phone_table::{Asked, Counts, Extra};
-use phone_words::{Call, Command, Further, Table, call_of};
+use phone_words::{Call, Command, Table, call_of};
 use phonenumber::country::Id;
 use phonenumber::metadata::Database;
 use std::alloc::AllocGlobal;
@@ -29,8 +30,9 @@ use std::fs::{self, Files};
 ///
 /// Status 0: all was written. 1: an input, the output or memory failed, or a record of a table has
 /// another count of fields than the header; what is in front is written. 2: the words are no call,
-/// a file isn't there, or a table lacks a header or a column; then nothing is written. 3: a
-/// database or a table of prefixes was refused; then nothing is written.
+/// a file isn't there, the file to be written is read as well, or a table lacks a header or a
+/// column; then nothing is written. 3: a database or a table of prefixes was refused; then nothing
+/// is written.
 pub fn program<R: Files + AllocGlobal, S: ByteSource, W: Outlet, E: ByteSink>(
     rt: &R,
     words: &[&str],
@@ -143,42 +145,6 @@ fn no_database(command: Command<'_>) -> &'static str {
     }
 }
 
-/// Whether a file is this one.
-fn is_named(file: Option<&str>, name: &str) -> bool {
-    match file {
-        Some(file) => file == name,
-        None => false,
-    }
-}
-
-/// Whether further columns are told by the file of a name.
-fn is_of_columns(further: Further<'_>, name: &str) -> bool {
-    let own = match further.prefixes {
-        Some(column) => Some(column.file),
-        None => None,
-    };
-    is_named(own, name)
-        || is_named(further.time_zones, name)
-        || is_named(further.carriers, name)
-        || is_named(further.first_carriers, name)
-        || is_named(further.areas, name)
-}
-
-/// Whether a database is read from the file of a name.
-fn is_of_database(reading: Reading<'_, '_>, name: &str) -> bool {
-    reading.path == name || is_named(reading.call.short_database, name)
-}
-
-/// Whether the file of a name is read, so that it can't be written as well.
-fn is_read(reading: Reading<'_, '_>, name: &str) -> bool {
-    let is_input = reading.files.iter().any(|file| *file == name);
-    let is_read = is_input || is_of_database(reading, name);
-    match reading.call.command {
-        Command::Table(table) => is_read || is_of_columns(table.further, name),
-        _ => is_read,
-    }
-}
-
 /// The program where a file is written.
 fn to_file<R: Files + AllocGlobal, S: ByteSource, E: ByteSink>(
     rt: &R,
@@ -189,7 +155,7 @@ fn to_file<R: Files + AllocGlobal, S: ByteSource, E: ByteSink>(
 ) -> u8
     ensures { result ≤ 3 }
 {
-    if is_read(reading, name) {
+    if is_read(rt, reading, name) {
         return say(errors, &[name, " is read, so it can't be written"], 2);
     }
     match fs::create(rt, name) {

@@ -1,0 +1,106 @@
+//! The file that is written, and whether a call reads it too.
+use crate::tool::Reading;
+use phone_jobs::is_standard;
+use phone_words::{Command, Further};
+use std::fs::{self, Files};
+use std::os::unix::fs::MetadataExt;
+
+/// The name under which the system has standard input.
+const STANDARD_INPUT: &str = "/dev/stdin";
+
+/// Where a file of a name lies: its device, and its number there. None where there is no such file,
+/// where it isn't one whose bytes are kept, and where the system doesn't tell.
+fn place_of<R: Files>(rt: &R, name: &str) -> Option<(u64, u64)> {
+    match fs::metadata(rt, name) {
+        Ok(metadata) if metadata.is_file() && metadata.ino() > 0 => {
+            Some((metadata.dev(), metadata.ino()))
+        }
+        _ => None,
+    }
+}
+
+/// The file that is to be written.
+#[derive(Clone, Copy)]
+struct Written<'n> {
+    /// Its name.
+    name: &'n str,
+    /// Where it lies, if it is there already.
+    place: Option<(u64, u64)>,
+}
+
+/// Whether a name is that of the file that is to be written, or is another name of it, as `./f` and
+/// a link are of `f`.
+fn is_written<R: Files>(rt: &R, written: Written<'_>, name: &str) -> bool {
+    if name == written.name {
+        return true;
+    }
+    match written.place {
+        Some(_) => place_of(rt, name) == written.place,
+        None => false,
+    }
+}
+
+/// Whether one of some files is the one that is to be written.
+fn is_any_written<R: Files>(rt: &R, written: Written<'_>, names: &[Option<&str>]) -> bool {
+    for name in names {
+        if let Some(name) = *name {
+            if is_written(rt, written, name) {
+                return true;
+            }
+        }
+    }
+    false
+}
+
+/// Whether the file that is to be written is one of the input's. Standard input is, where it comes
+/// from that file.
+fn is_input<R: Files>(rt: &R, written: Written<'_>, files: &[&str]) -> bool {
+    for name in files {
+        let name = if is_standard(name) {
+            STANDARD_INPUT
+        } else {
+            *name
+        };
+        if is_written(rt, written, name) {
+            return true;
+        }
+    }
+    files.is_empty() && is_written(rt, written, STANDARD_INPUT)
+}
+
+/// Whether further columns are told by the file that is to be written.
+fn is_of_columns<R: Files>(rt: &R, written: Written<'_>, further: Further<'_>) -> bool {
+    let own = match further.prefixes {
+        Some(column) => Some(column.file),
+        None => None,
+    };
+    let Further {
+        time_zones,
+        carriers,
+        first_carriers,
+        areas,
+        ..
+    } = further;
+    is_any_written(
+        rt,
+        written,
+        &[own, time_zones, carriers, first_carriers, areas],
+    )
+}
+
+/// Whether the file of a name is read, under that name or another one, so that it can't be written
+/// as well.
+pub(crate) fn is_read<R: Files>(rt: &R, reading: Reading<'_, '_>, name: &str) -> bool {
+    let written = Written {
+        name,
+        place: place_of(rt, name),
+    };
+    let databases = [Some(reading.path), reading.call.short_database];
+    if is_input(rt, written, reading.files) || is_any_written(rt, written, &databases) {
+        return true;
+    }
+    match reading.call.command {
+        Command::Table(table) => is_of_columns(rt, written, table.further),
+        _ => false,
+    }
+}
