@@ -4,9 +4,9 @@ ghost use Rattle.phone_pattern.specs.First.{replaced};
 ghost use Rattle.phone_pattern.specs.Rules.{ruled_template};
 
 use crate::pattern::Pattern;
+use once_cell::race::OnceBox;
 use phone_base::together::both;
 use std::alloc::{AllocError, Global};
-use std::cell::RefCell;
 use std::marker::Model;
 
 /// A template whose first group a rule has written, and the texts of which it was made: the
@@ -94,12 +94,13 @@ impl Ruled {
     }
 }
 
-/// Keeps the template of national text that a layout made last. Of what a cell holds nothing is
-/// known, so each use names the texts of which the template is to be made, and one of other texts
-/// doesn't serve.
+/// Keeps the template of national text that a layout made first for no carrier, for as long as the
+/// layout is there. It is set once, so that several threads may read it at a time. Of what a cell
+/// holds nothing is known, so each use names the texts of which the template is to be made, and one
+/// of other texts doesn't serve.
 pub struct KeptRuled {
     alloc: Global,
-    slot: RefCell<Option<Box<Ruled>>>,
+    slot: OnceBox<Ruled>,
 }
 
 /// Drops what is kept: as a function it is proved once.
@@ -115,7 +116,7 @@ impl KeptRuled {
     pub fn new(alloc: Global) -> KeptRuled {
         KeptRuled {
             alloc,
-            slot: RefCell::new(None),
+            slot: OnceBox::new(alloc),
         }
     }
 
@@ -133,10 +134,7 @@ impl KeptRuled {
         ensures { IfOk result (λ found. IfSome found (λ t. string_bytes t ≡ replaced pattern.now
             (ruled_template text.now rule.now prefix.now carrier.now) digits.now)) }
     {
-        let Ok(slot) = self.slot.try_borrow() else {
-            return Ok(None);
-        };
-        let Some(ruled) = &*slot else {
+        let Some(ruled) = self.slot.get() else {
             return Ok(None);
         };
         match ruled.made_of(text, rule, prefix, carrier) {
@@ -145,24 +143,28 @@ impl KeptRuled {
         }
     }
 
-    /// Keeps a template with the texts of which it was made, for the next number. Where memory for
-    /// it is refused it is dropped.
+    /// Keeps a template with the texts of which it was made, for the numbers that follow, where the
+    /// carrier is empty and nothing is kept yet. Else, and where memory for it is refused, it is
+    /// dropped.
     pub fn keep(&self, template: String, text: &str, rule: &str, prefix: &str, carrier: &str)
         requires { string_bytes template ≡
             ruled_template text.now rule.now prefix.now carrier.now }
     {
+        if !carrier.is_empty() {
+            return;
+        }
         if let Ok(ruled) = Ruled::new(self.alloc, template, text, rule, prefix, carrier) {
             self.put(ruled);
         }
     }
 
-    /// Puts a template in its place.
+    /// Puts a template in its place, where none is there yet.
     fn put(&self, ruled: Ruled) {
         let Ok(ruled) = Box::new(self.alloc, ruled) else {
             return;
         };
-        if let Ok(mut slot) = self.slot.try_borrow_mut() {
-            *slot = Some(ruled);
+        if let Err(late) = self.slot.set(ruled) {
+            drop(late);
         }
     }
 }

@@ -29,7 +29,7 @@ pub struct Format {
     national_prefix_rule: Option<Text>,
     is_national_prefix_optional: bool,
     domestic_carrier: Option<Text>,
-    /// The template of national text that was made last.
+    /// The template of national text that was made first for no carrier.
     ruled: KeptRuled,
 }
 
@@ -182,7 +182,7 @@ impl Format {
     }
 
     /// The digits laid out by the template with its first group written by a rule, which is kept
-    /// for the next number. Refused only for memory.
+    /// for the numbers that follow where it is the first for no carrier. Refused only for memory.
     #[cold]
     #[inline(never)]
     fn lay_out_anew(
