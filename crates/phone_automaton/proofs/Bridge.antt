@@ -1,10 +1,11 @@
 -- An automaton of the tree cut to ASCII finds in ASCII texts what the tree finds, and its cells hold the groups' slots.
-use Rattle.std.proofs.Common.{◌≡◌, ◌<◌, ◌≤◌, ◌+◌, ◌-◌, ◌*◌, ℕ, zero, suc, true, cond, List, length, take, drop, ◌++◌, Option, None, Some, All, IfSome, MatchOption, option_map, slice_index, refl, sym, ap, ap₂, ◌∙◌, inl, inr, arith, ne_eqb, false, IsSome, is_some}
+use Rattle.std.proofs.Common.{◌≡◌, ◌<◌, ◌≤◌, ◌+◌, ◌-◌, ◌*◌, ℕ, zero, suc, true, cond, List, length, take, drop, ◌++◌, Option, None, Some, All, IfOk, IfSome, MatchOption, Result, Ok, Err, String, Global, string_bytes, option_map, slice_index, refl, sym, ap, ap₂, ◌∙◌, inl, inr, arith, ne_eqb, false, IsSome, is_some}
 use Rattle.std.proofs.lemmas.Bool.{cases_lt, cond-true, cond-false}
 use Rattle.std.proofs.lemmas.Bool.Decides.{nat_tests}
 use Rattle.std.proofs.lemmas.List.FromFn.{get_or-map-range_with_len}
 use Rattle.std.proofs.lemmas.Option.{slice_get_past, slice_get-get_or, none-some, same_Some}
 use Rattle.std.specs.Option.{option_or}
+use Rattle.std.specs.declared.alloc.AllocError.{AllocError}
 use Rattle.phone_automaton.specs.Ascii.{AsciiSame}
 use Rattle.phone_automaton.specs.Groups.{captured_at, IsFoundIn}
 use Rattle.phone_automaton.specs.Finds.{at_front, captured, found_by, front_end, group, group_at, position, FindsInAscii}
@@ -162,3 +163,10 @@ replaced_found template hay nfa found cells text all told names = go (found_by n
         λ n fits. ap (bytes_of hay) (sym (ap₂ (λ (w : ℕ × ℕ) (c : List ℕ). group_at w c n) same cells_are ∙ group_at-group m (length cells) n fits)) in
         parts
         ∙ ap₂ (λ (w : ℕ × ℕ) (b : List ℕ). (take w.0 hay ++ b) ++ drop w.1 hay) same (written names (λ n. bytes_of hay (group m n)) texts)
+
+-- what holds of a text that was made
+pub made_again : (P Q : List ℕ → Type 0) → ((text : List ℕ) → P text → Q text) → (r : Result (Option (String Global)) AllocError) →
+    IfOk r (λ made. IfSome made (λ out. P (string_bytes out))) → IfOk r (λ made. IfSome made (λ out. Q (string_bytes out)))
+made_again P Q f (Ok None) h = h
+made_again P Q f (Ok (Some out)) h = f (string_bytes out) h
+made_again P Q f (Err e) h = h

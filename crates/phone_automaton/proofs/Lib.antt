@@ -4,4 +4,6 @@ pub mod Cutting
 pub mod Fitting
 pub mod Fronting
 pub mod Parting
+pub mod Stepping
+pub mod Tabling
 pub mod Writing

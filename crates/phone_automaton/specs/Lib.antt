@@ -1,4 +1,5 @@
 pub mod Ascii
+pub mod Digits
 pub mod Finds
 pub mod Fronts
 pub mod Groups

@@ -1,23 +1,29 @@
 //! An automaton: a pattern compiled for texts of ASCII, made once, and the machine that it keeps
 //! from one search to the next.
-ghost use Rattle.std.specs.Prelude.{◌≡◌, ◌<◌, ◌-◌, ◌^◌, ℕ, length, IfSome};
+ghost use Rattle.std.specs.Prelude.{◌≡◌, ◌<◌, ◌-◌, ◌^◌, ℕ, length, List, IfOk, IfSome, Some};
+ghost use Rattle.std.specs.Prelude.{string_bytes};
 ghost use Rattle.std.specs.Arc.{arc_value};
 ghost use Rattle.phone_automaton.specs.Ascii.{AsciiSame};
-ghost use Rattle.phone_automaton.specs.Finds.{finds, FindsInAscii};
+ghost use Rattle.phone_automaton.specs.Digits.{end_of_digits, AreDigits};
+ghost use Rattle.phone_automaton.specs.Finds.{finds, front_end, FindsInAscii};
 ghost use Rattle.phone_automaton.specs.Parts.{AreFrontCellsFor};
+ghost use Rattle.phone_automaton.specs.Templates.{with_match_replaced};
 ghost use Rattle.regex_compile.specs.Implements.{Implements};
 ghost use Rattle.regex_hir.specs.Meaning.{meaning};
 ghost use Rattle.regex_hir.specs.Re.{Re};
+ghost use Rattle.regex_syntax.specs.Grammar.{Names};
 
+use crate::digits::Digits;
 use crate::machine::Machine;
 use crate::narrow::narrow_classes;
+use crate::parts;
 use crate::parts::front_cells;
 use crate::place::Place;
 use regex_dfa::Dfa;
 use regex_hir::Hir;
 use regex_nfa::Nfa;
 use regex_syntax::Parsed;
-use std::alloc::Global;
+use std::alloc::{AllocError, Global};
 use std::marker::Model;
 use std::sync::Arc;
 
@@ -92,6 +98,31 @@ impl Core {
         self.last as usize
     }
 
+    /// The table of the steps over digits. None where memory is refused, where the table would have
+    /// more than a thousand rows, and where a step looks at what stands around it otherwise than
+    /// for the text's end.
+    fn digits(&self, alloc: Global) -> Option<Digits>
+        ensures { IfSome result (λ d. (hay : List ℕ) → AreDigits hay →
+            end_of_digits d hay ≡ front_end (finds self.now hay)) }
+    {
+        Digits::new(alloc, &self.tables.dfa.nfa)
+    }
+
+    /// The text with its match at the front, which ends here, replaced by a template.
+    fn replace_at_front(
+        &self,
+        alloc: Global,
+        template: &str,
+        hay: &str,
+        end: usize,
+    ) -> Result<Option<String>, AllocError>
+        requires { front_end (finds self.now hay.now) ≡ Some end }
+        ensures { IfOk result (λ made. IfSome made (λ out. (names : Names) → string_bytes out ≡
+            with_match_replaced names template.now hay.now (finds self.now hay.now))) }
+    {
+        parts::replace_at_front(alloc, &self.tables, template, hay, end)
+    }
+
     /// The tables once more, for a machine. None where memory is refused.
     pub(crate) fn share(&self) -> Option<Arc<Tables>>
         ensures { IfSome result (λ tables. (arc_value tables).dfa.nfa ≡ self.now.nfa) }
@@ -141,6 +172,35 @@ impl Automaton {
         let core = Core::new(alloc, parsed)?;
         let place = Place::new(&core);
         Some(Automaton { core, place })
+    }
+
+    /// The table of the automaton's steps over digits, which tells of a text of digits where the
+    /// match at its front ends. None where memory is refused, where the table would have more than
+    /// a thousand rows, and where a step looks at what stands around it otherwise than for the
+    /// text's end.
+    pub fn digits(&self, alloc: Global) -> Option<Digits>
+        ensures { IfSome result (λ d. (hay : List ℕ) → AreDigits hay →
+            end_of_digits d hay ≡ front_end (finds self.now hay)) }
+    {
+        self.core.digits(alloc)
+    }
+
+    /// The text with its match at the front, which ends here, replaced by a template, in which `$1`
+    /// stands for the first group; no search is made, and nothing kept. None where the pattern is
+    /// no sequence of groups of fixed lengths but the last, where it has many groups, and where the
+    /// template names a group in another way than by one digit. Refused only for memory.
+    pub fn replace_at_front(
+        &self,
+        alloc: Global,
+        template: &str,
+        hay: &str,
+        end: usize,
+    ) -> Result<Option<String>, AllocError>
+        requires { front_end (finds self.now hay.now) ≡ Some end }
+        ensures { IfOk result (λ made. IfSome made (λ out. (names : Names) → string_bytes out ≡
+            with_match_replaced names template.now hay.now (finds self.now hay.now))) }
+    {
+        self.core.replace_at_front(alloc, template, hay, end)
     }
 
     /// A machine for a search: the one that is kept, or a new one where there is none yet, and

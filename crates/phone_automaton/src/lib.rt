@@ -3,6 +3,7 @@
 #![tactic(auto)]
 
 mod automaton;
+mod digits;
 mod fronts;
 mod groups;
 mod lengths;
@@ -13,6 +14,7 @@ mod place;
 mod template;
 
 pub use automaton::Automaton;
+pub use digits::{Digits, are_digits};
 pub use fronts::Fronts;
 pub use lengths::Lengths;
 pub use machine::{Captured, Machine};

@@ -1,16 +1,20 @@
 -- What a machine finds in ASCII texts is what the text of its pattern finds there.
-use Rattle.std.proofs.Common.{◌≡◌, ◌<◌, ◌≤◌, ◌-◌, ◌==◌, ◌&&◌, ◌⊎◌, inl, inr, ℕ, Bool, List, length, true, false, Option, None, Some, Result, Ok, Err, IfOk, IfSome, String, Global, string_bytes, All, option_map, reverse, [], ◌∷◌, ◌++◌, slice_get, get_or, refl, sym, subst, ap, ap₂, ◌∙◌, arith, true≢false, cond, ne_eqb}
+use Rattle.std.proofs.Common.{⊎_elim, is_some, ◌≡◌, ◌<◌, ◌≤◌, ◌-◌, ◌==◌, ◌&&◌, ◌⊎◌, inl, inr, ℕ, Bool, List, length, true, false, Option, None, Some, Result, Ok, Err, IfOk, IfSome, String, Global, string_bytes, All, option_map, reverse, [], ◌∷◌, ◌++◌, slice_get, get_or, refl, sym, subst, ap, ap₂, ◌∙◌, arith, true≢false, cond, ne_eqb}
 use Rattle.std.proofs.lemmas.List.{get_or_default, reverse-append}
-use Rattle.std.proofs.lemmas.Option.{slice_get_cases}
+use Rattle.std.proofs.lemmas.Bool.{cases_eq}
+use Rattle.std.proofs.lemmas.Option.{none-some, same_Some, slice_get_cases}
 use Rattle.std.specs.Prelude.{slice_index_or}
 use Rattle.std.specs.declared.alloc.AllocError.{AllocError}
 use Rattle.std.specs.Option.{option_and_then, option_map_or}
 use Rattle.std.specs.Str.{chars}
-use Rattle.phone_pattern.specs.First.{at_start, front_end, is_whole_match, captured, captured_by, first_match, first_span, led_by, names_in, replaced, verbose, with_first_replaced, IsCut, Seen, seen_of}
+use Rattle.phone_pattern.specs.First.{at_start, front_end, is_whole_match, captured, captured_by, first_match, first_span, last_group, led_by, names_in, replaced, verbose, with_first_replaced, IsCut, Seen, seen_of}
 use Rattle.phone_pattern.specs.Machines.{as_captured, Serves}
 use Rattle.phone_pattern.proofs.Matches.{found, named}
 use Rattle.phone_automaton.specs.Finds.{at_front, finds, FindsInAscii, Searcher}
 use Rattle.phone_automaton.specs.Finds as searched
+use Rattle.phone_automaton.specs.Digits.{end_of_digits, AreDigits}
+use Rattle.phone_pattern.specs.Digits.{TellsFronts}
+use Rattle.phone_pattern.specs.declared.pattern.Captured.{Captured}
 use Rattle.phone_automaton.proofs.Fitting.{too_long, too_short}
 use Rattle.phone_automaton.proofs.Fronting.{barred}
 use Rattle.phone_automaton.specs.Fronts.{BeginsIn, may_begin}
@@ -216,3 +220,67 @@ within text s ok forward inside = (
   (omega arith, λ here big. let small = ok s.0 0 here in omega arith),
   (inside, λ here big. let small = ok s.1 0 here in omega arith),
 )
+
+-- a text of digits is one of ASCII
+pub digits_ascii : (text : List ℕ) → AreDigits text → All (λ x. x < 128) text
+digits_ascii text digits k d h = let small = digits k d h in omega arith
+
+-- what an automaton finds at the front is what the text of its pattern finds there
+pub front_end_served : (pattern hay : List ℕ) (s : Searcher) → Serves pattern s → All (λ x. x < 128) hay →
+    searched.front_end (finds s hay) ≡ front_end pattern hay
+front_end_served pattern hay s serves_it ok =
+    front_end_seen (finds s hay)
+    ∙ ap (λ (o : Option Seen). option_and_then (λ (s : ℕ × ℕ). cond (s.0 == 0) (Some s.1) None) (option_map (λ (s : Seen). (s.0, s.1)) o)) (serves_it.0 hay ok)
+
+-- a table that finds what an automaton finds at the front finds what the text of its pattern finds there
+pub tells_fronts : (pattern : List ℕ) (s : Searcher) (o : Option (List ℕ)) → Serves pattern s →
+    IfSome o (λ d. (hay : List ℕ) → AreDigits hay → end_of_digits d hay ≡ searched.front_end (finds s hay)) → IfSome o (TellsFronts pattern)
+tells_fronts pattern s None serves_it told = tt
+tells_fronts pattern s (Some d) serves_it told =
+    λ hay digits. told hay digits ∙ front_end_served pattern hay s serves_it (digits_ascii hay digits)
+
+-- a match begins at the front where one ends that does
+pub starts_by_end : (pattern text : List ℕ) (o : Option ℕ) → o ≡ front_end pattern text → is_some o ≡ at_start pattern text
+starts_by_end pattern text o is = ap is_some is ∙ go (first_match pattern text)
+  where
+    step : (b : Bool) (e : ℕ) → is_some (cond b (Some e) None) ≡ b
+    step true e = refl
+    step false e = refl
+
+    go : (o : Option Seen) → is_some (option_and_then (λ (s : ℕ × ℕ). cond (s.0 == 0) (Some s.1) None) (option_map (λ (s : Seen). (s.0, s.1)) o)) ≡
+        option_map_or (λ (s : Seen). s.0 == 0) o false
+    go None = refl
+    go (Some s) = step (s.0 == 0) s.1
+
+-- a match that begins at the front is seen so
+front_seen_at : (pattern text : List ℕ) (e : ℕ) → Some e ≡ front_end pattern text → (slots : ℕ → Option ℕ) × (first_match pattern text ≡ Some (0, e, slots))
+front_seen_at pattern text e is = go (first_match pattern text) is
+  where
+    step : (s : Seen) (b : Bool) → (s.0 == 0) ≡ b → Some e ≡ cond b (Some s.1) None → (slots : ℕ → Option ℕ) × (Some s ≡ Some (0, e, slots))
+    step s true zero_there same =
+        (s.2, ap₂ (λ (x y : ℕ). Some (x, y, s.2)) (⊎_elim (λ e. e) (λ other. absurd (true≢false (sym zero_there ∙ ne_eqb s.0 0 other))) (cases_eq s.0 0)) (sym (same_Some _ _ same)))
+    step s false other same = absurd (none-some e (sym same))
+
+    go : (o : Option Seen) → Some e ≡ option_and_then (λ (s : ℕ × ℕ). cond (s.0 == 0) (Some s.1) None) (option_map (λ (s : Seen). (s.0, s.1)) o) →
+        (slots : ℕ → Option ℕ) × (o ≡ Some (0, e, slots))
+    go None same = absurd (none-some e (sym same))
+    go (Some s) same = step s (s.0 == 0) refl same
+
+pub span_by_end : (pattern text : List ℕ) (e : ℕ) → Some e ≡ front_end pattern text → Some (0, e) ≡ first_span pattern text
+span_by_end pattern text e is =
+    let (slots, there) = front_seen_at pattern text e is in
+    sym (ap (option_map (λ (s : Seen). (s.0, s.1))) there)
+
+-- without groups a match captures itself
+pub captured_by_end : (pattern text : List ℕ) (e : ℕ) (c : Captured) → last_group pattern ≡ 0 → Some e ≡ front_end pattern text →
+    c.span ≡ (0, e) → c.first ≡ None → c.last ≡ Some (0, e) → Some c ≡ captured pattern text
+captured_by_end pattern text e c no_group is span first last =
+    let (slots, there) = front_seen_at pattern text e is in
+    parts c span first last
+    ∙ sym (ap₂ (λ (n : ℕ) (o : Option Seen). option_map (captured_by n) o) no_group there)
+  where
+    parts : (c : Captured) → c.span ≡ (0, e) → c.first ≡ None → c.last ≡ Some (0, e) →
+        Some c ≡ Some (record { span = (0, e); first = None; last = Some (0, e) })
+    parts c span first last =
+        ap₂ (λ (s : ℕ × ℕ) (g : Option (ℕ × ℕ) × Option (ℕ × ℕ)). Some (record { span = s; first = g.0; last = g.1 })) span
+        (ap₂ (λ (f l : Option (ℕ × ℕ)). (f, l)) first last)

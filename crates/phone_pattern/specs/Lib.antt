@@ -1,3 +1,4 @@
+pub mod Digits
 pub mod First
 pub mod Machines
 pub mod Outlines

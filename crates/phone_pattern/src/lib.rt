@@ -3,6 +3,7 @@
 #![tactic(auto)]
 
 mod compiled;
+mod digits;
 mod intern_table;
 mod leading;
 mod outline;

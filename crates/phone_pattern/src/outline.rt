@@ -1,16 +1,20 @@
 //! What is made of a pattern's text at once: what is known of its matches before any search, and
 //! the automaton that searches texts of ASCII.
-ghost use Rattle.std.specs.Prelude.{◌≡◌, ◌-◌, ℕ, false, length, List, Some, IfSome};
+ghost use Rattle.std.specs.Prelude.{◌≡◌, ◌-◌, ℕ, false, length, List, Some, IfOk, IfSome};
+ghost use Rattle.std.specs.Prelude.{string_bytes};
+ghost use Rattle.phone_automaton.specs.Digits.{AreDigits};
 ghost use Rattle.phone_automaton.specs.Finds.{finds, FindsInAscii};
 ghost use Rattle.phone_automaton.specs.Fronts.{BeginsIn};
 ghost use Rattle.phone_automaton.specs.Lengths.{HasLengths};
-ghost use Rattle.phone_pattern.specs.First.{at_start, is_whole_match};
+ghost use Rattle.phone_pattern.specs.First.{at_start, front_end, is_whole_match, replaced};
+ghost use Rattle.phone_pattern.specs.First.{IsCut};
 ghost use Rattle.phone_pattern.specs.Outlines.{IsShape};
 ghost use Rattle.regex_hir.specs.Meaning.{meaning};
 
+use crate::digits::KeptDigits;
 use phone_automaton::{Automaton, Fronts, Lengths, Machine};
 use regex_syntax::Parsed;
-use std::alloc::Global;
+use std::alloc::{AllocError, Global};
 use std::marker::Model;
 
 /// What is made of a pattern's text at once, for all patterns of that text. Contracts see what is
@@ -21,6 +25,8 @@ pub(crate) struct Outline {
     lengths: Lengths,
     /// None where memory was refused for it, or it would be too large.
     automaton: Option<Automaton>,
+    /// The table by which it searches digits. None where nothing is known of the pattern.
+    digits: Option<KeptDigits>,
 }
 
 impl Model for Outline {
@@ -42,10 +48,12 @@ impl Drop for Outline {
             fronts,
             lengths,
             automaton,
+            digits,
         } = self;
         drop(fronts);
         drop(lengths);
         drop(automaton);
+        drop(digits);
     }
 }
 
@@ -58,6 +66,7 @@ impl Outline {
             fronts: Fronts::any(),
             lengths: Lengths::any(),
             automaton: None,
+            digits: None,
         }
     }
 
@@ -73,6 +82,45 @@ impl Outline {
             fronts: Fronts::of(&parsed.hir),
             lengths: Lengths::of(alloc, &parsed.hir),
             automaton: Automaton::new(alloc, parsed),
+            digits: Some(KeptDigits::new(alloc)),
+        }
+    }
+
+    /// Where the match of a pattern text ends that begins at the front of a text of digits. None
+    /// where the text isn't of digits alone, where its pattern has no table of the steps over them,
+    /// and where memory is refused for that.
+    #[inline]
+    pub(crate) fn front_end_of_digits(&self, pattern: &str, text: &str) -> Option<Option<usize>>
+        requires { IsShape pattern.now self.now }
+        ensures end { IfSome result (λ end. end ≡ front_end pattern.now text.now) }
+        ensures border { IfSome result (λ end. IfSome end (λ e. IsCut text.now (0, e))) }
+        ensures digits { IfSome result (λ end. AreDigits text.now) }
+    {
+        let (Some(automaton), Some(digits)) = (&self.automaton, &self.digits) else {
+            return None;
+        };
+        digits.front_end(pattern, automaton, text)
+    }
+
+    /// A text with the match at its front, which ends here, replaced by a template, where that needs
+    /// no search. None where it needs one. Refused only for memory.
+    pub(crate) fn replace_at_front(
+        &self,
+        alloc: Global,
+        pattern: &str,
+        template: &str,
+        text: &str,
+        end: usize,
+    ) -> Result<Option<String>, AllocError>
+        requires shape { IsShape pattern.now self.now }
+        requires end { front_end pattern.now text.now ≡ Some end }
+        requires digits { AreDigits text.now }
+        ensures { IfOk result (λ made. IfSome made (λ out.
+            string_bytes out ≡ replaced pattern.now template.now text.now)) }
+    {
+        match &self.automaton {
+            Some(automaton) => automaton.replace_at_front(alloc, template, text, end),
+            None => Ok(None),
         }
     }
 

@@ -1,6 +1,6 @@
 //! Searches of a pattern: by a machine of its automaton where the text is of ASCII, and by its
 //! `Regex` where it isn't, where the machine gives up, and where memory is refused for it.
-ghost use Rattle.std.specs.Prelude.{◌≡◌, ◌<◌, All, Some, IfOk, IfSome, IsTrue, option_map};
+ghost use Rattle.std.specs.Prelude.{◌≡◌, ◌<◌, All, None, Some, IfOk, IfSome, IsTrue, option_map};
 ghost use Rattle.std.specs.Prelude.{string_bytes};
 ghost use Rattle.regex.specs.Strings.{regex_source};
 ghost use Rattle.phone_pattern.specs.First.{at_start, captured, first_span, front_end, replaced};
@@ -39,6 +39,9 @@ pub(crate) fn is_at_start(
     requires shape { IsShape (regex_source re.now) outline.now }
     ensures { IfOk result (λ b. b ≡ at_start (regex_source re.now) text.now) }
 {
+    if let Some(end) = outline.front_end_of_digits(re.as_str(), text) {
+        return Ok(end.is_some());
+    }
     if let Some(mut machine) = take(alloc, outline, text) {
         let found = machine.is_at_front(text.as_bytes());
         outline.keep(machine);
@@ -62,6 +65,9 @@ pub(crate) fn front_end(
     ensures end { IfOk result (λ end. end ≡ front_end (regex_source re.now) text.now) }
     ensures border { IfOk result (λ end. IfSome end (λ e. IsCut text.now (0, e))) }
 {
+    if let Some(end) = outline.front_end_of_digits(re.as_str(), text) {
+        return Ok(end);
+    }
     if let Some(mut machine) = take(alloc, outline, text) {
         let found = machine.front_end(text.as_bytes());
         outline.keep(machine);
@@ -84,6 +90,9 @@ pub(crate) fn first_span(
     ensures span { IfOk result (λ found. found ≡ first_span (regex_source re.now) text.now) }
     ensures borders { IfOk result (λ found. IfSome found (IsCut text.now)) }
 {
+    if let Some(Some(end)) = outline.front_end_of_digits(re.as_str(), text) {
+        return Ok(Some((0, end)));
+    }
     if let Some(mut machine) = take(alloc, outline, text) {
         let found = machine.span(text.as_bytes());
         outline.keep(machine);
@@ -108,6 +117,11 @@ pub(crate) fn captures(
     ensures found { IfOk result (λ found. found ≡ captured (regex_source re.now) text.now) }
     ensures borders { IfOk result (λ found. IfSome found (AreCuts text.now)) }
 {
+    if re.captures_len() <= 1 {
+        if let Some(Some(end)) = outline.front_end_of_digits(re.as_str(), text) {
+            return Ok(Some(without_groups(end)));
+        }
+    }
     if let Some(mut machine) = take(alloc, outline, text) {
         let last = machine.last_group();
         let found = machine.captures(text.as_bytes());
@@ -120,6 +134,19 @@ pub(crate) fn captures(
         }
     }
     uncached::captures(alloc, re, text)
+}
+
+/// What a match at the front captures, if its pattern has no groups.
+fn without_groups(end: usize) -> Captured
+    ensures span { result.span ≡ (0, end) }
+    ensures first { result.first ≡ None }
+    ensures last { result.last ≡ Some (0, end) }
+{
+    Captured {
+        span: (0, end),
+        first: None,
+        last: Some((0, end)),
+    }
 }
 
 /// The text with the first match of a pattern replaced by a template. Refused only for memory.
@@ -135,6 +162,11 @@ pub(crate) fn replace(
     ensures { IfOk result (λ out. string_bytes out ≡
         replaced (regex_source re.now) template.now text.now) }
 {
+    if let Some(Some(end)) = outline.front_end_of_digits(re.as_str(), text) {
+        if let Some(out) = outline.replace_at_front(alloc, re.as_str(), template, text, end)? {
+            return Ok(out);
+        }
+    }
     if let Some(mut machine) = take(alloc, outline, text) {
         let found = machine.replace(alloc, template, text);
         outline.keep(machine);

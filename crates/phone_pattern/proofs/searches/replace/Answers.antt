@@ -12,8 +12,8 @@ returns-in-Some-2 c =
     let template = c.args.template.now in
     let pattern = regex_source c.args.re.now in
     let names = names_in pattern in
-    let serves = rw c.in-Some.ensures.own at c.requires.shape.2 in
-    let told = rw c.in-Some-2.is at c.in_ok-out.ensures.replaced in
+    let serves = rw c.in-Some-take.ensures.own at c.requires.shape.2 in
+    let told = rw c.in-Some-2.is at c.in_ok-out-2.ensures.replaced in
     told names
     ∙ ap (λ (s : Searcher). with_match_replaced names template hay (finds s hay)) c.deref_mut.ensures.value
-    ∙ replaced_served pattern hay c.in-Some.machine.value serves c.in-Some.ensures.ascii template
+    ∙ replaced_served pattern hay c.in-Some-take.machine.value serves c.in-Some-take.ensures.ascii template

@@ -5,15 +5,8 @@ use Rattle.phone_automaton.specs.declared.automaton.Tables.{Tables}
 use Rattle.phone_automaton.specs.Finds.{finds, found_by, Searcher}
 use Rattle.phone_automaton.specs.Groups.{IsFoundIn}
 use Rattle.phone_automaton.specs.Templates.{with_match_replaced}
-use Rattle.phone_automaton.proofs.Bridge.{replaced_found, Parts}
+use Rattle.phone_automaton.proofs.Bridge.{made_again, replaced_found, Parts}
 use Rattle.phone_automaton.proofs.machine.Machine.replace.Goals as goal
-
--- what holds of a text that was made
-made_again : (P Q : List ℕ → Type 0) → ((text : List ℕ) → P text → Q text) → (r : Result (Option (String Global)) AllocError) →
-    IfOk r (λ made. IfSome made (λ out. P (string_bytes out))) → IfOk r (λ made. IfSome made (λ out. Q (string_bytes out)))
-made_again P Q f (Ok None) h = h
-made_again P Q f (Ok (Some out)) h = f (string_bytes out) h
-made_again P Q f (Err e) h = h
 
 pub returns-clause-replaced : goal.returns-clause-replaced
 returns-clause-replaced c =
