@@ -90,7 +90,7 @@ static void of_more(phone_handle *world) {
 /* The calls of tables of their own. */
 static void of_tables(void) {
     phone_handle numbers = PHONE_CLOSED;
-    phone_prefixes prefixes = PHONE_CLOSED;
+    phone_prefixes prefixes = PHONE_CLOSED, mine = PHONE_CLOSED;
     phone_short_facts facts = {0, 0, 0, 0, 0, 0};
     size_t line = 99, len = 0;
     VALUE("phone_open", phone_open(TEXT(SHORT), &numbers), 0);
@@ -101,23 +101,28 @@ static void of_tables(void) {
     VALUE("phone_close", phone_short(&numbers, TEXT("NZ"), TEXT("111"), &facts), 0);
     VALUE("phone_prefixes_open, refused", phone_prefixes_open(TEXT("64\tNew Zealand\n643"), &prefixes, &line), 0);
     VALUE("phone_prefixes_open", phone_prefixes_open(TEXT("64\tNew Zealand\n643\tSouth Island"), &prefixes, &line), line);
-    text("phone_prefixes_longest", phone_prefixes_longest(&prefixes, TEXT("6433316005"), out, sizeof out, &wrote, &len));
+    VALUE("phone_prefixes_share", phone_prefixes_share(&prefixes, &mine), 0);
     phone_prefixes_close(&prefixes);
+    text("phone_prefixes_longest", phone_prefixes_longest(&mine, TEXT("6433316005"), out, sizeof out, &wrote, &len));
+    phone_prefixes_close(&mine);
     text("phone_prefixes_close", phone_prefixes_longest(&prefixes, TEXT("64"), out, sizeof out, &wrote, &len));
 }
 
 int main(void) {
-    phone_handle world = PHONE_CLOSED;
+    phone_handle world = PHONE_CLOSED, mine = PHONE_CLOSED, second = PHONE_CLOSED;
     size_t len = 0;
     const uint8_t *table = phone_world_text(&len);
     VALUE("phone_version", PHONE_OK, phone_version() == PHONE_VERSION);
     text("phone_table_version", phone_table_version(out, sizeof out, &wrote) == PHONE_OK ? (wrote = 14, PHONE_OK) : 99);
     VALUE("phone_world_text", PHONE_OK, len > 100000 && table[0] == '[');
     VALUE("phone_open_world", phone_open_world(&world), 0);
+    VALUE("phone_share", phone_share(&world, &mine), 0);
     of_number(&world);
     of_text(&world);
-    of_more(&world);
     phone_close(&world);
+    VALUE("phone_share, closed", phone_share(&world, &second), 0);
+    of_more(&mine);
+    phone_close(&mine);
     of_tables();
     return 0;
 }

@@ -422,11 +422,53 @@ static int world_in_library(void) {
     refuse_at = -1;
     return 0;
 }
+/* Handles on one table, closed in any order: the last one frees it. Each request of sharing is refused in turn. */
+static int shared(void) {
+    phone_handle h = PHONE_CLOSED, mine = PHONE_CLOSED, third = PHONE_CLOSED;
+    phone_prefixes p = PHONE_CLOSED, own = PHONE_CLOSED;
+    size_t line = 9, prefix = 9;
+    CHECK(960, phone_share(&h, &mine) == PHONE_IS_CLOSED && !h.at && !mine.at);
+    CHECK(961, phone_open(B("[]"), &mine) == PHONE_OK);
+    CHECK(962, phone_share(&h, &mine) == PHONE_IS_CLOSED && !mine.at && blocks == 0);
+    CHECK(963, phone_open(B(SMALL), &h) == PHONE_OK && phone_open(B("[]"), &mine) == PHONE_OK);
+    long held = blocks;
+    for (long k = 0;; k++) {
+        requests = 0, refuse_at = k;
+        uint32_t status = phone_share(&h, &mine);
+        refuse_at = -1;
+        CHECK(964, h.at && (status == PHONE_OK ? mine.at && mine.at != h.at : requests > k && status == PHONE_MEMORY && !mine.at));
+        CHECK(965, blocks < held && report(&h, "", "+999 234", 8, sizeof out) == PHONE_OK);
+        if (requests <= k) { printf("requests of sharing a table: %ld\n", k); break; }
+    }
+    CHECK(966, phone_share(&mine, &third) == PHONE_OK && phone_share(&mine, &third) == PHONE_OK);
+    phone_close(&h);
+    CHECK(967, report(&h, "", "+999 234", 8, sizeof out) == PHONE_IS_CLOSED);
+    CHECK(968, report(&mine, "", "+999 234", 8, sizeof out) == PHONE_OK && !memcmp(out, "ok\t+999234\t", 11));
+    CHECK(969, phone_open(B("["), &mine) == PHONE_MALFORMED_JSON && !mine.at && blocks > 0);
+    CHECK(970, report(&third, "", "+999 234", 8, sizeof out) == PHONE_OK && !memcmp(out, "ok\t+999234\t", 11));
+    phone_close(&third);
+    CHECK(971, blocks == 0);
+    CHECK(972, phone_prefixes_share(&p, &own) == PHONE_IS_CLOSED && !p.at && !own.at);
+    CHECK(973, phone_prefixes_open(B(PREFIXES), &p, &line) == PHONE_OK);
+    for (long k = 0;; k++) {
+        requests = 0, refuse_at = k;
+        uint32_t status = phone_prefixes_share(&p, &own);
+        refuse_at = -1;
+        CHECK(974, p.at && (status == PHONE_OK ? own.at && own.at != p.at : requests > k && status == PHONE_MEMORY && !own.at));
+        if (requests <= k) break;
+    }
+    phone_prefixes_close(&p);
+    CHECK(975, longest(&own, "6433", sizeof out, &prefix) == PHONE_OK && prefix == 3 && blocks > 0);
+    phone_prefixes_close(&own);
+    CHECK(976, blocks == 0);
+    return 0;
+}
 int main(int argc, char **argv) {
     long rounds = argc > 2 ? atol(argv[2]) : 100, most = 0;
     int wrong;
     if ((wrong = small()) || (wrong = by_rules()) || (wrong = typing()) || (wrong = shorts()) || (wrong = prefixes())
-        || (wrong = possible()) || (wrong = listed()) || (wrong = words()) || (wrong = world_in_library())) return wrong;
+        || (wrong = possible()) || (wrong = listed()) || (wrong = words()) || (wrong = world_in_library())
+        || (wrong = shared())) return wrong;
     CHECK(100, phone_version() == PHONE_VERSION);
     fill();
     CHECK(104, phone_table_version(out, sizeof out, &wrote) == PHONE_OK && wrote == 21

@@ -3,11 +3,12 @@
  *
  * What a caller owes, and nothing checks:
  *   - A handle begins as PHONE_CLOSED, and only these calls write it. It is not copied: two copies
- *     would own one database. So with a table of prefixes.
+ *     would own one thing; phone_share makes a second. So with a table of prefixes.
  *   - One call at a time on a handle. It is of no thread: one thread opens it, others use it in turn, any
  *     closes it, with a lock or a join between two calls. Threads that read at once have handles of
- *     their own; the table of the world takes some 57 MB for each. No call is made from a signal
- *     handler, nor in a forked child on a handle that another thread's call was on at the fork.
+ *     their own: those made by phone_share stand on one table, of the world some 57 MB, and calls on
+ *     different handles may run at once, any number of them. No call is made from a signal handler,
+ *     nor in a forked child on a handle that another thread's call was on at the fork.
  *   - A length is not past its buffer. A buffer that is written is memory that may be read: what was
  *     allocated is set to something first. What one call is given does not overlap.
  *   - `phone_text(p, n)` makes of a null text of length 0 one that may be passed; no pointer that is
@@ -174,7 +175,15 @@ uint32_t phone_open_world(phone_handle *handle);
 /* The text of that table, which is never freed, and its length. It is C, and takes no memory. */
 const uint8_t *phone_world_text(size_t *text_len);
 
-/* Closes a handle and frees its database; nothing where it is closed. */
+/* Opens behind `mine` the database that is open behind `world`: a second handle on one database, for
+ * another thread, say. It takes a few bytes and copies no database. The handles are two variables. What
+ * `mine` had open is closed first, whatever comes. PHONE_OK: it is open. PHONE_IS_CLOSED exactly where
+ * `world` is closed; PHONE_MEMORY. For each but PHONE_OK `mine` is closed. `world` stays open, or
+ * closed, as it was; for it this is a call as any other. Each handle serves one call at a time,
+ * different handles any number at once. The database is freed with the last handle on it. */
+uint32_t phone_share(phone_handle *world, phone_handle *mine);
+
+/* Closes a handle; nothing where it is closed. The last one on a database frees it. */
 void phone_close(phone_handle *handle);
 
 /* Writes the report line of a line, without a line feed, to the front of `out`, and its length to
@@ -327,7 +336,11 @@ uint32_t phone_short(phone_handle *handle, const uint8_t *region, size_t region_
 uint32_t phone_prefixes_open(const uint8_t *text, size_t text_len, phone_prefixes *prefixes,
                              size_t *line);
 
-/* Closes a table of prefixes and frees it; nothing where it is closed. */
+/* Opens behind `mine` the table of prefixes that is open behind `prefixes`, as phone_share does with
+ * databases, and with its statuses. */
+uint32_t phone_prefixes_share(phone_prefixes *prefixes, phone_prefixes *mine);
+
+/* Closes a handle of a table of prefixes; nothing where it is closed. The last one on a table frees it. */
 void phone_prefixes_close(phone_prefixes *prefixes);
 
 /* Writes the text of the longest prefix that begins these digits, such as those of phone_key after the

@@ -1,6 +1,7 @@
 /* Handles in threads, by a small table or by the one of a file: threads [TABLE]. A handle is opened in one thread, used in
- * a second and closed in a third; threads use one in turn, behind a lock; and each has its own, all at once. All are told
- * what the first thread is. The last line is `threads: ok`, else the number of the first check that failed is printed. */
+ * a second and closed in a third; threads use one in turn, behind a lock; each has its own, all at once, on a table of its
+ * own and then on one for all, which the last of them frees. All are told what the first thread is. The last line is
+ * `threads: ok`, else the number of the first check that failed is printed. */
 #include "phone.h"
 #include <pthread.h>
 #include <stdio.h>
@@ -23,6 +24,7 @@ typedef struct {
     phone_handle world;
     phone_prefixes prefixes;
     pthread_mutex_t lock;
+    int made; /* how many threads have a handle on the table */
     char wanted[LINES][LINE];
 } shared;
 
@@ -88,6 +90,20 @@ static void *asks_its_own(void *it) {
     close_both(&world, &prefixes);
     return NULL;
 }
+/* A handle of its own on the table of all. Behind the lock is the handle that it is made of. */
+static void *asks_one_table(void *it) {
+    shared *all = (shared *)it;
+    phone_handle world = PHONE_CLOSED;
+    phone_prefixes prefixes = PHONE_CLOSED;
+    pthread_mutex_lock(&all->lock);
+    CHECK(15, phone_share(&all->world, &world) == PHONE_OK);
+    CHECK(16, phone_prefixes_share(&all->prefixes, &prefixes) == PHONE_OK);
+    if (++all->made == THREADS) close_both(&all->world, &all->prefixes);
+    pthread_mutex_unlock(&all->lock);
+    ask_all(&world, &prefixes, NULL, all->wanted);
+    close_both(&world, &prefixes);
+    return NULL;
+}
 static void *closes(void *it) {
     close_both(&((shared *)it)->world, &((shared *)it)->prefixes);
     return NULL;
@@ -120,6 +136,9 @@ int main(int count, char **words) {
     CHECK(14, !strncmp(all.wanted[0], "ok\t+6433316005\t", 15) && !strncmp(all.wanted[2], "error\t1\t", 8));
     run(THREADS, asks_in_turn, &all);
     run(THREADS, asks_its_own, &all);
+    run(THREADS, asks_one_table, &all);
+    CHECK(17, !all.world.at && !all.prefixes.at);
+    run(1, opens, &all);
     run(1, closes, &all);
     pthread_mutex_destroy(&all.lock);
     puts("threads: ok");

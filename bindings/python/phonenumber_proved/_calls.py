@@ -93,6 +93,7 @@ def _declare(lib: ctypes.CDLL) -> None:
     calls = {
         "open": [*text, handle],
         "open_world": [handle],
+        "share": [handle, handle],
         "report_by": [handle, u32, *text, *text, *out],
         "parse_by": [handle, u32, *text, *text, number, *out],
         "format_by": [handle, u32, number, *text, u32, *out],
@@ -111,6 +112,7 @@ def _declare(lib: ctypes.CDLL) -> None:
         "typing_caret": [handle, *text, *text, size, count],
         "short": [handle, *text, *text, ctypes.POINTER(Facts)],
         "prefixes_open": [*text, prefixes, count],
+        "prefixes_share": [prefixes, prefixes],
         "prefixes_longest": [prefixes, *text, *out, count],
         "key": [number, *out],
         "is_viable": [*text, ctypes.POINTER(u8)],

@@ -2,14 +2,15 @@
 //! buffers of the caller's.
 //!
 //! C's variable holds a handle, a struct of one pointer that begins as null; only these calls write
-//! it, one at a time; between two calls it may be passed to another thread. Each call that asks
-//! takes the database out of the handle and puts it back, which moves a pointer.
+//! it, one at a time; between two calls it may be passed to another thread. Several handles may
+//! stand on one database, and each serves one call at a time. Each call that asks takes what is
+//! held out of the handle and puts it back, which moves a pointer.
 #![tactic(auto)]
 
 ghost use Rattle.std.specs.Prelude.{◌≡◌, ◌⊎◌, ◌↔◌, None, Some, IsUtf8, chars, codes};
 ghost use Rattle.phone_chars.specs.Viable.{IsViable};
 ghost use Rattle.phone_c_base.specs.Buffers.{IsTooLong, IsTooLongA, IsWritten, IsWrittenA};
-ghost use Rattle.phone_c_base.specs.Handles.{IsClosed, IsKept, IsOpenedBy};
+ghost use Rattle.phone_c_base.specs.Handles.{IsClosed, IsKept, IsOpen, IsOpenedBy};
 ghost use Rattle.phone_c_base.specs.Hints.{hint_of};
 ghost use Rattle.phone_c_base.specs.Openings.{IsRefusalOf};
 ghost use Rattle.phone_c_base.specs.Parses.{IsNoRefusal, IsWordsOf};
@@ -30,6 +31,7 @@ use phone_c_base::handle::{Handle, put, take};
 use phone_c_base::opening::open_database;
 use phone_c_base::refusal::refusal_words;
 use phone_c_base::report::report;
+use phone_c_base::sharing::share;
 use phone_c_base::status::{
     CLOSED, MEMORY, NO_REFUSAL, NO_REGION, NO_WORD, NOT_UTF8, OK, TOO_SMALL,
 };
@@ -62,7 +64,25 @@ pub extern "C" fn phone_open(alloc: Global, text: &[u8], handle: &mut Handle) ->
     }
 }
 
-/// Closes a handle, and frees the database behind it; nothing where it is closed already.
+/// Opens behind `mine` the database that is open behind `world`: both handles stand on it, and each
+/// serves one call at a time. It takes the memory of a few words, and copies no database. What
+/// `mine` had open is closed first, whatever comes.
+///
+/// `OK`: the database is open behind `mine`. `CLOSED` exactly where `world` is closed. `MEMORY`:
+/// memory was refused. For each but `OK` `mine` is closed. `world` stays as it was.
+#[unsafe(no_mangle)]
+pub extern "C" fn phone_share(alloc: Global, world: &mut Handle, mine: &mut Handle) -> u32
+    ensures shared { result ≡ OK → IsOpen mine.new world.old.records }
+    ensures closed { (result ≡ CLOSED) ↔ IsClosed world.old }
+    ensures other { ¬ (result ≡ OK) → ¬ (result ≡ CLOSED) → result ≡ MEMORY }
+    ensures refused { ¬ (result ≡ OK) → IsClosed mine.new }
+    ensures kept { IsKept world.old world.new }
+{
+    share(alloc, world, mine)
+}
+
+/// Closes a handle; nothing where it is closed already. The database behind it is freed with the
+/// last of the handles that stand on it.
 #[unsafe(no_mangle)]
 pub extern "C" fn phone_close(alloc: Global, handle: &mut Handle)
     ensures { IsClosed handle.new }

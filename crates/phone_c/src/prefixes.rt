@@ -3,10 +3,11 @@ ghost use Rattle.std.specs.Prelude.{◌≡◌, ◌⊎◌, ◌↔◌, IsUtf8, len
 ghost use Rattle.phone_prefixes.specs.Tables.{NoneBegins};
 ghost use Rattle.phone_c_base.specs.Buffers.{IsTooLongA, IsWrittenA};
 ghost use Rattle.phone_c_base.specs.PrefixTables.{IsLineRefusedAs, IsTableClosed};
-ghost use Rattle.phone_c_base.specs.PrefixTables.{IsTableKept, IsTableOpenedBy, IsTextFor};
-ghost use Rattle.phone_c_base.specs.PrefixTables.{IsTextOfLongest};
+ghost use Rattle.phone_c_base.specs.PrefixTables.{IsTableKept, IsTableOpen, IsTableOpenedBy};
+ghost use Rattle.phone_c_base.specs.PrefixTables.{IsTextFor, IsTextOfLongest};
 
 use phone_c_base::prefixes::{longest, open_table};
+use phone_c_base::sharing::share_table;
 use phone_c_base::status::{CLOSED, MEMORY, NO_PREFIX, NOT_UTF8, OK, TOO_SMALL};
 use phone_c_base::table::{Table, put_table, take_table};
 use std::alloc::Global;
@@ -48,7 +49,25 @@ pub extern "C" fn phone_prefixes_open(
     }
 }
 
-/// Closes a table of prefixes, and frees it; nothing where it is closed already.
+/// Opens behind `mine` the table of prefixes that is open behind `table`: both handles stand on it,
+/// and each serves one call at a time. It takes the memory of a few words, and copies no table.
+/// What `mine` had open is closed first, whatever comes.
+///
+/// `OK`: the table is open behind `mine`. `CLOSED` exactly where `table` is closed. `MEMORY`:
+/// memory was refused. For each but `OK` `mine` is closed. `table` stays as it was.
+#[unsafe(no_mangle)]
+pub extern "C" fn phone_prefixes_share(alloc: Global, table: &mut Table, mine: &mut Table) -> u32
+    ensures shared { result ≡ OK → IsTableOpen mine.new table.old.entries }
+    ensures closed { (result ≡ CLOSED) ↔ IsTableClosed table.old }
+    ensures other { ¬ (result ≡ OK) → ¬ (result ≡ CLOSED) → result ≡ MEMORY }
+    ensures refused { ¬ (result ≡ OK) → IsTableClosed mine.new }
+    ensures kept { IsTableKept table.old table.new }
+{
+    share_table(alloc, table, mine)
+}
+
+/// Closes the handle of a table of prefixes; nothing where it is closed already. The table is freed
+/// with the last of the handles that stand on it.
 #[unsafe(no_mangle)]
 pub extern "C" fn phone_prefixes_close(alloc: Global, table: &mut Table)
     ensures { IsTableClosed table.new }

@@ -11,7 +11,7 @@ use types.Kit.{given, learn, use1, Item, Goal, Seq, Step, step, ‵, ◌$◌, dr
 use contract.Monad.{fact_use}
 use denote.Builtin.{RawPtr}
 use denote.Memory.{lone}
-use denote.RattleType.{Valss}
+use denote.RattleType.{RattleType, Valss}
 use denote.RawPtr.{Ptr, Testable, block_ptr, lies_at, null_ptr, ptr_val}
 use denote.Steps.{nothing}
 use denote.Struct.Struct.{within}
@@ -26,17 +26,23 @@ use Rattle.phone_prefixes.specs.contracts.prefixes.Prefixes as prefixes
 use Rattle.phone_prefixes.specs.Tables.{Entry}
 use Rattle.phone_c_base.proofs.Behind.{pointer}
 use Rattle.phone_c_base.specs.Owned.{boxed_table_at, c_heap, table_owns}
+use Rattle.phone_c_base.proofs.shared.Owner.TheLaws as owner_laws
+use Rattle.phone_c_base.specs.contracts.shared.Owner as owner
 use Rattle.phone_c_base.specs.contracts.table.Table as table
 
--- a box of a table over the C library's heap, as the kit's steps for boxes take it
+-- an owner of a table
+abbrev owned : RattleType
+owned = owner.the_row prefixes.the_row
+
+-- a box of one over the C library's heap, as the kit's steps for boxes take it
 abbrev pub E : Bx
-E = record { row = prefixes.the_row; laws = table_laws.the_row_laws; al = record { row = heap.the_row; laws = heap_laws.the_row_laws; g = ghosts; d = impl [] tnil dnil; drops = impl [] tnil dnil } }
+E = record { row = owned; laws = owner_laws.the_row_laws prefixes.the_row table_laws.the_row_laws; al = record { row = heap.the_row; laws = heap_laws.the_row_laws; g = ghosts; d = impl [] tnil dnil; drops = impl [] tnil dnil } }
 
 module _ {M : Type 1} {𝓤 : Ura M} (𝓛 : Logic 𝓤) where
   -- a pointer that the heap may free may be compared with null
   pub boxed_table_at-Testable : (p : Ptr) (x : List Entry) → ent 𝓤 (sem 𝓛 (boxed_table_at p x)) (guard 𝓤 (Testable p) (sem 𝓛 (boxed_table_at p x)))
   boxed_table_at-Testable p x =
-      fact_use 𝓤 (Testable p) (via 𝓤 _ (snd∗ 𝓤 (sem 𝓛 (lies_at prefixes.the_row full_share p x)) (sem 𝓛 (ghosts.dealloc_token c_heap (bare (lone prefixes.the_row.mir)) p))) (dealloc_token-Testable 𝓛 c_heap (bare (lone prefixes.the_row.mir)) p)) (guard_i 𝓤 (Testable p) (sem 𝓛 (boxed_table_at p x)))
+      fact_use 𝓤 (Testable p) (via 𝓤 _ (snd∗ 𝓤 (sem 𝓛 (lies_at owned full_share p x)) (sem 𝓛 (ghosts.dealloc_token c_heap (bare (lone owned.mir)) p))) (dealloc_token-Testable 𝓛 c_heap (bare (lone owned.mir)) p)) (guard_i 𝓤 (Testable p) (sem 𝓛 (boxed_table_at p x)))
 
 module _ {M : Type 1} {𝓤 : Ura M} {𝓛 : Logic 𝓤} {K : Type 0} {Γ : List (Item 𝓤)} {G : Goal 𝓤 𝓛.H} where
   -- what is owned at the pointer becomes the handle's

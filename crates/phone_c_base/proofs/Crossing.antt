@@ -1,12 +1,14 @@
--- A database may be passed to another thread. Rattle shows `Send` and `Sync` of a type from those
--- of its fields, but not of `Hir`, which holds itself, nor of what holds a `Hir`: these stand here.
+-- A database may be passed to another thread, and several may read one at a time. Rattle shows `Send`
+-- and `Sync` of a type from those of its fields, but not of `Hir`, which holds itself, nor of what
+-- holds a `Hir`: these stand here, and what follows for the owners that stand behind handles.
 use denote.Builtin.{u8, u16, u32, usize}
 use denote.Enum.Declared as E
 use denote.Param.Send.{IsSend, IsSync, sendable}
 use denote.Param.Send.{enum_send, enum_sync, recorded_send, recorded_sync, struct_send, struct_sync}
 use denote.Param.Send.{view_send, view_sync}
+use denote.RattleType.{RattleType}
 use denote.Struct.Declared as S
-use Rattle.std.proofs.Crossing.{Arc-send, Box-send, Box-sync, Vec-send, Vec-sync}
+use Rattle.std.proofs.Crossing.{Arc-send, Arc-sync, Box-send, Box-sync, Vec-send, Vec-sync}
 use Rattle.std.proofs.Crossing.{frees, send, sync}
 use Rattle.std.proofs.MapsCrossing.{String-send, String-sync}
 use Rattle.std.proofs.alloc.Global.TheSendSync as heap
@@ -60,6 +62,10 @@ use Rattle.phone_meta.specs.contracts.database.Database.TheInside as Database-in
 use Rattle.phone_territory.specs.contracts.patterns.Patterns as Patterns
 use Rattle.phone_territory.proofs.metadata.CompiledParts.TheSendSync as parts
 use Rattle.phone_meta.proofs.index.Index.TheSendSync as index
+use Rattle.phone_prefixes.proofs.prefixes.Prefixes.TheSendSync as prefixes
+use Rattle.phone_prefixes.specs.contracts.prefixes.Prefixes as Prefixes
+use Rattle.phone_c_base.specs.contracts.shared.Owner as Owner
+use Rattle.phone_c_base.specs.contracts.shared.Owner.TheInside as Owner-in
 
 -- ---- what may be passed to another thread
 String-field-send : IsSend (string.the_field Heap.the_row ghosts).row
@@ -305,7 +311,7 @@ CompiledList-inside-sync = recorded_sync (CompiledList-in.the_field).row _ _ (Co
 CompiledList-sync : IsSync CompiledList.the_row
 CompiledList-sync = view_sync _ _ _ _ _ CompiledList-inside-sync
 
--- ---- what holds these
+-- ---- what holds these: passed to another thread
 Pattern-inside-send : IsSend Pattern-in.the_row
 Pattern-inside-send = recorded_send (Pattern-in.the_field).row _ _ (Pattern-in.the_type).to_one
     (struct_send (S.shape Pattern-in.the_type)
@@ -478,3 +484,191 @@ Database-inside-send = recorded_send (Database-in.the_field).row _ _ (Database-i
 
 pub Database-send : IsSend Database.the_row
 Database-send = view_send _ _ _ _ _ Database-inside-send
+
+-- ---- and read by several
+Pattern-inside-sync : IsSync Pattern-in.the_row
+Pattern-inside-sync = recorded_sync (Pattern-in.the_field).row _ _ (Pattern-in.the_type).to_one
+    (struct_sync (S.shape Pattern-in.the_type)
+    (Arc-sync _ Compiled-send Compiled-sync, tt))
+
+Pattern-sync : IsSync Pattern.the_row
+Pattern-sync = view_sync _ _ _ _ _ Pattern-inside-sync
+
+Leading-inside-sync : IsSync Leading-in.the_row
+Leading-inside-sync = recorded_sync (Leading-in.the_field).row _ _ (Leading-in.the_type).to_one
+    (struct_sync (S.shape Leading-in.the_type)
+    (Arc-sync _ CompiledList-send CompiledList-sync, tt))
+
+Leading-sync : IsSync Leading.the_row
+Leading-sync = view_sync _ _ _ _ _ Leading-inside-sync
+
+FirstGroup-inside-sync : IsSync FirstGroup-in.the_row
+FirstGroup-inside-sync = recorded_sync (FirstGroup-in.the_field).row _ _ (FirstGroup-in.the_type).to_one
+    (struct_sync (S.shape FirstGroup-in.the_type) (Pattern-sync, tt))
+
+FirstGroup-sync : IsSync FirstGroup.the_row
+FirstGroup-sync = view_sync _ _ _ _ _ FirstGroup-inside-sync
+
+Descriptor-inside-sync : IsSync Descriptor-in.the_row
+Descriptor-inside-sync = recorded_sync (Descriptor-in.the_field).row _ _ (Descriptor-in.the_type).to_one
+    (struct_sync (S.shape Descriptor-in.the_type) (
+      Pattern-sync,
+      (
+        Vec-sync u16 (search sendable),
+        (
+          Vec-sync u16 (search sendable),
+          (option.the_field_sync _ text.the_sync, tt),
+        ),
+      ),
+    ))
+
+Descriptor-sync : IsSync Descriptor.the_row
+Descriptor-sync = view_sync _ _ _ _ _ Descriptor-inside-sync
+
+OneDescriptor-sync : IsSync (Option.the_field Descriptor.the_row).row
+OneDescriptor-sync = option.the_field_sync _ Descriptor-sync
+
+Descriptors-inside-sync : IsSync Descriptors-in.the_row
+Descriptors-inside-sync = recorded_sync (Descriptors-in.the_field).row _ _ (Descriptors-in.the_type).to_one
+    (struct_sync (S.shape Descriptors-in.the_type) (
+      Descriptor-sync,
+      (
+        OneDescriptor-sync,
+        (
+          OneDescriptor-sync,
+          (
+            OneDescriptor-sync,
+            (
+              OneDescriptor-sync,
+              (
+                OneDescriptor-sync,
+                (
+                  OneDescriptor-sync,
+                  (
+                    OneDescriptor-sync,
+                    (
+                      OneDescriptor-sync,
+                      (
+                        OneDescriptor-sync,
+                        (
+                          OneDescriptor-sync,
+                          (
+                            OneDescriptor-sync,
+                            (
+                              OneDescriptor-sync,
+                              (
+                                OneDescriptor-sync,
+                                (
+                                  OneDescriptor-sync,
+                                  (
+                                    OneDescriptor-sync,
+                                    tt,
+                                  ),
+                                ),
+                              ),
+                            ),
+                          ),
+                        ),
+                      ),
+                    ),
+                  ),
+                ),
+              ),
+            ),
+          ),
+        ),
+      ),
+    ))
+
+Descriptors-sync : IsSync Descriptors.the_row
+Descriptors-sync = view_sync _ _ _ _ _ Descriptors-inside-sync
+
+Format-inside-sync : IsSync Format-in.the_row
+Format-inside-sync = recorded_sync (Format-in.the_field).row _ _ (Format-in.the_type).to_one
+    (struct_sync (S.shape Format-in.the_type) (
+      Pattern-sync,
+      (
+        text.the_sync,
+        (
+          Leading-sync,
+          (
+            option.the_field_sync _ text.the_sync,
+            (search sendable, (option.the_field_sync _ text.the_sync, (ruled.the_field_sync, tt))),
+          ),
+        ),
+      ),
+    ))
+
+Format-sync : IsSync Format.the_row
+Format-sync = view_sync _ _ _ _ _ Format-inside-sync
+
+Patterns-field-sync : IsSync (Patterns.the_field).row
+Patterns-field-sync =
+    struct_sync (S.shape Patterns.the_type) (
+      option.the_field_sync _ Pattern-sync,
+      (
+        option.the_field_sync _ Pattern-sync,
+        (
+          option.the_field_sync _ Pattern-sync,
+          (
+            Vec-sync _ Format-sync,
+            (
+              Vec-sync _ Format-sync,
+              (search sendable, tt),
+            ),
+          ),
+        ),
+      ),
+    )
+
+Metadata-inside-sync : IsSync Metadata-in.the_row
+Metadata-inside-sync = recorded_sync (Metadata-in.the_field).row _ _ (Metadata-in.the_type).to_one
+    (struct_sync (S.shape Metadata-in.the_type) (
+      heap.the_field_sync,
+      (
+        Descriptors-sync,
+        (
+          Patterns-field-sync,
+          (
+            parts.the_field_sync,
+            tt,
+          ),
+        ),
+      ),
+    ))
+
+Metadata-sync : IsSync Metadata.the_row
+Metadata-sync = view_sync _ _ _ _ _ Metadata-inside-sync
+
+Database-inside-sync : IsSync Database-in.the_row
+Database-inside-sync = recorded_sync (Database-in.the_field).row _ _ (Database-in.the_type).to_one
+    (struct_sync (S.shape Database-in.the_type) (
+      heap.the_field_sync,
+      (
+        Vec-sync _ Metadata-sync,
+        (
+          index.the_field_sync,
+          (
+            FirstGroup-sync,
+            tt,
+          ),
+        ),
+      ),
+    ))
+
+pub Database-sync : IsSync Database.the_row
+Database-sync = view_sync _ _ _ _ _ Database-inside-sync
+
+-- ---- what stands behind a handle
+Owner-inside-send : (T : RattleType) → IsSend T → IsSync T → IsSend (Owner-in.the_row T)
+Owner-inside-send T send sync = recorded_send (Owner-in.the_field T).row _ _ (Owner-in.the_type T).to_one
+    (struct_send (S.shape (Owner-in.the_type T)) (Arc-send T send sync, tt))
+
+Owner-send : (T : RattleType) → IsSend T → IsSync T → IsSend (Owner.the_row T)
+Owner-send T send sync = view_send _ _ _ _ _ (Owner-inside-send T send sync)
+
+pub Database-owner-send : IsSend (Owner.the_row Database.the_row)
+Database-owner-send = Owner-send Database.the_row Database-send Database-sync
+
+pub Prefixes-owner-send : IsSend (Owner.the_row Prefixes.the_row)
+Prefixes-owner-send = Owner-send Prefixes.the_row prefixes.the_send prefixes.the_sync

@@ -6,7 +6,8 @@ use Rattle.core.specs.Ptr.{if_non_null}
 use Rattle.std.specs.declared.alloc.Global.{Global}
 use Rattle.std.specs.contracts.impls.GlobalAllocator.TheImpl.{ghosts}
 use Rattle.std_alloc.specs.Box.Ownership.{box_owns}
-use Rattle.phone_meta.specs.contracts.database.Database.{the_row}
+use Rattle.phone_c_base.specs.contracts.shared.Owner as owner
+use Rattle.phone_meta.specs.contracts.database.Database as database
 use Rattle.phone_prefixes.specs.Tables.{Entry}
 use Rattle.phone_prefixes.specs.contracts.prefixes.Prefixes as prefixes
 use Rattle.phone_records.specs.declared.loader.Metadata.{Metadata}
@@ -15,18 +16,20 @@ use Rattle.phone_records.specs.declared.loader.Metadata.{Metadata}
 abbrev pub c_heap : Global
 c_heap = record { memory = record { seal = tt } }
 
--- at p lies the database of these records, with the right to free its block
+-- at p lies an owner of the database of these records, with the right to free its block
 abbrev pub boxed_at : Ptr → List Metadata → Fml
-boxed_at p records = box_owns (ghosts.dealloc_token c_heap) the_row p records
+boxed_at p records =
+    box_owns (ghosts.dealloc_token c_heap) (owner.the_row database.the_row) p records
 
--- nothing at null, else the boxed database at p
+-- nothing at null, else the boxed owner at p
 abbrev pub handle_owns : Ptr → List Metadata → Fml
 handle_owns p records = if_non_null p (boxed_at p records)
 
--- at p lies the table of prefixes of these entries, with the right to free its block
+-- at p lies an owner of the table of prefixes of these entries, with the right to free its block
 abbrev pub boxed_table_at : Ptr → List Entry → Fml
-boxed_table_at p entries = box_owns (ghosts.dealloc_token c_heap) prefixes.the_row p entries
+boxed_table_at p entries =
+    box_owns (ghosts.dealloc_token c_heap) (owner.the_row prefixes.the_row) p entries
 
--- nothing at null, else the boxed table at p
+-- nothing at null, else the boxed owner at p
 abbrev pub table_owns : Ptr → List Entry → Fml
 table_owns p entries = if_non_null p (boxed_table_at p entries)

@@ -4,12 +4,14 @@ ghost use denote.RawPtr.{null_ptr, InBlock};
 ghost use Rattle.phone_records.specs.declared.loader.Metadata.{Metadata};
 
 use crate::raw_box::RawBox;
+use crate::shared::{Held, Owner};
 use phone_meta::Database;
 use std::alloc::Global;
 use std::marker::Model;
 
-/// A handle, null where nothing is open. Contracts see the pointer and the database's records. The
-/// pointer is one to bytes, since one to a `Database` doesn't cross to C.
+/// A handle, null where nothing is open. Behind it lies one of the owners of a database. Contracts
+/// see the pointer and the database's records. The pointer is one to bytes, since one to an `Owner`
+/// doesn't cross to C.
 #[repr(C)]
 pub struct Handle {
     pub(crate) at: *mut u8,
@@ -22,8 +24,7 @@ impl Model for Handle {
     ghost also_owns = { λ h. handle_owns h.at h.records };
 }
 
-/// A handle, closed or open, may be passed to another thread: what its database shares, several
-/// threads may read.
+/// A handle, closed or open, may be passed to another thread: several threads may read a database.
 unsafe impl Send for Handle {}
 
 impl Handle {
@@ -36,8 +37,8 @@ impl Handle {
         }
     }
 
-    /// The handle at the pointer of a boxed database.
-    fn of_raw(loose: RawBox<Database, Global>) -> Handle
+    /// The handle at the pointer of a boxed owner.
+    fn of_raw(loose: RawBox<Owner<Database>, Global>) -> Handle
         ensures open { InBlock result.at }
         ensures records { result.records ≡ loose.value }
     {
@@ -45,8 +46,8 @@ impl Handle {
         Handle { at: at as *mut u8 }
     }
 
-    /// The pointer of the boxed database, where one is open.
-    fn into_raw(self, alloc: Global) -> Option<RawBox<Database, Global>>
+    /// The pointer of the boxed owner, where one is open.
+    fn into_raw(self, alloc: Global) -> Option<RawBox<Owner<Database>, Global>>
         ensures { MatchOption result (self.at ≡ null_ptr)
             (λ l. InBlock self.at × (l.value ≡ self.records)) }
     {
@@ -55,32 +56,32 @@ impl Handle {
             None
         } else {
             Some(RawBox {
-                at: at as *mut Database,
+                at: at as *mut Owner<Database>,
                 alloc,
             })
         }
     }
 }
 
-/// Takes the database out of a handle, which is closed then.
-pub fn take(alloc: Global, handle: &mut Handle) -> Option<Box<Database>>
+/// Takes what a handle holds out of it; the handle is closed then.
+pub fn take(alloc: Global, handle: &mut Handle) -> Option<Held<Database>>
     ensures database { MatchOption result (handle.old.at ≡ null_ptr)
-        (λ b. InBlock handle.old.at × (b.value ≡ handle.old.records)) }
+        (λ held. InBlock handle.old.at × (held ≡ handle.old.records)) }
     ensures closed { handle.new.at ≡ null_ptr }
 {
     let whole = std::mem::replace(handle, Handle::empty());
     match whole.into_raw(alloc) {
-        Some(loose) => Some(loose.into_box()),
+        Some(loose) => Some(Held::of_box(loose.into_box())),
         None => None,
     }
 }
 
-/// Puts a database into a handle; what was open there is dropped.
-pub fn put(alloc: Global, handle: &mut Handle, database: Box<Database>)
+/// Puts what is held of a database into a handle; what the handle held is dropped.
+pub fn put(alloc: Global, handle: &mut Handle, database: Held<Database>)
     ensures open { InBlock handle.new.at }
-    ensures records { handle.new.records ≡ database.value }
+    ensures records { handle.new.records ≡ database }
 {
-    let before = std::mem::replace(handle, Handle::of_raw(RawBox::of(database)));
+    let before = std::mem::replace(handle, Handle::of_raw(RawBox::of(database.into_box())));
     if let Some(loose) = before.into_raw(alloc) {
         drop(loose.into_box());
     }

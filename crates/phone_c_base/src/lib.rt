@@ -23,6 +23,8 @@ mod raw_box;
 pub mod refusal;
 pub mod report;
 pub mod rules;
+pub mod shared;
+pub mod sharing;
 pub mod short;
 pub mod status;
 pub mod table;

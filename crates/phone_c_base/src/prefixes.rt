@@ -1,4 +1,4 @@
-//! Tables of prefixes: one read from a text, in a box, and digits looked up in one.
+//! Tables of prefixes: one read from a text, as a handle holds it, and digits looked up in one.
 ghost use Rattle.std.specs.Prelude.{◌≡◌, ◌⊎◌, ◌↔◌, IfErr, IfOk, IsUtf8, length};
 ghost use Rattle.phone_prefixes.specs.Refusals.{Refuses};
 ghost use Rattle.phone_prefixes.specs.Tables.{IsTable, NoneBegins};
@@ -8,6 +8,7 @@ ghost use Rattle.phone_c_base.specs.PrefixTables.{fault_number, IsLineRefusedAs}
 ghost use Rattle.phone_c_base.specs.PrefixTables.{IsTextFor, IsTextOfLongest};
 
 use crate::buffer::give;
+use crate::shared::Held;
 use crate::status::{
     LINE_EMPTY, LINE_NO_PREFIX, LINE_NO_TAB, LINE_NOT_UTF8, LINE_TWICE, MEMORY, NO_PREFIX,
     NOT_UTF8, OK, TOO_SMALL,
@@ -39,15 +40,15 @@ fn read_table(alloc: Global, text: &[u8]) -> Result<Prefixes, PrefixesError>
     }
 }
 
-/// The table that a text is, in a box; or the status of the refusal, and the number of the line, 0
-/// where none is refused.
-pub fn open_table(alloc: Global, text: &[u8]) -> Result<Box<Prefixes>, (u32, usize)>
-    ensures opened { IfOk result (λ b. IsTable text.now b.value) }
+/// The table that a text is, as a handle holds it; or the status of the refusal, and the number of
+/// the line, 0 where none is refused.
+pub fn open_table(alloc: Global, text: &[u8]) -> Result<Held<Prefixes>, (u32, usize)>
+    ensures opened { IfOk result (λ held. IsTable text.now held) }
     ensures refused { IfErr result (λ e. ((e.0 ≡ MEMORY) × (e.1 ≡ 0)) ⊎
         IsLineRefusedAs text.now e.1 e.0) }
 {
     match read_table(alloc, text) {
-        Ok(prefixes) => match Box::new(alloc, prefixes) {
+        Ok(prefixes) => match Held::of(alloc, prefixes) {
             Ok(prefixes) => Ok(prefixes),
             Err(_) => Err((MEMORY, 0)),
         },

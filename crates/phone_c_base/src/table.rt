@@ -4,12 +4,14 @@ ghost use denote.RawPtr.{null_ptr, InBlock};
 ghost use Rattle.phone_prefixes.specs.Tables.{Entry};
 
 use crate::raw_box::RawBox;
+use crate::shared::{Held, Owner};
 use phone_prefixes::Prefixes;
 use std::alloc::Global;
 use std::marker::Model;
 
-/// A handle of a table of prefixes, null where nothing is open. Contracts see the pointer and the
-/// table's entries. The pointer is one to bytes, since one to `Prefixes` doesn't cross to C.
+/// A handle of a table of prefixes, null where nothing is open. Behind it lies one of the owners of
+/// a table. Contracts see the pointer and the table's entries. The pointer is one to bytes, since
+/// one to an `Owner` doesn't cross to C.
 #[repr(C)]
 pub struct Table {
     pub(crate) at: *mut u8,
@@ -35,8 +37,8 @@ impl Table {
         }
     }
 
-    /// The handle at the pointer of a boxed table.
-    fn of_raw(loose: RawBox<Prefixes, Global>) -> Table
+    /// The handle at the pointer of a boxed owner.
+    fn of_raw(loose: RawBox<Owner<Prefixes>, Global>) -> Table
         ensures open { InBlock result.at }
         ensures entries { result.entries ≡ loose.value }
     {
@@ -44,8 +46,8 @@ impl Table {
         Table { at: at as *mut u8 }
     }
 
-    /// The pointer of the boxed table, where one is open.
-    fn into_raw(self, alloc: Global) -> Option<RawBox<Prefixes, Global>>
+    /// The pointer of the boxed owner, where one is open.
+    fn into_raw(self, alloc: Global) -> Option<RawBox<Owner<Prefixes>, Global>>
         ensures { MatchOption result (self.at ≡ null_ptr)
             (λ l. InBlock self.at × (l.value ≡ self.entries)) }
     {
@@ -54,32 +56,32 @@ impl Table {
             None
         } else {
             Some(RawBox {
-                at: at as *mut Prefixes,
+                at: at as *mut Owner<Prefixes>,
                 alloc,
             })
         }
     }
 }
 
-/// Takes the table out of a handle, which is closed then.
-pub fn take_table(alloc: Global, table: &mut Table) -> Option<Box<Prefixes>>
+/// Takes what a handle holds out of it; the handle is closed then.
+pub fn take_table(alloc: Global, table: &mut Table) -> Option<Held<Prefixes>>
     ensures entries { MatchOption result (table.old.at ≡ null_ptr)
-        (λ b. InBlock table.old.at × (b.value ≡ table.old.entries)) }
+        (λ held. InBlock table.old.at × (held ≡ table.old.entries)) }
     ensures closed { table.new.at ≡ null_ptr }
 {
     let whole = std::mem::replace(table, Table::empty());
     match whole.into_raw(alloc) {
-        Some(loose) => Some(loose.into_box()),
+        Some(loose) => Some(Held::of_box(loose.into_box())),
         None => None,
     }
 }
 
-/// Puts a table into a handle; what was open there is dropped.
-pub fn put_table(alloc: Global, table: &mut Table, prefixes: Box<Prefixes>)
+/// Puts what is held of a table into a handle; what the handle held is dropped.
+pub fn put_table(alloc: Global, table: &mut Table, prefixes: Held<Prefixes>)
     ensures open { InBlock table.new.at }
-    ensures entries { table.new.entries ≡ prefixes.value }
+    ensures entries { table.new.entries ≡ prefixes }
 {
-    let before = std::mem::replace(table, Table::of_raw(RawBox::of(prefixes)));
+    let before = std::mem::replace(table, Table::of_raw(RawBox::of(prefixes.into_box())));
     if let Some(loose) = before.into_raw(alloc) {
         drop(loose.into_box());
     }

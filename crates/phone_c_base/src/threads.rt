@@ -1,16 +1,30 @@
-//! What may be passed to another thread. Each of these functions is proved only while its type is
-//! `Send`; none of them does anything.
+//! What may be passed to another thread, and what several threads may read at a time. Each of these
+//! functions is proved only while its type is `Send`, or `Sync`; none of them does anything.
 
 use crate::handle::Handle;
 use crate::table::Table;
 use phone_meta::Database;
+use phone_prefixes::Prefixes;
 
 /// Takes what may be passed to another thread.
 fn crosses<T: Send>(_thing: &T) {}
 
-/// A database may be passed to another thread. It serves one at a time: it isn't `Sync`.
+/// Takes what several threads may read at a time.
+fn is_shared<T: Sync>(_thing: &T) {}
+
+/// A database may be passed to another thread.
 pub fn database_crosses(database: &Database) {
     crosses(database)
+}
+
+/// Several threads may read a database at a time.
+pub fn database_is_shared(database: &Database) {
+    is_shared(database)
+}
+
+/// Several threads may read a table of prefixes at a time.
+pub fn prefixes_are_shared(prefixes: &Prefixes) {
+    is_shared(prefixes)
 }
 
 /// The handle of a database may be passed to another thread.

@@ -70,6 +70,7 @@ pub const NO_TERRITORY: u32 = 34;
 unsafe extern "C" {
     pub fn phone_open(text: *const u8, len: usize, handle: *mut Handle) -> u32;
     pub fn phone_open_world(handle: *mut Handle) -> u32;
+    pub fn phone_share(world: *mut Handle, mine: *mut Handle) -> u32;
     pub fn phone_world_text(text_len: *mut usize) -> *const u8;
     pub fn phone_close(handle: *mut Handle);
     pub fn phone_report_by(
@@ -199,6 +200,7 @@ unsafe extern "C" {
         facts: *mut ShortFacts,
     ) -> u32;
     pub fn phone_prefixes_open(text: *const u8, len: usize, prefixes: *mut Prefixes, line: *mut usize) -> u32;
+    pub fn phone_prefixes_share(prefixes: *mut Prefixes, mine: *mut Prefixes) -> u32;
     pub fn phone_prefixes_close(prefixes: *mut Prefixes);
     pub fn phone_prefixes_longest(
         prefixes: *mut Prefixes,

@@ -12,14 +12,15 @@ use Rattle.phone_meta.specs.contracts.database.Database as Database
 use Rattle.phone_records.specs.declared.loader.Metadata.{Metadata}
 use Rattle.phone_c_base.specs.Owned.{c_heap, handle_owns}
 use Rattle.phone_c_base.specs.contracts.handle.Handle.{the_row, the_type}
-use Rattle.phone_c_base.proofs.Crossing.{Database-send}
+use Rattle.phone_c_base.specs.contracts.shared.Owner as Owner
+use Rattle.phone_c_base.proofs.Crossing.{Database-owner-send}
 
 -- what a handle owns says the same to every thread
 owned : (p : Ptr) (records : List Metadata) → Keyless (handle_owns p records)
 owned null_ptr records = tt
 owned (block_ptr b o) records =
-    let R = Database.the_row in
-    (lies R Database-send (block_ptr b o) records, heap.frees.frees c_heap (raw (lone R.mir)) (block_ptr b o))
+    let R = Owner.the_row Database.the_row in
+    (lies R Database-owner-send (block_ptr b o) records, heap.frees.frees c_heap (raw (lone R.mir)) (block_ptr b o))
 
 pub send : IsSend the_row
 send =
