@@ -6,7 +6,9 @@ use Rattle.std.specs.Option.{option_or}
 use Rattle.regex_dfa.specs.Moves.{Test, MovesForward}
 use Rattle.regex_hir.specs.declared.look.Look as looks
 use Rattle.regex_hir.specs.declared.look.Look.TheVariants as look
+use Rattle.regex_hir.specs.Find.{Match}
 use Rattle.regex_nfa.specs.declared.nfa.Nfa.{Nfa}
+use Rattle.phone_automaton.specs.Finds.{front_end}
 
 -- a text of ASCII's digits alone
 abbrev pub AreDigits : List ℕ → Type 0
@@ -77,3 +79,7 @@ AreCells nfa rows cells =
     (row column : ℕ) (threads : List ℕ) → column < 11 → row * 11 + column < length cells →
     slice_get rows row ≡ Some threads →
     IsCell nfa rows threads (byte_of column) (cell_at cells row column)
+
+-- a table tells of each text of digits where the match at its front ends that is found there
+abbrev pub TellsFront : (List ℕ → Option Match) → List ℕ → Type 0
+TellsFront found cells = (hay : List ℕ) → AreDigits hay → end_of_digits cells hay ≡ front_end (found hay)

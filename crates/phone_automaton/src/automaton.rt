@@ -1,10 +1,10 @@
 //! An automaton: a pattern compiled for texts of ASCII, made once, and the machine that it keeps
 //! from one search to the next.
-ghost use Rattle.std.specs.Prelude.{◌≡◌, ◌<◌, ◌-◌, ◌^◌, ℕ, length, List, IfOk, IfSome, Some};
+ghost use Rattle.std.specs.Prelude.{◌≡◌, ◌≤◌, ◌<◌, ◌-◌, ◌^◌, ℕ, length, List, IfOk, IfSome, Some};
 ghost use Rattle.std.specs.Prelude.{string_bytes};
 ghost use Rattle.std.specs.Arc.{arc_value};
 ghost use Rattle.phone_automaton.specs.Ascii.{AsciiSame};
-ghost use Rattle.phone_automaton.specs.Digits.{end_of_digits, AreDigits};
+ghost use Rattle.phone_automaton.specs.Digits.{AreDigits, TellsFront};
 ghost use Rattle.phone_automaton.specs.Finds.{finds, front_end, FindsInAscii};
 ghost use Rattle.phone_automaton.specs.Parts.{AreFrontCellsFor};
 ghost use Rattle.phone_automaton.specs.Templates.{with_match_replaced};
@@ -13,7 +13,7 @@ ghost use Rattle.regex_hir.specs.Meaning.{meaning};
 ghost use Rattle.regex_hir.specs.Re.{Re};
 ghost use Rattle.regex_syntax.specs.Grammar.{Names};
 
-use crate::digits::Digits;
+use crate::digits::{Digits, are_digits};
 use crate::machine::Machine;
 use crate::narrow::narrow_classes;
 use crate::parts;
@@ -102,8 +102,7 @@ impl Core {
     /// more than a thousand rows, and where a step looks at what stands around it otherwise than
     /// for the text's end.
     fn digits(&self, alloc: Global) -> Option<Digits>
-        ensures { IfSome result (λ d. (hay : List ℕ) → AreDigits hay →
-            end_of_digits d hay ≡ front_end (finds self.now hay)) }
+        ensures { IfSome result (TellsFront (finds self.now)) }
     {
         Digits::new(alloc, &self.tables.dfa.nfa)
     }
@@ -134,30 +133,39 @@ impl Core {
     }
 }
 
-/// A pattern's automaton for texts of ASCII, with a place in which it keeps a machine from one
-/// search to the next. Threads may share it. Contracts see what it finds in each text, `finds`, and
-/// the number of the last group.
+/// A pattern's automaton for texts of ASCII, with the table of its steps over digits, and a place in
+/// which it keeps a machine from one search to the next. Threads may share it. Contracts see what it
+/// finds in each text, `finds`, and the number of the last group.
 pub struct Automaton {
     core: Core,
+    /// None where memory was refused for it, where it would have more than a thousand rows, and where
+    /// a step looks at what stands around it otherwise than for the text's end.
+    digits: Option<Digits>,
     place: Place,
 }
 
 impl Model for Automaton {
-    ghost use Rattle.std.specs.Prelude.{◌≡◌};
-    ghost use Rattle.phone_automaton.specs.Finds.{Searcher};
+    ghost use Rattle.std.specs.Prelude.{◌≡◌, IfSome};
+    ghost use Rattle.phone_automaton.specs.Digits.{TellsFront};
+    ghost use Rattle.phone_automaton.specs.Finds.{finds, Searcher};
 
     ghost Value = { Searcher };
 
     ghost view = { λ a. a.core };
 
-    ghost invariant = { λ a. a.place ≡ a.core };
+    ghost invariant = { λ a. (a.place ≡ a.core) × IfSome a.digits (TellsFront (finds a.core)) };
 }
 
 /// Drops the automaton and its machine: as a function it is proved once.
 impl Drop for Automaton {
     fn drop(self) {
-        let Automaton { core, place } = self;
+        let Automaton {
+            core,
+            digits,
+            place,
+        } = self;
         drop(core);
+        drop(digits);
         drop(place);
     }
 }
@@ -170,19 +178,31 @@ impl Automaton {
         ensures last { IfSome result (λ a. a.last ≡ length parsed.now.names.items - 1) }
     {
         let core = Core::new(alloc, parsed)?;
+        let digits = core.digits(alloc);
         let place = Place::new(&core);
-        Some(Automaton { core, place })
+        Some(Automaton {
+            core,
+            digits,
+            place,
+        })
     }
 
-    /// The table of the automaton's steps over digits, which tells of a text of digits where the
-    /// match at its front ends. None where memory is refused, where the table would have more than
-    /// a thousand rows, and where a step looks at what stands around it otherwise than for the
-    /// text's end.
-    pub fn digits(&self, alloc: Global) -> Option<Digits>
-        ensures { IfSome result (λ d. (hay : List ℕ) → AreDigits hay →
-            end_of_digits d hay ≡ front_end (finds self.now hay)) }
+    /// Where the match ends that begins at the front of a text of digits, by the table of the steps
+    /// over them, which is only read. None where the text isn't of digits alone, and where the
+    /// automaton has no such table.
+    #[inline]
+    pub fn front_end_of_digits(&self, text: &[u8]) -> Option<Option<usize>>
+        ensures end { IfSome result (λ end. end ≡ front_end (finds self.now text.now)) }
+        ensures within { IfSome result (λ end. IfSome end (λ e. e ≤ length text.now)) }
+        ensures digits { IfSome result (λ end. AreDigits text.now) }
     {
-        self.core.digits(alloc)
+        let Some(digits) = &self.digits else {
+            return None;
+        };
+        if !are_digits(text) {
+            return None;
+        }
+        Some(digits.end(text))
     }
 
     /// The text with its match at the front, which ends here, replaced by a template, in which `$1`

@@ -29,7 +29,7 @@ const END: usize = 10;
 /// A pattern's steps over digits, all of them. Contracts see the cells, row by row: a cell is twice
 /// the row that its step leads to, and one more where a match ends before it.
 #[derive(Drop)]
-pub struct Digits {
+pub(crate) struct Digits {
     cells: Vec<u16>,
 }
 
@@ -46,7 +46,7 @@ impl Model for Digits {
 
 /// Whether a text is of digits alone.
 #[inline]
-pub fn are_digits(text: &[u8]) -> bool
+pub(crate) fn are_digits(text: &[u8]) -> bool
     ensures { IsTrue result → AreDigits text.now }
 {
     text.iter().all(|byte| 48 <= *byte && *byte < 58)
@@ -67,7 +67,7 @@ impl Digits {
 
     /// Where the match ends that begins at the front of a text of digits; none where there is none.
     #[inline]
-    pub fn end(&self, digits: &[u8]) -> Option<usize>
+    pub(crate) fn end(&self, digits: &[u8]) -> Option<usize>
         requires { AreDigits digits.now }
         ensures end { result ≡ end_of_digits self.now digits.now }
         ensures within { IfSome result (λ e. e ≤ length digits.now) }

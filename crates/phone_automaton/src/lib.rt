@@ -14,7 +14,6 @@ mod place;
 mod template;
 
 pub use automaton::Automaton;
-pub use digits::{Digits, are_digits};
 pub use fronts::Fronts;
 pub use lengths::Lengths;
 pub use machine::{Captured, Machine};

@@ -12,8 +12,7 @@ use Rattle.phone_pattern.specs.Machines.{as_captured, Serves}
 use Rattle.phone_pattern.proofs.Matches.{found, named}
 use Rattle.phone_automaton.specs.Finds.{at_front, finds, FindsInAscii, Searcher}
 use Rattle.phone_automaton.specs.Finds as searched
-use Rattle.phone_automaton.specs.Digits.{end_of_digits, AreDigits}
-use Rattle.phone_pattern.specs.Digits.{TellsFronts}
+use Rattle.phone_automaton.specs.Digits.{AreDigits}
 use Rattle.phone_pattern.specs.declared.pattern.Captured.{Captured}
 use Rattle.phone_automaton.proofs.Fitting.{too_long, too_short}
 use Rattle.phone_automaton.proofs.Fronting.{barred}
@@ -231,13 +230,6 @@ pub front_end_served : (pattern hay : List ℕ) (s : Searcher) → Serves patter
 front_end_served pattern hay s serves_it ok =
     front_end_seen (finds s hay)
     ∙ ap (λ (o : Option Seen). option_and_then (λ (s : ℕ × ℕ). cond (s.0 == 0) (Some s.1) None) (option_map (λ (s : Seen). (s.0, s.1)) o)) (serves_it.0 hay ok)
-
--- a table that finds what an automaton finds at the front finds what the text of its pattern finds there
-pub tells_fronts : (pattern : List ℕ) (s : Searcher) (o : Option (List ℕ)) → Serves pattern s →
-    IfSome o (λ d. (hay : List ℕ) → AreDigits hay → end_of_digits d hay ≡ searched.front_end (finds s hay)) → IfSome o (TellsFronts pattern)
-tells_fronts pattern s None serves_it told = tt
-tells_fronts pattern s (Some d) serves_it told =
-    λ hay digits. told hay digits ∙ front_end_served pattern hay s serves_it (digits_ascii hay digits)
 
 -- a match begins at the front where one ends that does
 pub starts_by_end : (pattern text : List ℕ) (o : Option ℕ) → o ≡ front_end pattern text → is_some o ≡ at_start pattern text

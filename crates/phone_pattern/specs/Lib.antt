@@ -1,4 +1,3 @@
-pub mod Digits
 pub mod First
 pub mod Machines
 pub mod Outlines

@@ -3,7 +3,6 @@
 #![tactic(auto)]
 
 mod compiled;
-mod digits;
 mod intern_table;
 mod leading;
 mod outline;

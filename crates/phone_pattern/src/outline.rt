@@ -1,17 +1,15 @@
 //! What is made of a pattern's text at once: what is known of its matches before any search, and
 //! the automaton that searches texts of ASCII.
-ghost use Rattle.std.specs.Prelude.{◌≡◌, ◌-◌, ℕ, false, length, List, Some, IfOk, IfSome};
+ghost use Rattle.std.specs.Prelude.{◌≡◌, ◌≤◌, ◌-◌, ℕ, false, length, List, Some, IfOk, IfSome};
 ghost use Rattle.std.specs.Prelude.{string_bytes};
 ghost use Rattle.phone_automaton.specs.Digits.{AreDigits};
 ghost use Rattle.phone_automaton.specs.Finds.{finds, FindsInAscii};
 ghost use Rattle.phone_automaton.specs.Fronts.{BeginsIn};
 ghost use Rattle.phone_automaton.specs.Lengths.{HasLengths};
 ghost use Rattle.phone_pattern.specs.First.{at_start, front_end, is_whole_match, replaced};
-ghost use Rattle.phone_pattern.specs.First.{IsCut};
 ghost use Rattle.phone_pattern.specs.Outlines.{IsShape};
 ghost use Rattle.regex_hir.specs.Meaning.{meaning};
 
-use crate::digits::KeptDigits;
 use phone_automaton::{Automaton, Fronts, Lengths, Machine};
 use regex_syntax::Parsed;
 use std::alloc::{AllocError, Global};
@@ -25,8 +23,6 @@ pub(crate) struct Outline {
     lengths: Lengths,
     /// None where memory was refused for it, or it would be too large.
     automaton: Option<Automaton>,
-    /// The table by which it searches digits. None where nothing is known of the pattern.
-    digits: Option<KeptDigits>,
 }
 
 impl Model for Outline {
@@ -48,12 +44,10 @@ impl Drop for Outline {
             fronts,
             lengths,
             automaton,
-            digits,
         } = self;
         drop(fronts);
         drop(lengths);
         drop(automaton);
-        drop(digits);
     }
 }
 
@@ -66,7 +60,6 @@ impl Outline {
             fronts: Fronts::any(),
             lengths: Lengths::any(),
             automaton: None,
-            digits: None,
         }
     }
 
@@ -82,28 +75,26 @@ impl Outline {
             fronts: Fronts::of(&parsed.hir),
             lengths: Lengths::of(alloc, &parsed.hir),
             automaton: Automaton::new(alloc, parsed),
-            digits: Some(KeptDigits::new(alloc)),
         }
     }
 
-    /// Where the match of a pattern text ends that begins at the front of a text of digits. None
-    /// where the text isn't of digits alone, where its pattern has no table of the steps over them,
-    /// and where memory is refused for that.
+    /// Where the match ends that begins at the front of a text of digits. None where the text isn't
+    /// of digits alone, and where its pattern has no table of the steps over them.
     #[inline]
-    pub(crate) fn front_end_of_digits(&self, pattern: &str, text: &str) -> Option<Option<usize>>
-        requires { IsShape pattern.now self.now }
-        ensures end { IfSome result (λ end. end ≡ front_end pattern.now text.now) }
-        ensures border { IfSome result (λ end. IfSome end (λ e. IsCut text.now (0, e))) }
+    pub(crate) fn front_end_of_digits(&self, text: &str) -> Option<Option<usize>>
+        ensures end { (pattern : List ℕ) → IsShape pattern self.now →
+            IfSome result (λ end. end ≡ front_end pattern text.now) }
+        ensures within { IfSome result (λ end. IfSome end (λ e. e ≤ length text.now)) }
         ensures digits { IfSome result (λ end. AreDigits text.now) }
     {
-        let (Some(automaton), Some(digits)) = (&self.automaton, &self.digits) else {
-            return None;
-        };
-        digits.front_end(pattern, automaton, text)
+        match &self.automaton {
+            Some(automaton) => automaton.front_end_of_digits(text.as_bytes()),
+            None => None,
+        }
     }
 
-    /// A text with the match at its front, which ends here, replaced by a template, where that needs
-    /// no search. None where it needs one. Refused only for memory.
+    /// A text with the match of a pattern at its front, which ends here, replaced by a template, where
+    /// that needs no search. None where it needs one. Refused only for memory.
     pub(crate) fn replace_at_front(
         &self,
         alloc: Global,

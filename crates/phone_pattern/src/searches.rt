@@ -39,7 +39,7 @@ pub(crate) fn is_at_start(
     requires shape { IsShape (regex_source re.now) outline.now }
     ensures { IfOk result (λ b. b ≡ at_start (regex_source re.now) text.now) }
 {
-    if let Some(end) = outline.front_end_of_digits(re.as_str(), text) {
+    if let Some(end) = outline.front_end_of_digits(text) {
         return Ok(end.is_some());
     }
     if let Some(mut machine) = take(alloc, outline, text) {
@@ -65,7 +65,7 @@ pub(crate) fn front_end(
     ensures end { IfOk result (λ end. end ≡ front_end (regex_source re.now) text.now) }
     ensures border { IfOk result (λ end. IfSome end (λ e. IsCut text.now (0, e))) }
 {
-    if let Some(end) = outline.front_end_of_digits(re.as_str(), text) {
+    if let Some(end) = outline.front_end_of_digits(text) {
         return Ok(end);
     }
     if let Some(mut machine) = take(alloc, outline, text) {
@@ -90,7 +90,7 @@ pub(crate) fn first_span(
     ensures span { IfOk result (λ found. found ≡ first_span (regex_source re.now) text.now) }
     ensures borders { IfOk result (λ found. IfSome found (IsCut text.now)) }
 {
-    if let Some(Some(end)) = outline.front_end_of_digits(re.as_str(), text) {
+    if let Some(Some(end)) = outline.front_end_of_digits(text) {
         return Ok(Some((0, end)));
     }
     if let Some(mut machine) = take(alloc, outline, text) {
@@ -118,7 +118,7 @@ pub(crate) fn captures(
     ensures borders { IfOk result (λ found. IfSome found (AreCuts text.now)) }
 {
     if re.captures_len() <= 1 {
-        if let Some(Some(end)) = outline.front_end_of_digits(re.as_str(), text) {
+        if let Some(Some(end)) = outline.front_end_of_digits(text) {
             return Ok(Some(without_groups(end)));
         }
     }
@@ -162,7 +162,7 @@ pub(crate) fn replace(
     ensures { IfOk result (λ out. string_bytes out ≡
         replaced (regex_source re.now) template.now text.now) }
 {
-    if let Some(Some(end)) = outline.front_end_of_digits(re.as_str(), text) {
+    if let Some(Some(end)) = outline.front_end_of_digits(text) {
         if let Some(out) = outline.replace_at_front(alloc, re.as_str(), template, text, end)? {
             return Ok(out);
         }
