@@ -8,11 +8,14 @@ use Rattle.std.specs.Option.{option_or}
 use Rattle.regex_dfa.specs.Moves.{Test, MovesForward, Solves, first_end}
 use Rattle.regex_dfa.specs.Links.{best}
 use Rattle.regex_dfa.specs.Search.{end_from}
+use Rattle.regex_dfa.specs.declared.dfa.Dfa.{Dfa}
+use Rattle.regex_dfa.proofs.MovesLemmas.{Moves-alike, Moves-prop}
+use mathlib.Core.Logic.{∥∥₁_elim}
 use Rattle.regex_dfa.proofs.EndsLemmas.{bounded, first_end_none, outside, solves_bounded}
 use Rattle.regex_hir.proofs.OptionLemmas.{option_or-None}
 use Rattle.regex_hir.specs.Looks.{holds, holds_between}
 use Rattle.regex_nfa.specs.declared.nfa.Nfa.{Nfa}
-use Rattle.phone_automaton.specs.Digits.{byte_of, cell_at, end_by, end_of_digits, ends_here, or_here, row_of, AreCells, AreDigits, HasRows, IsCell, KnowsEnd}
+use Rattle.phone_automaton.specs.Digits.{byte_of, cell_at, end_by, end_of_digits, ends_here, or_here, row_of, AreCells, AreDigits, HasRows, ReadsAsBefore, StepsTo, IsCell, KnowsEnd}
 
 -- an element stays where it is if more elements come behind it
 pub slice_get-append : {A : Type 0} (xs ys : List A) (i : ℕ) (x : A) → slice_get xs i ≡ Some x → slice_get (xs ++ ys) i ≡ Some x
@@ -206,3 +209,31 @@ finished cells text row at last some done =
 pub best_within : (last n : ℕ) → last ≤ n + 1 → IfSome (best last) (λ e. e ≤ n)
 best_within zero n h = tt
 best_within (suc e) n h = subst (λ o. IfSome o (λ k. k ≤ n)) (sym (cond-false _ None (Some (suc e - 1)) (ne_eqb (suc e) 0 (omega arith)))) (omega arith)
+
+-- ---- columns that read alike
+-- where two digits belong to one class, the steps over the one are those over the other
+pub reads_alike : (dfa : Dfa) (column : ℕ) → 0 < column → column < 10 →
+    slice_index dfa.class_of (column + 47) ≡ slice_index dfa.class_of (column + 48) → ReadsAsBefore dfa.nfa column
+unfolding MovesForward
+reads_alike dfa column some low same = (some, λ threads next matched steps test knows. there threads next matched steps test knows)
+  where
+    before : byte_of (column - 1) ≡ Some (column + 47)
+    before =
+        cond-false _ None (Some (48 + (column - 1))) (ne_eqb (column - 1) 10 (omega arith))
+        ∙ (let back : 48 + (column - 1) ≡ column + 47 = omega arith in ap (λ (x : ℕ). Some x) back)
+
+    here : byte_of column ≡ Some (column + 48)
+    here =
+        cond-false _ None (Some (48 + column)) (ne_eqb column 10 (omega arith))
+        ∙ (let back : 48 + column ≡ column + 48 = omega arith in ap (λ (x : ℕ). Some x) back)
+
+    there : (threads next : List ℕ) (matched : Bool) → StepsTo dfa.nfa threads (byte_of (column - 1)) next matched →
+        (test : Test) → KnowsEnd test (byte_of column) → MovesForward dfa.nfa test threads (byte_of column) next matched
+    there threads next matched steps test knows =
+        let known : KnowsEnd test (Some (column + 48)) = subst (λ o. KnowsEnd test o) here knows in
+        let step : MovesForward dfa.nfa test threads (Some (column + 47)) next matched =
+        subst (λ o. MovesForward dfa.nfa test threads o next matched) before (steps test (subst (λ o. KnowsEnd test o) (sym before) known)) in
+        subst (λ o. MovesForward dfa.nfa test threads o next matched) (sym here)
+        (∥∥₁_elim dfa.alike (Moves-prop false dfa.nfa test threads (Some (column + 48)) next matched)
+        (λ alike. Moves-alike false dfa.nfa dfa.needs test threads (column + 47) (column + 48) next matched
+        (alike (column + 47) (column + 48) (omega arith) (omega arith) same) step))

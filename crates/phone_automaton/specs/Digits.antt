@@ -73,6 +73,19 @@ IsCell nfa rows threads byte cell =
     (next : List ℕ) × (slice_get rows (row_of cell) ≡ Some next) ×
     StepsTo nfa threads byte next (ends_here cell)
 
+-- a cell is a row's step over what a column's steps read
+abbrev pub IsCellOf : Nfa → List (List ℕ) → ℕ → ℕ → ℕ → Type 0
+IsCellOf nfa rows row column cell =
+    (threads : List ℕ) → slice_get rows row ≡ Some threads →
+    IsCell nfa rows threads (byte_of column) cell
+
+-- the steps of a column are those of the column before
+abbrev pub ReadsAsBefore : Nfa → ℕ → Type 0
+ReadsAsBefore nfa column =
+    (0 < column) × ((threads next : List ℕ) (matched : Bool) →
+    StepsTo nfa threads (byte_of (column - 1)) next matched →
+    StepsTo nfa threads (byte_of column) next matched)
+
 -- all cells are steps of the threads of their rows
 abbrev pub AreCells : Nfa → List (List ℕ) → List ℕ → Type 0
 AreCells nfa rows cells =

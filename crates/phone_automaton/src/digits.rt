@@ -10,8 +10,10 @@ ghost use Rattle.regex_dfa.specs.Search.{end_from};
 ghost use Rattle.regex_dfa.specs.Walks.{AreStates};
 ghost use Rattle.regex_nfa.specs.States.{IsReadable};
 ghost use Rattle.phone_automaton.specs.Digits.{byte_of, end_of_digits, ends_here, row_of};
-ghost use Rattle.phone_automaton.specs.Digits.{AnswersLook, AreCells, AreDigits, IsCell, KnowsEnd, StepsTo};
+ghost use Rattle.phone_automaton.specs.Digits.{AnswersLook, AreCells, AreDigits, IsCell, IsCellOf};
+ghost use Rattle.phone_automaton.specs.Digits.{KnowsEnd, ReadsAsBefore, StepsTo};
 
+use regex_dfa::Dfa;
 use regex_hir::Look;
 use regex_nfa::{Nfa, State, StateId};
 use std::alloc::Global;
@@ -55,13 +57,13 @@ pub(crate) fn are_digits(text: &[u8]) -> bool
 impl Digits {
     /// The table of an automaton. None where memory is refused, where the table would have too many
     /// rows, and where a step looks at what stands around it otherwise than for the text's end.
-    pub(crate) fn new(alloc: Global, nfa: &Nfa) -> Option<Digits>
-        ensures { IfSome result (λ d. (hay : List ℕ) → AreDigits hay →
-            end_of_digits d hay ≡ end_from nfa.now hay (length hay) nfa.now.start 0) }
+    pub(crate) fn new(alloc: Global, dfa: &Dfa) -> Option<Digits>
+        ensures { let nfa = dfa.now.nfa in IfSome result (λ d. (hay : List ℕ) → AreDigits hay →
+            end_of_digits d hay ≡ end_from nfa hay (length hay) nfa.start 0) }
     {
-        let mut rows = first_rows(alloc, nfa)?;
+        let mut rows = first_rows(alloc, &dfa.nfa)?;
         let mut cells = Vec::new(alloc);
-        fill(alloc, nfa, &mut rows, &mut cells)?;
+        fill(alloc, dfa, &mut rows, &mut cells)?;
         Some(Digits { cells })
     }
 
@@ -168,19 +170,19 @@ fn add_row(rows: &mut Vec<Threads>, threads: Threads) -> Option<()>
 
 /// Works out each row's cells, which may add rows. None where memory is refused, or a row can't be
 /// worked out, or there are too many.
-fn fill(alloc: Global, nfa: &Nfa, rows: &mut Vec<Threads>, cells: &mut Vec<u16>) -> Option<()>
+fn fill(alloc: Global, dfa: &Dfa, rows: &mut Vec<Threads>, cells: &mut Vec<u16>) -> Option<()>
     requires empty { cells.old.items ≡ [] }
-    requires states { AllByRecursion (AreStates nfa.now) rows.old.items }
+    requires states { AllByRecursion (AreStates dfa.now.nfa) rows.old.items }
     ensures grows { IfSome result (λ done. (more : _) ×
         (rows.new.items ≡ rows.old.items ++ more)) }
     ensures all { IfSome result (λ done. length cells.new.items ≡ 11 * length rows.new.items) }
-    ensures cells { IfSome result (λ done. AreCells nfa.now rows.new.items cells.new.items) }
+    ensures cells { IfSome result (λ done. AreCells dfa.now.nfa rows.new.items cells.new.items) }
 {
     for row in 0..MOST_ROWS + 1 {
         if row >= rows.len() {
             return Some(());
         }
-        fill_row(alloc, nfa, rows, cells, row)?;
+        fill_row(alloc, dfa, rows, cells, row)?;
     }
     None
 }
@@ -188,27 +190,64 @@ fn fill(alloc: Global, nfa: &Nfa, rows: &mut Vec<Threads>, cells: &mut Vec<u16>)
 /// Works out the cells of a row, the first that has none.
 fn fill_row(
     alloc: Global,
-    nfa: &Nfa,
+    dfa: &Dfa,
     rows: &mut Vec<Threads>,
     cells: &mut Vec<u16>,
     row: usize,
 ) -> Option<()>
     requires row { row < length rows.old.items }
     requires first { length cells.old.items ≡ 11 * row }
-    requires states { AllByRecursion (AreStates nfa.now) rows.old.items }
-    requires cells { AreCells nfa.now rows.old.items cells.old.items }
+    requires states { AllByRecursion (AreStates dfa.now.nfa) rows.old.items }
+    requires cells { AreCells dfa.now.nfa rows.old.items cells.old.items }
     ensures grows { IfSome result (λ done. (more : _) ×
         (rows.new.items ≡ rows.old.items ++ more)) }
-    ensures states { IfSome result (λ done. AllByRecursion (AreStates nfa.now) rows.new.items) }
+    ensures states { IfSome result (λ done. AllByRecursion (AreStates dfa.now.nfa) rows.new.items) }
     ensures all { IfSome result (λ done. length cells.new.items ≡ 11 * row + 11) }
-    ensures cells { IfSome result (λ done. AreCells nfa.now rows.new.items cells.new.items) }
+    ensures cells { IfSome result (λ done. AreCells dfa.now.nfa rows.new.items cells.new.items) }
 {
     let mut near = 0u16;
     for column in 0..COLUMNS {
-        near = cell(alloc, nfa, rows, row, read_in(column), near)?;
+        near = cell_beside(alloc, dfa, rows, row, column, near)?;
         push_cell(cells, near)?;
     }
     Some(())
+}
+
+/// The cell of a row in a column, beside that of the column before.
+fn cell_beside(
+    alloc: Global,
+    dfa: &Dfa,
+    rows: &mut Vec<Threads>,
+    row: usize,
+    column: usize,
+    near: u16,
+) -> Option<u16>
+    requires row { row < length rows.old.items }
+    requires column { column < 11 }
+    requires states { AllByRecursion (AreStates dfa.now.nfa) rows.old.items }
+    requires near { 0 < column → IsCellOf dfa.now.nfa rows.old.items row (column - 1) near }
+    ensures grows { IfSome result (λ cell. (more : _) ×
+        (rows.new.items ≡ rows.old.items ++ more)) }
+    ensures states { IfSome result (λ cell. AllByRecursion (AreStates dfa.now.nfa) rows.new.items) }
+    ensures is { IfSome result (λ cell. (threads : List ℕ) →
+        slice_get rows.old.items row ≡ Some threads →
+        IsCell dfa.now.nfa rows.new.items threads (byte_of column) cell) }
+{
+    if reads_as_before(dfa, column) {
+        return Some(near);
+    }
+    cell(alloc, &dfa.nfa, rows, row, read_in(column), near)
+}
+
+/// Whether all steps of a column are those of the column before, as its digits belong to one class.
+fn reads_as_before(dfa: &Dfa, column: usize) -> bool
+    requires { column < 11 }
+    ensures { IsTrue result → ReadsAsBefore dfa.now.nfa column }
+{
+    if column == 0 || column >= END {
+        return false;
+    }
+    dfa.class_of[column + 47] == dfa.class_of[column + 48]
 }
 
 /// Appends a cell. None where memory is refused.
