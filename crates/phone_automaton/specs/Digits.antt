@@ -30,8 +30,8 @@ cell_at cells row column = slice_index cells (row * 11 + column)
 abbrev pub or_here : ℕ → ℕ → Option ℕ → Option ℕ
 or_here cell at later = option_or later (if ends_here cell then Some at else None)
 
--- where the match ends that goes on from a row at a position, before these digits; from row 0 none
--- does
+-- where the match ends that goes on from a row at a position, before these digits; from the first
+-- row, which has no thread, none does
 abbrev pub end_by : List ℕ → ℕ → ℕ → List ℕ → Option ℕ
 end_by cells row at [] =
     if row == 0 then None else or_here (cell_at cells row 10) at None
@@ -95,4 +95,5 @@ AreCells nfa rows cells =
 
 -- a table tells of each text of digits where the match at its front ends that is found there
 abbrev pub TellsFront : (List ℕ → Option Match) → List ℕ → Type 0
-TellsFront found cells = (hay : List ℕ) → AreDigits hay → end_of_digits cells hay ≡ front_end (found hay)
+TellsFront found cells =
+    (hay : List ℕ) → AreDigits hay → end_of_digits cells hay ≡ front_end (found hay)

@@ -133,13 +133,13 @@ impl Core {
     }
 }
 
-/// A pattern's automaton for texts of ASCII, with the table of its steps over digits, and a place in
-/// which it keeps a machine from one search to the next. Threads may share it. Contracts see what it
-/// finds in each text, `finds`, and the number of the last group.
+/// A pattern's automaton for texts of ASCII, with the table of its steps over digits, and a place
+/// in which it keeps a machine from one search to the next. Threads may share it. Contracts see
+/// what it finds in each text, `finds`, and the number of the last group.
 pub struct Automaton {
     core: Core,
-    /// None where memory was refused for it, where it would have more than a thousand rows, and where
-    /// a step looks at what stands around it otherwise than for the text's end.
+    /// None where memory was refused for it, where it would have more than a thousand rows, and
+    /// where a step looks at what stands around it otherwise than for the text's end.
     digits: Option<Digits>,
     place: Place,
 }

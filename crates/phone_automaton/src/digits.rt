@@ -136,7 +136,7 @@ impl Threads {
     }
 }
 
-/// Row 0, of no thread, and row 1, of the one that a search starts with.
+/// The first row, of no thread, and the second, of the one that a search starts with.
 fn first_rows(alloc: Global, nfa: &Nfa) -> Option<Vec<Threads>>
     ensures rows { IfSome result (λ rows. rows.items ≡ [] ∷ (nfa.now.start ∷ []) ∷ []) }
     ensures states { IfSome result (λ rows. AllByRecursion (AreStates nfa.now) rows.items) }

@@ -93,8 +93,8 @@ impl Outline {
         }
     }
 
-    /// A text with the match of a pattern at its front, which ends here, replaced by a template, where
-    /// that needs no search. None where it needs one. Refused only for memory.
+    /// A text with the match of a pattern at its front, which ends here, replaced by a template,
+    /// where that needs no search. None where it needs one. Refused only for memory.
     pub(crate) fn replace_at_front(
         &self,
         alloc: Global,
