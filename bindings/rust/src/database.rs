@@ -7,7 +7,7 @@ use crate::records::Records;
 use crate::typing::Typing;
 use std::fmt;
 use std::path::Path;
-use std::sync::{Mutex, PoisonError};
+use std::sync::{Mutex, OnceLock, PoisonError};
 
 /// By whose rules a text is read and a number described.
 #[derive(Clone, Copy, Debug, Default, PartialEq, Eq, Hash, PartialOrd, Ord)]
@@ -19,8 +19,8 @@ pub enum Rules {
     Crate,
 }
 
-/// A database. Any thread may use it and drop it: each call waits until no other is on it, so that threads
-/// that read at once do well to have one each.
+/// A database. Any number of threads may use it at once: no call waits for another. A clone shares its
+/// table, which is given back with the last of them.
 ///
 /// A hint is the id of the region in which a text was written, as `NZ`; `Error::NoRegion` where it is
 /// none. What has no rules of its own is by libphonenumber's.
@@ -29,7 +29,13 @@ pub enum Rules {
 /// use phonenumber_proved::{Database, Prefixes, ShortNumbers, Typing};
 /// fn any_thread<T: Send + Sync>() {}
 /// any_thread::<(Database, Prefixes, ShortNumbers, Typing<'_>)>();
+/// let (world, text) = (Database::world()?, "03-331 6005");
+/// let other = world.clone();
+/// let read = std::thread::spawn(move || other.parse(Some("NZ"), text));
+/// assert_eq!(world.parse(Some("NZ"), text)?, read.join().unwrap()?);
+/// # Ok::<(), phonenumber_proved::Error>(())
 /// ```
+#[derive(Clone)]
 pub struct Database {
     records: Records,
 }
@@ -40,16 +46,19 @@ impl fmt::Debug for Database {
     }
 }
 
-/// What a table of the world answers that no other thread asks meanwhile: one that is open, or that is opened at
-/// this call and stays so.
-pub(crate) fn of_world<T>(call: impl FnOnce(&Database) -> T) -> Result<T, Error> {
-    static IDLE: Mutex<Vec<Database>> = Mutex::new(Vec::new());
-    let idle = || IDLE.lock().unwrap_or_else(PoisonError::into_inner);
-    let open = idle().pop();
-    let world = open.map_or_else(Database::world, Ok)?;
-    let answer = call(&world);
-    idle().push(world);
-    Ok(answer)
+/// The table of the world that the first call opens, for all threads.
+pub(crate) fn world() -> Result<&'static Database, Error> {
+    static WORLD: OnceLock<Database> = OnceLock::new();
+    static OPENING: Mutex<()> = Mutex::new(());
+    if let Some(world) = WORLD.get() {
+        return Ok(world);
+    }
+    let _alone = OPENING.lock().unwrap_or_else(PoisonError::into_inner);
+    if let Some(world) = WORLD.get() {
+        return Ok(world);
+    }
+    let world = Database::world()?;
+    Ok(WORLD.get_or_init(|| world))
 }
 
 impl Database {

@@ -24,9 +24,9 @@
 //! # Ok::<(), phonenumber_proved::Error>(())
 //! ```
 //!
-//! A [`PhoneNumber`] is plain data. A [`Database`] is used by any thread, one call at a time behind a lock;
-//! it has a table of its own, and that of the world takes some 57 MB. It is the calls that are proved, not
-//! this crate: that the declarations of `phonenumber-proved-sys` fit, and that memory is given back, is
+//! A [`PhoneNumber`] is plain data. A [`Database`] is used by any number of threads at once, and so are its
+//! clones: they share one table, and that of the world takes some 57 MB. It is the calls that are proved,
+//! not this crate: that the declarations of `phonenumber-proved-sys` fit, and that memory is given back, is
 //! tested. The module `compat` has the names of the crate `phonenumber`.
 mod call;
 pub mod compat;

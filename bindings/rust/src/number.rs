@@ -1,6 +1,6 @@
 //! A phone number.
 use crate::call::text_of;
-use crate::database::of_world;
+use crate::database::world;
 use crate::error::Error;
 use crate::ffi;
 use std::fmt;
@@ -227,7 +227,7 @@ impl FromStr for PhoneNumber {
     /// # Ok::<(), phonenumber_proved::Error>(())
     /// ```
     fn from_str(text: &str) -> Result<PhoneNumber, Error> {
-        of_world(|world| world.parse(None, text))?
+        world()?.parse(None, text)
     }
 }
 

@@ -2,12 +2,12 @@
 use crate::call::text_of;
 use crate::error::Error;
 use crate::ffi;
-use crate::records::Open;
+use crate::records::Shared;
 use std::fmt;
 use std::path::Path;
 
 /// A table of prefixes: each line of its text is a prefix of 1 to 15 digits, a tab, and a text. Threads use
-/// it in turn, as they do a [`Database`](crate::Database).
+/// it at once, and clones share it, as with a [`Database`](crate::Database).
 ///
 /// ```
 /// use phonenumber_proved::{Error, LineFault, Prefixes};
@@ -19,8 +19,9 @@ use std::path::Path;
 /// assert_eq!(refused.to_string(), "line 2: the prefix stands in an earlier line");
 /// # Ok::<(), Error>(())
 /// ```
+#[derive(Clone)]
 pub struct Prefixes {
-    open: Open<ffi::Prefixes>,
+    table: Shared<ffi::Prefixes>,
 }
 
 impl fmt::Debug for Prefixes {
@@ -33,11 +34,12 @@ impl Prefixes {
     /// The table that a text is; `Error::Line` by the first line that is no entry.
     pub fn of(text: impl AsRef<[u8]>) -> Result<Prefixes, Error> {
         let text = text.as_ref();
-        let (mut handle, mut line) = (ffi::Prefixes { at: std::ptr::null_mut() }, 0);
+        let mut line = 0;
         // SAFETY: the slice is valid for its length, and the handle is closed and lent to the call alone.
-        match unsafe { ffi::phone_prefixes_open(text.as_ptr(), text.len(), &mut handle, &mut line) } {
-            ffi::OK => Ok(Prefixes { open: Open::of(handle) }),
-            status => Err(Error::of_prefixes(status, line)),
+        let open = |handle: &mut _| unsafe { ffi::phone_prefixes_open(text.as_ptr(), text.len(), handle, &mut line) };
+        match Shared::by(open) {
+            Ok(table) => Ok(Prefixes { table }),
+            Err(status) => Err(Error::of_prefixes(status, line)),
         }
     }
 
@@ -52,18 +54,11 @@ impl Prefixes {
         let mut prefix_len = 0;
         let text = text_of(64, |out, len, wrote| {
             // SAFETY: the handle is open, and lent to the call alone; the slices are valid, apart and initialized.
-            let status = self.open.with(|handle| unsafe {
+            let status = self.table.with(|handle| unsafe {
                 ffi::phone_prefixes_longest(handle, digits.as_ptr(), digits.len(), out, len, wrote, &mut prefix_len)
             });
             if status == ffi::NO_PREFIX { ffi::OK } else { status }
         })?;
         Ok((prefix_len > 0).then(|| (&digits[..prefix_len], text)))
-    }
-}
-
-impl Drop for Prefixes {
-    fn drop(&mut self) {
-        // SAFETY: the handle is open, and not used afterwards.
-        self.open.with(|handle| unsafe { ffi::phone_prefixes_close(handle) })
     }
 }

@@ -34,7 +34,7 @@ pub struct ShortFacts {
     pub reaches_emergency: bool,
 }
 
-/// A table of short numbers. Threads use it in turn, as they do a [`Database`](crate::Database).
+/// A table of short numbers. Threads use it at once, and clones share it, as with a [`Database`](crate::Database).
 ///
 /// ```
 /// use phonenumber_proved::{Cost, Error, SHORT, ShortNumbers};
@@ -44,6 +44,7 @@ pub struct ShortFacts {
 /// assert_eq!(table.short("nz", "111").unwrap_err(), Error::NoRegion);
 /// # Ok::<(), Error>(())
 /// ```
+#[derive(Clone)]
 pub struct ShortNumbers {
     records: Records,
 }

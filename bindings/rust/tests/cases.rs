@@ -242,7 +242,7 @@ fn what_is_open_goes_from_thread_to_thread() {
 }
 
 #[test]
-fn threads_use_one_table_in_turn() {
+fn threads_use_one_table_at_once() {
     let (world, zones) = (Arc::new(world()), Arc::new(Prefixes::of(TIME_ZONES).unwrap()));
     let threads: Vec<_> = (0..8)
         .map(|_| {
@@ -263,6 +263,29 @@ fn threads_use_one_table_in_turn() {
         .collect();
     drop((world, zones));
     threads.into_iter().for_each(|thread| thread.join().unwrap());
+}
+
+/// What the system counts of this process's memory, in bytes.
+fn resident() -> usize {
+    let pages = std::fs::read_to_string("/proc/self/statm").unwrap();
+    4096 * pages.split(' ').nth(1).unwrap().parse::<usize>().unwrap()
+}
+
+#[test]
+fn clones_share_a_table() {
+    let (world, short) = (world(), ShortNumbers::from_json(SHORT).unwrap());
+    let asked = |(world, short): (Database, ShortNumbers)| {
+        elsewhere(move || {
+            let number = world.parse(Some("NZ"), "03-331 6005").unwrap();
+            assert!(world.is_valid(&number).unwrap() && short.short("NZ", "111").unwrap().is_emergency);
+            (world, short)
+        })
+    };
+    let mut clones: Vec<_> = std::iter::repeat_n((world, short), 100).map(asked).collect();
+    assert!(resident() < 1_500_000_000, "a table each takes some 5.7 GB");
+    let (world, _) = clones.swap_remove(50);
+    drop(clones);
+    assert_eq!(world.by(Rules::Crate).report(None, "+64 3 331 6005").unwrap().split('\t').nth(1), Some("+6433316005"));
 }
 
 /// Hint, text, E.164 text by libphonenumber's rules, E.164 text by the crate's, whether that one is valid.

@@ -13,10 +13,9 @@
 //! ```
 //!
 //! There is one table, [`metadata::DATABASE`]; what it has of a region isn't shown. The first call opens it,
-//! and a call beside others opens it once more: so many stay open as threads asked at once, each of some
-//! 57 MB. A call ends the program where memory is refused.
+//! for all threads, and it takes some 57 MB. A call ends the program where memory is refused.
 use crate::Rules;
-use crate::database::{By, of_world};
+use crate::database::{By, world};
 use crate::number::PhoneNumber as Read;
 use std::fmt;
 use std::ops::Deref;
@@ -39,7 +38,7 @@ pub mod metadata {
 
 /// What the table answers by the rules of the crate.
 fn asked<T>(call: impl FnOnce(By<'_>) -> T) -> T {
-    of_world(|world| call(world.by(Rules::Crate))).expect("memory is given")
+    call(world().expect("memory is given").by(Rules::Crate))
 }
 
 /// The number that a text is.
