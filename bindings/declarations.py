@@ -105,7 +105,8 @@ def python():
             setattr(self, name, Call())
             return getattr(self, name)
 
-    ctypes.CDLL, os.environ["PHONE_LIBRARY"] = Library, "none"
+    ctypes.CDLL = ctypes.PyDLL = Library
+    os.environ["PHONE_LIBRARY"] = "none"
     sys.path.insert(0, str(BINDINGS / "python"))
     import phonenumber_proved
     from phonenumber_proved import _calls

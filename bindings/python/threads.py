@@ -9,9 +9,13 @@ import time
 import warnings
 from concurrent.futures import ProcessPoolExecutor, ThreadPoolExecutor
 
-from phonenumber_proved import CARRIERS_TABLE, Database, Mode, NoNumber, Prefixes, ShortNumbers, _locks, phonenumbers
+from phonenumber_proved import (
+    CARRIERS_TABLE, Closed, Database, Mode, NoNumber, Prefixes, ShortNumbers, _locks, _regions, held, phonenumbers,
+)
 
 failed = []
+# A search in it lets other threads run, and forks.
+LONG = "Ring 03-331 6005, from Monday to Friday somebody answers it. " + "It is closed on other days. " * 200
 TEXTS = ["03-331 6005", "+64 21 387 835 ext. 12", "call me", "+1 650 253 0000", "+44 20 7946 0018"] * 20
 
 
@@ -39,43 +43,71 @@ def threads_use_one_database(world, prefixes, table):
     def told(text):
         return asked(world, text), prefixes.longest("6421387835"), table.short("NZ", "111")
 
-    wanted = [told(text) for text in TEXTS]
+    wanted, before = [told(text) for text in TEXTS], memory()
     with ThreadPoolExecutor(8) as threads:
-        check("in turn", list(threads.map(told, TEXTS)), wanted)
+        check("at once", list(threads.map(told, TEXTS)), wanted)
+        check("found at once", set(threads.map(lambda _: len(world.find(LONG, "NZ")), range(40))), {1})
+    check("one table", memory() - before < 30_000_000, True)
+    check("handles", [len(it._idle) <= 8 for it in (world, prefixes, table)], [True] * 3)
+
+
+def memory():
+    """What the system counts of this process's, in bytes."""
+    with open("/proc/self/statm", encoding="ascii") as file:
+        return int(file.read().split()[1]) * os.sysconf("SC_PAGE_SIZE")
 
 
 def what_is_open_goes_from_thread_to_thread():
     """Opened in one thread, used in another, closed in a third, or freed by whichever drops it last."""
     freed = []
 
-    class Counted(Database):
-        def _free(handle):
-            freed.append((threading.get_ident(), bool(handle._obj.at)))
-            Database._free(handle)
+    class Handle(held.OwnHandle):
+        @staticmethod
+        def _close(handle):
+            if handle.at:
+                freed.append(threading.get_ident())
+            held.OwnHandle._close(handle)
 
-    world = elsewhere(lambda: Counted("[]"))
+    class Watched(Database):
+        _kind = Handle
+
+    world = elsewhere(lambda: Watched("[]"))
     check("used", elsewhere(world.regions), [])
     check("closed", (elsewhere(world.close), elsewhere(world.close)), (None, None))
-    check("freed once", [was_open for _, was_open in freed], [True, False])
+    check("freed once", (len(freed), threading.get_ident() in freed), (2, False))
     freed.clear()
-    worlds = [elsewhere(lambda: Counted("[]"))]
+    worlds = [elsewhere(lambda: Watched("[]"))]
+    check("used again", elsewhere(worlds[0].regions), [])
     world = None
-    check("last", (len(freed), freed[0][1]), (1, False))
+    check("last", freed, [])
     elsewhere(worlds.clear)
-    check("dropped elsewhere", (freed[1][1], freed[1][0] != threading.get_ident(), len(freed)), (True, True, 2))
+    check("dropped elsewhere", (len(freed), threading.get_ident() in freed), (2, False))
 
 
-def locks_go_with_what_they_are_of():
-    before = len(_locks._locks)
-    for _ in range(10):
-        Database("[]")
-        with Prefixes("1\ta"):
-            pass
-    check("locks", len(_locks._locks), before)
+def what_is_closed_beside_calls_is_freed():
+    """A call that is on it gives its answer, and each later one is refused."""
+    world, told = Database.load(), []
+    wanted = asked(world, TEXTS[0])
+
+    def ask():
+        try:
+            while len(told) < 1_000_000:
+                told.append(asked(world, TEXTS[0]) == wanted and len(world.find(LONG, "NZ")) == 1)
+        except Closed:
+            return True
+
+    with ThreadPoolExecutor(4) as threads:
+        ended = [threads.submit(ask) for _ in range(4)]
+        while len(told) < 100:
+            time.sleep(0.001)
+        world.close()
+        check("ended", [it.result() for it in ended], [True] * 4)
+    check("answered", all(told), True)
+    check("no handle is open", [it.at for it in world._idle if it.at], [])
 
 
 def a_signal_may_ask_too(world):
-    """A handler runs between two steps of the thread that has the lock."""
+    """A handler runs between two steps of the thread that asks."""
     told = []
     signal.signal(signal.SIGALRM, lambda *_: told.append(asked(world, TEXTS[0])))
     signal.setitimer(signal.ITIMER_REAL, 0.005, 0.005)
@@ -92,11 +124,11 @@ def forks_wait_for_what_waits_for_them(world):
     has_one, told = threading.Event(), []
 
     def ask():
-        with world._lock:
+        with _regions._opening:
             has_one.set()
             time.sleep(0.2)
-            with Database("[]"):
-                told.append("opened")
+            with Database("[]") as other:
+                told.append(other.regions())
 
     thread = threading.Thread(target=ask)
     thread.start()
@@ -105,7 +137,7 @@ def forks_wait_for_what_waits_for_them(world):
     if not child:
         signal.alarm(20)
         os._exit(0 if asked(world, TEXTS[0]) else 1)
-    check("forked", (ends_well(child), told), (True, ["opened"]))
+    check("forked", (ends_well(child), told), (True, [[]]))
     thread.join()
 
 
@@ -121,7 +153,7 @@ def children_have_what_is_open(world, prefixes):
     def ask():
         while not stop.is_set():
             rounds.append(asked(world, TEXTS[0]) == wanted and phonenumbers.parse("+64 3 331 6005").country_code == 64)
-            Database("[]")
+            rounds.append(len(world.find(LONG, "NZ")) == 1 and Database("[]").regions() == [])
 
     threads = [threading.Thread(target=ask) for _ in range(4)]
     for it in threads:
@@ -158,7 +190,6 @@ def pools_of_processes():
 
 def threads_ask_one_table():
     """Under the names of `phonenumbers` all threads have one table, opened by the first."""
-    from phonenumber_proved import _regions
     with ThreadPoolExecutor(8) as threads:
         worlds = set(threads.map(lambda _: id(_regions.world()), range(40)))
         check("names", set(threads.map(of_names, ["03-331 6005"] * 40)), {of_names("03-331 6005")})
@@ -169,7 +200,7 @@ def main():
     warnings.simplefilter("ignore", DeprecationWarning)  # later versions of Python warn of a fork beside threads
     threads_ask_one_table()
     what_is_open_goes_from_thread_to_thread()
-    locks_go_with_what_they_are_of()
+    what_is_closed_beside_calls_is_freed()
     with Database.load() as world, Prefixes.load(CARRIERS_TABLE) as prefixes, ShortNumbers.load() as table:
         threads_use_one_database(world, prefixes, table)
         a_signal_may_ask_too(world)

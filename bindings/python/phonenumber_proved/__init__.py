@@ -15,13 +15,14 @@
     >>> is_viable("call me"), is_viable("03-331 6005")
     (False, True)
 
-Any thread may use and close a `Database`, `ShortNumbers` or `Prefixes`, and so may the child of a
-fork: a call waits until no other is on it, and a fork until there is none. Each database has a
-table of its own; that of the world takes some 57 MB. `close`, or `with`, frees it. A text is `str`
-or UTF-8 in `bytes`; a lone surrogate, or bytes that aren't UTF-8, are refused. PHONE_LIBRARY names
-the shared library, else `libphone.so` beside these files is taken, and else the one that `make`
-leaves in bindings/c/out. The table of the world is a file beside these, or else the one in the
-library; PHONE_TABLE names another file.
+Any number of threads may use a `Database`, `ShortNumbers` or `Prefixes` at once, any of them may
+close it, and the child of a fork has it too. Threads share its table; that of the world takes some
+57 MB. `close`, or `with`, frees it. Other threads of Python run while something is opened or
+closed, and while a long text is searched; each other call is shorter than the wait for them. A text
+is `str` or UTF-8 in `bytes`; a lone surrogate, or bytes that aren't UTF-8, are refused.
+PHONE_LIBRARY names the shared library, else `libphone.so` beside these files is taken, and else the
+one that `make` leaves in bindings/c/out. The table of the world is a file beside these, or else the
+one in the library; PHONE_TABLE names another file.
 The module `phonenumber_proved.phonenumbers` has the names of the package `phonenumbers`.
 """
 

@@ -8,7 +8,7 @@ from __future__ import annotations
 import ctypes
 import os
 from pathlib import Path
-from typing import Any, Callable, NoReturn, Union
+from typing import Any, Callable, NoReturn, Type, TypeVar, Union
 
 from .errors import Closed, Error, NoNumber, UnknownCode, UnknownRegion
 
@@ -29,6 +29,7 @@ _ERRORS = {
 }
 
 Text = Union[str, bytes, bytearray, memoryview]
+Library = TypeVar("Library", bound=ctypes.CDLL)
 
 _HERE = Path(__file__).resolve().parent
 
@@ -83,7 +84,7 @@ class Place(ctypes.Structure):
     _fields_ = [("start", ctypes.c_size_t), ("end", ctypes.c_size_t)]
 
 
-def _declare(lib: ctypes.CDLL) -> None:
+def _declare(lib: Library) -> None:
     """Gives each call its types."""
     size, u8, u32 = ctypes.c_size_t, ctypes.c_uint8, ctypes.c_uint32
     handle, number = ctypes.POINTER(Handle), ctypes.POINTER(Number)
@@ -128,7 +129,7 @@ def _declare(lib: ctypes.CDLL) -> None:
     lib.phone_prefixes_close.argtypes, lib.phone_prefixes_close.restype = [prefixes], None
 
 
-def _library() -> ctypes.CDLL:
+def _library(kind: Type[Library]) -> Library:
     """The shared library, once its version is seen to be that of the declarations."""
     places = [_HERE / "libphone.so", _HERE.parents[1] / "c" / "out" / "libphone.so"]
     named = os.environ.get("PHONE_LIBRARY")
@@ -136,7 +137,7 @@ def _library() -> ctypes.CDLL:
     if path is None:
         raise ImportError("libphone.so is not there: tools/bindings builds it")
     try:
-        lib = ctypes.CDLL(path)
+        lib = kind(path)
         lib.phone_version.argtypes, lib.phone_version.restype = [], ctypes.c_uint32
         version = lib.phone_version()
         if version != VERSION:
@@ -147,7 +148,11 @@ def _library() -> ctypes.CDLL:
     return lib
 
 
-lib = _library()
+#: The calls. Nearly each takes less time than to let the interpreter go and to wait for it again.
+lib: ctypes.PyDLL = _library(ctypes.PyDLL)
+
+#: The same calls, beside which other threads run: for those that take long.
+long_lib: ctypes.CDLL = _library(ctypes.CDLL)
 
 
 def bytes_of(text: Text) -> bytes:

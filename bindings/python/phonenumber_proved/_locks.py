@@ -7,32 +7,26 @@ import threading
 import time
 from typing import Any, Dict, List
 
-# A thread may take a lock that it has once more: a finalizer, or the handler of a signal, which
-# Python runs between two steps of any function, may ask what is being asked.
-_guard = threading.RLock()
-_locks: Dict[int, Any] = {}
+_locks: List[Any] = []
 _taken: Dict[int, List[Any]] = {}
 
 
 def new_lock() -> Any:
-    """A lock that threads share. `forget` it once no thread takes it any more."""
-    lock = threading.RLock()
-    with _guard:
-        _locks[id(lock)] = lock
-    return lock
+    """A lock that threads share, for as long as the process lasts.
 
-
-def forget(lock: Any) -> None:
-    """No fork waits for the lock any more."""
-    _locks.pop(id(lock), None)
+    A thread may take a lock that it has once more: a finalizer, or the handler of a signal, which
+    Python runs between two steps of any function, may ask what is being asked.
+    """
+    _locks.append(threading.RLock())
+    return _locks[-1]
 
 
 def _take_all() -> None:
-    """Before a fork: waits until no other thread has a lock, so that the child has no half call.
+    """Before a fork: waits until no other thread has a lock, so that the child finds all free.
 
     Where one isn't given back for a while, all are, since its thread may wait for another.
     """
-    while not _took(_guard) or not all(map(_took, [*_locks.values()])):
+    while not all(map(_took, _locks)):
         _give_all()
         time.sleep(0.01)
 

@@ -21,10 +21,11 @@ _opened: Dict[Any, Any] = {}
 
 def _once(key: Any, opened: Callable[[], Any]) -> Any:
     """What is opened once for all threads."""
-    with _opening:
-        if key not in _opened:
-            _opened[key] = opened()
-        return _opened[key]
+    if key not in _opened:
+        with _opening:
+            if key not in _opened:
+                _opened[key] = opened()
+    return _opened[key]
 
 
 def world() -> Database:

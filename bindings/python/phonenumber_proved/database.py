@@ -4,17 +4,20 @@ from __future__ import annotations
 
 import ctypes
 import enum
-from typing import Any, List, NamedTuple, Optional
+from typing import Any, Callable, List, NamedTuple, Optional
 
 from ._calls import (
-    MEMORY, NO_EXAMPLE, OK, OPEN_STATUS_WORDS, Handle, Number, Place, Text, bytes_of, hint_of,
-    items, lib, refuse, words_of, written,
+    MEMORY, NO_EXAMPLE, OK, OPEN_STATUS_WORDS, Number, Place, Text, bytes_of, hint_of, items, lib,
+    long_lib, refuse, words_of, written,
 )
 from .errors import BadDatabase
 from .field import Typing
 from .held import Held, PathText
 from .number import Kind, PhoneNumber, Possibility, Rules
 from .tables import TABLE
+
+# From so many bytes on it takes long to find the numbers in a text.
+_LONG = 2000
 
 
 class Sameness(enum.IntEnum):
@@ -52,31 +55,28 @@ class Found(NamedTuple):
     """The number."""
 
 
-def open_records(text: Text) -> Handle:
-    """The handle of the records that a JSON text has; `BadDatabase` where it is none."""
-    data, handle = bytes_of(text), Handle()
-    return _opened(handle, lib.phone_open(data, len(data), ctypes.byref(handle)))
+class Records(Held):
+    """Records that a text has."""
+
+    def __init__(self, text: Text) -> None:
+        """Opens the records that a JSON text has; `BadDatabase` where it is none."""
+        data = bytes_of(text)
+        self._opened(lambda handle: long_lib.phone_open(data, len(data), handle))
+
+    def _opened(self, call: Callable[[Any], int]) -> None:
+        status = self._open(call)
+        if status == MEMORY:
+            raise MemoryError
+        if status != OK:
+            raise BadDatabase(status, words_of(status, OPEN_STATUS_WORDS))
 
 
-def _opened(handle: Handle, status: int) -> Handle:
-    """The handle, where the status says that it is open."""
-    if status == MEMORY:
-        raise MemoryError
-    if status != OK:
-        raise BadDatabase(status, words_of(status, OPEN_STATUS_WORDS))
-    return handle
-
-
-class Database(Held):
+class Database(Records):
     """A database: which numbers there are, and how they are written.
 
     A hint is the id of the region in which a text was written, as `NZ`; `UnknownRegion` where it is
     none. Rules are libphonenumber's where no others are given.
     """
-
-    def __init__(self, text: Text) -> None:
-        """Opens the database that a JSON text is; `BadDatabase` where it is none."""
-        self._hold(open_records(text))
 
     @classmethod
     def load(cls, path: Optional[PathText] = TABLE) -> "Database":
@@ -86,8 +86,8 @@ class Database(Held):
     @classmethod
     def world(cls) -> "Database":
         """Opens the table of the world that stands in the library, and needs no file."""
-        database, handle = cls.__new__(cls), Handle()
-        database._hold(_opened(handle, lib.phone_open_world(ctypes.byref(handle))))
+        database = cls.__new__(cls)
+        database._opened(long_lib.phone_open_world)
         return database
 
     def parse(
@@ -210,9 +210,10 @@ class Database(Held):
         """
         data, region = bytes_of(text), hint_of(hint)
         by, level = Rules(rules), Leniency(leniency)
+        call = (lib if len(data) < _LONG else long_lib).phone_find_by
         places = items(
             Place, 8, lambda *out: self._call(
-                lib.phone_find_by, by, region, len(region), level, data, len(data), *out
+                call, by, region, len(region), level, data, len(data), *out
             ), hint,
         )
         found, last, end = [], 0, 0

@@ -1,30 +1,51 @@
-"""What a handle of the library holds."""
+"""What handles of the library hold."""
 
 from __future__ import annotations
 
-import ctypes
 from pathlib import Path
 from types import TracebackType
-from typing import Any, Callable, NoReturn, Optional, Type, TypeVar, Union
+from typing import Any, Callable, List, NoReturn, Optional, Type, TypeVar, Union
 
 import os
 
-from ._calls import Text, lib
-from ._locks import forget, new_lock
+from ._calls import MEMORY, OK, Handle, PrefixesHandle, Text, lib, long_lib
+from ._locks import new_lock
 
 Self = TypeVar("Self", bound="Held")
 PathText = Union[str, "os.PathLike[str]"]
 
+# Taken while a handle is made of another: no other call is on that one.
+_sharing = new_lock()
+
+
+class OwnHandle(Handle):
+    """A handle that is closed once nothing holds it."""
+
+    _share, _close = lib.phone_share, long_lib.phone_close
+
+    def __del__(self) -> None:
+        self._close(self)
+
+
+class OwnPrefixesHandle(PrefixesHandle):
+    """The same of a table of prefixes."""
+
+    _share, _close = lib.phone_prefixes_share, long_lib.phone_prefixes_close
+
+    def __del__(self) -> None:
+        self._close(self)
+
 
 class Held:
-    """Something open: used by any thread, one call at a time, and freed by `close`.
+    """Something open: used by any number of threads at once, and freed by `close`.
 
-    It isn't copied: two copies would own one thing. The child of a fork has it too.
+    Each call has a handle to itself. It isn't copied: two copies would own one thing. The child of
+    a fork has it too.
     """
 
-    _handle: Any
-    _lock: Any
-    _free: Callable[..., None] = lib.phone_close
+    _kind: Type[Any] = OwnHandle
+    _first: Any
+    _idle: List[Any]
 
     def __init__(self, text: Text) -> None:
         raise NotImplementedError
@@ -34,17 +55,40 @@ class Held:
         """Opens what a file holds."""
         return cls(Path(path).read_bytes())
 
-    def _call(self, call: Callable[..., Any], *args: Any) -> Any:
-        """What a call on the handle gives, once no other thread's call is on it."""
-        with self._lock:
-            return call(ctypes.byref(self._handle), *args)
+    def _open(self, call: Callable[[Any], int]) -> int:
+        """The status of a call that opens a handle. Of this one others are made."""
+        first = self._kind()
+        status = call(first)
+        if status == OK:
+            self._first, self._idle = first, []
+        return status
 
-    def _hold(self, handle: Any) -> None:
-        self._lock, self._handle = new_lock(), handle
+    def _call(self, call: Callable[..., Any], *args: Any) -> Any:
+        """What a call gives on a handle that no other call is on."""
+        idle = self._idle
+        try:
+            handle = idle.pop()
+        except IndexError:
+            handle = self._another()
+        try:
+            return call(handle, *args)
+        finally:
+            # Where all was closed meanwhile, nothing else has the list: the handle goes with it.
+            idle.append(handle)
+
+    def _another(self) -> Any:
+        """A handle more, closed where the first is."""
+        handle = self._kind()
+        with _sharing:
+            status = self._kind._share(self._first, handle)
+        if status == MEMORY:
+            raise MemoryError
+        return handle
 
     def close(self) -> None:
-        """Frees it; nothing where that was done. A later call raises `Closed`."""
-        self._call(type(self)._free)
+        """Frees it, once no call is on it; nothing where that was done. A later call is refused."""
+        self._first = self._kind()
+        self._idle = []
 
     def __enter__(self: Self) -> Self:
         return self
@@ -59,9 +103,3 @@ class Held:
 
     def __reduce_ex__(self, protocol: object) -> NoReturn:
         raise TypeError(f"a {type(self).__name__} is neither copied nor pickled")
-
-    def __del__(self) -> None:
-        handle = getattr(self, "_handle", None)
-        if handle is not None:
-            forget(self._lock)
-            type(self)._free(ctypes.byref(handle))

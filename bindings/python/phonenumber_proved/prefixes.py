@@ -5,11 +5,9 @@ from __future__ import annotations
 import ctypes
 from typing import Any, Optional, Tuple
 
-from ._calls import (
-    MEMORY, NO_PREFIX, OK, PrefixesHandle, Text, bytes_of, lib, words_of, written,
-)
+from ._calls import MEMORY, NO_PREFIX, OK, Text, bytes_of, lib, long_lib, words_of, written
 from .errors import BadPrefixes
-from .held import Held
+from .held import Held, OwnPrefixesHandle
 
 
 class Prefixes(Held):
@@ -25,18 +23,17 @@ class Prefixes(Held):
     phonenumber_proved.BadPrefixes: line 2: the prefix isn't 1 to 15 digits
     """
 
-    _free = lib.phone_prefixes_close
+    _kind = OwnPrefixesHandle
 
     def __init__(self, text: Text) -> None:
         """Opens the table that a text is; `BadPrefixes` by the first line that is no entry."""
-        data, handle, line = bytes_of(text), PrefixesHandle(), ctypes.c_size_t()
-        at = ctypes.byref(line)
-        status = lib.phone_prefixes_open(data, len(data), ctypes.byref(handle), at)
+        data, line = bytes_of(text), ctypes.c_size_t()
+        at, opens = ctypes.byref(line), long_lib.phone_prefixes_open
+        status = self._open(lambda handle: opens(data, len(data), handle, at))
         if status == MEMORY:
             raise MemoryError
         if status != OK:
             raise BadPrefixes(status, f"line {line.value}: {words_of(status)}", line.value)
-        self._hold(handle)
 
     def longest(self, digits: Text) -> Optional[Tuple[str, str]]:
         """Prefix and text of the entry whose prefix is the longest that begins these digits.

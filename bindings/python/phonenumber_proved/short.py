@@ -7,8 +7,8 @@ import enum
 from typing import NamedTuple
 
 from ._calls import OK, Facts, Text, bytes_of, hint_of, lib, refuse
-from .database import open_records
-from .held import Held, PathText
+from .database import Records
+from .held import PathText
 from .tables import SHORT_TABLE
 
 
@@ -38,7 +38,7 @@ class ShortFacts(NamedTuple):
     """It reaches emergency services."""
 
 
-class ShortNumbers(Held):
+class ShortNumbers(Records):
     """A table of short numbers.
 
     >>> from phonenumber_proved import ShortNumbers
@@ -47,10 +47,6 @@ class ShortNumbers(Held):
     ...     facts.is_valid, facts.cost.name, facts.is_emergency
     (True, 'TOLL_FREE', True)
     """
-
-    def __init__(self, text: Text) -> None:
-        """Opens the table that a JSON text is; `BadDatabase` where it is none."""
-        self._hold(open_records(text))
 
     @classmethod
     def load(cls, path: PathText = SHORT_TABLE) -> "ShortNumbers":
