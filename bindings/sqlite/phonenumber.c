@@ -1,5 +1,6 @@
-/* The extension for SQLite: README.md says what its functions answer. Each thread that calls one has a
- * table of its own, opened at its first call, so that none waits for another's call. */
+/* The extension for SQLite: README.md says what its functions answer. A process has one table, and each
+ * thread that calls one a handle of its own on it, so that none waits for another's call. The first call
+ * opens the table, and the last of these threads to end gives it back. */
 #include <sqlite3ext.h>
 SQLITE_EXTENSION_INIT1
 #include <pthread.h>
@@ -18,30 +19,59 @@ static pthread_once_t once = PTHREAD_ONCE_INIT;
 static pthread_key_t key;
 static int has_key;
 
-/* Closes the table of a thread that ends. */
-static void close_world(void *at) {
-    phone_close(at);
-    free(at);
-}
-static void make_key(void) { has_key = !pthread_key_create(&key, close_world); }
+/* The table, which is open while threads have a handle on it, and how many have. */
+static pthread_mutex_t lock = PTHREAD_MUTEX_INITIALIZER;
+static phone_handle world = PHONE_CLOSED;
+static size_t threads;
 
-/* The table of this thread; NULL, and an error as the result, where it can't be opened. */
+static void take_lock(void) { pthread_mutex_lock(&lock); }
+static void give_lock(void) { pthread_mutex_unlock(&lock); }
+
+/* Opens a handle on the table, which is opened where it isn't open. 0: there is none, and why stands in
+ * `why`, or nothing for memory. */
+static int enter(phone_handle *mine, char *why, size_t why_len) {
+    const char *path = getenv("PHONE_TABLE");
+    int is_open = 0;
+    take_lock();
+    if (threads || sql_open(path ? path : "", &world, why, why_len))
+        is_open = phone_share(&world, mine) == PHONE_OK;
+    threads += is_open;
+    if (!threads) phone_close(&world);
+    give_lock();
+    return is_open;
+}
+
+/* Closes the handle of a thread that ends. */
+static void leave(void *mine) {
+    phone_close(mine);
+    free(mine);
+    take_lock();
+    if (!--threads) phone_close(&world);
+    give_lock();
+}
+
+/* The child of a fork finds the lock free. */
+static void make_key(void) {
+    has_key = !pthread_atfork(take_lock, give_lock, give_lock) && !pthread_key_create(&key, leave);
+}
+
+/* The handle of this thread; NULL, and an error as the result, where there is none. */
 static phone_handle *world_of_thread(sqlite3_context *context) {
     char why[1024] = "";
-    const char *path = getenv("PHONE_TABLE");
-    phone_handle *world;
+    phone_handle *mine;
     pthread_once(&once, make_key);
-    world = has_key ? pthread_getspecific(key) : NULL;
-    if (world) return world;
-    world = has_key ? malloc(sizeof *world) : NULL;
-    if (!world) return sqlite3_result_error_nomem(context), NULL;
-    *world = phone_closed();
-    if (!sql_open(path ? path : "", world, why, sizeof why))
-        sqlite3_result_error(context, why, -1);
-    else if (pthread_setspecific(key, world)) sqlite3_result_error_nomem(context);
-    else return world;
-    close_world(world);
-    return NULL;
+    mine = has_key ? pthread_getspecific(key) : NULL;
+    if (mine) return mine;
+    mine = has_key ? malloc(sizeof *mine) : NULL;
+    if (!mine) return sqlite3_result_error_nomem(context), NULL;
+    *mine = phone_closed();
+    if (!enter(mine, why, sizeof why)) {
+        free(mine);
+        return *why ? sqlite3_result_error(context, why, -1) : sqlite3_result_error_nomem(context), NULL;
+    }
+    if (!pthread_setspecific(key, mine)) return mine;
+    leave(mine);
+    return sqlite3_result_error_nomem(context), NULL;
 }
 
 /* The text of an argument. `at` is NULL where there was no memory for it. */
@@ -66,7 +96,7 @@ static void ask(sqlite3_context *context, int count, sqlite3_value **values) {
     sql_call call = {*(const sql_question *)sqlite3_user_data(context), {0}, {0}, {0}};
     sql_text *const parts[] = {&call.text, &call.region, &call.mode};
     sql_answer answer;
-    phone_handle *world;
+    phone_handle *mine;
     for (int i = 0; i < count; i++)
         if (sqlite3_value_type(values[i]) == SQLITE_NULL) return;
     for (int i = 0; i < count; i++) {
@@ -76,8 +106,8 @@ static void ask(sqlite3_context *context, int count, sqlite3_value **values) {
             return;
         }
     }
-    if (!(world = world_of_thread(context))) return;
-    sql_ask(world, &call, &answer);
+    if (!(mine = world_of_thread(context))) return;
+    sql_ask(mine, &call, &answer);
     give(context, &answer);
     sql_end(&answer);
 }
@@ -101,6 +131,6 @@ int sqlite3_phonenumber_init(sqlite3 *db, char **error, const sqlite3_api_routin
             return status;
         }
     }
-    /* The library stays, since threads that end close their tables by it. */
+    /* The library stays, since threads that end close their handles by it. */
     return SQLITE_OK_LOAD_PERMANENTLY;
 }
