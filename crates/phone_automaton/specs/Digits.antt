@@ -14,9 +14,9 @@ use Rattle.phone_automaton.specs.Finds.{front_end}
 abbrev pub AreDigits : List ℕ → Type 0
 AreDigits text = All (λ b. (48 ≤ b) × (b < 58)) text
 
--- the row that a cell leads to
-abbrev pub row_of : ℕ → ℕ
-row_of cell = cell / 2
+-- the place of the first cell of the row that a cell leads to
+abbrev pub place_of : ℕ → ℕ
+place_of cell = cell / 2
 
 -- a match ends where the cell's step begins
 abbrev pub ends_here : ℕ → Bool
@@ -24,30 +24,30 @@ ends_here cell = cell % 2 == 1
 
 -- a row has a cell for each digit, and in column 10 one for the end of the text
 abbrev pub cell_at : List ℕ → ℕ → ℕ → ℕ
-cell_at cells row column = slice_index cells (row * 11 + column)
+cell_at cells place column = slice_index cells (place + column)
 
 -- a match that ends later is preferred to one that ends here
 abbrev pub or_here : ℕ → ℕ → Option ℕ → Option ℕ
 or_here cell at later = option_or later (if ends_here cell then Some at else None)
 
--- where the match ends that goes on from a row at a position, before these digits; from the first
--- row, which has no thread, none does
+-- where the match ends that goes on from the row at a place, at a position, before these digits;
+-- from the first row, which has no thread, none does
 abbrev pub end_by : List ℕ → ℕ → ℕ → List ℕ → Option ℕ
-end_by cells row at [] =
-    if row == 0 then None else or_here (cell_at cells row 10) at None
-end_by cells row at (b ∷ bs) =
-    if row == 0 then None
-    else or_here (cell_at cells row (b - 48)) at
-    (end_by cells (row_of (cell_at cells row (b - 48))) (at + 1) bs)
+end_by cells place at [] =
+    if place == 0 then None else or_here (cell_at cells place 10) at None
+end_by cells place at (b ∷ bs) =
+    if place == 0 then None
+    else or_here (cell_at cells place (b - 48)) at
+    (end_by cells (place_of (cell_at cells place (b - 48))) (at + 1) bs)
 
 -- where the match ends that begins at the front of a text of digits
 abbrev pub end_of_digits : List ℕ → List ℕ → Option ℕ
-end_of_digits cells text = end_by cells 1 0 text
+end_of_digits cells text = end_by cells 11 0 text
 
 -- each cell leads to a row, and there are two rows at least
 pub record HasRows (cells : List ℕ) : Type 0 where
   pub two : 22 ≤ length cells
-  pub inside : (k : ℕ) → k < length cells → row_of (slice_index cells k) * 11 + 11 ≤ length cells
+  pub inside : (k : ℕ) → k < length cells → place_of (slice_index cells k) + 11 ≤ length cells
 
 -- what a column's step reads: a digit, or nothing at the end of the text
 abbrev pub byte_of : ℕ → Option ℕ
@@ -70,7 +70,7 @@ StepsTo nfa threads byte next matched =
 -- a cell is a step of these threads to those of a row
 abbrev pub IsCell : Nfa → List (List ℕ) → List ℕ → Option ℕ → ℕ → Type 0
 IsCell nfa rows threads byte cell =
-    (next : List ℕ) × (slice_get rows (row_of cell) ≡ Some next) ×
+    (row : ℕ) × (next : List ℕ) × (place_of cell ≡ row * 11) × (slice_get rows row ≡ Some next) ×
     StepsTo nfa threads byte next (ends_here cell)
 
 -- a cell is a row's step over what a column's steps read
@@ -91,7 +91,7 @@ abbrev pub AreCells : Nfa → List (List ℕ) → List ℕ → Type 0
 AreCells nfa rows cells =
     (row column : ℕ) (threads : List ℕ) → column < 11 → row * 11 + column < length cells →
     slice_get rows row ≡ Some threads →
-    IsCell nfa rows threads (byte_of column) (cell_at cells row column)
+    IsCell nfa rows threads (byte_of column) (cell_at cells (row * 11) column)
 
 -- a table tells of each text of digits where the match at its front ends that is found there
 abbrev pub TellsFront : (List ℕ → Option Match) → List ℕ → Type 0

@@ -13,7 +13,7 @@ ghost use Rattle.regex_hir.specs.Meaning.{meaning};
 ghost use Rattle.regex_hir.specs.Re.{Re};
 ghost use Rattle.regex_syntax.specs.Grammar.{Names};
 
-use crate::digits::{Digits, are_digits};
+use crate::digits::Digits;
 use crate::machine::Machine;
 use crate::narrow::narrow_classes;
 use crate::parts;
@@ -196,13 +196,10 @@ impl Automaton {
         ensures within { IfSome result (λ end. IfSome end (λ e. e ≤ length text.now)) }
         ensures digits { IfSome result (λ end. AreDigits text.now) }
     {
-        let Some(digits) = &self.digits else {
-            return None;
-        };
-        if !are_digits(text) {
-            return None;
+        match &self.digits {
+            Some(digits) => digits.end(text),
+            None => None,
         }
-        Some(digits.end(text))
     }
 
     /// The text with its match at the front, which ends here, replaced by a template, in which `$1`

@@ -1,7 +1,7 @@
 //! A table of the steps over digits. A pattern is mostly asked of digits alone: for these its steps
 //! are worked out whole, so that a search only reads, and all threads may share the table.
 ghost use Rattle.std.specs.Prelude.{◌≡◌, ◌≤◌, ◌<◌, ◌*◌, ◌-◌, ◌==◌, ◌++◌, ◌∷◌, [], ℕ, List, IfOk};
-ghost use Rattle.std.specs.Prelude.{IfSome, IsTrue, true, false, Some, None, length, reverse};
+ghost use Rattle.std.specs.Prelude.{IfSome, IsTrue, true, false, Some, None, drop, length, reverse};
 ghost use Rattle.std.specs.Prelude.{if◌then◌else◌, slice_get, vec_len, ◌+◌, ◌⊎◌, ◌^◌};
 ghost use Rattle.std.specs.List.{AllByRecursion};
 ghost use Rattle.std.specs.Option.{option_or};
@@ -9,7 +9,7 @@ ghost use Rattle.regex_dfa.specs.Moves.{Ends, Has, Solves, Test, end_after, firs
 ghost use Rattle.regex_dfa.specs.Search.{end_from};
 ghost use Rattle.regex_dfa.specs.Walks.{AreStates};
 ghost use Rattle.regex_nfa.specs.States.{IsReadable};
-ghost use Rattle.phone_automaton.specs.Digits.{byte_of, end_of_digits, ends_here, row_of};
+ghost use Rattle.phone_automaton.specs.Digits.{byte_of, end_of_digits, ends_here, place_of};
 ghost use Rattle.phone_automaton.specs.Digits.{AnswersLook, AreCells, AreDigits, IsCell, IsCellOf};
 ghost use Rattle.phone_automaton.specs.Digits.{KnowsEnd, ReadsAsBefore, StepsTo};
 
@@ -29,7 +29,7 @@ const COLUMNS: usize = 11;
 const END: usize = 10;
 
 /// A pattern's steps over digits, all of them. Contracts see the cells, row by row: a cell is twice
-/// the row that its step leads to, and one more where a match ends before it.
+/// the place of the row that its step leads to, and one more where a match ends before it.
 #[derive(Drop)]
 pub(crate) struct Digits {
     cells: Vec<u16>,
@@ -48,7 +48,7 @@ impl Model for Digits {
 
 /// Whether a text is of digits alone.
 #[inline]
-pub(crate) fn are_digits(text: &[u8]) -> bool
+fn are_digits(text: &[u8]) -> bool
     ensures { IsTrue result → AreDigits text.now }
 {
     text.iter().all(|byte| 48 <= *byte && *byte < 58)
@@ -68,24 +68,44 @@ impl Digits {
     }
 
     /// Where the match ends that begins at the front of a text of digits; none where there is none.
+    /// None where the text isn't of digits alone.
     #[inline]
-    pub(crate) fn end(&self, digits: &[u8]) -> Option<usize>
-        requires { AreDigits digits.now }
-        ensures end { result ≡ end_of_digits self.now digits.now }
-        ensures within { IfSome result (λ e. e ≤ length digits.now) }
+    pub(crate) fn end(&self, text: &[u8]) -> Option<Option<usize>>
+        ensures digits { IfSome result (λ end. AreDigits text.now) }
+        ensures end { IfSome result (λ end. end ≡ end_of_digits self.now text.now) }
+        ensures within { IfSome result (λ end. IfSome end (λ e. e ≤ length text.now)) }
     {
         let cells = self.cells.as_slice();
-        let mut row = 1usize;
+        let mut place = COLUMNS;
         let mut last = 0usize;
-        for at in 0..digits.len() {
-            let cell = cells[row * COLUMNS + (digits[at] - 48) as usize];
+        for at in 0..text.len() {
+            let byte = text[at];
+            if !byte.is_ascii_digit() {
+                return None;
+            }
+            let cell = cells[place + (byte - 48) as usize];
             last = last_after(cell, at, last);
-            row = (cell / 2) as usize;
-            if row == 0 {
-                return best(last);
+            place = (cell / 2) as usize;
+            if place == 0 {
+                return settled(text, at + 1, last);
             }
         }
-        best(last_after(cells[row * COLUMNS + END], digits.len(), last))
+        Some(best(last_after(cells[place + END], text.len(), last)))
+    }
+}
+
+/// The end of the best match where no thread is left at a position. None where the text isn't of
+/// digits from there on.
+#[inline]
+fn settled(text: &[u8], at: usize, last: usize) -> Option<Option<usize>>
+    requires { at ≤ length text.now }
+    ensures digits { IfSome result (λ end. AreDigits (drop at text.now)) }
+    ensures end { IfSome result (λ end. end ≡ (if last == 0 then None else Some (last - 1))) }
+{
+    if are_digits(&text[at..]) {
+        Some(best(last))
+    } else {
+        None
     }
 }
 
@@ -289,17 +309,17 @@ fn cell(
         IsCell nfa.now rows.new.items threads byte cell) }
 {
     let (next, matched) = step(alloc, nfa, rows[row].states(), byte)?;
-    let place = row_of_threads(rows, Threads { states: next }, (near / 2) as usize)?;
+    let place = row_of_threads(rows, Threads { states: next }, (near / 22) as usize)?;
     Some(as_cell(place, matched))
 }
 
 /// A cell of these two.
 fn as_cell(row: usize, matched: bool) -> u16
     requires { row < 1000 }
-    ensures row { row_of result ≡ row }
+    ensures place { place_of result ≡ row * 11 }
     ensures ends { ends_here result ≡ matched }
 {
-    let twice = row as u16 * 2;
+    let twice = row as u16 * 22;
     if matched { twice + 1 } else { twice }
 }
 

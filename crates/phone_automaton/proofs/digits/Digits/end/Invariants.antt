@@ -1,4 +1,4 @@
-use Rattle.std.proofs.Common.{◌≡◌, ◌<◌, ◌≤◌, ◌+◌, ◌*◌, drop, length}
+use Rattle.std.proofs.Common.{◌≡◌, ◌<◌, ◌≤◌, ◌+◌, ℕ, drop, get_or, length}
 use Rattle.std.specs.Option.{option_or}
 use Rattle.regex_dfa.specs.Links.{best}
 use Rattle.phone_automaton.specs.Digits.{end_by}
@@ -6,5 +6,6 @@ use Rattle.phone_automaton.proofs.digits.Digits.end.Given as goal
 
 abbrev pub invariant-loop-at : goal.invariant-loop-at
 invariant-loop-at l =
-    (0 < l.row) × (l.row * 11 + 11 ≤ length l.cells) × (l.last ≤ l.at)
-    × (end_by l.cells 1 0 l.digits ≡ option_or (end_by l.cells l.row l.at (drop l.at l.digits)) (best l.last))
+    (0 < l.place) × (l.place + 11 ≤ length l.cells) × (l.last ≤ l.at)
+    × ((k d : ℕ) → k < l.at → (48 ≤ get_or l.text k d) × (get_or l.text k d < 58))
+    × (end_by l.cells 11 0 l.text ≡ option_or (end_by l.cells l.place l.at (drop l.at l.text)) (best l.last))
