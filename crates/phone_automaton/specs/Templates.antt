@@ -1,5 +1,5 @@
 -- What a template writes in the place of a match, by the cells that a search has filled.
-use Rattle.std.specs.Prelude.{◌≡◌, ◌≤◌, ◌*◌, ◌++◌, ℕ, List, Option, None, Some, drop, length, take}
+use Rattle.std.specs.Prelude.{◌≡◌, ◌≤◌, ◌+◌, ◌*◌, ◌++◌, ℕ, List, Option, None, Some, drop, length, slice_set, take}
 use Rattle.regex.specs.Replace.{bytes_of}
 use Rattle.regex.specs.Templates.{written_after}
 use Rattle.regex_hir.specs.Find.{Match}
@@ -13,6 +13,10 @@ with_match_replaced names template hay None = hay
 with_match_replaced names template hay (Some m) =
     (take m.start hay ++ written_after names (λ n. bytes_of hay (group m n)) template 0) ++ drop
     m.trace.end hay
+
+-- the cells with the end of a match put in at a place; as they are where the place is behind them
+abbrev pub put_in : List ℕ → ℕ → ℕ → List ℕ
+put_in cells place end = slice_set cells place (end + 1)
 
 -- the text of each group that the cells have room for
 abbrev pub AreTexts : List ℕ → ℕ × ℕ → List ℕ → (ℕ → List ℕ) → Type 0

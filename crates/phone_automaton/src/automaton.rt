@@ -204,8 +204,8 @@ impl Automaton {
 
     /// The text with its match at the front, which ends here, replaced by a template, in which `$1`
     /// stands for the first group; no search is made, and nothing kept. None where the pattern is
-    /// no sequence of groups of fixed lengths but the last, where it has many groups, and where the
-    /// template names a group in another way than by one digit. Refused only for memory.
+    /// no sequence of groups of fixed lengths but the last, and where the template names a group in
+    /// another way than by one digit. Refused only for memory.
     pub fn replace_at_front(
         &self,
         alloc: Global,

@@ -1,12 +1,12 @@
 //! Patterns that are groups one after the other, as those of number formats are. Where each group
 //! but the last has one length, the end of a match at the front says where its groups begin and
 //! end.
-ghost use Rattle.std.specs.Prelude.{◌≡◌, ◌≤◌, ◌<◌, ◌+◌, ◌^◌, length, IfOk, IfSome, IsTrue, Some};
+ghost use Rattle.std.specs.Prelude.{◌≡◌, ◌+◌, length, IfOk, IfSome, IsTrue, Some};
 ghost use Rattle.std.specs.Prelude.{string_bytes, vec_len};
 ghost use Rattle.phone_automaton.specs.Finds.{found_by};
 ghost use Rattle.phone_automaton.specs.Groups.{AreGroupsFor, IsFoundIn};
 ghost use Rattle.phone_automaton.specs.Parts.{AreBefore, AreFrontCells, IsGroup};
-ghost use Rattle.phone_automaton.specs.Parts.{IsGroupOf, with_end};
+ghost use Rattle.phone_automaton.specs.Parts.{IsGroupOf};
 ghost use Rattle.phone_automaton.specs.Templates.{with_match_replaced};
 ghost use Rattle.regex_dfa.specs.Search.{IsForwardFor, end_from};
 ghost use Rattle.regex_hir.specs.Meaning.{meaning};
@@ -171,24 +171,9 @@ pub(crate) fn find_groups(
     groups.find(dfa, hay)
 }
 
-/// The most cells that are copied for one match.
-const MOST_CELLS: usize = 40;
-
-/// Makes these cells, with the end of a match put in, those of the match.
-fn put_end(front: &[usize], end: usize, cells: &mut [usize])
-    requires width { length front.now ≡ length cells.old }
-    requires place { 3 ≤ length front.now }
-    requires end { end < 2 ^ 63 }
-    ensures items { cells.new ≡ with_end front.now end }
-    ensures width { length cells.new ≡ length front.now }
-{
-    cells.copy_from_slice(front);
-    cells[front.len() - 3] = end + 1;
-}
-
 /// The text with its match at the front, which ends here, replaced by a template. None where the
-/// groups aren't known by the match's end, there are many, or the template names a group in another
-/// way than by one digit. Refused only for memory.
+/// groups aren't known by the match's end, or the template names a group in another way than by one
+/// digit. Refused only for memory.
 pub(crate) fn replace_at_front(
     alloc: Global,
     tables: &Tables,
@@ -202,11 +187,8 @@ pub(crate) fn replace_at_front(
         with_match_replaced names template.now hay.now (found_by tables.now.dfa.nfa hay.now))) }
 {
     let front = tables.front_cells.as_slice();
-    if front.len() <= 3 || front.len() > MOST_CELLS || end > hay.len() {
+    if front.len() <= 3 {
         return Ok(None);
     }
-    let mut room = [0usize; MOST_CELLS];
-    let cells = &mut room[..front.len()];
-    put_end(front, end, cells);
-    template::replace(alloc, template, hay, (0, end), cells)
+    template::replace(alloc, template, hay, (0, end), front, front.len() - 3)
 }

@@ -1,15 +1,14 @@
 //! Writing a template in the place of a match. Served are the templates in which each `$` is
 //! followed by a `$`, which then stands for itself, or by the one digit that names a group; any
 //! other is left to a library.
-ghost use Rattle.std.specs.Prelude.{◌≡◌, ◌+◌, ◌*◌, ◌≤◌, ◌<◌, ◌++◌, length, drop, take, slice_index};
-ghost use Rattle.std.specs.Prelude.{string_bytes, IfOk, IfSome, IsTrue, MatchOption, OnOk};
+ghost use Rattle.std.specs.Prelude.{◌≡◌, ◌+◌, ◌*◌, ◌≤◌, ◌<◌, ◌++◌, ◌^◌, length, drop, take};
+ghost use Rattle.std.specs.Prelude.{slice_index, string_bytes, IfOk, IfSome, IsTrue, MatchOption};
 ghost use Rattle.std.specs.List.{prefix_len};
 ghost use Rattle.phone_automaton.specs.Finds.{group_at};
-ghost use Rattle.phone_automaton.specs.Templates.{IsWritten};
+ghost use Rattle.phone_automaton.specs.Templates.{IsWritten, put_in};
 ghost use Rattle.regex.specs.Replace.{bytes_of};
 ghost use Rattle.regex.specs.Templates.{is_name_byte};
 
-use crate::machine::group_of_cells;
 use std::alloc::{AllocError, Global};
 
 /// What follows so many bytes.
@@ -73,6 +72,34 @@ fn push_group(
     Ok(true)
 }
 
+/// A cell of a match, by cells of which one place stands for the end of the match.
+#[inline]
+fn cell_in(cells: &[usize], place: usize, end: usize, k: usize) -> usize
+    requires cell { k < length cells.now }
+    requires end { end < 2 ^ 63 }
+    ensures { result ≡ slice_index (put_in cells.now place end) k }
+{
+    if k == place { end + 1 } else { cells[k] }
+}
+
+/// What a group spans, by such cells.
+#[inline]
+fn group_in(span: (usize, usize), cells: &[usize], place: usize, n: usize) -> Option<(usize, usize)>
+    requires room { 2 * n ≤ length cells.now }
+    requires end { span.1 < 2 ^ 63 }
+    ensures { result ≡ group_at span (put_in cells.now place span.1) n }
+{
+    if n == 0 {
+        return Some(span);
+    }
+    let first = cell_in(cells, place, span.1, 2 * n - 2);
+    let last = cell_in(cells, place, span.1, 2 * n - 1);
+    if first == 0 || last == 0 {
+        return None;
+    }
+    Some((first - 1, last - 1))
+}
+
 /// Appends what a template writes where a match stands. False where the template names a group in
 /// another way than by one digit, or one that the cells have no room for.
 fn push_written(
@@ -81,10 +108,12 @@ fn push_written(
     hay: &[u8],
     span: (usize, usize),
     cells: &[usize],
+    place: usize,
 ) -> Result<bool, AllocError>
+    requires { span.1 < 2 ^ 63 }
     ensures { IfOk result (λ done. IsTrue done → (bytes : _) ×
         (out.new.items ≡ out.old.items ++ bytes) ×
-        IsWritten template.now hay.now span cells.now bytes) }
+        IsWritten template.now hay.now span (put_in cells.now place span.1) bytes) }
 {
     let mut at = 0;
     while at < template.len() {
@@ -105,7 +134,7 @@ fn push_written(
         if 2 * n > cells.len() {
             return Ok(false);
         }
-        if !push_group(out, hay, group_of_cells(span, cells, n))? {
+        if !push_group(out, hay, group_in(span, cells, place, n))? {
             return Ok(false);
         }
         at += 2;
@@ -113,7 +142,8 @@ fn push_written(
     Ok(true)
 }
 
-/// The text with a match replaced by a template, by the match's span and its cells. None where
+/// The text with a match replaced by a template, by the match's span and its cells, of which one
+/// place stands for the match's end; none does where the place is behind them. None where
 /// `push_written` doesn't serve the template.
 pub(crate) fn replace(
     alloc: Global,
@@ -121,10 +151,11 @@ pub(crate) fn replace(
     hay: &str,
     span: (usize, usize),
     cells: &[usize],
+    place: usize,
 ) -> Result<Option<String>, AllocError>
     ensures { IfOk result (λ found. IfSome found (λ out. (bytes : _) ×
         (string_bytes out ≡ (take span.0 hay.now ++ bytes) ++ drop span.1 hay.now) ×
-        IsWritten template.now hay.now span cells.now bytes)) }
+        IsWritten template.now hay.now span (put_in cells.now place span.1) bytes)) }
 {
     let bytes = hay.as_bytes();
     let (start, end) = span;
@@ -134,7 +165,7 @@ pub(crate) fn replace(
     let room = bytes.len().saturating_add(template.len());
     let mut out = Vec::with_capacity(alloc, room)?;
     push_all(&mut out, &bytes[..start])?;
-    if !push_written(&mut out, template.as_bytes(), bytes, span, cells)? {
+    if !push_written(&mut out, template.as_bytes(), bytes, span, cells, place)? {
         return Ok(None);
     }
     push_all(&mut out, after(bytes, end))?;
@@ -158,7 +189,7 @@ pub(crate) fn replace_if_any(
         IsWritten template.now hay.now span cells.now bytes))) }
 {
     match found {
-        Some(span) => replace(alloc, template, hay, span, cells),
+        Some(span) => replace(alloc, template, hay, span, cells, cells.len()),
         None => Ok(Some(String::from_str(alloc, hay)?)),
     }
 }

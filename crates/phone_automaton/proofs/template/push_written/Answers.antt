@@ -1,10 +1,10 @@
 use Rattle.std.proofs.Common.{◌≡◌, ◌<◌, ◌+◌, ◌*◌, ◌≤◌, ◌++◌, ℕ, List, [], ap, arith, length, refl, sym, ◌∙◌}
-use Rattle.std.proofs.lemmas.List.{append_cancel_left, length-drop}
+use Rattle.std.proofs.lemmas.List.{append_cancel_left, length-drop, length-set}
 use Rattle.regex.specs.Replace.{bytes_of}
 use Rattle.regex.specs.Templates.{written_after}
 use Rattle.regex_syntax.specs.Grammar.{Names}
 use Rattle.phone_automaton.specs.Finds.{group_at}
-use Rattle.phone_automaton.specs.Templates.{AreTexts}
+use Rattle.phone_automaton.specs.Templates.{AreTexts, put_in}
 use Rattle.phone_automaton.proofs.Writing.{all_on, byte_on, dollar_on, group_on}
 use Rattle.phone_automaton.proofs.template.push_written.Goals as goal
 
@@ -28,20 +28,23 @@ loop-at-preserved c =
     let alone = rw c.after-rest.ensures at c.in-Some.ensures.alone in
     let room : 2 * c.in-Some.n ≤ length c.args.cells.now = c.if-n-cells.false in
     let here : c.loop-at.at < length t = c.loop-at-test.true in
-    let inside : c.loop-at.at + 1 < length t = (let left = rw length-drop at more in omega arith) in (
+    let inside : c.loop-at.at + 1 < length t = (let left = rw length-drop at more in omega arith) in
+    let cells = put_in c.args.cells.now c.args.place c.args.span.1 in
+    let fits : 2 * c.in-Some.n ≤ length cells = rw (length-set c.args.cells.now c.args.place (c.args.span.1 + 1)) room in (
       omega arith,
       λ names text_of texts.
           rw (c.in_ok-push_group.ensures c.if-not-branch.false)
           (group_on names text_of t c.loop-at.at c.in-Some.n c.loop-at.out.items _ _ inside c.if-template-at-ne36.false small digit alone
-          (ap (bytes_of c.args.hay.now) c.group_of_cells.ensures ∙ sym (texts c.in-Some.n room))
+          (ap (bytes_of c.args.hay.now) c.group_in.ensures ∙ sym (texts c.in-Some.n fits))
           (c.loop-at.invariant.1 names text_of texts)),
     )
 
 pub returns : goal.returns
 returns c = λ yes.
     let t = c.args.template.now in
-    let own : ℕ → List ℕ = λ n. bytes_of c.args.hay.now (group_at c.args.span c.args.cells.now n) in
-    let told : (names : Names) (text_of : ℕ → List ℕ) → AreTexts c.args.hay.now c.args.span c.args.cells.now text_of →
+    let cells = put_in c.args.cells.now c.args.place c.args.span.1 in
+    let own : ℕ → List ℕ = λ n. bytes_of c.args.hay.now (group_at c.args.span cells n) in
+    let told : (names : Names) (text_of : ℕ → List ℕ) → AreTexts c.args.hay.now c.args.span cells text_of →
     c.loop-at.out.items ≡ c.args.out.now.items ++ written_after names text_of t 0 =
     λ names text_of texts. all_on names text_of t c.loop-at.at c.loop-at.out.items _ c.loop-at-test.false (c.loop-at.invariant.1 names text_of texts) in
     let whole = told [] own (λ n room. refl) in

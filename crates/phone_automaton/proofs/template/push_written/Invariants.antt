@@ -1,13 +1,13 @@
 use Rattle.std.proofs.Common.{◌≡◌, ◌≤◌, ◌++◌, ◌-◌, ℕ, List, drop, length}
 use Rattle.regex.specs.Templates.{written_after}
 use Rattle.regex_syntax.specs.Grammar.{Names}
-use Rattle.phone_automaton.specs.Templates.{AreTexts}
+use Rattle.phone_automaton.specs.Templates.{AreTexts, put_in}
 use Rattle.phone_automaton.proofs.template.push_written.Given as goal
 
 abbrev pub invariant-loop-at : goal.invariant-loop-at
 invariant-loop-at l =
     (l.at ≤ length l.template)
-    × ((names : Names) (text_of : ℕ → List ℕ) → AreTexts l.hay l.span l.cells text_of →
+    × ((names : Names) (text_of : ℕ → List ℕ) → AreTexts l.hay l.span (put_in l.cells l.place l.span.1) text_of →
     l.out.items ++ written_after names text_of (drop l.at l.template) 0 ≡ l.initial.out.items ++ written_after names text_of l.template 0)
 
 abbrev pub decreases-loop-at : goal.decreases-loop-at
