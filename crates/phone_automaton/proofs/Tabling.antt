@@ -4,18 +4,16 @@ use Rattle.std.proofs.lemmas.Bool.{cases_eq, cases_lt, cond-true, cond-false}
 use Rattle.std.proofs.lemmas.List.{append_assoc, get_or_append_left, get_or-append-add, length-append, length-drop, drop_more, get_or-drop, get_or_default}
 use Rattle.std.proofs.lemmas.Nat.{div-add-mod', mod_below}
 use Rattle.std.proofs.lemmas.Option.{slice_get-get_or, slice_get_past, slice_get_within, none-some, same_Some}
+use Rattle.std.specs.List.{AllByRecursion}
 use Rattle.std.specs.Option.{option_or}
 use Rattle.regex_dfa.specs.Moves.{Test, MovesForward, Solves, first_end}
 use Rattle.regex_dfa.specs.Links.{best}
 use Rattle.regex_dfa.specs.Search.{end_from}
-use Rattle.regex_dfa.specs.declared.dfa.Dfa.{Dfa}
-use Rattle.regex_dfa.proofs.MovesLemmas.{Moves-alike, Moves-prop}
-use mathlib.Core.Logic.{∥∥₁_elim}
 use Rattle.regex_dfa.proofs.EndsLemmas.{bounded, first_end_none, outside, solves_bounded}
 use Rattle.regex_hir.proofs.OptionLemmas.{option_or-None}
 use Rattle.regex_hir.specs.Looks.{holds, holds_between}
 use Rattle.regex_nfa.specs.declared.nfa.Nfa.{Nfa}
-use Rattle.phone_automaton.specs.Digits.{byte_of, cell_at, end_by, end_of_digits, ends_here, or_here, place_of, AreCells, AreDigits, HasRows, ReadsAsBefore, StepsTo, IsCell, KnowsEnd}
+use Rattle.phone_automaton.specs.Digits.{byte_of, cell_at, end_by, end_of_digits, ends_here, or_here, place_of, AreCells, AreDigits, HasRows, IsCell, KnowsEnd}
 
 -- an element stays where it is if more elements come behind it
 pub slice_get-append : {A : Type 0} (xs ys : List A) (i : ℕ) (x : A) → slice_get xs i ≡ Some x → slice_get (xs ++ ys) i ≡ Some x
@@ -32,6 +30,13 @@ slice_get-behind (y ∷ xs) ys x = slice_get-behind xs ys x
 pub IsCell-grows : (nfa : Nfa) (rows more : List (List ℕ)) (threads : List ℕ) (byte : Option ℕ) (cell : ℕ) →
     IsCell nfa rows threads byte cell → IsCell nfa (rows ++ more) threads byte cell
 IsCell-grows nfa rows more threads byte cell (row, next, at, there, steps) = (row, next, at, slice_get-append rows more _ next there, steps)
+
+-- what holds of the rows and of one more holds of the rows with that one behind them
+pub rows_known : (P : List ℕ → Type 0) (rows more : List (List ℕ)) (x : List ℕ) → AllByRecursion P rows → P x →
+    AllByRecursion (λ t. t ≡ x) more → AllByRecursion P (rows ++ more)
+rows_known P [] [] x all p own = tt
+rows_known P [] (y ∷ ys) x all p own = (subst P (sym own.0) p, rows_known P [] ys x tt p own.1)
+rows_known P (r ∷ rs) more x all p own = (all.0, rows_known P rs more x all.1 p own)
 
 -- cells of the rows up to one stay so if more rows come
 pub AreCells-grows : (nfa : Nfa) (rows more : List (List ℕ)) (cells : List ℕ) → length cells ≤ 11 * length rows →
@@ -82,6 +87,9 @@ byte_of_digit : (b : ℕ) → 48 ≤ b → b < 58 → byte_of (b - 48) ≡ Some 
 byte_of_digit b low high =
     cond-false _ None (Some (48 + (b - 48))) (ne_eqb (b - 48) 10 (omega arith))
     ∙ (let back : 48 + (b - 48) ≡ b = omega arith in ap (λ (x : ℕ). Some x) back)
+
+pub byte_of_column : (column : ℕ) → column < 10 → byte_of column ≡ Some (48 + column)
+byte_of_column column low = cond-false _ None (Some (48 + column)) (ne_eqb column 10 (omega arith))
 
 knows_end : (hay : List ℕ) (at : ℕ) (byte : Option ℕ) → slice_get hay at ≡ byte → KnowsEnd (λ l. holds l hay at) byte
 unfolding holds holds_between
@@ -227,31 +235,3 @@ digits_all text at inside front here back k d h =
     subst (λ b. (48 ≤ b) × (b < 58)) (get_or-drop (at + 1) text (k - (at + 1)) d ∙ ap (λ j. get_or text j d) whole) (back (k - (at + 1)) d fits))
     (cases_eq k at))
     (cases_lt k at)
-
--- ---- columns that read alike
--- where two digits belong to one class, the steps over the one are those over the other
-pub reads_alike : (dfa : Dfa) (column : ℕ) → 0 < column → column < 10 →
-    slice_index dfa.class_of (column + 47) ≡ slice_index dfa.class_of (column + 48) → ReadsAsBefore dfa.nfa column
-unfolding MovesForward
-reads_alike dfa column some low same = (some, λ threads next matched steps test knows. there threads next matched steps test knows)
-  where
-    before : byte_of (column - 1) ≡ Some (column + 47)
-    before =
-        cond-false _ None (Some (48 + (column - 1))) (ne_eqb (column - 1) 10 (omega arith))
-        ∙ (let back : 48 + (column - 1) ≡ column + 47 = omega arith in ap (λ (x : ℕ). Some x) back)
-
-    here : byte_of column ≡ Some (column + 48)
-    here =
-        cond-false _ None (Some (48 + column)) (ne_eqb column 10 (omega arith))
-        ∙ (let back : 48 + column ≡ column + 48 = omega arith in ap (λ (x : ℕ). Some x) back)
-
-    there : (threads next : List ℕ) (matched : Bool) → StepsTo dfa.nfa threads (byte_of (column - 1)) next matched →
-        (test : Test) → KnowsEnd test (byte_of column) → MovesForward dfa.nfa test threads (byte_of column) next matched
-    there threads next matched steps test knows =
-        let known : KnowsEnd test (Some (column + 48)) = subst (λ o. KnowsEnd test o) here knows in
-        let step : MovesForward dfa.nfa test threads (Some (column + 47)) next matched =
-        subst (λ o. MovesForward dfa.nfa test threads o next matched) before (steps test (subst (λ o. KnowsEnd test o) (sym before) known)) in
-        subst (λ o. MovesForward dfa.nfa test threads o next matched) (sym here)
-        (∥∥₁_elim dfa.alike (Moves-prop false dfa.nfa test threads (Some (column + 48)) next matched)
-        (λ alike. Moves-alike false dfa.nfa dfa.needs test threads (column + 47) (column + 48) next matched
-        (alike (column + 47) (column + 48) (omega arith) (omega arith) same) step))

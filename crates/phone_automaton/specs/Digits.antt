@@ -3,8 +3,8 @@ use Rattle.std.specs.Prelude.{◌≡◌, ◌≤◌, ◌<◌, ◌+◌, ◌*◌, �
 use Rattle.std.specs.Prelude.{[], ◌∷◌, length, Option, Some, None, if◌then◌else◌, slice_get}
 use Rattle.std.specs.Prelude.{false, slice_index, All}
 use Rattle.std.specs.Option.{option_or}
-use Rattle.regex_dfa.specs.Moves.{Test, MovesForward}
-use Rattle.regex_hir.specs.declared.look.Look as looks
+use Rattle.regex_dfa.specs.Moves.{Ends, MovesForward, Solves, Test, end_after, first_end}
+use Rattle.regex_nfa.specs.Run.{state_of}
 use Rattle.regex_hir.specs.declared.look.Look.TheVariants as look
 use Rattle.regex_hir.specs.Find.{Match}
 use Rattle.regex_nfa.specs.declared.nfa.Nfa.{Nfa}
@@ -58,9 +58,9 @@ abbrev pub KnowsEnd : Test → Option ℕ → Type 0
 KnowsEnd test None = test look.End ≡ true
 KnowsEnd test (Some b) = test look.End ≡ false
 
--- so the assertion holds there, or doesn't
-abbrev pub AnswersLook : looks.Look → Option ℕ → Bool → Type 0
-AnswersLook l byte answer = (test : Test) → KnowsEnd test byte → test l ≡ answer
+-- whether the text ends here is known, if it was looked for
+abbrev pub KnowsIf : Bool → Bool → Test → Type 0
+KnowsIf looked at_end test = looked ≡ true → test look.End ≡ at_end
 
 -- the threads step to the next ones over what is read, and a match ends before it or not
 abbrev pub StepsTo : Nfa → List ℕ → Option ℕ → List ℕ → Bool → Type 0
@@ -73,18 +73,28 @@ IsCell nfa rows threads byte cell =
     (row : ℕ) × (next : List ℕ) × (place_of cell ≡ row * 11) × (slice_get rows row ≡ Some next) ×
     StepsTo nfa threads byte next (ends_here cell)
 
--- a cell is a row's step over what a column's steps read
-abbrev pub IsCellOf : Nfa → List (List ℕ) → ℕ → ℕ → ℕ → Type 0
-IsCellOf nfa rows row column cell =
-    (threads : List ℕ) → slice_get rows row ≡ Some threads →
-    IsCell nfa rows threads (byte_of column) cell
+-- what a state gives is what follows the byte that it reads
+abbrev pub IsLeaf : Nfa → ℕ → Type 0
+IsLeaf nfa q =
+    (test : Test) (byte : Option ℕ) (v : Ends) → Solves nfa test byte v →
+    v.now q ≡ end_after nfa test byte v (state_of nfa q)
 
--- the steps of a column are those of the column before
-abbrev pub ReadsAsBefore : Nfa → ℕ → Type 0
-ReadsAsBefore nfa column =
-    (0 < column) × ((threads next : List ℕ) (matched : Bool) →
-    StepsTo nfa threads (byte_of (column - 1)) next matched →
-    StepsTo nfa threads (byte_of column) next matched)
+abbrev pub AreLeaves : Nfa → List ℕ → Type 0
+AreLeaves nfa leaves = All (IsLeaf nfa) leaves
+
+-- the threads give what these leaves give, in their order, or else a match that ends here
+abbrev pub ClosesTo : Nfa → Bool → Bool → List ℕ → List ℕ → Bool → Type 0
+ClosesTo nfa looked at_end threads leaves matched =
+    (test : Test) (byte : Option ℕ) (v : Ends) → KnowsIf looked at_end test →
+    Solves nfa test byte v →
+    first_end threads v.now ≡
+    option_or (first_end leaves v.now) (if matched then Some v.here else None)
+
+-- over a byte the leaves lead to these states, in their order
+abbrev pub LeadTo : Nfa → List ℕ → ℕ → List ℕ → Type 0
+LeadTo nfa leaves byte next =
+    (test : Test) (v : Ends) → Solves nfa test (Some byte) v →
+    first_end leaves v.now ≡ first_end next v.next
 
 -- all cells are steps of the threads of their rows
 abbrev pub AreCells : Nfa → List (List ℕ) → List ℕ → Type 0

@@ -104,7 +104,7 @@ impl Core {
     fn digits(&self, alloc: Global) -> Option<Digits>
         ensures { IfSome result (TellsFront (finds self.now)) }
     {
-        Digits::new(alloc, &self.tables.dfa)
+        Digits::new(alloc, &self.tables.dfa.nfa)
     }
 
     /// The text with its match at the front, which ends here, replaced by a template.

@@ -1,19 +1,19 @@
 //! A table of the steps over digits. A pattern is mostly asked of digits alone: for these its steps
 //! are worked out whole, so that a search only reads, and all threads may share the table.
 ghost use Rattle.std.specs.Prelude.{◌≡◌, ◌≤◌, ◌<◌, ◌*◌, ◌-◌, ◌==◌, ◌++◌, ◌∷◌, [], ℕ, List, IfOk};
-ghost use Rattle.std.specs.Prelude.{IfSome, IsTrue, true, false, Some, None, drop, length, reverse};
-ghost use Rattle.std.specs.Prelude.{if◌then◌else◌, slice_get, vec_len, ◌+◌, ◌⊎◌, ◌^◌};
+ghost use Rattle.std.specs.Prelude.{IfSome, IsTrue, Option, true, false, Some, None, drop, length};
+ghost use Rattle.std.specs.Prelude.{if◌then◌else◌, reverse, slice_get, vec_len, ◌+◌, ◌⊎◌, ◌^◌};
 ghost use Rattle.std.specs.List.{AllByRecursion};
 ghost use Rattle.std.specs.Option.{option_or};
 ghost use Rattle.regex_dfa.specs.Moves.{Ends, Has, Solves, Test, end_after, first_end};
 ghost use Rattle.regex_dfa.specs.Search.{end_from};
 ghost use Rattle.regex_dfa.specs.Walks.{AreStates};
+ghost use Rattle.regex_hir.specs.declared.look.Look.TheVariants as looks;
 ghost use Rattle.regex_nfa.specs.States.{IsReadable};
-ghost use Rattle.phone_automaton.specs.Digits.{byte_of, end_of_digits, ends_here, place_of};
-ghost use Rattle.phone_automaton.specs.Digits.{AnswersLook, AreCells, AreDigits, IsCell, IsCellOf};
-ghost use Rattle.phone_automaton.specs.Digits.{KnowsEnd, ReadsAsBefore, StepsTo};
+ghost use Rattle.phone_automaton.specs.Digits.{end_of_digits, ends_here, place_of, AreCells};
+ghost use Rattle.phone_automaton.specs.Digits.{AreDigits, AreLeaves, ClosesTo, KnowsIf, LeadTo};
+ghost use Rattle.phone_automaton.specs.Digits.{StepsTo};
 
-use regex_dfa::Dfa;
 use regex_hir::Look;
 use regex_nfa::{Nfa, State, StateId};
 use std::alloc::Global;
@@ -57,13 +57,13 @@ fn are_digits(text: &[u8]) -> bool
 impl Digits {
     /// The table of an automaton. None where memory is refused, where the table would have too many
     /// rows, and where a step looks at what stands around it otherwise than for the text's end.
-    pub(crate) fn new(alloc: Global, dfa: &Dfa) -> Option<Digits>
-        ensures { let nfa = dfa.now.nfa in IfSome result (λ d. (hay : List ℕ) → AreDigits hay →
-            end_of_digits d hay ≡ end_from nfa hay (length hay) nfa.start 0) }
+    pub(crate) fn new(alloc: Global, nfa: &Nfa) -> Option<Digits>
+        ensures { IfSome result (λ d. (hay : List ℕ) → AreDigits hay →
+            end_of_digits d hay ≡ end_from nfa.now hay (length hay) nfa.now.start 0) }
     {
-        let mut rows = first_rows(alloc, &dfa.nfa)?;
+        let mut rows = first_rows(alloc, nfa)?;
         let mut cells = Vec::new(alloc);
-        fill(alloc, dfa, &mut rows, &mut cells)?;
+        fill(alloc, nfa, &mut rows, &mut cells)?;
         Some(Digits { cells })
     }
 
@@ -188,21 +188,35 @@ fn add_row(rows: &mut Vec<Threads>, threads: Threads) -> Option<()>
     rows.push(threads).ok()
 }
 
+/// Lists that are handed on from row to row, so that no row takes memory for its own.
+#[derive(Drop)]
+struct Room {
+    work: Vec<StateId>,
+    leaves: Vec<StateId>,
+    next: Vec<StateId>,
+}
+
 /// Works out each row's cells, which may add rows. None where memory is refused, or a row can't be
 /// worked out, or there are too many.
-fn fill(alloc: Global, dfa: &Dfa, rows: &mut Vec<Threads>, cells: &mut Vec<u16>) -> Option<()>
+fn fill(alloc: Global, nfa: &Nfa, rows: &mut Vec<Threads>, cells: &mut Vec<u16>) -> Option<()>
     requires empty { cells.old.items ≡ [] }
-    requires states { AllByRecursion (AreStates dfa.now.nfa) rows.old.items }
+    requires dead { slice_get rows.old.items 0 ≡ Some [] }
+    requires states { AllByRecursion (AreStates nfa.now) rows.old.items }
     ensures grows { IfSome result (λ done. (more : _) ×
         (rows.new.items ≡ rows.old.items ++ more)) }
     ensures all { IfSome result (λ done. length cells.new.items ≡ 11 * length rows.new.items) }
-    ensures cells { IfSome result (λ done. AreCells dfa.now.nfa rows.new.items cells.new.items) }
+    ensures cells { IfSome result (λ done. AreCells nfa.now rows.new.items cells.new.items) }
 {
+    let mut room = Room {
+        work: Vec::new(alloc),
+        leaves: Vec::new(alloc),
+        next: Vec::new(alloc),
+    };
     for row in 0..MOST_ROWS + 1 {
         if row >= rows.len() {
             return Some(());
         }
-        fill_row(alloc, dfa, rows, cells, row)?;
+        fill_row(alloc, nfa, rows, cells, row, &mut room)?;
     }
     None
 }
@@ -210,64 +224,95 @@ fn fill(alloc: Global, dfa: &Dfa, rows: &mut Vec<Threads>, cells: &mut Vec<u16>)
 /// Works out the cells of a row, the first that has none.
 fn fill_row(
     alloc: Global,
-    dfa: &Dfa,
+    nfa: &Nfa,
     rows: &mut Vec<Threads>,
     cells: &mut Vec<u16>,
     row: usize,
+    room: &mut Room,
 ) -> Option<()>
     requires row { row < length rows.old.items }
     requires first { length cells.old.items ≡ 11 * row }
-    requires states { AllByRecursion (AreStates dfa.now.nfa) rows.old.items }
-    requires cells { AreCells dfa.now.nfa rows.old.items cells.old.items }
+    requires dead { slice_get rows.old.items 0 ≡ Some [] }
+    requires states { AllByRecursion (AreStates nfa.now) rows.old.items }
+    requires cells { AreCells nfa.now rows.old.items cells.old.items }
     ensures grows { IfSome result (λ done. (more : _) ×
         (rows.new.items ≡ rows.old.items ++ more)) }
-    ensures states { IfSome result (λ done. AllByRecursion (AreStates dfa.now.nfa) rows.new.items) }
+    ensures states { IfSome result (λ done. AllByRecursion (AreStates nfa.now) rows.new.items) }
     ensures all { IfSome result (λ done. length cells.new.items ≡ 11 * row + 11) }
-    ensures cells { IfSome result (λ done. AreCells dfa.now.nfa rows.new.items cells.new.items) }
+    ensures cells { IfSome result (λ done. AreCells nfa.now rows.new.items cells.new.items) }
 {
-    let mut near = 0u16;
-    for column in 0..COLUMNS {
-        near = cell_beside(alloc, dfa, rows, row, column, near)?;
-        push_cell(cells, near)?;
-    }
+    let Room { work, leaves, next } = room;
+    let (matched, ended) = close_row(nfa, rows[row].states(), work, leaves)?;
+    fill_digits(
+        alloc,
+        nfa,
+        rows,
+        cells,
+        row,
+        leaves.as_slice(),
+        matched,
+        next,
+    )?;
+    push_cell(cells, as_cell(0, ended))?;
     Some(())
 }
 
-/// The cell of a row in a column, beside that of the column before.
-fn cell_beside(
-    alloc: Global,
-    dfa: &Dfa,
-    rows: &mut Vec<Threads>,
-    row: usize,
-    column: usize,
-    near: u16,
-) -> Option<u16>
-    requires row { row < length rows.old.items }
-    requires column { column < 11 }
-    requires states { AllByRecursion (AreStates dfa.now.nfa) rows.old.items }
-    requires near { 0 < column → IsCellOf dfa.now.nfa rows.old.items row (column - 1) near }
-    ensures grows { IfSome result (λ cell. (more : _) ×
-        (rows.new.items ≡ rows.old.items ++ more)) }
-    ensures states { IfSome result (λ cell. AllByRecursion (AreStates dfa.now.nfa) rows.new.items) }
-    ensures is { IfSome result (λ cell. (threads : List ℕ) →
-        slice_get rows.old.items row ≡ Some threads →
-        IsCell dfa.now.nfa rows.new.items threads (byte_of column) cell) }
+/// The leaves of a row's threads before a digit; whether a match ends there; and whether one does at
+/// the end of the text.
+fn close_row(
+    nfa: &Nfa,
+    threads: &[StateId],
+    work: &mut Vec<StateId>,
+    leaves: &mut Vec<StateId>,
+) -> Option<(bool, bool)>
+    requires { AreStates nfa.now threads.now }
+    ensures leaves { IfSome result (λ r. AreLeaves nfa.now leaves.new.items) }
+    ensures states { IfSome result (λ r. AreStates nfa.now leaves.new.items) }
+    ensures closes { IfSome result (λ r.
+        ClosesTo nfa.now true false threads.now leaves.new.items r.0) }
+    ensures ended { IfSome result (λ r. StepsTo nfa.now threads.now None [] r.1) }
 {
-    if reads_as_before(dfa, column) {
-        return Some(near);
+    let (ended, looked) = close(nfa, threads, true, work, leaves)?;
+    if !looked {
+        return Some((ended, ended));
     }
-    cell(alloc, &dfa.nfa, rows, row, read_in(column), near)
+    let (matched, _looked) = close(nfa, threads, false, work, leaves)?;
+    Some((matched, ended))
 }
 
-/// Whether all steps of a column are those of the column before, as its digits belong to one class.
-fn reads_as_before(dfa: &Dfa, column: usize) -> bool
-    requires { column < 11 }
-    ensures { IsTrue result → ReadsAsBefore dfa.now.nfa column }
+/// Works out a row's cells for the digits, by the leaves of its threads. Most digits lead where the
+/// digit before does.
+fn fill_digits(
+    alloc: Global,
+    nfa: &Nfa,
+    rows: &mut Vec<Threads>,
+    cells: &mut Vec<u16>,
+    row: usize,
+    leaves: &[StateId],
+    matched: bool,
+    next: &mut Vec<StateId>,
+) -> Option<()>
+    requires row { row < length rows.old.items }
+    requires first { length cells.old.items ≡ 11 * row }
+    requires states { AllByRecursion (AreStates nfa.now) rows.old.items }
+    requires cells { AreCells nfa.now rows.old.items cells.old.items }
+    requires leaves { AreLeaves nfa.now leaves.now }
+    requires known { AreStates nfa.now leaves.now }
+    requires closes { (threads : List ℕ) → slice_get rows.old.items row ≡ Some threads →
+        ClosesTo nfa.now true false threads leaves.now matched }
+    ensures grows { IfSome result (λ done. (more : _) ×
+        (rows.new.items ≡ rows.old.items ++ more)) }
+    ensures states { IfSome result (λ done. AllByRecursion (AreStates nfa.now) rows.new.items) }
+    ensures all { IfSome result (λ done. length cells.new.items ≡ 11 * row + 10) }
+    ensures cells { IfSome result (λ done. AreCells nfa.now rows.new.items cells.new.items) }
 {
-    if column == 0 || column >= END {
-        return false;
+    let mut near = 0usize;
+    for column in 0..END {
+        read_all(nfa, leaves, 48 + column as u8, next)?;
+        near = row_of_threads(alloc, rows, next.as_slice(), near)?;
+        push_cell(cells, as_cell(near, matched))?;
     }
-    dfa.class_of[column + 47] == dfa.class_of[column + 48]
+    Some(())
 }
 
 /// Appends a cell. None where memory is refused.
@@ -275,42 +320,6 @@ fn push_cell(cells: &mut Vec<u16>, cell: u16) -> Option<()>
     ensures { IfSome result (λ done. cells.new.items ≡ cells.old.items ++ cell ∷ []) }
 {
     cells.push(cell).ok()
-}
-
-/// What the steps of a column read.
-fn read_in(column: usize) -> Option<u8>
-    requires { column < 11 }
-    ensures { result ≡ byte_of column }
-{
-    if column == END {
-        None
-    } else {
-        Some(48 + column as u8)
-    }
-}
-
-/// The cell of a row's step over what is read. Its threads are mostly those of the row to which the
-/// cell beside it leads, so these are compared first.
-fn cell(
-    alloc: Global,
-    nfa: &Nfa,
-    rows: &mut Vec<Threads>,
-    row: usize,
-    byte: Option<u8>,
-    near: u16,
-) -> Option<u16>
-    requires row { row < length rows.old.items }
-    requires states { AllByRecursion (AreStates nfa.now) rows.old.items }
-    ensures grows { IfSome result (λ cell. (more : _) ×
-        (rows.new.items ≡ rows.old.items ++ more)) }
-    ensures states { IfSome result (λ cell. AllByRecursion (AreStates nfa.now) rows.new.items) }
-    ensures is { IfSome result (λ cell. (threads : List ℕ) →
-        slice_get rows.old.items row ≡ Some threads →
-        IsCell nfa.now rows.new.items threads byte cell) }
-{
-    let (next, matched) = step(alloc, nfa, rows[row].states(), byte)?;
-    let place = row_of_threads(rows, Threads { states: next }, (near / 22) as usize)?;
-    Some(as_cell(place, matched))
 }
 
 /// A cell of these two.
@@ -323,15 +332,20 @@ fn as_cell(row: usize, matched: bool) -> u16
     if matched { twice + 1 } else { twice }
 }
 
-/// The row of these threads, which is added where there is none yet. None where memory is refused,
-/// and where there are too many rows.
-fn row_of_threads(rows: &mut Vec<Threads>, threads: Threads, near: usize) -> Option<usize>
+/// The row of these threads, which is added where there is none yet; this one is tried first. None
+/// where memory is refused, and where there are too many rows.
+fn row_of_threads(
+    alloc: Global,
+    rows: &mut Vec<Threads>,
+    threads: &[StateId],
+    near: usize,
+) -> Option<usize>
     ensures grows { IfSome result (λ row. (more : _) ×
-        (rows.new.items ≡ rows.old.items ++ more) × AllByRecursion (λ t. t ≡ threads) more) }
-    ensures there { IfSome result (λ row. slice_get rows.new.items row ≡ Some threads) }
+        (rows.new.items ≡ rows.old.items ++ more) × AllByRecursion (λ t. t ≡ threads.now) more) }
+    ensures there { IfSome result (λ row. slice_get rows.new.items row ≡ Some threads.now) }
     ensures few { IfSome result (λ row. row < 1000) }
 {
-    let found = find(rows.as_slice(), threads.states(), near);
+    let found = find(rows.as_slice(), threads, near);
     if let Some(row) = found {
         return if row < MOST_ROWS { Some(row) } else { None };
     }
@@ -339,8 +353,18 @@ fn row_of_threads(rows: &mut Vec<Threads>, threads: Threads, near: usize) -> Opt
     if row >= MOST_ROWS {
         return None;
     }
-    add_row(rows, threads)?;
+    add_row(rows, own(alloc, threads)?)?;
     Some(row)
+}
+
+/// Threads of these states. None where memory is refused.
+fn own(alloc: Global, states: &[StateId]) -> Option<Threads>
+    ensures { IfSome result (λ threads. threads ≡ states.now) }
+{
+    match Vec::from_slice(alloc, states) {
+        Ok(states) => Some(Threads { states }),
+        Err(_) => None,
+    }
 }
 
 /// The row of these threads, if there is one; this one is tried first.
@@ -358,82 +382,74 @@ fn find(rows: &[Threads], threads: &[StateId], near: usize) -> Option<usize>
     None
 }
 
-/// The most states that one step visits.
+/// The most states that are visited for one row.
 const MOST_VISITS: usize = 100_000;
 
-/// The threads after a step over what is read, and whether a match ends before it. None where
-/// memory is refused, the step takes too long, or it looks at what stands around it.
-fn step(
-    alloc: Global,
+/// Replaces threads by the states that they lead to without reading, and that read: the leaves, in
+/// their order, up to where a match ends, if one does. Returns whether one does, and whether the
+/// end of the text was looked for. None where memory is refused, it takes too long, or something
+/// else is looked for.
+fn close(
     nfa: &Nfa,
     threads: &[StateId],
-    byte: Option<u8>,
-) -> Option<(Vec<StateId>, bool)>
+    at_end: bool,
+    work: &mut Vec<StateId>,
+    leaves: &mut Vec<StateId>,
+) -> Option<(bool, bool)>
     requires { AreStates nfa.now threads.now }
-    ensures states { IfSome result (λ r. AreStates nfa.now r.0.items) }
-    ensures steps { IfSome result (λ r. StepsTo nfa.now threads.now byte r.0.items r.1) }
+    ensures leaves { IfSome result (λ r. AreLeaves nfa.now leaves.new.items) }
+    ensures states { IfSome result (λ r. AreStates nfa.now leaves.new.items) }
+    ensures closes { IfSome result (λ r.
+        ClosesTo nfa.now r.1 at_end threads.now leaves.new.items r.0) }
 {
-    let mut next = Vec::new(alloc);
-    let matched = step_into(alloc, nfa, threads, byte, &mut next)?;
-    Some((next, matched))
-}
-
-/// The same, with the threads appended to an empty list.
-fn step_into(
-    alloc: Global,
-    nfa: &Nfa,
-    threads: &[StateId],
-    byte: Option<u8>,
-    next: &mut Vec<StateId>,
-) -> Option<bool>
-    requires states { AreStates nfa.now threads.now }
-    requires empty { next.old.items ≡ [] }
-    ensures states { IfSome result (λ matched. AreStates nfa.now next.new.items) }
-    ensures steps { IfSome result (λ matched.
-        StepsTo nfa.now threads.now byte next.new.items matched) }
-{
-    let mut work = stack_of(alloc, threads)?;
+    let mut looked = false;
+    leaves.clear();
+    stack(work, threads)?;
     for _visit in 0..MOST_VISITS {
         let Some(state) = work.pop() else {
-            return Some(false);
+            return Some((false, looked));
         };
-        if visit(nfa, state, byte, &mut work, next)? {
-            return Some(true);
+        if visit(nfa, state, at_end, work, leaves, &mut looked)? {
+            return Some((true, looked));
         }
     }
     None
 }
 
-/// The threads on a stack, the first on top. None where memory is refused.
-fn stack_of(alloc: Global, threads: &[StateId]) -> Option<Vec<StateId>>
-    ensures { IfSome result (λ stack. reverse stack.items ≡ threads.now) }
+/// Puts the threads on a stack, the first on top. None where memory is refused.
+fn stack(stack: &mut Vec<StateId>, threads: &[StateId]) -> Option<()>
+    ensures { IfSome result (λ done. reverse stack.new.items ≡ threads.now) }
 {
-    let mut stack = Vec::new(alloc);
+    stack.clear();
     for k in (0..threads.len()).rev() {
-        push(&mut stack, threads[k])?;
+        push(stack, threads[k])?;
     }
-    Some(stack)
+    Some(())
 }
 
 /// Replaces a thread, which has just left the stack, by what it leads to. Returns whether a match
-/// ends there. None where memory is refused, or it looks at what stands around it.
+/// ends there. None where memory is refused, or something else than the text's end is looked for.
 fn visit(
     nfa: &Nfa,
     state: StateId,
-    byte: Option<u8>,
+    at_end: bool,
     work: &mut Vec<StateId>,
-    next: &mut Vec<StateId>,
+    leaves: &mut Vec<StateId>,
+    looked: &mut bool,
 ) -> Option<bool>
     requires state { state < vec_len nfa.now.states }
     requires work { AreStates nfa.now work.old.items }
-    requires next { AreStates nfa.now next.old.items }
+    requires leaves { AreLeaves nfa.now leaves.old.items }
+    requires known { AreStates nfa.now leaves.old.items }
     ensures work { IfSome result (λ matched. AreStates nfa.now work.new.items) }
-    ensures next { IfSome result (λ matched. AreStates nfa.now next.new.items) }
-    ensures gives { IfSome result (λ matched. (test : Test) (v : Ends) → KnowsEnd test byte →
-        Solves nfa.now test byte v →
-        option_or (first_end next.old.items v.next)
+    ensures leaves { IfSome result (λ matched. AreLeaves nfa.now leaves.new.items) }
+    ensures known { IfSome result (λ matched. AreStates nfa.now leaves.new.items) }
+    ensures looked { IfSome result (λ matched. IsTrue looked.old → IsTrue looked.new) }
+    ensures gives { IfSome result (λ matched. (test : Test) (byte : Option ℕ) (v : Ends) →
+        KnowsIf looked.new at_end test → Solves nfa.now test byte v →
+        option_or (first_end leaves.old.items v.now)
         (first_end (state ∷ reverse work.old.items) v.now) ≡
-        option_or (first_end next.new.items v.next)
+        option_or (first_end leaves.new.items v.now)
         (if matched then Some v.here else first_end (reverse work.new.items) v.now)) }
 {
     let kind = nfa.state(state);
@@ -448,45 +464,65 @@ fn visit(
             Some(false)
         }
         State::Look { look, next } => {
-            look_on(look, next, byte, work)?;
+            look_on(look, next, at_end, work, looked)?;
             Some(false)
         }
         State::Match => Some(true),
         _ => {
-            read(nfa, kind, byte, next)?;
+            add(leaves, state)?;
             Some(false)
         }
     }
 }
 
-/// Where the text's end is looked for and nothing is read, the thread goes on. None where something
+/// Where the text's end is looked for, and it is there, the thread goes on. None where something
 /// else is looked for, and where memory is refused.
-fn look_on(look: Look, target: StateId, byte: Option<u8>, work: &mut Vec<StateId>) -> Option<()>
-    ensures { IfSome result (λ done.
-        ((work.new.items ≡ work.old.items) × AnswersLook look byte false) ⊎
-        ((work.new.items ≡ work.old.items ++ target ∷ []) × AnswersLook look byte true)) }
+fn look_on(
+    look: Look,
+    target: StateId,
+    at_end: bool,
+    work: &mut Vec<StateId>,
+    looked: &mut bool,
+) -> Option<()>
+    ensures end { IfSome result (λ done. look ≡ looks.End) }
+    ensures looked { IfSome result (λ done. IsTrue looked.new) }
+    ensures goes { IfSome result (λ done. work.new.items ≡
+        (if at_end then work.old.items ++ target ∷ [] else work.old.items)) }
 {
     if look != Look::End {
         return None;
     }
-    if byte.is_none() {
+    *looked = true;
+    if at_end {
         push(work, target)?;
     }
     Some(())
 }
 
-/// Adds the state that is reached over what is read, if any. None where memory is refused.
-fn read(nfa: &Nfa, state: State, byte: Option<u8>, next: &mut Vec<StateId>) -> Option<()>
+/// The states that leaves lead to over a byte, in their order, each once. None where memory is
+/// refused.
+fn read_all(nfa: &Nfa, leaves: &[StateId], byte: u8, next: &mut Vec<StateId>) -> Option<()>
+    requires leaves { AreLeaves nfa.now leaves.now }
+    requires known { AreStates nfa.now leaves.now }
+    ensures states { IfSome result (λ done. AreStates nfa.now next.new.items) }
+    ensures lead { IfSome result (λ done. LeadTo nfa.now leaves.now byte next.new.items) }
+{
+    next.clear();
+    for k in 0..leaves.len() {
+        read(nfa, nfa.state(leaves[k]), byte, next)?;
+    }
+    Some(())
+}
+
+/// Adds the state that is reached over a byte, if any. None where memory is refused.
+fn read(nfa: &Nfa, state: State, byte: u8, next: &mut Vec<StateId>) -> Option<()>
     requires readable { IsReadable nfa.now.transitions.items (vec_len nfa.now.states) state }
     requires next { AreStates nfa.now next.old.items }
     ensures next { IfSome result (λ done. AreStates nfa.now next.new.items) }
     ensures gives { IfSome result (λ done. (test : Test) (v : Ends) →
         first_end next.new.items v.next ≡ option_or (first_end next.old.items v.next)
-        (end_after nfa.now test byte v state)) }
+        (end_after nfa.now test (Some byte) v state)) }
 {
-    let Some(byte) = byte else {
-        return Some(());
-    };
     let Some(target) = nfa.next_on(state, byte) else {
         return Some(());
     };

@@ -7,7 +7,7 @@ use Rattle.phone_automaton.proofs.digits.fill.Given as goal
 abbrev pub invariant-loop-row : goal.invariant-loop-row
 invariant-loop-row l =
     ((more : List (List ℕ)) × (l.rows.items ≡ l.initial.rows.items ++ more))
-    × AllByRecursion (AreStates l.dfa.nfa) l.rows.items
+    × AllByRecursion (AreStates l.nfa) l.rows.items
     × (length l.cells.items ≡ 11 * l.row)
     × (l.row ≤ length l.rows.items)
-    × AreCells l.dfa.nfa l.rows.items l.cells.items
+    × AreCells l.nfa l.rows.items l.cells.items
