@@ -23,7 +23,7 @@ use Rattle.regex_nfa.specs.declared.nfa.Nfa.{Nfa}
 use Rattle.regex_syntax.specs.Grammar.{Names}
 use Rattle.regex_vm.specs.Found.{span, cell, group_cells}
 
-ascii_boundary : (hay : List ℕ) → All (λ x. x < 128) hay → (i : ℕ) → is_boundary hay i ≡ true
+pub ascii_boundary : (hay : List ℕ) → All (λ x. x < 128) hay → (i : ℕ) → is_boundary hay i ≡ true
 unfolding is_boundary
 ascii_boundary hay ok i = elim (cases_lt i (length hay)) [
   | inl lt ↦ let small = ok i 0 lt in rw (slice_get-get_or hay i 0 lt) (grind (arith, nat_tests))
@@ -146,23 +146,25 @@ IfSome-weaker P Q f (Some x) h = f x h
 abbrev pub Parts : List ℕ → List ℕ → List ℕ → ℕ × ℕ → List ℕ → Type 0
 Parts template hay cells s text = (bytes : List ℕ) × (text ≡ (take s.0 hay ++ bytes) ++ drop s.1 hay) × IsWritten template hay s cells bytes
 
--- a text in which what a template writes stands in the place of the match that was found; without one it stays as it is
+-- a text in which what a template writes stands in the place of a match; without one it stays as it is
+pub replaced_in : (template hay cells text : List ℕ) (o : Option Match) (found : Option (ℕ × ℕ)) → found ≡ option_map span o →
+    IfSome o (λ m. cells ≡ group_cells m (length cells)) → MatchOption found (text ≡ hay) (λ s. Parts template hay cells s text) →
+    (names : Names) → text ≡ with_match_replaced names template hay o
+replaced_in template hay cells text None None e cells_are told names = told
+replaced_in template hay cells text None (Some s) e cells_are told names = absurd (none-some s (sym e))
+replaced_in template hay cells text (Some m) None e cells_are told names = absurd (none-some (span m) e)
+replaced_in template hay cells text (Some m) (Some s) e cells_are (bytes, parts, written) names =
+    let same : s ≡ span m = same_Some _ _ e in
+    let texts : AreTexts hay s cells (λ n. bytes_of hay (group m n)) =
+    λ n fits. ap (bytes_of hay) (sym (ap₂ (λ (w : ℕ × ℕ) (c : List ℕ). group_at w c n) same cells_are ∙ group_at-group m (length cells) n fits)) in
+    parts
+    ∙ ap₂ (λ (w : ℕ × ℕ) (b : List ℕ). (take w.0 hay ++ b) ++ drop w.1 hay) same (written names (λ n. bytes_of hay (group m n)) texts)
+
+-- so of the match that was found
 pub replaced_found : (template hay : List ℕ) (nfa : Nfa) (found : Option (ℕ × ℕ)) (cells : List ℕ) (text : List ℕ) → IsFoundIn nfa hay cells found →
     MatchOption found (text ≡ hay) (λ s. Parts template hay cells s text) →
     (names : Names) → text ≡ with_match_replaced names template hay (found_by nfa hay)
-replaced_found template hay nfa found cells text all told names = go (found_by nfa hay) found all.0 all.1 told
-  where
-    go : (o : Option Match) (found : Option (ℕ × ℕ)) → found ≡ option_map span o → IfSome o (λ m. cells ≡ group_cells m (length cells)) →
-        MatchOption found (text ≡ hay) (λ s. Parts template hay cells s text) → text ≡ with_match_replaced names template hay o
-    go None None e cells_are told = told
-    go None (Some s) e cells_are told = absurd (none-some s (sym e))
-    go (Some m) None e cells_are told = absurd (none-some (span m) e)
-    go (Some m) (Some s) e cells_are (bytes, parts, written) =
-        let same : s ≡ span m = same_Some _ _ e in
-        let texts : AreTexts hay s cells (λ n. bytes_of hay (group m n)) =
-        λ n fits. ap (bytes_of hay) (sym (ap₂ (λ (w : ℕ × ℕ) (c : List ℕ). group_at w c n) same cells_are ∙ group_at-group m (length cells) n fits)) in
-        parts
-        ∙ ap₂ (λ (w : ℕ × ℕ) (b : List ℕ). (take w.0 hay ++ b) ++ drop w.1 hay) same (written names (λ n. bytes_of hay (group m n)) texts)
+replaced_found template hay nfa found cells text all told names = replaced_in template hay cells text (found_by nfa hay) found all.0 all.1 told names
 
 -- what holds of a text that was made
 pub made_again : (P Q : List ℕ → Type 0) → ((text : List ℕ) → P text → Q text) → (r : Result (Option (String Global)) AllocError) →

@@ -6,4 +6,5 @@ pub mod Fronting
 pub mod Parting
 pub mod Stepping
 pub mod Tabling
+pub mod Telling
 pub mod Writing

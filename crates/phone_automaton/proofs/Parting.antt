@@ -8,7 +8,6 @@ use Rattle.std.specs.Char.{len_utf8}
 use Rattle.std.specs.List.{range_with_len}
 use Rattle.std.specs.Option.{option_or}
 use Rattle.phone_automaton.proofs.Bridge.{front_found}
-use Rattle.phone_automaton.specs.Finds.{found_by}
 use Rattle.phone_automaton.specs.Groups.{IsFoundIn}
 use Rattle.phone_automaton.specs.Parts.{AreBefore, AreFrontCells, AreFrontCellsFor, IsGroup, IsGroupOf, LeadsTo, numbered, with_end}
 use Rattle.regex_class.specs.Ranges.{in_ranges}
@@ -17,7 +16,7 @@ use Rattle.regex_dfa.specs.Search.{end_from}
 use Rattle.regex_hir.proofs.AttemptLemmas.{cond_some, is_some_and_parts, option_and_then_some}
 use Rattle.regex_hir.proofs.FindLemmas.{first_between_here}
 use Rattle.regex_hir.proofs.OptionLemmas.{option_or-None, option_or_cases, prefer_cases, write_cases}
-use Rattle.regex_hir.specs.Find.{Match, last_write}
+use Rattle.regex_hir.specs.Find.{first_between, Match, last_write}
 use Rattle.regex_hir.specs.Looks.{holds}
 use Rattle.regex_hir.specs.Matches.{IsMinLen, Matches, Rounds, next_round, one_round}
 use Rattle.regex_hir.specs.Meaning.{meaning, repeat}
@@ -32,7 +31,7 @@ use Rattle.regex_syntax.proofs.TreeLemmas.{sequence_push}
 use Rattle.regex_syntax.specs.Grammar.{group_count}
 use Rattle.regex_syntax.specs.Same.{choice, sequence}
 use Rattle.regex_syntax.specs.Views.{is_never}
-use Rattle.regex_vm.specs.Found.{cell, group_cells}
+use Rattle.regex_vm.specs.Found.{span, cell, group_cells}
 
 -- no write from slot n on is one to a slot below
 none_below : (n slot : ℕ) (ps : List ℕ) → slot < n → last_write (numbered n ps) slot ≡ None
@@ -293,25 +292,28 @@ pub for_automaton : (re : Re) (nfa : Nfa) (cells : List ℕ) → Implements nfa 
 for_automaton re nfa cells implements are hay ok t e = are hay ok t (sym (implements hay 0) ∙ e)
 
 -- a match at the front, by its end alone
-pub found_by_end : (nfa : Nfa) (hay : List ℕ) (front cells : List ℕ) (end : ℕ) → All (λ x. x < 256) hay → AreFrontCellsFor nfa front →
-    length cells ≡ length front → cells ≡ with_end front end → end_from nfa hay (length hay) nfa.start 0 ≡ Some end →
-    IsFoundIn nfa hay cells (Some (0, end))
-found_by_end nfa hay front cells end ok are wide put is =
-    (front_found at (length hay) end is, go (at 0) refl)
+pub front_by_end : (at : Rest) (last : ℕ) (front cells : List ℕ) (end : ℕ) →
+    ((t : Trace) → at 0 ≡ Some t → with_end front t.end ≡ group_cells (record { start = 0; trace = t }) (length front)) →
+    length cells ≡ length front → cells ≡ with_end front end → option_map (λ (t : Trace). t.end) (at 0) ≡ Some end →
+    (Some (0, end) ≡ option_map span (first_between at 0 last)) × IfSome (first_between at 0 last) (λ m. cells ≡ group_cells m (length cells))
+front_by_end at last front cells end are wide put is = (front_found at last end is, go (at 0) refl)
   where
-    at : Rest
-    at = run nfa hay (length hay) nfa.start
-
-    go : (o : Option Trace) → at 0 ≡ o → IfSome (found_by nfa hay) (λ m. cells ≡ group_cells m (length cells))
+    go : (o : Option Trace) → at 0 ≡ o → IfSome (first_between at 0 last) (λ m. cells ≡ group_cells m (length cells))
     go None none = absurd (none-some end (sym (ap (option_map (λ (t : Trace). t.end)) none) ∙ is))
     go (Some t) some =
         let ends : t.end ≡ end = same_Some _ _ (sym (ap (option_map (λ (t : Trace). t.end)) some) ∙ is) in
         subst (λ (o : Option Match). IfSome o (λ m. cells ≡ group_cells m (length cells)))
-        (sym (first_between_here at 0 (length hay) t (omega arith) some))
+        (sym (first_between_here at 0 last t (omega arith) some))
         (put
         ∙ ap (with_end front) (sym ends)
-        ∙ are hay ok t some
+        ∙ are t some
         ∙ ap (group_cells (record { start = 0; trace = t })) (sym wide))
+
+pub found_by_end : (nfa : Nfa) (hay : List ℕ) (front cells : List ℕ) (end : ℕ) → All (λ x. x < 256) hay → AreFrontCellsFor nfa front →
+    length cells ≡ length front → cells ≡ with_end front end → end_from nfa hay (length hay) nfa.start 0 ≡ Some end →
+    IsFoundIn nfa hay cells (Some (0, end))
+found_by_end nfa hay front cells end ok are wide put is =
+    front_by_end (run nfa hay (length hay) nfa.start) (length hay) front cells end (are hay ok) wide put is
 
 -- a repetition holds no group where what it repeats holds none
 pub repeats_none : (least : ℕ) (most : Option ℕ) (greedy : Bool) (a : Re) → group_count a ≡ 0 → group_count (repeat least most greedy a) ≡ 0

@@ -5,4 +5,5 @@ pub mod Fronts
 pub mod Groups
 pub mod Lengths
 pub mod Parts
+pub mod Tables
 pub mod Templates

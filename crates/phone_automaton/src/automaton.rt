@@ -100,7 +100,7 @@ impl Core {
 
     /// The table of the steps over digits. None where memory is refused, where the table would have
     /// more than a thousand rows, and where a step looks at what stands around it otherwise than
-    /// for the text's end.
+    /// for the text's end. It isn't made later: where memory was refused, it stays away for good.
     fn digits(&self, alloc: Global) -> Option<Digits>
         ensures { IfSome result (TellsFront (finds self.now)) }
     {
@@ -254,7 +254,7 @@ impl Automaton {
 }
 
 /// The automaton of a tree with this many groups, group 0 included.
-fn compile(alloc: Global, hir: &Hir, groups: u32) -> Option<Nfa>
+pub(crate) fn compile(alloc: Global, hir: &Hir, groups: u32) -> Option<Nfa>
     ensures { IfSome result (λ nfa. Implements nfa (meaning hir.now)) }
 {
     match regex_compile::compile(alloc, hir, groups, LARGEST) {

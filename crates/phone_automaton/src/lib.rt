@@ -4,6 +4,7 @@
 
 mod automaton;
 mod digits;
+mod front_table;
 mod fronts;
 mod groups;
 mod lengths;
@@ -14,6 +15,7 @@ mod place;
 mod template;
 
 pub use automaton::Automaton;
+pub use front_table::FrontTable;
 pub use fronts::Fronts;
 pub use lengths::Lengths;
 pub use machine::{Captured, Machine};

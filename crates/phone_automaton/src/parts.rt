@@ -1,13 +1,13 @@
 //! Patterns that are groups one after the other, as those of number formats are. Where each group
 //! but the last has one length, the end of a match at the front says where its groups begin and
 //! end.
-ghost use Rattle.std.specs.Prelude.{◌≡◌, ◌+◌, length, IfOk, IfSome, IsTrue, Some};
+ghost use Rattle.std.specs.Prelude.{◌≡◌, ◌+◌, ◌++◌, drop, length, take, IfOk, IfSome, IsTrue, Some};
 ghost use Rattle.std.specs.Prelude.{string_bytes, vec_len};
 ghost use Rattle.phone_automaton.specs.Finds.{found_by};
 ghost use Rattle.phone_automaton.specs.Groups.{AreGroupsFor, IsFoundIn};
 ghost use Rattle.phone_automaton.specs.Parts.{AreBefore, AreFrontCells, IsGroup};
-ghost use Rattle.phone_automaton.specs.Parts.{IsGroupOf};
-ghost use Rattle.phone_automaton.specs.Templates.{with_match_replaced};
+ghost use Rattle.phone_automaton.specs.Parts.{IsGroupOf, with_end};
+ghost use Rattle.phone_automaton.specs.Templates.{IsWritten, with_match_replaced};
 ghost use Rattle.regex_dfa.specs.Search.{IsForwardFor, end_from};
 ghost use Rattle.regex_hir.specs.Meaning.{meaning};
 ghost use Rattle.regex_hir.specs.Re.{Re, group};
@@ -171,9 +171,28 @@ pub(crate) fn find_groups(
     groups.find(dfa, hay)
 }
 
-/// The text with its match at the front, which ends here, replaced by a template. None where the
-/// groups aren't known by the match's end, or the template names a group in another way than by one
-/// digit. Refused only for memory.
+/// The text with its match at the front, which ends here, replaced by a template, by the cells of
+/// such matches. None where the groups aren't known by the match's end, or the template names a
+/// group in another way than by one digit. Refused only for memory.
+pub(crate) fn replace_by_cells(
+    alloc: Global,
+    front: &[usize],
+    template: &str,
+    hay: &str,
+    end: usize,
+) -> Result<Option<String>, AllocError>
+    ensures { IfOk result (λ made. IfSome made (λ out. (bytes : _) ×
+        (string_bytes out ≡ (take 0 hay.now ++ bytes) ++ drop end hay.now) ×
+        IsWritten template.now hay.now (0, end) (with_end front.now end) bytes)) }
+{
+    if front.len() <= 3 {
+        return Ok(None);
+    }
+    template::replace(alloc, template, hay, (0, end), front, front.len() - 3)
+}
+
+/// The text with its match at the front, which ends here, replaced by a template. None where
+/// `replace_by_cells` serves it not. Refused only for memory.
 pub(crate) fn replace_at_front(
     alloc: Global,
     tables: &Tables,
@@ -186,9 +205,5 @@ pub(crate) fn replace_at_front(
     ensures { IfOk result (λ made. IfSome made (λ out. (names : Names) → string_bytes out ≡
         with_match_replaced names template.now hay.now (found_by tables.now.dfa.nfa hay.now))) }
 {
-    let front = tables.front_cells.as_slice();
-    if front.len() <= 3 {
-        return Ok(None);
-    }
-    template::replace(alloc, template, hay, (0, end), front, front.len() - 3)
+    replace_by_cells(alloc, tables.front_cells.as_slice(), template, hay, end)
 }
