@@ -107,19 +107,11 @@ impl Core {
         Digits::new(alloc, &self.tables.dfa.nfa)
     }
 
-    /// The text with its match at the front, which ends here, replaced by a template.
-    fn replace_at_front(
-        &self,
-        alloc: Global,
-        template: &str,
-        hay: &str,
-        end: usize,
-    ) -> Result<Option<String>, AllocError>
-        requires { front_end (finds self.now hay.now) ≡ Some end }
-        ensures { IfOk result (λ made. IfSome made (λ out. (names : Names) → string_bytes out ≡
-            with_match_replaced names template.now hay.now (finds self.now hay.now))) }
+    /// The tables.
+    fn tables(&self) -> &Tables
+        ensures { result.now.dfa.nfa ≡ self.now.nfa }
     {
-        parts::replace_at_front(alloc, &self.tables, template, hay, end)
+        &self.tables
     }
 
     /// The tables once more, for a machine. None where memory is refused.
@@ -187,6 +179,21 @@ impl Automaton {
         })
     }
 
+    /// The same without a table of its own, for an owner that has one: `front_end_of_digits` tells
+    /// nothing then.
+    pub fn without_table(alloc: Global, parsed: &Parsed) -> Option<Automaton>
+        ensures finds { IfSome result (λ a. FindsInAscii (meaning parsed.now.hir) (finds a)) }
+        ensures last { IfSome result (λ a. a.last ≡ length parsed.now.names.items - 1) }
+    {
+        let core = Core::new(alloc, parsed)?;
+        let place = Place::new(&core);
+        Some(Automaton {
+            core,
+            digits: None,
+            place,
+        })
+    }
+
     /// Where the match ends that begins at the front of a text of digits, by the table of the steps
     /// over them, which is only read. None where the text isn't of digits alone, and where the
     /// automaton has no such table.
@@ -217,7 +224,7 @@ impl Automaton {
         ensures { IfOk result (λ made. IfSome made (λ out. (names : Names) → string_bytes out ≡
             with_match_replaced names template.now hay.now (finds self.now hay.now))) }
     {
-        self.core.replace_at_front(alloc, template, hay, end)
+        parts::replace_at_front(alloc, self.core.tables(), template, hay, end)
     }
 
     /// A machine for a search: the one that is kept, or a new one where there is none yet, and
