@@ -1,0 +1,6 @@
+pub mod Bytes
+pub mod Grammar
+pub mod Reads
+pub mod Classes
+pub mod Counts
+pub mod Plain
