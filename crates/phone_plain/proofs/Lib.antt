@@ -1,2 +1,3 @@
 pub mod Classing
 pub mod Counting
+pub mod Parting

@@ -1,5 +1,5 @@
 -- Operators of repetition, as the grammar of patterns reads them.
-use Rattle.std.specs.Prelude.{◌≡◌, ◌≤◌, ◌<◌, ℕ, ◌+◌, true, List, ◌∷◌, length, Option, Some}
+use Rattle.std.specs.Prelude.{◌≡◌, ◌≤◌, ◌<◌, ℕ, true, List, ◌∷◌, length, Some}
 use Rattle.regex_hir.specs.declared.hir.Hir.{Hir}
 use Rattle.regex_hir.specs.Meaning.{meaning}
 use Rattle.regex_hir.specs.Re.{Re}
@@ -21,6 +21,7 @@ pub record IsCount (text : List ℕ) (n : ℕ) (rest : List ℕ) : Type 0 where
 
 -- after its opening brace, a text is that of an operator, and this is behind it
 pub record AreCounts (text : List ℕ) (times : Times) (rest : List ℕ) : Type 0 where
+  pub starts : begins is_digit text ≡ true
   pub some : 1 ≤ times.most
   pub goes_on : length rest < length text
   pub reads : is_apart rest ≡ true →

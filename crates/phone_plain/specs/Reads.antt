@@ -1,9 +1,9 @@
 -- What is read of a plain pattern is what the grammar of patterns reads there. The grammar's
 -- functions take a number that bounds their calls: any number serves that is large enough.
-use Rattle.std.specs.Prelude.{◌≡◌, ◌≤◌, ◌<◌, ℕ, ◌+◌, ◌*◌, max, length, List, Option, Some}
+use Rattle.std.specs.Prelude.{◌≡◌, ◌≤◌, ◌<◌, ℕ, ◌+◌, ◌*◌, max, length, Option, Some}
 use Rattle.regex_hir.specs.declared.hir.Hir.{Hir}
 use Rattle.regex_hir.specs.Meaning.{meaning, cat_all, alt_all}
-use Rattle.regex_hir.specs.Re.{Re, group}
+use Rattle.regex_hir.specs.Re.{Re}
 use Rattle.regex_syntax.specs.Brackets.{Nested}
 use Rattle.regex_syntax.specs.Grammar.{Place, group_count, item, items, branches, join_parts}
 use Rattle.regex_syntax.specs.Grammar.{with_repetitions}
