@@ -1,3 +1,4 @@
 pub mod Classing
 pub mod Counting
+pub mod Branching
 pub mod Parting

@@ -36,3 +36,7 @@ ends_branch (c ∷ t) = c == 124 || c == 41
 -- `?` or `{`
 abbrev pub is_operator : ℕ → Bool
 is_operator c = c == 63 || c == 123
+
+-- a digit, or one of `$([\`: what a part begins with
+abbrev pub starts_part : ℕ → Bool
+starts_part c = is_digit c || c == 36 || c == 40 || c == 91 || c == 92

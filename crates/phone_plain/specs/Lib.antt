@@ -1,3 +1,4 @@
+pub mod Atoms
 pub mod Bytes
 pub mod Grammar
 pub mod Reads

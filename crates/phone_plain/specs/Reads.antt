@@ -1,12 +1,14 @@
 -- What is read of a plain pattern is what the grammar of patterns reads there. The grammar's
 -- functions take a number that bounds their calls: any number serves that is large enough.
-use Rattle.std.specs.Prelude.{◌≡◌, ◌≤◌, ◌<◌, ℕ, ◌+◌, ◌*◌, max, length, Option, Some}
+use Rattle.std.specs.Prelude.{◌≡◌, ◌≤◌, ◌<◌, ℕ, ◌+◌, ◌*◌, max, length, ◌∷◌, Option, Some}
+use Rattle.std.specs.Prelude.{Bool, true, false, if◌then◌else◌}
 use Rattle.regex_hir.specs.declared.hir.Hir.{Hir}
 use Rattle.regex_hir.specs.Meaning.{meaning, cat_all, alt_all}
-use Rattle.regex_hir.specs.Re.{Re}
+use Rattle.regex_hir.specs.Re.{Re, group}
 use Rattle.regex_syntax.specs.Brackets.{Nested}
 use Rattle.regex_syntax.specs.Grammar.{Place, group_count, item, items, branches, join_parts}
-use Rattle.regex_syntax.specs.Grammar.{with_repetitions}
+use Rattle.regex_syntax.specs.Grammar.{with_repetitions, opening, opens}
+use Rattle.regex_syntax.specs.Reading.{is_at}
 use Rattle.phone_automaton.specs.Ascii.{AsciiSame}
 use Rattle.phone_plain.specs.Grammar.{place}
 use Rattle.phone_plain.specs.declared.cursor.Cursor.{Cursor}
@@ -51,3 +53,23 @@ pub record IsUnit (from : Cursor) (hir : Hir) (to : Cursor) : Type 0 where
   pub goes_on : left to < left from
   pub reads : (n : ℕ) → 2 * left from ≤ n →
       item (choice n) (place from) ≡ with_repetitions part (place to)
+
+-- what a group makes of the pattern inside it
+abbrev pub in_group : Bool → ℕ → Re → Re
+in_group true k re = group k re
+in_group false k re = re
+
+-- from one place to the other, a group opens
+pub record IsOpening (from : Cursor) (captures : Bool) (inside : Cursor) : Type 0 where
+  pub starts : is_at "(" from.rest.now ≡ true
+  pub groups : inside.groups ≡ (if captures then from.groups + 1 else from.groups)
+  pub goes_on : left inside < left from
+  pub reads : opening (place from) ≡
+      Some (opens (in_group captures inside.groups), place inside)
+
+-- a bar is at the front, and a branch behind it
+pub record IsOther (from : Cursor) (hir : Hir) (to : Cursor) : Type 0 where
+  pub next : Cursor
+  pub bar : from.rest.now ≡ 124 ∷ next.rest.now
+  pub same_groups : next.groups ≡ from.groups
+  pub branch : IsRead sequence 1 next hir to

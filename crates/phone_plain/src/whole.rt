@@ -1,6 +1,6 @@
 //! Whole patterns that are plain.
 use crate::cursor::{Cursor, Stop};
-use crate::reading::choice;
+use crate::reading::read_choice;
 use crate::size::size;
 use regex_hir::Hir;
 use std::alloc::{AllocError, Global};
@@ -25,7 +25,7 @@ fn entire(alloc: Global, text: &[u8]) -> Result<(Hir, u32), Stop> {
         rest: text,
         groups: 0,
     };
-    let (hir, to) = choice(alloc, from, DEEPEST)?;
+    let (hir, to) = read_choice(alloc, from, DEEPEST)?;
     if to.rest.len() == 0 {
         Ok((hir, to.groups))
     } else {
