@@ -111,7 +111,7 @@ fn read_sequence<'a>(
 {
     let mut parts = Vec::new(alloc);
     let mut to = from;
-    while is_at_part(to.rest) {
+    'parts: while is_at_part(to.rest) {
         let (part, after) = read_part(alloc, to, depth)?;
         add(&mut parts, part)?;
         to = after;
@@ -159,7 +159,7 @@ pub(crate) fn read_choice<'a>(
     let (first, after) = read_sequence(alloc, from, depth)?;
     add(&mut branches, first)?;
     let mut to = after;
-    while is_at_bar(to.rest) {
+    'branches: while is_at_bar(to.rest) {
         let (branch, after) = read_other(alloc, to, depth)?;
         add(&mut branches, branch)?;
         to = after;

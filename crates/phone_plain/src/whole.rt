@@ -1,4 +1,8 @@
 //! Whole patterns that are plain.
+ghost use Rattle.std.specs.Prelude.{IfOk, IfSome};
+ghost use Rattle.std.specs.Str.{chars};
+ghost use Rattle.phone_plain.specs.Plain.{IsPlain};
+
 use crate::cursor::{Cursor, Stop};
 use crate::reading::read_choice;
 use crate::size::size;
@@ -13,34 +17,40 @@ const DEEPEST: u32 = 100;
 pub struct PlainPattern {
     /// Matches texts of ASCII as the pattern does.
     pub hir: Hir,
-    /// How many groups capture, without the match itself.
+    /// How many groups capture, without the match itself. None has a name.
     pub groups: u32,
     /// The classes and bytes after counts are multiplied out, at most `u32::MAX`.
     pub size: u32,
 }
 
-/// Reads a whole text.
-fn entire(alloc: Global, text: &[u8]) -> Result<(Hir, u32), Stop> {
+/// Reads a whole text of ASCII.
+fn entire(alloc: Global, text: &[u8]) -> Result<PlainPattern, Stop>
+    ensures { IfOk result (λ found. IsPlain text.now found) }
+{
     let from = Cursor {
         rest: text,
         groups: 0,
     };
     let (hir, to) = read_choice(alloc, from, DEEPEST)?;
-    if to.rest.len() == 0 {
-        Ok((hir, to.groups))
-    } else {
-        Err(Stop::NotPlain)
+    if to.rest.len() > 0 {
+        return Err(Stop::NotPlain);
     }
+    let size = size(&hir);
+    let groups = to.groups;
+    Ok(PlainPattern { hir, groups, size })
 }
 
-/// Reads the text of a pattern under flag x, if it is plain. `None` says nothing of the text: it may
-/// be a pattern that is not plain. Refused only for memory.
-pub fn plain(alloc: Global, text: &str) -> Result<Option<PlainPattern>, AllocError> {
+/// Reads the text of a pattern under flag x, if it is plain: of digits, `\d`, classes of digits,
+/// groups, branches, counts up to 99, `?` and `$`. `None` says nothing of the text: it may be a
+/// pattern that is not plain. Refused only for memory.
+pub fn plain(alloc: Global, text: &str) -> Result<Option<PlainPattern>, AllocError>
+    ensures { IfOk result (λ found. IfSome found (IsPlain (chars text.now))) }
+{
+    if !text.is_ascii() {
+        return Ok(None);
+    }
     match entire(alloc, text.as_bytes()) {
-        Ok((hir, groups)) => {
-            let size = size(&hir);
-            Ok(Some(PlainPattern { hir, groups, size }))
-        }
+        Ok(found) => Ok(Some(found)),
         Err(Stop::NotPlain) => Ok(None),
         Err(Stop::Memory) => Err(AllocError),
     }
