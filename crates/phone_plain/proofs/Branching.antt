@@ -1,27 +1,24 @@
 -- How parts add up to branches, and branches to a pattern.
-use Rattle.std.proofs.Common.{◌≡◌, ◌≤◌, ◌<◌, ◌+◌, ◌*◌, ◌∙◌, ◌++◌, ◌||◌, ◌&&◌, ◌^◌, ℕ, zero, suc, Bool, true, false, if◌then◌else◌, List, [], ◌∷◌, map, length, drop, replicate, max, not, ◌==◌, Option, Some, None, refl, sym, ap, arith, ne_eqb, lt-ltb, nat_lt, All, add-one, subst}
+use Rattle.std.proofs.Common.{◌≡◌, ◌≤◌, ◌<◌, ◌+◌, ◌*◌, ◌∙◌, ◌++◌, ◌||◌, ℕ, zero, suc, true, false, if◌then◌else◌, List, [], ◌∷◌, map, length, drop, max, not, ◌==◌, Option, Some, refl, sym, ap, arith, ne_eqb}
 use Rattle.std.proofs.lemmas.Bool.Decides.{nat_tests}
-use Rattle.std.proofs.lemmas.Bool.{false≢true, both_ways}
+use Rattle.std.proofs.lemmas.Bool.{false≢true}
 use Rattle.std.proofs.lemmas.List.{map-append, length_push}
-use mathlib.Core.Path.{fun_ext}
 use Rattle.regex_hir.specs.declared.hir.Hir.{Hir}
 use Rattle.regex_hir.specs.Meaning.{meaning, cat_all, alt_all}
-use Rattle.regex_hir.specs.Re.{Re, empty, cat, alt, group, byte_in}
-use Rattle.regex_syntax.proofs.BranchLemmas.{join_after, join_parts_is, branch_ends, branch_goes, branches_go, join_ends, more_branches, more_parts, group_inside}
+use Rattle.regex_hir.specs.Re.{Re, empty, alt, byte_in}
+use Rattle.regex_syntax.proofs.BranchLemmas.{join_after, join_parts_is, branch_ends, branch_goes, branches_go, join_ends, more_branches, more_parts}
 use Rattle.regex_syntax.proofs.ReadingLemmas.{skip_from-nil}
 use Rattle.regex_syntax.proofs.TreeLaws.{cat-empty, alt-fail, same_sym, cat_all-push, alt_all-push}
 use Rattle.regex_syntax.specs.Brackets.{Nested, join}
-use Rattle.regex_syntax.specs.Grammar.{Place, item, items, branches, join_parts, group_count, with_repetitions, opening, opens}
-use Rattle.regex_syntax.specs.Reading.{Text, skip, skip_from, first, is_at, is_empty, ◌>>=◌}
-use Rattle.regex_syntax.specs.Same.{SameTree}
-use Rattle.phone_automaton.proofs.Alike.{ascii_refl, ascii_group, cat_all_grown, alt_all_grown}
+use Rattle.regex_syntax.specs.Grammar.{Place, items, branches, group_count}
+use Rattle.regex_syntax.specs.Reading.{Text, skip, first, is_at, is_empty, ◌>>=◌}
+use Rattle.phone_automaton.proofs.Alike.{ascii_refl, cat_all_grown, alt_all_grown}
 use Rattle.phone_automaton.specs.Ascii.{AsciiSame}
-use Rattle.phone_plain.proofs.Counting.{apart_stays, apart_ends}
+use Rattle.phone_plain.proofs.Counting.{apart_stays}
 use Rattle.phone_plain.proofs.Parting.{of_same}
-use Rattle.phone_plain.specs.Bytes.{begins, is_digit, is_apart, follows_part, starts_part, ends_branch}
-use Rattle.phone_plain.specs.Counts.{IsRepeated, Repeats}
-use Rattle.phone_plain.specs.Grammar.{verbose, unnamed, place}
-use Rattle.phone_plain.specs.Reads.{StandsFor, IsRead, IsUnit, IsOpening, IsOther, in_group, left, choice, sequence, part}
+use Rattle.phone_plain.specs.Bytes.{begins, follows_part, starts_part, ends_branch}
+use Rattle.phone_plain.specs.Grammar.{place}
+use Rattle.phone_plain.specs.Reads.{IsRead, IsOther, left, choice, sequence, part}
 use Rattle.phone_plain.specs.declared.cursor.Cursor.{Cursor}
 
 pub alone_cat : (xs rest : List Hir) (x : Hir) → xs ≡ rest ++ x ∷ [] → length xs ≡ 1 → AsciiSame (meaning x) (cat_all (map meaning xs))

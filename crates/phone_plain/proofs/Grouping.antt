@@ -1,22 +1,20 @@
 -- Groups, parts with their operators, and whole patterns.
-use Rattle.std.proofs.Common.{◌≡◌, ◌≤◌, ◌<◌, ◌+◌, ◌*◌, ◌∙◌, ◌++◌, ◌||◌, ◌&&◌, ◌^◌, ℕ, zero, suc, Bool, true, false, if◌then◌else◌, List, [], ◌∷◌, map, length, drop, replicate, max, not, ◌==◌, Option, Some, None, refl, sym, ap, ap₂, arith, ne_eqb, lt-ltb, nat_lt, nat_eq, All, add-one, subst, get_or}
+use Rattle.std.proofs.Common.{◌≡◌, ◌≤◌, ◌<◌, ◌+◌, ◌*◌, ◌∙◌, ◌++◌, ◌^◌, ℕ, zero, suc, Bool, true, false, if◌then◌else◌, List, [], ◌∷◌, replicate, max, Option, Some, None, refl, ap, arith, lt-ltb, nat_eq, add-one, get_or}
 use Rattle.std.proofs.lemmas.Bool.Decides.{nat_tests}
 use Rattle.std.proofs.lemmas.List.{replicate-append-replicate, length-replicate}
-use Rattle.std.proofs.lemmas.Str.{chars-IsAscii}
-use Rattle.std.specs.Str.{chars}
 use Rattle.regex_hir.specs.declared.hir.Hir.{Hir}
 use Rattle.regex_hir.specs.Meaning.{meaning}
-use Rattle.regex_hir.specs.Re.{Re, group}
+use Rattle.regex_hir.specs.Re.{Re}
 use Rattle.regex_syntax.specs.Brackets.{Nested}
-use Rattle.regex_syntax.specs.Grammar.{Place, Names, item, group_count, has_group, with_repetitions, opening, opens, capture, set_flags, names_below, read}
+use Rattle.regex_syntax.specs.Grammar.{item, group_count, has_group, opening, capture, set_flags, names_below, read}
 use Rattle.regex_syntax.specs.Reading.{Text, skip, skip_from, first, is_at, begins as begins_word}
 use Rattle.phone_automaton.proofs.Alike.{ascii_group}
 use Rattle.phone_automaton.specs.Ascii.{AsciiSame}
 use Rattle.phone_plain.proofs.Counting.{apart_stays}
 use Rattle.phone_plain.specs.Bytes.{is_apart, follows_part}
-use Rattle.phone_plain.specs.Counts.{IsRepeated, Repeats}
-use Rattle.phone_plain.specs.Grammar.{verbose, unnamed, place}
-use Rattle.phone_plain.specs.Reads.{StandsFor, IsRead, IsUnit, IsOpening, in_group, left, choice, part}
+use Rattle.phone_plain.specs.Counts.{Repeats}
+use Rattle.phone_plain.specs.Grammar.{verbose, unnamed}
+use Rattle.phone_plain.specs.Reads.{IsRead, IsUnit, IsOpening, in_group, left, choice, part}
 use Rattle.phone_plain.specs.declared.cursor.Cursor.{Cursor}
 
 no_mark : (c : ℕ) → follows_part c ≡ true → (nat_eq 63 c ≡ false) × (nat_eq c 63 ≡ false)

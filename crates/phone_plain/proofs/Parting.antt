@@ -1,5 +1,5 @@
 -- The grammar's steps over parts without parts of their own.
-use Rattle.std.proofs.Common.{◌≡◌, ◌≤◌, ◌<◌, ◌+◌, ◌*◌, ◌∙◌, ◌&&◌, ◌⊎◌, inl, inr, ℕ, Bool, true, false, List, [], ◌∷◌, All, length, Option, Some, None, refl, sym, ap, arith, ne_eqb, lt-ltb, ⊎_elim, max, nat_lt, not}
+use Rattle.std.proofs.Common.{◌≡◌, ◌≤◌, ◌<◌, ◌+◌, ◌*◌, ◌∙◌, ◌&&◌, ℕ, Bool, true, false, List, [], ◌∷◌, length, refl, sym, arith, ne_eqb, lt-ltb, ⊎_elim}
 use Rattle.std.proofs.lemmas.Bool.Decides.{nat_tests}
 use Rattle.std.proofs.lemmas.Bool.{cases_lt}
 use Rattle.std.specs.Bool.{beq}
@@ -16,11 +16,11 @@ use Rattle.regex_hir.specs.Re.{Re, literal, byte_in, char_in, look}
 use Rattle.regex_syntax.proofs.SetLemmas.{in_ranges-members, member_fits}
 use Rattle.regex_syntax.proofs.TreeLaws.{byte_in_ascii, ◌then◌, same_sym}
 use Rattle.regex_syntax.proofs.Written.{class_is}
-use Rattle.regex_syntax.specs.Brackets.{Nested, flat, bracket}
+use Rattle.regex_syntax.specs.Brackets.{flat}
 use Rattle.regex_syntax.specs.Escapes.{escape, one_letter}
-use Rattle.regex_syntax.specs.Grammar.{atom, item, char_meaning, piece_meaning, with_repetitions, group_count, Place}
-use Rattle.regex_syntax.specs.Reading.{Text, first, is_at}
-use Rattle.regex_syntax.specs.Same.{SameTree, SameMatches}
+use Rattle.regex_syntax.specs.Grammar.{atom, item, char_meaning, piece_meaning}
+use Rattle.regex_syntax.specs.Reading.{Text, first}
+use Rattle.regex_syntax.specs.Same.{SameTree}
 use Rattle.regex_syntax.specs.Sets.{one_of, members, verbatim, negate_if, Set}
 use Rattle.ucd_perl.proofs.Computing.{ucd_perl}
 use Rattle.ucd_perl.specs.Perl.{is_digit_char}
@@ -30,8 +30,7 @@ use Rattle.phone_automaton.proofs.Alike.{ascii_chars, ascii_refl}
 use Rattle.phone_automaton.specs.Ascii.{AsciiSame, in_ascii}
 use Rattle.phone_plain.specs.Atoms.{IsAtom}
 use Rattle.phone_plain.specs.Classes.{IsClass, AreDigits}
-use Rattle.phone_plain.specs.Grammar.{verbose, place}
-use Rattle.phone_plain.specs.Reads.{IsUnit, StandsFor, choice}
+use Rattle.phone_plain.specs.Reads.{IsUnit}
 use Rattle.phone_plain.specs.declared.cursor.Cursor.{Cursor}
 
 in_first : (c : ℕ) → c < 128 → in_ranges ((0, 127) ∷ []) c ≡ true
