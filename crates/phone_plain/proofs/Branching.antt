@@ -98,9 +98,11 @@ more_reads from mid to parts p starts shorter all one n le = go (all n le)
     go (zero, enough, is) = absurd (omega (arith, enough))
     go (suc m, enough, is) =
         let begin = part_begins mid.rest.now starts in
-        let here = one m (omega (arith, enough)) in
-        (m, omega (arith, enough, shorter),
-          is ∙ branch_goes (suc m) m parts (place mid) mid.rest.now refl begin.0 begin.1 ∙ ap (λ o. o >>= more_parts m parts) here)
+        let here = one m (omega (arith, enough)) in (
+          m,
+          omega (arith, enough, shorter),
+          is ∙ branch_goes (suc m) m parts (place mid) mid.rest.now refl begin.0 begin.1 ∙ ap (λ o. o >>= more_parts m parts) here,
+        )
 
 pub one_more : (from mid to : Cursor) (hirs : List Hir) (hir : Hir) → AreParts from hirs mid → begins starts_part mid.rest.now ≡ true →
     IsRead part 0 mid hir to → left to < left mid → AreParts from (hirs ++ hir ∷ []) to
@@ -189,6 +191,7 @@ other_reads from mid next to parts p bar kept goes_on all one n le = go (all n l
   where
     shorter : left next < left mid
     shorter = rw bar (omega arith)
+
     go : (m : ℕ) × (2 * left mid ≤ m) × (choice n (place from) ≡ join_after alt_all parts (others m mid)) →
         (m : ℕ) × (2 * left to ≤ m) × (choice n (place from) ≡ join_after alt_all (parts ++ p ∷ []) (others m to))
     go (zero, enough, is) = absurd (omega (arith, enough, shorter))

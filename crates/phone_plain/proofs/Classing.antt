@@ -82,7 +82,7 @@ lone_member_by text c d t e low high (inr close) = record {
 pub lone_member : (text rest : Text) (c : ℕ) → text ≡ c ∷ rest → 48 ≤ c → c ≤ 57 → begins follows_member rest ≡ true → IsMember text (c, c) rest
 lone_member text [] c e low high follows = absurd (false≢true follows)
 lone_member text (d ∷ t) c e low high follows =
-    lone_member_by text c d t e low high (elim (or_cases (is_digit d) (d == 93) follows) [ | inl digit ↦ inl (grind (arith, nat_tests), grind (arith, nat_tests)) | inr close ↦ inr (grind (arith, nat_tests)) ])
+    lone_member_by text c d t e low high (elim (or_cases (is_digit d) (d == 93) follows) [ inl digit ↦ inl (grind (arith, nat_tests), grind (arith, nat_tests)) | inr close ↦ inr (grind (arith, nat_tests)) ])
 
 pub range_member : (text : Text) (a b : ℕ) (t : Text) → text ≡ a ∷ 45 ∷ b ∷ t → 48 ≤ a → a ≤ 57 → 48 ≤ b → b ≤ 57 → nat_le a b ≡ true →
     IsMember text (a, b) t
@@ -119,7 +119,7 @@ digits_more : (rs : List Range) (r : Range) → AreDigits rs → 48 ≤ r.0 → 
 digits_more rs r all low high c h = elim (or_cases _ _ (sym (in_ranges-append rs (r ∷ []) c) ∙ h)) [
   | inl earlier ↦ all c earlier
   | inr last ↦ (let here : in_range r c ≡ true = sym (in_ranges-cons r [] c ∙ ap (λ b. in_range r c || b) (in_ranges-nil c) ∙ or-false _) ∙ last in
-    let told = in_range_tells r c in (grind (arith, told), grind (arith, told)))
+      let told = in_range_tells r c in (grind (arith, told), grind (arith, told)))
 ]
 
 same_more : (parts : List (Nested Set)) (rs : List Range) (set : Set) (r : Range) →
@@ -179,7 +179,7 @@ at_front (suc (suc n)) c t text mid rest rs all e low high close le = go (all.re
         bracket verbose (suc (suc n)) (91 ∷ text) ≡ Some (closed all.parts, rest)
     go (m, enough, is) =
         let whole : unite [] (set_items verbose (suc n) text) ≡ Some (union all.parts, 93 ∷ rest) =
-            is ∙ ap (λ u. unite all.parts (set_items verbose m u)) close ∙ unite_close m all.parts rest (omega (arith, enough)) in
+        is ∙ ap (λ u. unite all.parts (set_items verbose m u)) close ∙ unite_close m all.parts rest (omega (arith, enough)) in
         rw e (bracket_reads n c t rest all.parts low high (rw e at whole))
 
 digits_kept : (class : Class) (rs : List Range) → AreDigits rs → HasExactly class.ranges.items (in_ranges rs) → AreDigits class.ranges.items

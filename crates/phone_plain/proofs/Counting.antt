@@ -143,7 +143,6 @@ optional_read text rest times e least most = record {
   reads = λ apart. rw (e, least, most) refl;
 }
 
-
 pub braced_read : (text behind rest : Text) (times : Times) → text ≡ 123 ∷ behind → AreCounts behind times rest → IsOperator text times rest
 unfolding bounds first skip
 braced_read text behind rest times e counts = record {

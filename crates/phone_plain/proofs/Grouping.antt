@@ -70,7 +70,7 @@ group_read from inside end to captures sub hir how inner close kept is =
       };
       goes_on = omega (arith, shorter, inner.goes_on, how.goes_on);
       reads = λ n le. (let enough : 2 * left inside + 2 ≤ n = omega (arith, le, how.goes_on) in
-        rw (how.starts, how.reads, inner.reads n enough, close, kept) refl);
+          rw (how.starts, how.reads, inner.reads n enough, close, kept) refl);
     }
 
 pub part_read : (from mid to : Cursor) (sub hir : Hir) → IsUnit from sub mid → Repeats sub mid hir to → IsRead part 0 from hir to

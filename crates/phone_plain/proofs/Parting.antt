@@ -5,7 +5,7 @@ use Rattle.std.proofs.lemmas.Bool.{cases_lt}
 use Rattle.std.specs.Bool.{beq}
 use Rattle.std.specs.Char.{encode_utf8}
 use mathlib.Core.Path.{fun_ext}
-use Rattle.regex_class.specs.Ranges.{Range, in_range, in_ranges, HasExactly}
+use Rattle.regex_class.specs.Ranges.{IsCanonical, rises_from, Range, in_range, in_ranges, HasExactly}
 use Rattle.regex_class.specs.declared.Class.{Class}
 use Rattle.regex_hir.specs.declared.hir.Hir.{Hir}
 use Rattle.regex_hir.specs.declared.hir.Hir.TheVariants.{Bytes}
@@ -143,3 +143,7 @@ atom_unit from to hir is kept = record {
   goes_on = is.goes_on;
   reads = λ n le. rw (is.no_group, is.reads, kept) refl;
 }
+
+pub one_range_rises : (rs : List Range) → rs ≡ (48, 57) ∷ [] → IsCanonical rs
+unfolding rises_from
+one_range_rises rs e = rw e refl

@@ -27,7 +27,7 @@ fn digits(alloc: Global) -> Result<Class, AllocError>
 {
     let mut ranges = Vec::new(alloc);
     ranges.push((48, 57))?;
-    Class::new(ranges)
+    Ok(Class { ranges })
 }
 
 /// Reads `\d`.

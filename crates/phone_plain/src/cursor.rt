@@ -1,6 +1,5 @@
 //! A place in the text of a pattern, and why reading stops there.
 ghost use Rattle.std.specs.Prelude.{◌≡◌, ◌≤◌, [], ◌∷◌, ◌++◌, MatchOption, IfSome, IfOk, IsTrue};
-
 ghost use Rattle.phone_plain.specs.Bytes.{is_digit};
 
 use std::alloc::AllocError;

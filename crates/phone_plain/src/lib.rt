@@ -6,9 +6,10 @@ mod atoms;
 mod bounds;
 mod class;
 mod cursor;
-
 mod reading;
 mod size;
+#[cfg(test)]
+mod tests;
 mod trees;
 mod whole;
 

@@ -30,11 +30,7 @@ fn open<'a>(from: Cursor<'a>) -> Result<(bool, Cursor<'a>), Stop>
 
 /// Reads a group. Refused where groups nest deeper than told.
 #[cycle(pattern)]
-fn group<'a>(
-    alloc: Global,
-    from: Cursor<'a>,
-    depth: u32,
-) -> Result<(Hir, Cursor<'a>), Stop>
+fn group<'a>(alloc: Global, from: Cursor<'a>, depth: u32) -> Result<(Hir, Cursor<'a>), Stop>
     ensures { IfOk result (λ p. IsUnit from.entry p.0 p.1) }
 {
     if depth == 0 {
@@ -50,11 +46,7 @@ fn group<'a>(
 
 /// Reads a group, or a part without parts of its own.
 #[cycle(pattern)]
-fn unit<'a>(
-    alloc: Global,
-    from: Cursor<'a>,
-    depth: u32,
-) -> Result<(Hir, Cursor<'a>), Stop>
+fn unit<'a>(alloc: Global, from: Cursor<'a>, depth: u32) -> Result<(Hir, Cursor<'a>), Stop>
     ensures { IfOk result (λ p. IsUnit from.entry p.0 p.1) }
 {
     if behind(from.rest, b'(').is_ok() {
@@ -66,11 +58,7 @@ fn unit<'a>(
 
 /// Reads a part, and how often it is repeated.
 #[cycle(pattern)]
-fn read_part<'a>(
-    alloc: Global,
-    from: Cursor<'a>,
-    depth: u32,
-) -> Result<(Hir, Cursor<'a>), Stop>
+fn read_part<'a>(alloc: Global, from: Cursor<'a>, depth: u32) -> Result<(Hir, Cursor<'a>), Stop>
     ensures read { IfOk result (λ p. IsRead part 0 from.entry p.0 p.1) }
     ensures goes_on { IfOk result (λ p. left p.1 < left from.entry) }
 {
@@ -102,11 +90,7 @@ fn is_at_end(text: &[u8]) -> bool
 
 /// Reads parts up to the end of their branch.
 #[cycle(pattern)]
-fn read_sequence<'a>(
-    alloc: Global,
-    from: Cursor<'a>,
-    depth: u32,
-) -> Result<(Hir, Cursor<'a>), Stop>
+fn read_sequence<'a>(alloc: Global, from: Cursor<'a>, depth: u32) -> Result<(Hir, Cursor<'a>), Stop>
     ensures { IfOk result (λ p. IsRead sequence 1 from.entry p.0 p.1) }
 {
     let mut parts = Vec::new(alloc);
@@ -134,11 +118,7 @@ fn is_at_bar(text: &[u8]) -> bool
 
 /// Reads a branch behind a bar.
 #[cycle(pattern)]
-fn read_other<'a>(
-    alloc: Global,
-    from: Cursor<'a>,
-    depth: u32,
-) -> Result<(Hir, Cursor<'a>), Stop>
+fn read_other<'a>(alloc: Global, from: Cursor<'a>, depth: u32) -> Result<(Hir, Cursor<'a>), Stop>
     ensures { IfOk result (λ p. IsOther from.entry p.0 p.1) }
 {
     let rest = behind(from.rest, b'|')?;

@@ -9,8 +9,9 @@ use crate::size::size;
 use regex_hir::Hir;
 use std::alloc::{AllocError, Global};
 
-/// How deep groups may nest.
-const DEEPEST: u32 = 100;
+/// How deep groups may nest. A group adds four levels at most: itself, its repetition, and the
+/// sequence and the branches that it stands in. The kit's parser refuses more than 250 levels.
+const DEEPEST: u32 = 60;
 
 /// What is read of a plain pattern.
 #[derive(Drop)]
