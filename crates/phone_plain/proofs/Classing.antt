@@ -1,14 +1,14 @@
 -- The grammar's steps over classes of digits.
-use Rattle.std.proofs.Common.{◌≡◌, ◌≤◌, ◌<◌, ◌+◌, ◌*◌, ◌∙◌, ◌++◌, ◌||◌, ◌⊎◌, inl, inr, ℕ, zero, suc, true, false, List, [], ◌∷◌, map, length, Option, Some, None, refl, sym, ap, arith, ne_eqb, nat_le, ◌==◌, append_assoc, append-nil}
+use Rattle.std.proofs.Common.{drop, get_or, le-leb, length-drop, ◌≡◌, ◌≤◌, ◌<◌, ◌+◌, ◌*◌, ◌∙◌, ◌++◌, ◌||◌, ◌⊎◌, inl, inr, ℕ, zero, suc, true, false, List, [], ◌∷◌, map, length, Option, Some, None, refl, sym, ap, arith, ne_eqb, nat_le, ◌==◌, append_assoc, append-nil}
 use Rattle.std.proofs.lemmas.Bool.Decides.{nat_tests}
 use Rattle.std.proofs.lemmas.Bool.{or_cases, both_ways, false≢true}
-use Rattle.std.proofs.lemmas.List.{map-append}
+use Rattle.std.proofs.lemmas.List.{map-append, nil_from_length, drop_more}
 use Rattle.std.proofs.lemmas.List.Folds.{list_any-append}
 use Rattle.std.specs.Char.{is_whitespace}
 use Rattle.std.specs.Int.{is_in_range}
 use Rattle.std.specs.List.{list_any}
 use Rattle.regex_class.proofs.RangesLemmas.{in_range_tells, in_ranges-nil, in_ranges-cons, in_ranges-append, or-false}
-use Rattle.regex_class.specs.Ranges.{Range, in_range, in_ranges, HasExactly}
+use Rattle.regex_class.specs.Ranges.{Range, in_range, in_ranges, HasExactly, IsCanonical, rises_from}
 use Rattle.regex_class.specs.declared.Class.{Class}
 use Rattle.regex_syntax.specs.Reading.{Text, skip, skip_from, first, ◌>>=◌, take_run, take_up_to}
 use Rattle.regex_syntax.specs.Brackets.{Nested, flat, bracket, set_item, set_items, range, member, single, posix, operator, item_or, bracket_start, after_hyphen, unite, union, operations}
@@ -194,3 +194,15 @@ class_read c t text mid rest rs class all e low high close exact = record {
   goes_on = (let shorter : length rest < length mid = rw close (omega arith) in omega (arith, shorter, all.goes_on));
   reads = λ n le. at_front n c t text mid rest rs all e low high close le;
 }
+
+pub rises_more : (rs : List Range) (i n : ℕ) → i < length rs → n ≤ (get_or rs i (0, 0)).0 →
+    (get_or rs i (0, 0)).0 ≤ (get_or rs i (0, 0)).1 → (get_or rs i (0, 0)).1 ≤ 57 →
+    rises_from n (drop i rs) ≡ rises_from ((get_or rs i (0, 0)).1 + 2) (drop (i + 1) rs)
+unfolding rises_from
+rises_more rs i n within low order high =
+    let r = get_or rs i (0, 0) in
+    rw (drop_more rs i (0, 0) within, le-leb n r.0 low, le-leb r.0 r.1 order, le-leb r.1 0x10_FFFF (omega arith)) refl
+
+pub rises_all : (rs : List Range) (i n : ℕ) → length rs ≤ i → rises_from 0 rs ≡ rises_from n (drop i rs) → IsCanonical rs
+unfolding rises_from
+rises_all rs i n past e = let none : drop i rs ≡ [] = nil_from_length (drop i rs) (simp length-drop (omega arith)) in e ∙ (rw none refl)
