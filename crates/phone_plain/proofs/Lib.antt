@@ -1,0 +1,5 @@
+pub mod Classing
+pub mod Counting
+pub mod Branching
+pub mod Grouping
+pub mod Parting
