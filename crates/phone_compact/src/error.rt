@@ -1,12 +1,15 @@
 //! Why bytes were not read as records.
 use std::alloc::{AllocError, AllocFailed};
+use thiserror::Error;
 
 /// Why there are no records.
-#[derive(Clone, Copy, PartialEq, Eq, Debug)]
+#[derive(Clone, Copy, PartialEq, Eq, Debug, Error)]
 pub enum NotRead {
     /// No records are written as these bytes.
+    #[error("no compact form of records")]
     Malformed,
     /// Memory was refused.
+    #[error("out of memory")]
     Memory,
 }
 
