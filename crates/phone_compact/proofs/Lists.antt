@@ -41,13 +41,14 @@ module _ {A : Type 0} (form : Form A) (whole : List ℕ) (now : List ℕ) where
   goes_on_to_end xs after goes e =
       goes [] after e ∙ ap (λ zs. (items form).written zs ++ after) (append-nil xs)
 
-  pub goes_on_past : (xs : List A) (x : A) (mid after : List ℕ) → GoesOn form whole xs now →
-      now ≡ 1 ∷ mid → mid ≡ form.written x ++ after → GoesOn form whole (xs ++ x ∷ []) after
-  goes_on_past xs x mid after goes e item ys rest h =
+  pub goes_on_past : (xs zs : List A) (x : A) (mid after : List ℕ) → zs ≡ xs ++ x ∷ [] →
+      GoesOn form whole xs now → now ≡ 1 ∷ mid → mid ≡ form.written x ++ after →
+      GoesOn form whole zs after
+  goes_on_past xs zs x mid after pushed goes e item ys rest h =
       let next : mid ≡ (form.written x ++ (items form).written ys) ++ rest =
       item ∙ (ap (λ bs. form.written x ++ bs) h ∙ sym (append_assoc (form.written x) ((items form).written ys) rest)) in
-      goes (x ∷ ys) rest (e ∙ ap (λ bs. 1 ∷ bs) next)
-      ∙ ap (λ zs. (items form).written zs ++ rest) (sym (append_assoc xs (x ∷ []) ys))
+      let all : xs ++ (x ∷ ys) ≡ zs ++ ys = sym (append_assoc xs (x ∷ []) ys) ∙ sym (ap (λ vs. vs ++ ys) pushed) in
+      goes (x ∷ ys) rest (e ∙ ap (λ bs. 1 ∷ bs) next) ∙ ap (λ vs. (items form).written vs ++ rest) all
 
   past : IsUnique form → (ys : List A) (x : A) (mid after rest : List ℕ) → (items form).holds ys →
       now ≡ (items form).written ys ++ rest → now ≡ 1 ∷ mid → mid ≡ form.written x ++ after →

@@ -1,5 +1,5 @@
-use Rattle.std.proofs.Common.{◌≡◌, ◌∷◌, ◌++◌, [], rules, sym, subst}
-use Rattle.phone_compact.proofs.Lists.{GoesOn, goes_on_to_end, goes_on_past, to_come_past}
+use Rattle.std.proofs.Common.{rules}
+use Rattle.phone_compact.proofs.Lists.{goes_on_to_end, goes_on_past, to_come_past}
 use Rattle.phone_compact.proofs.Lists.{marked, unmarked, refused_at_mark, refused_at_item}
 use Rattle.phone_compact.proofs.values.read_items.Goals as goal
 
@@ -25,9 +25,8 @@ loop-items-preserved g c =
     let x = c.in_ok-read-2.field-0 in
     let mark = marked c.in_ok-read.field-0 now mid c.if-branch.true c.in_ok-read.ensures.value in
     let item = c.in_ok-read-2.ensures.value in
-    let goes = goes_on_past form whole now xs x mid after c.loop-items.invariant.0 mark item in
-    let pushed : xs ++ x ∷ [] ≡ c.push.new.self.items = sym c.in_ok-push.ensures.items in (
-      subst (λ zs. GoesOn form whole zs after) pushed goes,
+    (
+      goes_on_past form whole now xs c.push.new.self.items x mid after c.in_ok-push.ensures.items c.loop-items.invariant.0 mark item,
       to_come_past form whole now g.met.T.Compact.unique x mid after c.loop-items.invariant.1 mark item,
     )
 
