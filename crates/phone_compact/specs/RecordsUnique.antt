@@ -13,8 +13,11 @@ use Rattle.phone_compact.specs.Records.{layouts_of, metadata}
 use Rattle.phone_compact.specs.Unique.{number_unique, truth_unique, text_unique, UniqueForm}
 use Rattle.phone_compact.specs.Unique.{option_of, items_of, ◌before◌, fields_of}
 
+abbrev number_form : UniqueForm ℕ
+number_form = record { form = number; unique = number_unique }
+
 abbrev numbers : UniqueForm (List ℕ)
-numbers = items_of (record { form = number; unique = number_unique })
+numbers = items_of number_form
 
 abbrev truths : UniqueForm Bool
 truths = record { form = truth; unique = truth_unique }
@@ -75,8 +78,8 @@ abbrev all_kinds : UniqueForm Kinds
 all_kinds = four before four before four before four
 
 abbrev all_prefixes : UniqueForm Prefixes
-all_prefixes = words before option_of (record { form = number; unique = number_unique }) before words
-    before words before words before words before words before words
+all_prefixes = words before option_of number_form before words before words before words before
+    words before words before words
 
 abbrev all_layouts : UniqueForm Layouts
 all_layouts = items_of formats before items_of formats before truths before words before truths

@@ -2,7 +2,12 @@
 use Rattle.std.proofs.Common.{◌≡◌, ◌∙◌, sym, refl, ap, ap₂, arith, length, append_assoc}
 use Rattle.std.specs.Prelude.{ℕ, zero, suc, ◌/◌, ◌%◌, ◌<◌, true, false, List, [], ◌∷◌, ◌++◌}
 use Rattle.std.specs.Prelude.{Option, Some, None, replicate}
-use Rattle.phone_compact.specs.Forms.{Form, IsUnique, number, number_written, truth, text, option, items, ◌then◌, seen_as}
+use Rattle.phone_compact.specs.Forms.{Form, IsUnique, number, number_written, truth, text, option}
+use Rattle.phone_compact.specs.Forms.{items, ◌then◌, seen_as}
+
+-- what stands before and after, grouped otherwise
+regrouped : (s t a u v b : List ℕ) → (s ++ t) ++ a ≡ (u ++ v) ++ b → s ++ (t ++ a) ≡ u ++ (v ++ b)
+regrouped s t a u v b e = sym (append_assoc s t a) ∙ (e ∙ append_assoc u v b)
 
 -- two numbers that stand at the head of bytes, by how often 255 stands there
 same_runs : (k l r s : ℕ) (a b : List ℕ) → r < 255 → s < 255 →
@@ -22,9 +27,11 @@ same_runs (suc k) (suc l) r s a b r_small s_small e =
 pub same_numbers : (m n : ℕ) (a b : List ℕ) → number_written m ++ a ≡ number_written n ++ b →
     (m ≡ n) × (a ≡ b)
 same_numbers m n a b e =
-    let ends : replicate (m / 255) 255 ++ (m % 255 ∷ a) ≡ replicate (n / 255) 255 ++ (n % 255 ∷ b) =
-    sym (append_assoc (replicate (m / 255) 255) (m % 255 ∷ []) a) ∙ (e ∙ append_assoc (replicate (n / 255) 255) (n % 255 ∷ []) b) in
-    let h = same_runs (m / 255) (n / 255) (m % 255) (n % 255) a b (omega arith) (omega arith) ends in
+    let runs_m = replicate (m / 255) 255 in
+    let runs_n = replicate (n / 255) 255 in
+    let ends = regrouped runs_m (m % 255 ∷ []) a runs_n (n % 255 ∷ []) b e in
+    let h = same_runs (m / 255) (n / 255) (m % 255) (n % 255) a b (omega arith) (omega arith)
+    ends in
     (omega arith, h.1.1)
 
 pub number_unique : IsUnique number
@@ -50,8 +57,7 @@ same_fronts (x ∷ s) (y ∷ t) a b e h =
 
 pub text_unique : IsUnique text
 text_unique s t a b e =
-    let whole : number_written (length s) ++ (s ++ a) ≡ number_written (length t) ++ (t ++ b) =
-    sym (append_assoc (number_written (length s)) s a) ∙ (e ∙ append_assoc (number_written (length t)) t b) in
+    let whole = regrouped (number_written (length s)) s a (number_written (length t)) t b e in
     let h = same_numbers (length s) (length t) (s ++ a) (t ++ b) whole in
     same_fronts s t a b h.0 h.1
 
@@ -69,21 +75,23 @@ items_unique form unique [] [] a b e = (refl, cc)
 items_unique form unique [] (y ∷ ys) a b e = cc
 items_unique form unique (x ∷ xs) [] a b e = cc
 items_unique form unique (x ∷ xs) (y ∷ ys) a b e =
-    let all_x = (items form).written xs ++ a in
-    let all_y = (items form).written ys ++ b in
-    let tails : (form.written x ++ (items form).written xs) ++ a ≡ (form.written y ++ (items form).written ys) ++ b = cc in
-    let rest : form.written x ++ all_x ≡ form.written y ++ all_y =
-    sym (append_assoc (form.written x) ((items form).written xs) a) ∙ (tails ∙ append_assoc (form.written y) ((items form).written ys) b) in
-    let h = unique x y all_x all_y rest in
+    let all_x = (items form).written xs in
+    let all_y = (items form).written ys in
+    let tails : (form.written x ++ all_x) ++ a ≡ (form.written y ++ all_y) ++ b = cc in
+    let rest = regrouped (form.written x) all_x a (form.written y) all_y b tails in
+    let h = unique x y (all_x ++ a) (all_y ++ b) rest in
     let t = items_unique form unique xs ys a b h.1 in
     (ap₂ (λ z zs. z ∷ zs) h.0 t.0, t.1)
 
 pub then_unique : {A B : Type 0} (first : Form A) (second : Form B) → IsUnique first →
     IsUnique second → IsUnique (first then second)
 then_unique first second unique_first unique_second x y a b e =
-    let rest : first.written x.0 ++ (second.written x.1 ++ a) ≡ first.written y.0 ++ (second.written y.1 ++ b) =
-    sym (append_assoc (first.written x.0) (second.written x.1) a) ∙ (e ∙ append_assoc (first.written y.0) (second.written y.1) b) in
-    let h = unique_first x.0 y.0 (second.written x.1 ++ a) (second.written y.1 ++ b) rest in
+    let one_x = first.written x.0 in
+    let one_y = first.written y.0 in
+    let two_x = second.written x.1 in
+    let two_y = second.written y.1 in
+    let rest = regrouped one_x two_x a one_y two_y b e in
+    let h = unique_first x.0 y.0 (two_x ++ a) (two_y ++ b) rest in
     let t = unique_second x.1 y.1 a b h.1 in
     (ap₂ (λ u v. (u, v)) h.0 t.0, t.1)
 

@@ -24,8 +24,7 @@ loop-items-preserved g c =
     let xs = c.loop-items.items.items in
     let x = c.in_ok-read-2.field-0 in
     let mark = marked c.in_ok-read.field-0 now mid c.if-branch.true c.in_ok-read.ensures.value in
-    let item = c.in_ok-read-2.ensures.value in
-    (
+    let item = c.in_ok-read-2.ensures.value in (
       goes_on_past form whole now xs c.push.new.self.items x mid after c.in_ok-push.ensures.items c.loop-items.invariant.0 mark item,
       to_come_past form whole now g.met.T.Compact.unique x mid after c.loop-items.invariant.1 mark item,
     )
