@@ -24,15 +24,18 @@ same_runs (suc k) (suc l) r s a b r_small s_small e =
     let h = same_runs k l r s a b r_small s_small tails in
     (ap suc h.0, h.1)
 
+same_parts : (m n : ℕ) → m / 255 ≡ n / 255 → m % 255 ≡ n % 255 → m ≡ n
+same_parts m n quotients remainders = omega arith
+
 pub same_numbers : (m n : ℕ) (a b : List ℕ) → number_written m ++ a ≡ number_written n ++ b →
     (m ≡ n) × (a ≡ b)
 same_numbers m n a b e =
-    let runs_m = replicate (m / 255) 255 in
-    let runs_n = replicate (n / 255) 255 in
-    let ends = regrouped runs_m (m % 255 ∷ []) a runs_n (n % 255 ∷ []) b e in
-    let h = same_runs (m / 255) (n / 255) (m % 255) (n % 255) a b (omega arith) (omega arith)
-    ends in
-    (omega arith, h.1.1)
+    let small_m : m % 255 < 255 = omega arith in
+    let small_n : n % 255 < 255 = omega arith in
+    let h = same_runs (m / 255) (n / 255) (m % 255) (n % 255) a b small_m small_n
+    (regrouped (replicate (m / 255) 255) (m % 255 ∷ []) a (replicate (n / 255) 255)
+    (n % 255 ∷ []) b e) in
+    (same_parts m n h.0 h.1.0, h.1.1)
 
 pub number_unique : IsUnique number
 number_unique = same_numbers
