@@ -1,0 +1,5 @@
+pub mod Injective
+pub mod Lists
+pub mod Numbers
+pub mod Refused
+pub mod Texts
