@@ -5,7 +5,6 @@ use Rattle.std.proofs.lemmas.Fmt.{IsAscii-from_digits}
 use Rattle.std.proofs.lemmas.List.Sums.{sum_by-cons}
 use Rattle.std.proofs.lemmas.Str.{encodes-IsAscii, encodes-chars}
 use Rattle.std.specs.Bool.{beq}
-use Rattle.std.specs.Char.{is_ascii_digit}
 use Rattle.std.specs.List.{count_by, cons_option, filter_map, find, list_all, list_any}
 use Rattle.std.specs.Str.{chars}
 use Rattle.ucd_category.proofs.Computing.{ucd_category}
@@ -13,7 +12,7 @@ use Rattle.ucd_category.proofs.GeneralCategoryLemmas.{general_category_stepped}
 use Rattle.ucd_category.specs.GeneralCategory.{general_category, general_category_eq}
 use Rattle.ucd_category.specs.declared.GeneralCategory.{GeneralCategory}
 use Rattle.ucd_category.specs.declared.GeneralCategory.TheVariants.{DecimalNumber}
-use Rattle.ucd_table.proofs.Facts.{Stepped-below, Stepped-everywhere, same_from_beq}
+use Rattle.ucd_table.proofs.Facts.{Stepped-everywhere, same_from_beq}
 use Rattle.ucd_table.proofs.Stepped.{Stepped, of_ranges, zip_stepped}
 use Rattle.ucd_table.specs.Rows as table
 use Rattle.phone_values.proofs.Finds.{IfSome-find, IfSome-option_map, list_all-filter_map}
@@ -24,12 +23,6 @@ use Rattle.phone_parts.proofs.Endings.{member_passes}
 use Rattle.phone_parts.proofs.PrintedTexts.{digit_passes}
 use Rattle.phone_library_text.specs.Letters.{digits_in, is_lettered, key_of, script_zeros, value_of, zeros}
 use Rattle.phone_library_text.proofs.Tests.{same_test}
-
--- of the characters of ASCII the digits are `0` to `9`
-pub ascii_nd : (c : ℕ) → c < 128 → is_nd c ≡ is_ascii_digit c
-unfolding ucd_category
-ascii_nd c h =
-    same_from_beq _ _ (Stepped-below general_category general_category_stepped (λ c g. beq (general_category_eq g DecimalNumber) (is_ascii_digit c)) 128 refl c h)
 
 -- the runs of digits as ranges
 abbrev digit_runs : List ℕ → List (ℕ × ℕ)

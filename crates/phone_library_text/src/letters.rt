@@ -10,23 +10,12 @@ ghost use Rattle.phone_chars.specs.Cuts.{after_front};
 ghost use Rattle.phone_library_text.specs.Letters.{digits_in, folded, is_early, is_latin};
 ghost use Rattle.phone_library_text.specs.Letters.{is_lettered, key_of, script_zeros, value_of};
 
-use phone_chars::chars::{is_alpha, is_digit, is_separator, is_star, keypad};
+use phone_chars::PlusSigns;
+use phone_chars::chars::{is_alpha, is_digit, is_nd, is_separator, is_star, keypad};
 use phone_chars::cuts::after_run;
-use phone_chars::{PlusSigns, chars};
 use std::alloc::{AllocError, Global};
 use std::borrow::CowStr;
 use unicode::case::simple_fold;
-
-/// Whether the character is a decimal digit of some script: Unicode's general category Nd.
-pub(crate) fn is_nd(c: char) -> bool
-    ensures { result ≡ is_nd c }
-{
-    if c.is_ascii() {
-        is_digit(c)
-    } else {
-        chars::is_nd(c)
-    }
-}
 
 /// The letter that the character is without case: its simple folding, and `i` for U+0130 and
 /// U+0131.
