@@ -3,7 +3,7 @@ use Rattle.std.proofs.Common.{◌≡◌, inl, inr, ℕ, ◌+◌, ◌-◌, ◌≤
 use Rattle.std.proofs.lemmas.Bool.{and_from, and_parts, cases_Bool, cond-false, cond-true, cond_both, le-leb, not-true, or_parts}
 use Rattle.std.proofs.lemmas.Fmt.{IsAscii-from_digits}
 use Rattle.std.proofs.lemmas.List.Sums.{sum_by-cons}
-use Rattle.std.proofs.lemmas.Str.{encodes-IsAscii, encodes-chars}
+use Rattle.std.proofs.lemmas.Str.{IsUtf8-from_ascii, encodes-IsAscii, encodes-chars}
 use Rattle.std.specs.Bool.{beq}
 use Rattle.std.specs.List.{count_by, cons_option, filter_map, find, list_all, list_any}
 use Rattle.std.specs.Str.{chars}
@@ -112,6 +112,10 @@ digits_bytes ds h = encodes-IsAscii ds (IsAscii-from_digits ds (all_digits ds h)
 
 pub values_digits : (t : List ℕ) → list_all is_digit (filter_map value_of t) ≡ true
 values_digits t = list_all-filter_map value_of is_digit value_is_digit t
+
+pub values_utf8 : (t : List ℕ) → IsUtf8 (filter_map value_of t)
+values_utf8 t =
+    IsUtf8-from_ascii (filter_map value_of t) (IsAscii-from_digits (filter_map value_of t) (all_digits (filter_map value_of t) (values_digits t)))
 
 pub values_bytes : (t : List ℕ) → encode_utf8_all (filter_map value_of t) ≡ filter_map value_of t
 values_bytes t = digits_bytes (filter_map value_of t) (values_digits t)

@@ -1,7 +1,7 @@
 //! What characters are by libphonenumber's rules, and the digits of a text. Most characters of a
 //! number are of ASCII, so these are asked first.
 ghost use Rattle.std.specs.Prelude.{◌≡◌, ℕ, ◌+◌, ◌-◌, true, IfOk, string_bytes, chars, count_by};
-ghost use Rattle.std.specs.Prelude.{option_map};
+ghost use Rattle.std.specs.Prelude.{option_map, All, IsTrue, ◌<◌};
 ghost use Rattle.std.specs.Cow.{cow_str_bytes, IsBorrowedStr};
 ghost use Rattle.std.specs.List.{filter_map, find, list_all};
 ghost use Rattle.phone_chars.specs.Characters.{is_alpha, is_digit, is_in_run, is_nd};
@@ -145,9 +145,54 @@ fn is_lettered(text: &str) -> bool
 pub fn digit_values(alloc: Global, text: &str) -> Result<String, AllocError>
     ensures { IfOk result (λ s. string_bytes s ≡ filter_map value_of (chars text.now)) }
 {
+    if is_ascii(text.as_bytes()) {
+        let digits = ascii_digits(alloc, text.as_bytes())?;
+        // SAFETY: digits are text.
+        return Ok(unsafe { String::from_utf8_unchecked(digits) });
+    }
+    values(alloc, text)
+}
+
+/// The same, without asking ASCII first.
+fn values(alloc: Global, text: &str) -> Result<String, AllocError>
+    ensures { IfOk result (λ s. string_bytes s ≡ filter_map value_of (chars text.now)) }
+{
     let mut out = String::with_capacity(alloc, text.len())?;
     out.extend(text.chars().filter_map(value_of))?;
     Ok(out)
+}
+
+/// Whether bytes are ASCII.
+fn is_ascii(bytes: &[u8]) -> bool
+    ensures { IsTrue result → All (λ b. b < 128) bytes.now }
+{
+    bytes.iter().all(|byte| *byte < 128)
+}
+
+/// The digit that a character of ASCII is.
+fn ascii_digit(byte: u8) -> Option<u8>
+    requires { byte < 128 }
+    ensures { result ≡ value_of byte }
+{
+    if byte.is_ascii_digit() {
+        Some(byte)
+    } else {
+        None
+    }
+}
+
+/// The digits among characters of ASCII, which are these bytes, as bytes.
+fn ascii_digits(alloc: Global, bytes: &[u8]) -> Result<Vec<u8>, AllocError>
+    requires { All (λ b. b < 128) bytes.now }
+    ensures { IfOk result (λ digits. digits.items ≡ filter_map value_of bytes.now) }
+{
+    let mut digits = Vec::with_capacity(alloc, bytes.len())?;
+    for byte in bytes {
+        if let Some(digit) = ascii_digit(*byte) {
+            digits.push(digit)?;
+        }
+    }
+    Ok(digits)
 }
 
 /// The keys of the text's digits and letters, in a text of their own.
