@@ -1,3 +1,4 @@
+pub mod Ascii
 pub mod Norms
 pub mod Runs
 pub mod Signed

@@ -2,7 +2,7 @@
 use Rattle.std.proofs.Common.{◌≡◌, ℕ, ◌+◌, ◌-◌, Bool, true, false, nat_le, nat_lt, List, [], ◌∷◌, Some, IfSome, encode_utf8_all, IsUtf8, All, IsAscii, get_or, ◌<◌, zero, suc, refl, ap, sym, subst, ◌∙◌, arith, ltb-true}
 use Rattle.std.proofs.lemmas.Bool.{and_from, and_parts, cond_both, leb-true, le-leb}
 use Rattle.std.proofs.lemmas.Fmt.{IsAscii-from_digits}
-use Rattle.std.proofs.lemmas.Str.{chars-IsAscii, encodes-IsAscii, encodes-chars}
+use Rattle.std.proofs.lemmas.Str.{IsUtf8-from_ascii, chars-IsAscii, encodes-IsAscii, encodes-chars}
 use Rattle.std.specs.List.{list_all, find}
 use Rattle.std.specs.Str.{chars}
 use Rattle.phone_chars.specs.Characters.{is_digit, is_one_of, is_in_run, script_zeros, key_letters, as_dec_digit, keypad, digit_of}
@@ -37,12 +37,20 @@ pub list_all-norm : (t : List ℕ) → list_all is_digit (norm t) ≡ true
 list_all-norm t = list_all-filter_map digit_of is_digit
     (λ c. IfSome-option_or _ (as_dec_digit c) (keypad c) (as_dec_digit_digit c) (keypad_digit c)) t
 
+-- so they are ASCII, and each is a byte
+norm_ascii : (t : List ℕ) → IsAscii (norm t)
+norm_ascii t = IsAscii-from_digits (norm t) (all_digits (norm t) (list_all-norm t))
+
+pub norm_utf8 : (t : List ℕ) → IsUtf8 (norm t)
+norm_utf8 t = IsUtf8-from_ascii (norm t) (norm_ascii t)
+
+pub norm_written : (t : List ℕ) → encode_utf8_all (norm t) ≡ norm t
+norm_written t = encodes-IsAscii (norm t) (norm_ascii t)
+
 -- a text that is its own digits is digits alone
 pub own_norm : (t : List ℕ) → encode_utf8_all (norm (chars t)) ≡ t → list_all is_digit (chars t) ≡ true
 own_norm t e =
-    let ds = norm (chars t) in
-    let written : encode_utf8_all ds ≡ ds = encodes-IsAscii ds (IsAscii-from_digits ds (all_digits ds (list_all-norm (chars t)))) in
-    let alone : list_all is_digit t ≡ true = subst (λ x. list_all is_digit x ≡ true) (sym written ∙ e) (list_all-norm (chars t)) in
+    let alone : list_all is_digit t ≡ true = subst (λ x. list_all is_digit x ≡ true) (sym (norm_written (chars t)) ∙ e) (list_all-norm (chars t)) in
     ap (list_all is_digit) (chars-IsAscii t (IsAscii-from_digits t (all_digits t alone))) ∙ alone
 
 -- a text's bytes are digits where its characters are

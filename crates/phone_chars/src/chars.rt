@@ -5,6 +5,7 @@ ghost use Rattle.phone_chars.specs.Characters.{is_digit, is_alpha, is_plus, is_s
 ghost use Rattle.phone_chars.specs.Characters.{is_punctuation, is_separator, is_nd, is_number};
 ghost use Rattle.phone_chars.specs.Characters.{is_letter, same_fold, as_dec_digit, keypad};
 ghost use Rattle.phone_chars.specs.Characters.{is_in_run};
+ghost use Rattle.ucd_case.specs.CaseFolding.{simple_fold};
 
 pub use crate::norm::normalize;
 pub use crate::viable::is_viable;
@@ -93,11 +94,16 @@ pub fn is_wide_digit(c: char) -> bool
     matches!(c, '0'..='9')
 }
 
-/// Whether the character is a decimal digit of some script: Unicode's general category Nd.
+/// Whether the character is a decimal digit of some script: Unicode's general category Nd. In ASCII
+/// those are `0` to `9`.
 pub fn is_nd(c: char) -> bool
     ensures { result ≡ is_nd c }
 {
-    GeneralCategory::for_char(c) == GeneralCategory::DecimalNumber
+    if c.is_ascii() {
+        is_digit(c)
+    } else {
+        GeneralCategory::for_char(c) == GeneralCategory::DecimalNumber
+    }
 }
 
 /// Whether the character is a number of some script, as digits, Roman numerals and fractions are:
@@ -120,7 +126,18 @@ pub fn is_letter(c: char) -> bool
 pub fn same_fold(a: char, b: char) -> bool
     ensures { result ≡ same_fold a b }
 {
-    simple_fold(a) == simple_fold(b)
+    fold(a) == fold(b)
+}
+
+/// The simple case folding of a character. In ASCII it makes the capital letters small.
+fn fold(c: char) -> char
+    ensures { result ≡ simple_fold c }
+{
+    if c.is_ascii() {
+        c.to_ascii_lowercase()
+    } else {
+        simple_fold(c)
+    }
 }
 
 /// The zeros of the fifteen runs of ten digits that are read beside ASCII's, in the order of their

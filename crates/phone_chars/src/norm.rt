@@ -26,11 +26,12 @@ fn digit_of(c: char) -> Option<char>
 fn digits(alloc: Global, text: &str) -> Result<String, AllocError>
     ensures { IfOk result (λ s. string_bytes s ≡ encode_utf8_all (norm (chars text.now))) }
 {
-    let out = String::with_capacity(alloc, text.len())?;
     if is_ascii(text.as_bytes()) {
-        return with_digits_of_bytes(out, text.as_bytes());
+        let digits = digits_of_ascii(alloc, text.as_bytes())?;
+        // SAFETY: digits are text.
+        return Ok(unsafe { String::from_utf8_unchecked(digits) });
     }
-    with_digits(out, text)
+    with_digits(String::with_capacity(alloc, text.len())?, text)
 }
 
 /// A text and the digits of another behind it.
@@ -51,18 +52,36 @@ fn is_ascii(bytes: &[u8]) -> bool
     bytes.iter().all(|byte| *byte < 128)
 }
 
-/// A text and the digits of characters behind it, which are these bytes.
-fn with_digits_of_bytes(before: String, bytes: &[u8]) -> Result<String, AllocError>
-    ensures { IfOk result (λ s. string_bytes s ≡ string_bytes before ++
-        encode_utf8_all (norm bytes.now)) }
+/// The digit of each character of ASCII; zero for one that has none.
+const DIGITS: [u8; 128] = [
+    0, 0, 0, 0, 0, 0, 0, 0, 0, 0, 0, 0, 0, 0, 0, 0, 0, 0, 0, 0, 0, 0, 0, 0, 0, 0, 0, 0, 0, 0, 0, 0,
+    0, 0, 0, 0, 0, 0, 0, 0, 0, 0, 0, 0, 0, 0, 0, 0, 48, 49, 50, 51, 52, 53, 54, 55, 56, 57, 0, 0,
+    0, 0, 0, 0, 0, 50, 50, 50, 51, 51, 51, 52, 52, 52, 53, 53, 53, 54, 54, 54, 55, 55, 55, 55, 56,
+    56, 56, 57, 57, 57, 57, 0, 0, 0, 0, 0, 0, 50, 50, 50, 51, 51, 51, 52, 52, 52, 53, 53, 53, 54,
+    54, 54, 55, 55, 55, 55, 56, 56, 56, 57, 57, 57, 57, 0, 0, 0, 0, 0,
+];
+
+/// The digit of a character of ASCII, by its place in the table.
+fn digit_of_ascii(byte: u8) -> Option<u8>
+    requires { byte < 128 }
+    ensures { result ≡ digit_of byte }
 {
-    let mut out = before;
+    let digit = DIGITS[usize::from(byte)];
+    if digit == 0 { None } else { Some(digit) }
+}
+
+/// The digits of characters of ASCII, which are these bytes, as bytes.
+fn digits_of_ascii(alloc: Global, bytes: &[u8]) -> Result<Vec<u8>, AllocError>
+    requires { All (λ b. b < 128) bytes.now }
+    ensures { IfOk result (λ digits. digits.items ≡ norm bytes.now) }
+{
+    let mut digits = Vec::with_capacity(alloc, bytes.len())?;
     for byte in bytes {
-        if let Some(digit) = digit_of(char::from(*byte)) {
-            out.push(digit)?;
+        if let Some(digit) = digit_of_ascii(*byte) {
+            digits.push(digit)?;
         }
     }
-    Ok(out)
+    Ok(digits)
 }
 
 /// Whether each character of a text is a digit from `0` to `9`.

@@ -3,9 +3,8 @@ use Rattle.std.proofs.Common.{◌≡◌, inl, inr, ℕ, ◌+◌, ◌-◌, ◌≤
 use Rattle.std.proofs.lemmas.Bool.{and_from, and_parts, cases_Bool, cond-false, cond-true, cond_both, le-leb, not-true, or_parts}
 use Rattle.std.proofs.lemmas.Fmt.{IsAscii-from_digits}
 use Rattle.std.proofs.lemmas.List.Sums.{sum_by-cons}
-use Rattle.std.proofs.lemmas.Str.{encodes-IsAscii, encodes-chars}
+use Rattle.std.proofs.lemmas.Str.{IsUtf8-from_ascii, encodes-IsAscii, encodes-chars}
 use Rattle.std.specs.Bool.{beq}
-use Rattle.std.specs.Char.{is_ascii_digit}
 use Rattle.std.specs.List.{count_by, cons_option, filter_map, find, list_all, list_any}
 use Rattle.std.specs.Str.{chars}
 use Rattle.ucd_category.proofs.Computing.{ucd_category}
@@ -13,7 +12,7 @@ use Rattle.ucd_category.proofs.GeneralCategoryLemmas.{general_category_stepped}
 use Rattle.ucd_category.specs.GeneralCategory.{general_category, general_category_eq}
 use Rattle.ucd_category.specs.declared.GeneralCategory.{GeneralCategory}
 use Rattle.ucd_category.specs.declared.GeneralCategory.TheVariants.{DecimalNumber}
-use Rattle.ucd_table.proofs.Facts.{Stepped-below, Stepped-everywhere, same_from_beq}
+use Rattle.ucd_table.proofs.Facts.{Stepped-everywhere, same_from_beq}
 use Rattle.ucd_table.proofs.Stepped.{Stepped, of_ranges, zip_stepped}
 use Rattle.ucd_table.specs.Rows as table
 use Rattle.phone_values.proofs.Finds.{IfSome-find, IfSome-option_map, list_all-filter_map}
@@ -24,12 +23,6 @@ use Rattle.phone_parts.proofs.Endings.{member_passes}
 use Rattle.phone_parts.proofs.PrintedTexts.{digit_passes}
 use Rattle.phone_library_text.specs.Letters.{digits_in, is_lettered, key_of, script_zeros, value_of, zeros}
 use Rattle.phone_library_text.proofs.Tests.{same_test}
-
--- of the characters of ASCII the digits are `0` to `9`
-pub ascii_nd : (c : ℕ) → c < 128 → is_nd c ≡ is_ascii_digit c
-unfolding ucd_category
-ascii_nd c h =
-    same_from_beq _ _ (Stepped-below general_category general_category_stepped (λ c g. beq (general_category_eq g DecimalNumber) (is_ascii_digit c)) 128 refl c h)
 
 -- the runs of digits as ranges
 abbrev digit_runs : List ℕ → List (ℕ × ℕ)
@@ -119,6 +112,10 @@ digits_bytes ds h = encodes-IsAscii ds (IsAscii-from_digits ds (all_digits ds h)
 
 pub values_digits : (t : List ℕ) → list_all is_digit (filter_map value_of t) ≡ true
 values_digits t = list_all-filter_map value_of is_digit value_is_digit t
+
+pub values_utf8 : (t : List ℕ) → IsUtf8 (filter_map value_of t)
+values_utf8 t =
+    IsUtf8-from_ascii (filter_map value_of t) (IsAscii-from_digits (filter_map value_of t) (all_digits (filter_map value_of t) (values_digits t)))
 
 pub values_bytes : (t : List ℕ) → encode_utf8_all (filter_map value_of t) ≡ filter_map value_of t
 values_bytes t = digits_bytes (filter_map value_of t) (values_digits t)

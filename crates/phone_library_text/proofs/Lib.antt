@@ -1,5 +1,6 @@
 pub mod Alikes
 pub mod Announced
+pub mod Beginnings
 pub mod Decided
 pub mod Digits
 pub mod Domains

@@ -1,12 +1,13 @@
 -- What the search for an extension asks of an end of a text, as functions of that end: each is told
 -- by the same of what follows the end's first character.
 use Rattle.std.specs.Prelude.{◌≡◌, ℕ, ◌==◌, ◌||◌, ◌&&◌, not, nat_le, Bool, true, false}
-use Rattle.std.specs.Prelude.{if◌then◌else◌, List, [], ◌∷◌, ◌++◌, length, codes, Option, None, Some}
-use Rattle.std.specs.List.{list_all, list_any}
+use Rattle.std.specs.Prelude.{if◌then◌else◌, List, [], ◌∷◌, ◌++◌, length, codes, map, Option, None}
+use Rattle.std.specs.Prelude.{Some}
+use Rattle.std.specs.List.{filter, list_all, list_any}
 use Rattle.std.specs.Option.{option_map_or}
 use Rattle.phone_chars.specs.Characters.{is_nd}
 use Rattle.phone_parts.specs.Suffixes.{IsOptional, is_dash, is_gap, is_lead, is_mark, is_sign}
-use Rattle.phone_parts.specs.Texts.{ends}
+use Rattle.phone_parts.specs.Texts.{begins, ends}
 use Rattle.phone_library_text.specs.Announcements.{is_blank, pauses, signs, words}
 use Rattle.phone_library_text.specs.Letters.{folded, is_alike}
 use Rattle.phone_library_text.specs.declared.announcement.Allowed.{Allowed}
@@ -43,6 +44,14 @@ follows text word = option_map_or is_mark_gap (after_alike text word) false
 -- that for one of the words
 abbrev pub follows_some : List (List ℕ) → List ℕ → Bool
 follows_some words text = list_any (follows text) words
+
+-- those of the words that begin with a character of this folding
+abbrev pub begun_by : ℕ → List (List ℕ) → List (List ℕ)
+begun_by f words = filter (λ w. begins (λ c. f == folded c) w) words
+
+-- the front with each of the ends behind it
+abbrev pub all_behind : List ℕ → List (List ℕ) → List (List ℕ)
+all_behind front ends = map (λ end. front ++ end) ends
 
 -- the foldings of the characters that words and signs begin with
 abbrev pub label_starts : List ℕ

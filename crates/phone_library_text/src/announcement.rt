@@ -10,8 +10,8 @@ ghost use Rattle.phone_library_text.specs.Scans.{follows_some, seen_before, seen
 
 use crate::ends::{after, mark_gap_limit};
 use crate::labels::{begins_named, begins_pause, is_parameter};
-use crate::letters::is_nd;
 use crate::sets::{is_blank, is_dash, is_gap, is_lead, is_mark};
+use phone_chars::chars::is_nd;
 use phone_chars::cuts::split_last;
 
 /// Which announcements may stand before the digits that are there.

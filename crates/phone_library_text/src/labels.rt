@@ -1,70 +1,23 @@
 //! The words, signs and pauses that announce an extension, looked for at the front of a text.
 ghost use Rattle.std.specs.Prelude.{◌≡◌, ◌||◌, ◌&&◌, ◌==◌, ℕ, List, ◌++◌, chars, codes, map, None};
-ghost use Rattle.std.specs.Prelude.{Some};
+ghost use Rattle.std.specs.Prelude.{Some, true};
 ghost use Rattle.std.specs.Prelude.{IfSome, MatchOption};
 ghost use Rattle.std.specs.Borrow.{Bor};
 ghost use Rattle.phone_chars.specs.Characters.{is_one_of};
 ghost use Rattle.phone_parts.specs.Longest.{AreEndsUpTo};
+ghost use Rattle.phone_parts.specs.Texts.{begins};
 ghost use Rattle.phone_library_text.specs.Announcements.{pauses, signs, words};
 ghost use Rattle.phone_library_text.specs.Letters.{folded, is_alike};
 ghost use Rattle.phone_library_text.specs.Scans.{IsMarkGap, after_alike, follows, follows_some};
-ghost use Rattle.phone_library_text.specs.Scans.{is_named, is_nil, label_starts, pause_starts};
+ghost use Rattle.phone_library_text.specs.Scans.{all_behind, is_named, is_nil, label_starts};
+ghost use Rattle.phone_library_text.specs.Scans.{pause_starts};
 
 use crate::announcement::Allowed;
+use crate::families::{Family, signs_from, words_from};
 use crate::letters::fold;
 use phone_chars::cuts::split_first;
 
-const WORDS: [&str; 22] = [
-    "xt",
-    "xtn",
-    "xtensio",
-    "xtension",
-    "xtensio\u{301}",
-    "xtensio\u{301}n",
-    "xtensi\u{F3}",
-    "xtensi\u{F3}n",
-    "ext",
-    "extn",
-    "extensio",
-    "extension",
-    "extensio\u{301}",
-    "extensio\u{301}n",
-    "extensi\u{F3}",
-    "extensi\u{F3}n",
-    "\u{FF58}\u{FF54}",
-    "\u{FF58}\u{FF54}\u{FF4E}",
-    "\u{FF45}\u{FF58}\u{FF54}",
-    "\u{FF45}\u{FF58}\u{FF54}\u{FF4E}",
-    "\u{434}\u{43E}\u{431}",
-    "anexo",
-];
-
-const SIGNS: [&str; 8] = [
-    "x",
-    "\u{FF58}",
-    "#",
-    "\u{FF03}",
-    "~",
-    "\u{FF5E}",
-    "int",
-    "\u{FF49}\u{FF4E}\u{FF54}",
-];
-
 const PAUSES: [&str; 2] = [",,", ";"];
-
-/// The words that mean an extension.
-fn words() -> &'static [&'static str]
-    ensures { map (λ (w : Bor (List ℕ)). chars w.now) result.now ≡ words }
-{
-    &WORDS
-}
-
-/// The signs that may mean one.
-fn signs() -> &'static [&'static str]
-    ensures { map (λ (w : Bor (List ℕ)). chars w.now) result.now ≡ signs }
-{
-    &SIGNS
-}
 
 /// The pauses in dialling.
 fn pauses() -> &'static [&'static str]
@@ -191,16 +144,50 @@ fn starts_pause(folding: char) -> bool
     folding == ',' || folding == ';'
 }
 
-/// Whether the text is a word or a sign that may stand there, perhaps a mark, and a gap.
-fn is_named(text: &str, allowed: Allowed, limit: usize) -> bool
+/// Whether the text is one of the family, perhaps a mark, and a gap. The front that all of it have
+/// is compared once.
+fn follows_family(text: &str, family: Family, limit: usize) -> bool
     requires { AreEndsUpTo IsMarkGap limit text.now }
-    ensures { result ≡ is_named allowed (chars text.now) }
+    ensures { result ≡ follows_some (all_behind (chars family.front.now)
+        (map (λ (w : Bor (List ℕ)). chars w.now) family.ends.now)) (chars text.now) }
 {
-    (allowed.words && follows_some(text, words(), limit))
-        || (allowed.signs && follows_some(text, signs(), limit))
+    match strip_alike(text, family.front) {
+        Some(rest) => follows_some(rest, family.ends, limit),
+        None => false,
+    }
 }
 
-/// The same, where most texts begin with another character: that is asked first.
+/// Whether the text, whose first character has this folding, is a word, perhaps a mark, and a gap.
+fn begins_word(text: &str, folding: char, limit: usize) -> bool
+    requires first { begins (λ c. folded c == folding) (chars text.now) ≡ true }
+    requires limit { AreEndsUpTo IsMarkGap limit text.now }
+    ensures { result ≡ follows_some words (chars text.now) }
+{
+    follows_family(text, words_from(folding), limit)
+}
+
+/// Whether the text, whose first character has this folding, is a sign, perhaps a mark, and a gap.
+fn begins_sign(text: &str, folding: char, limit: usize) -> bool
+    requires first { begins (λ c. folded c == folding) (chars text.now) ≡ true }
+    requires limit { AreEndsUpTo IsMarkGap limit text.now }
+    ensures { result ≡ follows_some signs (chars text.now) }
+{
+    follows_family(text, signs_from(folding), limit)
+}
+
+/// Whether the text, whose first character has this folding, is a word or a sign that may stand
+/// there, perhaps a mark, and a gap.
+fn is_named(text: &str, folding: char, allowed: Allowed, limit: usize) -> bool
+    requires first { begins (λ c. folded c == folding) (chars text.now) ≡ true }
+    requires limit { AreEndsUpTo IsMarkGap limit text.now }
+    ensures { result ≡ is_named allowed (chars text.now) }
+{
+    (allowed.words && begins_word(text, folding, limit))
+        || (allowed.signs && begins_sign(text, folding, limit))
+}
+
+/// Whether the text is a word or a sign that may stand there, perhaps a mark, and a gap. Most texts
+/// begin with another character: that is asked first.
 pub(crate) fn begins_named(text: &str, allowed: Allowed, limit: usize) -> bool
     requires { AreEndsUpTo IsMarkGap limit text.now }
     ensures { result ≡ is_named allowed (chars text.now) }
@@ -208,10 +195,11 @@ pub(crate) fn begins_named(text: &str, allowed: Allowed, limit: usize) -> bool
     let Some((c, _)) = split_first(text) else {
         return false;
     };
-    if !starts_label(fold(c)) {
+    let folding = fold(c);
+    if !starts_label(folding) {
         return false;
     }
-    is_named(text, allowed, limit)
+    is_named(text, folding, allowed, limit)
 }
 
 /// Whether the text is a pause, perhaps a mark, and a gap.

@@ -1,7 +1,7 @@
 //! What characters are by libphonenumber's rules, and the digits of a text. Most characters of a
 //! number are of ASCII, so these are asked first.
 ghost use Rattle.std.specs.Prelude.{◌≡◌, ℕ, ◌+◌, ◌-◌, true, IfOk, string_bytes, chars, count_by};
-ghost use Rattle.std.specs.Prelude.{option_map};
+ghost use Rattle.std.specs.Prelude.{option_map, All, IsTrue, ◌<◌};
 ghost use Rattle.std.specs.Cow.{cow_str_bytes, IsBorrowedStr};
 ghost use Rattle.std.specs.List.{filter_map, find, list_all};
 ghost use Rattle.phone_chars.specs.Characters.{is_alpha, is_digit, is_in_run, is_nd};
@@ -10,23 +10,12 @@ ghost use Rattle.phone_chars.specs.Cuts.{after_front};
 ghost use Rattle.phone_library_text.specs.Letters.{digits_in, folded, is_early, is_latin};
 ghost use Rattle.phone_library_text.specs.Letters.{is_lettered, key_of, script_zeros, value_of};
 
-use phone_chars::chars::{is_alpha, is_digit, is_separator, is_star, keypad};
+use phone_chars::PlusSigns;
+use phone_chars::chars::{is_alpha, is_digit, is_nd, is_separator, is_star, keypad};
 use phone_chars::cuts::after_run;
-use phone_chars::{PlusSigns, chars};
 use std::alloc::{AllocError, Global};
 use std::borrow::CowStr;
 use unicode::case::simple_fold;
-
-/// Whether the character is a decimal digit of some script: Unicode's general category Nd.
-pub(crate) fn is_nd(c: char) -> bool
-    ensures { result ≡ is_nd c }
-{
-    if c.is_ascii() {
-        is_digit(c)
-    } else {
-        chars::is_nd(c)
-    }
-}
 
 /// The letter that the character is without case: its simple folding, and `i` for U+0130 and
 /// U+0131.
@@ -156,9 +145,54 @@ fn is_lettered(text: &str) -> bool
 pub fn digit_values(alloc: Global, text: &str) -> Result<String, AllocError>
     ensures { IfOk result (λ s. string_bytes s ≡ filter_map value_of (chars text.now)) }
 {
+    if is_ascii(text.as_bytes()) {
+        let digits = ascii_digits(alloc, text.as_bytes())?;
+        // SAFETY: digits are text.
+        return Ok(unsafe { String::from_utf8_unchecked(digits) });
+    }
+    values(alloc, text)
+}
+
+/// The same, without asking ASCII first.
+fn values(alloc: Global, text: &str) -> Result<String, AllocError>
+    ensures { IfOk result (λ s. string_bytes s ≡ filter_map value_of (chars text.now)) }
+{
     let mut out = String::with_capacity(alloc, text.len())?;
     out.extend(text.chars().filter_map(value_of))?;
     Ok(out)
+}
+
+/// Whether bytes are ASCII.
+fn is_ascii(bytes: &[u8]) -> bool
+    ensures { IsTrue result → All (λ b. b < 128) bytes.now }
+{
+    bytes.iter().all(|byte| *byte < 128)
+}
+
+/// The digit that a character of ASCII is.
+fn ascii_digit(byte: u8) -> Option<u8>
+    requires { byte < 128 }
+    ensures { result ≡ value_of byte }
+{
+    if byte.is_ascii_digit() {
+        Some(byte)
+    } else {
+        None
+    }
+}
+
+/// The digits among characters of ASCII, which are these bytes, as bytes.
+fn ascii_digits(alloc: Global, bytes: &[u8]) -> Result<Vec<u8>, AllocError>
+    requires { All (λ b. b < 128) bytes.now }
+    ensures { IfOk result (λ digits. digits.items ≡ filter_map value_of bytes.now) }
+{
+    let mut digits = Vec::with_capacity(alloc, bytes.len())?;
+    for byte in bytes {
+        if let Some(digit) = ascii_digit(*byte) {
+            digits.push(digit)?;
+        }
+    }
+    Ok(digits)
 }
 
 /// The keys of the text's digits and letters, in a text of their own.

@@ -6,6 +6,7 @@ mod announcement;
 mod contexts;
 mod ends;
 mod extension;
+mod families;
 mod labels;
 pub mod laws;
 mod letters;

@@ -10,8 +10,9 @@ ghost use Rattle.phone_library_text.specs.Viable.{IsViable};
 
 use crate::extension::find_extension;
 use crate::labels::is_nothing;
-use crate::letters::{is_early, is_latin, is_nd};
+use crate::letters::{is_early, is_latin};
 use phone_chars::PlusSigns;
+use phone_chars::chars::is_nd;
 use phone_chars::cuts::{after_run, split_first};
 
 /// Whether the text is a digit and another.

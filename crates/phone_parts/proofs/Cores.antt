@@ -1,6 +1,6 @@
 -- The core of a text is one, and what makes a text's front its core.
-use Rattle.std.proofs.Common.{take, IsUtf8, encode_utf8_all, ◌≡◌, ◌⊎◌, inl, inr, ⊎_elim, ℕ, ◌<◌, ◌≤◌, Bool, true, false, not, ◌||◌, List, [], ◌∷◌, ◌++◌, length, drop, refl, ap, sym, subst, ◌∙◌, arith, length-append, append-nil, true≢false}
-use Rattle.std.proofs.lemmas.Bool.{cases_lt, and_parts, not-true, not-false, or_parts, or_right}
+use Rattle.std.proofs.Common.{take, IsUtf8, encode_utf8_all, ◌≡◌, ◌⊎◌, inl, inr, ⊎_elim, ℕ, zero, suc, ◌==◌, ◌<◌, ◌≤◌, Bool, true, false, not, ◌||◌, List, [], ◌∷◌, ◌++◌, length, drop, refl, ap, sym, subst, ◌∙◌, arith, length-append, append-nil, true≢false}
+use Rattle.std.proofs.lemmas.Bool.{cases_lt, and_parts, and_right, not-true, not-false, or_parts, or_right}
 use Rattle.std.proofs.lemmas.List.{nil_from_length}
 use Rattle.std.proofs.lemmas.Str.{encodes-chars}
 use Rattle.std.specs.Str.{chars}
@@ -8,6 +8,7 @@ use Rattle.std.proofs.lemmas.List.Folds.{list_any-append}
 use Rattle.std.proofs.Math.Seq.{drop-append_seam, take-append_seam}
 use Rattle.std.specs.List.{list_any, list_all}
 use Rattle.phone_chars.proofs.Trims.{IsWithoutEnd}
+use Rattle.phone_chars.specs.Characters.{is_one_of}
 use Rattle.phone_chars.specs.Cuts.{after_front}
 use Rattle.phone_parts.specs.Cores.{IsCore, IsTrimmed, IsBeforeSecondNumber, is_start, is_last, begins_second_number}
 use Rattle.phone_parts.specs.Texts.{begins, ends}
@@ -171,3 +172,24 @@ nil_first_number text first e h = nil_from_length first (omega (arith, length-ap
 
 pub nil_from_chars : (bs : List ℕ) → IsUtf8 bs → chars bs ≡ [] → bs ≡ []
 nil_from_chars bs u e = sym (encodes-chars bs u) ∙ ap encode_utf8_all e
+
+-- without a small x no second number begins
+no_x_behind : (cs : List ℕ) → list_any (λ d. d == 120) cs ≡ false → begins (λ d. d == 120) (after_front (λ d. d == 32) cs) ≡ false
+no_x_behind [] none = refl
+no_x_behind (c ∷ cs) none =
+    let parts = or_parts (c == 120) (list_any (λ d. d == 120) cs) none in
+    at_head (c == 32) refl parts.0 (no_x_behind cs parts.1)
+  where
+    at_head : (b : Bool) → (c == 32) ≡ b → (c == 120) ≡ false → begins (λ d. d == 120) (after_front (λ d. d == 32) cs) ≡ false →
+        begins (λ d. d == 120) (after_front (λ d. d == 32) (c ∷ cs)) ≡ false
+    at_head true e first rest = rw e rest
+    at_head false e first rest = rw e first
+
+none_begins : (cs : List ℕ) → list_any (λ d. d == 120) cs ≡ false → begins_second_number cs ≡ false
+none_begins [] none = refl
+none_begins (c ∷ cs) none = and_right (is_one_of (47 ∷ 92 ∷ []) c) _ (no_x_behind cs (or_parts (c == 120) (list_any (λ d. d == 120) cs) none).1)
+
+pub no_second_number : (cs : List ℕ) (k : ℕ) → list_any (λ d. d == 120) cs ≡ false → begins_second_number (drop k cs) ≡ false
+no_second_number cs zero none = none_begins cs none
+no_second_number [] (suc k) none = refl
+no_second_number (c ∷ cs) (suc k) none = no_second_number cs k (or_parts (c == 120) (list_any (λ d. d == 120) cs) none).1

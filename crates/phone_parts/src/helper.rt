@@ -1,5 +1,6 @@
 //! Cuts of a text before it is read.
-ghost use Rattle.std.specs.Prelude.{◌≡◌, ℕ, List, ◌++◌, MatchOption, IfSome, chars};
+ghost use Rattle.std.specs.Prelude.{◌≡◌, ◌==◌, ℕ, List, ◌++◌, MatchOption, IfSome, chars};
+ghost use Rattle.std.specs.List.{list_any};
 ghost use Rattle.phone_parts.specs.Cores.{IsCore, IsTrimmed, IsBeforeSecondNumber, is_last};
 ghost use Rattle.phone_parts.specs.Cores.{begins_second_number};
 ghost use Rattle.phone_parts.specs.Parts.{IsSlice};
@@ -51,8 +52,28 @@ fn trim_end(text: &str) -> &str
     text.trim_end_matches(|c: char| !is_last(c))
 }
 
-/// The text up to the first mark of a second number, or all of it.
+/// The text up to the first mark of a second number, or all of it. Most texts have no small `x`,
+/// and so no such mark: that is asked first.
 fn first_number(text: &str) -> &str
+    ensures read { IsBeforeSecondNumber (chars text.now) (chars result.now) }
+    ensures front { (v : List ℕ) × (text.now ≡ result.now ++ v) }
+{
+    if has_small_x(text) {
+        before_second_number(text)
+    } else {
+        text
+    }
+}
+
+/// Whether a small `x` is there.
+fn has_small_x(text: &str) -> bool
+    ensures { result ≡ list_any (λ c. c == 120) (chars text.now) }
+{
+    text.contains('x')
+}
+
+/// The same as `first_number`, of any text.
+fn before_second_number(text: &str) -> &str
     ensures read { IsBeforeSecondNumber (chars text.now) (chars result.now) }
     ensures front { (v : List ℕ) × (text.now ≡ result.now ++ v) }
 {

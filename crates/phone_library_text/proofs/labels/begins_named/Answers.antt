@@ -13,4 +13,4 @@ returns-in_default c =
 pub returns-then-not-starts_label : goal.returns-then-not-starts_label
 returns-then-not-starts_label c =
     sym (ap (is_named c.args.allowed) c.in-Some.ensures.read
-    ∙ not_named c.args.allowed c.in-Some.c _ (ap (is_one_of label_starts) (sym c.fold.ensures) ∙ sym c.starts_label.ensures ∙ c.if-not-starts_label.true))
+    ∙ not_named c.args.allowed c.in-Some.c _ (ap (is_one_of label_starts) (sym c.fold-folding.ensures) ∙ sym c.starts_label.ensures ∙ c.if-not-starts_label.true))

@@ -1,18 +1,17 @@
-use Rattle.std.proofs.Common.{rules, ap, ◌∙◌}
-use Rattle.std.specs.Str.{chars}
-use Rattle.std.specs.Str.Iter.{chars_rest}
-use Rattle.std.proofs.lemmas.Iterator.{YieldsList-from_chars}
-use Rattle.std.proofs.lemmas.Iterator.Adapters.{items_from_extend}
-use Rattle.std.proofs.lemmas.Iterator.Consumers.{YieldsList-from_filter_map}
+use Rattle.std.proofs.Common.{◌≡◌, All, ◌<◌, IsUtf8, ap, sym, subst, ◌∙◌, rules}
+use Rattle.std.proofs.lemmas.Str.{chars-IsAscii}
+use Rattle.std.specs.List.{filter_map}
+use Rattle.phone_chars.proofs.Norms.{is_ascii_text}
 use Rattle.phone_library_text.specs.Letters.{value_of}
-use Rattle.phone_library_text.proofs.Digits.{values_bytes}
+use Rattle.phone_library_text.proofs.Digits.{values_utf8}
 use Rattle.phone_library_text.proofs.letters.digit_values.Goals as goal
 
-pub returns : goal.returns
-returns c =
-    let every = YieldsList-from_chars c.args.text.now c.utf8.text (ap chars_rest c.filter_map.ensures.source ∙ c.chars.ensures.rest) in
-    let all = items_from_extend c.extend.result c.extend.ensures.ran
-    (YieldsList-from_filter_map _ value_of every c.filter_map.ensures.closure (λ x r q h. search (rules, h))) in
-    let whole = rw c.in_ok-extend.was at all in
-    let bytes = values_bytes (chars c.args.text.now) in
-    search (rules, whole, c.in_ok-out.ensures.bytes, bytes)
+pub from_utf8_unchecked-requires : goal.from_utf8_unchecked-requires
+from_utf8_unchecked-requires c = subst IsUtf8 (sym c.in_ok-digits.ensures) (values_utf8 c.as_bytes-then-is_ascii.result.now)
+
+pub returns-then-is_ascii : goal.returns-then-is_ascii
+returns-then-is_ascii c =
+    let small : All (λ b. b < 128) c.args.text.now = search rules in
+    let ascii = is_ascii_text c.args.text.now small in
+    let items : c.in_ok-digits.digits.items ≡ filter_map value_of c.args.text.now = search rules in
+    ap (λ v. v.items) c.from_utf8_unchecked.ensures.value ∙ items ∙ ap (filter_map value_of) (sym (chars-IsAscii c.args.text.now ascii))

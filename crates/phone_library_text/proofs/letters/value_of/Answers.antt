@@ -1,5 +1,6 @@
 use Rattle.std.proofs.Common.{ltb-true, sym, ◌∙◌}
-use Rattle.phone_library_text.proofs.Digits.{ascii_nd, value_digit, value_none, value_other}
+use Rattle.phone_chars.proofs.Ascii.{ascii_nd}
+use Rattle.phone_library_text.proofs.Digits.{value_digit, value_none, value_other}
 use Rattle.phone_library_text.proofs.letters.value_of.Goals as goal
 
 pub returns-then-is_digit : goal.returns-then-is_digit

@@ -2,7 +2,7 @@ use Rattle.std.proofs.Common.{◌≡◌, List, ℕ, ◌<◌, ◌++◌, false, ch
 use denote.Text.{Utf8}
 use denote.Shadow.{shadow}
 use Rattle.phone_parts.specs.Cores.{begins_second_number}
-use Rattle.phone_parts.proofs.helper.first_number.Given as goal
+use Rattle.phone_parts.proofs.helper.before_second_number.Given as goal
 
 abbrev pub invariant-loop-after : goal.invariant-loop-after
 invariant-loop-after l =

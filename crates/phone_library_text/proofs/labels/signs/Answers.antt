@@ -1,7 +1,0 @@
-use Rattle.std.proofs.Common.{refl}
-use Rattle.std.specs.Str.{chars}
-use Rattle.phone_library_text.proofs.labels.signs.Goals as goal
-
-pub returns : goal.returns
-unfolding chars
-returns c = refl
