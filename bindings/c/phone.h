@@ -6,7 +6,7 @@
  *     would own one thing; phone_share makes a second. So with a table of prefixes.
  *   - One call at a time on a handle. It is of no thread: one thread opens it, others use it in turn, any
  *     closes it, with a lock or a join between two calls. Threads that read at once have handles of
- *     their own: those made by phone_share stand on one table, of the world some 57 MB, and calls on
+ *     their own: those made by phone_share stand on one table, of the world some 6 MB, and calls on
  *     different handles may run at once, any number of them. No call is made from a signal handler,
  *     nor in a forked child on a handle that another thread's call was on at the fork.
  *   - A length is not past its buffer. A buffer that is written is memory that may be read: what was
@@ -163,16 +163,20 @@ static inline const uint8_t *phone_text(const void *text, size_t len) {
     return len ? (const uint8_t *)text : (const uint8_t *)"";
 }
 
-/* Opens the database that a JSON text is (data/world.json is one). What the handle had open is closed
- * first. PHONE_OK: it is open. PHONE_NOT_UTF8 exactly where the text isn't UTF-8; 1 to 5 by the
- * first fault of its records; PHONE_MEMORY. For each but PHONE_OK the handle is closed. */
+/* Opens the database that bytes are: a JSON text, as data/world.json, or the compact form of its
+ * records, which opens sooner, as data/world.compact (tools/compact makes it of a JSON text); bytes are
+ * meant as that where they begin with its first line, "phone_compact 1" and a line feed. What the handle
+ * had open is closed first. PHONE_OK: it is open. PHONE_NOT_UTF8 exactly where the bytes don't begin so
+ * and aren't UTF-8; 1 to 5 by the first fault of the records, PHONE_MALFORMED_JSON where there are none,
+ * in either form; PHONE_MEMORY. For each but PHONE_OK the handle is closed. */
 uint32_t phone_open(const uint8_t *text, size_t text_len, phone_handle *handle);
 
 /* Opens the table of the world that stands in the library, of the version that phone_table_version
  * tells: phone_open of phone_world_text. PHONE_OK, or PHONE_MEMORY. It is C over phone_open. */
 uint32_t phone_open_world(phone_handle *handle);
 
-/* The text of that table, which is never freed, and its length. It is C, and takes no memory. */
+/* The records of that table as JSON, of which phone_open makes the same: a text that is never freed, and
+ * its length. It is C, and takes no memory. */
 const uint8_t *phone_world_text(size_t *text_len);
 
 /* Opens behind `mine` the database that is open behind `world`: a second handle on one database, for

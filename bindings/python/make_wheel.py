@@ -20,7 +20,7 @@ from pathlib import Path
 HERE = Path(__file__).resolve().parent
 TOP = HERE.parents[1]
 NAME = "phonenumber_proved"
-TABLES = ["world.json", "short.json", "timezones.tsv", "carriers.tsv", "VERSION"]
+TABLES = ["world.json", "world.compact", "short.json", "timezones.tsv", "carriers.tsv", "VERSION"]
 MACHINES = {62: "x86_64", 183: "aarch64"}
 
 

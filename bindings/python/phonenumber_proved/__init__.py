@@ -17,7 +17,7 @@
 
 Any number of threads may use a `Database`, `ShortNumbers` or `Prefixes` at once, any of them may
 close it, and the child of a fork has it too. Threads share its table; that of the world takes some
-57 MB. `close`, or `with`, frees it. Other threads of Python run while something is opened or
+6 MB. `close`, or `with`, frees it. Other threads of Python run while something is opened or
 closed, and while a long text is searched; each other call is shorter than the wait for them. A text
 is `str` or UTF-8 in `bytes`; a lone surrogate, or bytes that aren't UTF-8, are refused.
 PHONE_LIBRARY names the shared library, else `libphone.so` beside these files is taken, and else the

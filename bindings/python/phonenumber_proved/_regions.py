@@ -10,7 +10,7 @@ from typing import Any, Callable, Dict, List, Optional, Tuple
 from ._locks import new_lock
 from .database import Database
 from .short import ShortNumbers
-from .tables import SHORT_TABLE, table_text
+from .tables import SHORT_TABLE, table_json
 
 #: The region of a code that is no region's, as 800, and that of no code.
 NO_REGION, UNKNOWN = "001", "ZZ"
@@ -41,7 +41,7 @@ def short_numbers() -> ShortNumbers:
 @functools.lru_cache(maxsize=None)
 def records() -> Dict[Tuple[int, str], Dict[str, Any]]:
     """The records of the table, by calling code and region."""
-    table = json.loads(table_text())
+    table = json.loads(table_json())
     return {(it["country_code"], it["id"]): it for it in table}
 
 

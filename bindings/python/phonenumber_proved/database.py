@@ -59,7 +59,10 @@ class Records(Held):
     """Records that a text has."""
 
     def __init__(self, text: Text) -> None:
-        """Opens the records that a JSON text has; `BadDatabase` where it is none."""
+        """Opens the records that a JSON text has, or that are given in their compact form.
+
+        `BadDatabase` where there are none.
+        """
         data = bytes_of(text)
         self._opened(lambda handle: long_lib.phone_open(data, len(data), handle))
 

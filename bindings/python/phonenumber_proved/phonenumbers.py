@@ -13,7 +13,7 @@ A program that uses no others changes its import alone:
 
 What is read, printed, found in texts and told of kind, region, validity, count of digits and short
 numbers is what the library's calls answer, by libphonenumber's rules. What is of regions alone is
-Python over the table, of which nothing is proved. The first call opens a table of some 57 MB, which
+Python over the table, of which nothing is proved. The first call opens a table of some 6 MB, which
 all threads have, and the child of a fork after it.
 
 An unknown region is none, as there. A national number of 2^56 or more, as some of 17 digits are,

@@ -14,9 +14,10 @@ _HERE = Path(__file__).resolve().parent
 # Beside these files where they were put there, else in the repository.
 _DATA = _HERE / "data" if (_HERE / "data").is_dir() else _HERE.parents[2] / "data"
 
-#: The file of the table of the world; `None` where there is none, and the library's is meant.
+#: The file of the table of the world, in the compact form, which opens sooner, or as JSON; `None`
+#: where there is none, and the library's is meant.
 TABLE: Optional[str] = os.environ.get("PHONE_TABLE") or (
-    str(_DATA / "world.json") if (_DATA / "world.json").is_file() else None
+    str(_DATA / "world.compact") if (_DATA / "world.compact").is_file() else None
 )
 
 _BESIDE = Path(TABLE).parent if TABLE else _DATA
@@ -30,10 +31,10 @@ TIME_ZONES_TABLE = str(_BESIDE / "timezones.tsv")
 CARRIERS_TABLE = str(_BESIDE / "carriers.tsv")
 
 
-def table_text() -> bytes:
-    """The text of the table of the world: of its file, or else of the library."""
+def table_json() -> bytes:
+    """The records of the table of the world as JSON: of its file or that beside it, or of the library."""
     if TABLE:
-        return Path(TABLE).read_bytes()
+        return Path(TABLE).with_suffix(".json").read_bytes()
     length = ctypes.c_size_t()
     return ctypes.string_at(lib.phone_world_text(ctypes.byref(length)), length.value)
 

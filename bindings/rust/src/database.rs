@@ -74,7 +74,7 @@ impl Database {
         Ok(Database { records: Records::world()? })
     }
 
-    /// The database that a JSON text is.
+    /// The database that a JSON text is, or the compact form of its records (`world.compact` is one).
     ///
     /// ```
     /// use phonenumber_proved::{Database, Error};

@@ -25,7 +25,7 @@
 //! ```
 //!
 //! A [`PhoneNumber`] is plain data. A [`Database`] is used by any number of threads at once, and so are its
-//! clones: they share one table, and that of the world takes some 57 MB. It is the calls that are proved,
+//! clones: they share one table, and that of the world takes some 6 MB. It is the calls that are proved,
 //! not this crate: that the declarations of `phonenumber-proved-sys` fit, and that memory is given back, is
 //! tested. The module `compat` has the names of the crate `phonenumber`.
 mod call;
@@ -53,13 +53,14 @@ pub use prefixes::Prefixes;
 pub use short::{Cost, ShortFacts, ShortNumbers};
 pub use typing::Typing;
 
-/// The text of the table that [`Database::world`] opens, which a program that names it holds once more.
+/// The records of the table that [`Database::world`] opens, as JSON, which a program that names it holds besides.
 #[cfg(feature = "table")]
 pub const WORLD: &str = include_str!(concat!(env!("PHONE_TABLES"), "/world.json"));
 
-/// The path at which it lay when this crate was built, for programs that read it when they run.
+/// The path at which it lay when this crate was built, in the compact form, which opens sooner, for programs that read it
+/// when they run.
 #[cfg(feature = "table")]
-pub const WORLD_PATH: &str = concat!(env!("PHONE_TABLES"), "/world.json");
+pub const WORLD_PATH: &str = concat!(env!("PHONE_TABLES"), "/world.compact");
 
 /// The table of short numbers that goes with this crate.
 #[cfg(feature = "table")]

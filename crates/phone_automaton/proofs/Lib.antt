@@ -3,8 +3,10 @@ pub mod Bridge
 pub mod Cutting
 pub mod Fitting
 pub mod Fronting
+pub mod Joining
+pub mod Packing
 pub mod Parting
-pub mod Stepping
+pub mod Reading
 pub mod Tabling
 pub mod Telling
 pub mod Writing

@@ -1,18 +1,17 @@
 -- What a table alone tells of its tree.
-use Rattle.std.proofs.Common.{◌≡◌, ◌<◌, ℕ, cond, List, length, None, Some, All, IfSome, option_map, refl, sym, ap, ◌∙◌, arith}
+use Rattle.std.proofs.Common.{◌≡◌, ◌<◌, ℕ, cond, List, length, None, Some, All, IfSome, option_map}
+use Rattle.std.proofs.Common.{refl, sym, ap, ◌∙◌, arith}
 use Rattle.std.proofs.lemmas.Bool.{cond-true}
 use Rattle.std.proofs.lemmas.List.{length-set}
 use Rattle.phone_automaton.proofs.Bridge.{ascii_boundary, ends_at_front}
 use Rattle.phone_automaton.proofs.Parting.{front_by_end}
-use Rattle.phone_automaton.specs.Digits.{AreDigits, TellsFront, end_of_digits}
+use Rattle.phone_automaton.specs.Digits.{AreDigits, end_by}
 use Rattle.phone_automaton.specs.Finds.{front_end}
 use Rattle.phone_automaton.specs.Parts.{AreFrontCells, with_end}
-use Rattle.regex_compile.specs.Implements.{Implements}
-use Rattle.regex_dfa.specs.Search.{end_from}
+use Rattle.phone_automaton.specs.Rows.{TellsAccept, TellsBefore}
 use Rattle.regex_hir.specs.Find.{find_str}
 use Rattle.regex_hir.specs.Re.{Re, Rest, Trace, accept, attempt}
 use Rattle.regex_hir.specs.Text.{is_boundary}
-use Rattle.regex_nfa.specs.declared.nfa.Nfa.{Nfa}
 use Rattle.regex_vm.specs.Found.{group_cells, span}
 
 ascii_of : (hay : List ℕ) → AreDigits hay → All (λ x. x < 128) hay
@@ -26,24 +25,29 @@ abbrev pub tries : Re → List ℕ → Rest
 tries re hay i = cond (is_boundary hay i) (attempt hay re accept i) None
 
 at_first : (re : Re) (hay : List ℕ) → AreDigits hay → tries re hay 0 ≡ attempt hay re accept 0
-at_first re hay digits = cond-true (is_boundary hay 0) _ None (ascii_boundary hay (ascii_of hay digits) 0)
+at_first re hay digits = cond-true (is_boundary hay 0) _ None
+    (ascii_boundary hay (ascii_of hay digits) 0)
 
-ends_first : (re : Re) (hay : List ℕ) → front_end (find_str re hay 0) ≡ option_map (λ (t : Trace). t.end) (tries re hay 0)
+ends_first : (re : Re) (hay : List ℕ) →
+    front_end (find_str re hay 0) ≡ option_map (λ (t : Trace). t.end) (tries re hay 0)
 unfolding find_str
 ends_first re hay = ends_at_front (tries re hay) (length hay)
 
--- the table of an automaton tells of its tree
-pub tells_of : (re : Re) (nfa : Nfa) (cells : List ℕ) → Implements nfa re →
-    ((hay : List ℕ) → AreDigits hay → end_of_digits cells hay ≡ end_from nfa hay (length hay) nfa.start 0) → TellsFront (λ hay. find_str re hay 0) cells
-tells_of re nfa cells implements told hay digits =
-    told hay digits
-    ∙ ap (option_map (λ (t : Trace). t.end)) (implements hay 0 ∙ sym (at_first re hay digits))
+-- a row that tells of a tree, and then of a match that ends there, tells of the match at the front
+pub tells_of : (re : Re) (cells : List ℕ) (place next : ℕ) → TellsBefore cells place next re →
+    TellsAccept cells next →
+    (hay : List ℕ) → AreDigits hay → end_by cells place 0 hay ≡ front_end (find_str re hay 0)
+tells_of re cells place next tells accepts hay digits =
+    tells hay digits accept (accepts hay digits) 0 (omega arith)
+    ∙ ap (option_map (λ (t : Trace). t.end)) (sym (at_first re hay digits))
     ∙ sym (ends_first re hay)
 
 -- the first match at the front, by its end alone
-pub first_by_end : (re : Re) (hay front : List ℕ) (end : ℕ) → AreDigits hay → AreFrontCells re front → front_end (find_str re hay 0) ≡ Some end →
+pub first_by_end : (re : Re) (hay front : List ℕ) (end : ℕ) → AreDigits hay →
+    AreFrontCells re front → front_end (find_str re hay 0) ≡ Some end →
     (Some (0, end) ≡ option_map span (find_str re hay 0)) ×
-    IfSome (find_str re hay 0) (λ m. with_end front end ≡ group_cells m (length (with_end front end)))
+    IfSome (find_str re hay 0) (λ m. with_end front end ≡ group_cells m
+    (length (with_end front end)))
 unfolding find_str
 first_by_end re hay front end digits are is =
     front_by_end (tries re hay) (length hay) front (with_end front end) end

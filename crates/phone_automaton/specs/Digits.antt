@@ -1,13 +1,9 @@
 -- Tables of the steps over digits, and what they say of a text of digits.
-use Rattle.std.specs.Prelude.{◌≡◌, ◌≤◌, ◌<◌, ◌+◌, ◌*◌, ◌-◌, ◌/◌, ◌%◌, ◌==◌, ℕ, Bool, true, List}
-use Rattle.std.specs.Prelude.{[], ◌∷◌, length, Option, Some, None, if◌then◌else◌, slice_get}
-use Rattle.std.specs.Prelude.{false, slice_index, All}
+use Rattle.std.specs.Prelude.{◌≡◌, ◌≤◌, ◌<◌, ◌+◌, ◌-◌, ◌/◌, ◌%◌, ◌==◌, ℕ, Bool, List}
+use Rattle.std.specs.Prelude.{[], ◌∷◌, length, Option, Some, None, if◌then◌else◌}
+use Rattle.std.specs.Prelude.{slice_index, All}
 use Rattle.std.specs.Option.{option_or}
-use Rattle.regex_dfa.specs.Moves.{Ends, MovesForward, Solves, Test, end_after, first_end}
-use Rattle.regex_nfa.specs.Run.{state_of}
-use Rattle.regex_hir.specs.declared.look.Look.TheVariants as look
 use Rattle.regex_hir.specs.Find.{Match}
-use Rattle.regex_nfa.specs.declared.nfa.Nfa.{Nfa}
 use Rattle.phone_automaton.specs.Finds.{front_end}
 
 -- a text of ASCII's digits alone
@@ -48,60 +44,6 @@ end_of_digits cells text = end_by cells 11 0 text
 pub record HasRows (cells : List ℕ) : Type 0 where
   pub two : 22 ≤ length cells
   pub inside : (k : ℕ) → k < length cells → place_of (slice_index cells k) + 11 ≤ length cells
-
--- what a column's step reads: a digit, or nothing at the end of the text
-abbrev pub byte_of : ℕ → Option ℕ
-byte_of column = if column == 10 then None else Some (48 + column)
-
--- the end of the text is where nothing is read
-abbrev pub KnowsEnd : Test → Option ℕ → Type 0
-KnowsEnd test None = test look.End ≡ true
-KnowsEnd test (Some b) = test look.End ≡ false
-
--- whether the text ends here is known, if it was looked for
-abbrev pub KnowsIf : Bool → Bool → Test → Type 0
-KnowsIf looked at_end test = looked ≡ true → test look.End ≡ at_end
-
--- the threads step to the next ones over what is read, and a match ends before it or not
-abbrev pub StepsTo : Nfa → List ℕ → Option ℕ → List ℕ → Bool → Type 0
-StepsTo nfa threads byte next matched =
-    (test : Test) → KnowsEnd test byte → MovesForward nfa test threads byte next matched
-
--- a cell is a step of these threads to those of a row
-abbrev pub IsCell : Nfa → List (List ℕ) → List ℕ → Option ℕ → ℕ → Type 0
-IsCell nfa rows threads byte cell =
-    (row : ℕ) × (next : List ℕ) × (place_of cell ≡ row * 11) × (slice_get rows row ≡ Some next) ×
-    StepsTo nfa threads byte next (ends_here cell)
-
--- what a state gives is what follows the byte that it reads
-abbrev pub IsLeaf : Nfa → ℕ → Type 0
-IsLeaf nfa q =
-    (test : Test) (byte : Option ℕ) (v : Ends) → Solves nfa test byte v →
-    v.now q ≡ end_after nfa test byte v (state_of nfa q)
-
-abbrev pub AreLeaves : Nfa → List ℕ → Type 0
-AreLeaves nfa leaves = All (IsLeaf nfa) leaves
-
--- the threads give what these leaves give, in their order, or else a match that ends here
-abbrev pub ClosesTo : Nfa → Bool → Bool → List ℕ → List ℕ → Bool → Type 0
-ClosesTo nfa looked at_end threads leaves matched =
-    (test : Test) (byte : Option ℕ) (v : Ends) → KnowsIf looked at_end test →
-    Solves nfa test byte v →
-    first_end threads v.now ≡
-    option_or (first_end leaves v.now) (if matched then Some v.here else None)
-
--- over a byte the leaves lead to these states, in their order
-abbrev pub LeadTo : Nfa → List ℕ → ℕ → List ℕ → Type 0
-LeadTo nfa leaves byte next =
-    (test : Test) (v : Ends) → Solves nfa test (Some byte) v →
-    first_end leaves v.now ≡ first_end next v.next
-
--- all cells are steps of the threads of their rows
-abbrev pub AreCells : Nfa → List (List ℕ) → List ℕ → Type 0
-AreCells nfa rows cells =
-    (row column : ℕ) (threads : List ℕ) → column < 11 → row * 11 + column < length cells →
-    slice_get rows row ≡ Some threads →
-    IsCell nfa rows threads (byte_of column) (cell_at cells (row * 11) column)
 
 -- a table tells of each text of digits where the match at its front ends that is found there
 abbrev pub TellsFront : (List ℕ → Option Match) → List ℕ → Type 0

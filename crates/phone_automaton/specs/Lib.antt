@@ -5,5 +5,6 @@ pub mod Fronts
 pub mod Groups
 pub mod Lengths
 pub mod Parts
+pub mod Rows
 pub mod Tables
 pub mod Templates

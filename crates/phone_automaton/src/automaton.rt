@@ -4,7 +4,6 @@ ghost use Rattle.std.specs.Prelude.{◌≡◌, ◌≤◌, ◌<◌, ◌-◌, ◌^
 ghost use Rattle.std.specs.Prelude.{string_bytes};
 ghost use Rattle.std.specs.Arc.{arc_value};
 ghost use Rattle.phone_automaton.specs.Ascii.{AsciiSame};
-ghost use Rattle.phone_automaton.specs.Digits.{AreDigits, TellsFront};
 ghost use Rattle.phone_automaton.specs.Finds.{finds, front_end, FindsInAscii};
 ghost use Rattle.phone_automaton.specs.Parts.{AreFrontCellsFor};
 ghost use Rattle.phone_automaton.specs.Templates.{with_match_replaced};
@@ -13,7 +12,6 @@ ghost use Rattle.regex_hir.specs.Meaning.{meaning};
 ghost use Rattle.regex_hir.specs.Re.{Re};
 ghost use Rattle.regex_syntax.specs.Grammar.{Names};
 
-use crate::digits::Digits;
 use crate::machine::Machine;
 use crate::narrow::narrow_classes;
 use crate::parts;
@@ -98,15 +96,6 @@ impl Core {
         self.last as usize
     }
 
-    /// The table of the steps over digits. None where memory is refused, where the table would have
-    /// more than a thousand rows, and where a step looks at what stands around it otherwise than
-    /// for the text's end. It isn't made later: where memory was refused, it stays away for good.
-    fn digits(&self, alloc: Global) -> Option<Digits>
-        ensures { IfSome result (TellsFront (finds self.now)) }
-    {
-        Digits::new(alloc, &self.tables.dfa.nfa)
-    }
-
     /// The tables.
     fn tables(&self) -> &Tables
         ensures { result.now.dfa.nfa ≡ self.now.nfa }
@@ -125,39 +114,30 @@ impl Core {
     }
 }
 
-/// A pattern's automaton for texts of ASCII, with the table of its steps over digits, and a place
-/// in which it keeps a machine from one search to the next. Threads may share it. Contracts see
-/// what it finds in each text, `finds`, and the number of the last group.
+/// A pattern's automaton for texts of ASCII, and a place in which it keeps a machine from one search
+/// to the next. Threads may share it. Contracts see what it finds in each text, `finds`, and the
+/// number of the last group.
 pub struct Automaton {
     core: Core,
-    /// None where memory was refused for it, where it would have more than a thousand rows, and
-    /// where a step looks at what stands around it otherwise than for the text's end.
-    digits: Option<Digits>,
     place: Place,
 }
 
 impl Model for Automaton {
-    ghost use Rattle.std.specs.Prelude.{◌≡◌, IfSome};
-    ghost use Rattle.phone_automaton.specs.Digits.{TellsFront};
-    ghost use Rattle.phone_automaton.specs.Finds.{finds, Searcher};
+    ghost use Rattle.std.specs.Prelude.{◌≡◌};
+    ghost use Rattle.phone_automaton.specs.Finds.{Searcher};
 
     ghost Value = { Searcher };
 
     ghost view = { λ a. a.core };
 
-    ghost invariant = { λ a. (a.place ≡ a.core) × IfSome a.digits (TellsFront (finds a.core)) };
+    ghost invariant = { λ a. a.place ≡ a.core };
 }
 
 /// Drops the automaton and its machine: as a function it is proved once.
 impl Drop for Automaton {
     fn drop(self) {
-        let Automaton {
-            core,
-            digits,
-            place,
-        } = self;
+        let Automaton { core, place } = self;
         drop(core);
-        drop(digits);
         drop(place);
     }
 }
@@ -170,43 +150,8 @@ impl Automaton {
         ensures last { IfSome result (λ a. a.last ≡ length parsed.now.names.items - 1) }
     {
         let core = Core::new(alloc, parsed)?;
-        let digits = core.digits(alloc);
         let place = Place::new(&core);
-        Some(Automaton {
-            core,
-            digits,
-            place,
-        })
-    }
-
-    /// The same without a table of its own, for an owner that has one: `front_end_of_digits` tells
-    /// nothing then.
-    pub fn without_table(alloc: Global, parsed: &Parsed) -> Option<Automaton>
-        ensures finds { IfSome result (λ a. FindsInAscii (meaning parsed.now.hir) (finds a)) }
-        ensures last { IfSome result (λ a. a.last ≡ length parsed.now.names.items - 1) }
-    {
-        let core = Core::new(alloc, parsed)?;
-        let place = Place::new(&core);
-        Some(Automaton {
-            core,
-            digits: None,
-            place,
-        })
-    }
-
-    /// Where the match ends that begins at the front of a text of digits, by the table of the steps
-    /// over them, which is only read. None where the text isn't of digits alone, and where the
-    /// automaton has no such table.
-    #[inline]
-    pub fn front_end_of_digits(&self, text: &[u8]) -> Option<Option<usize>>
-        ensures end { IfSome result (λ end. end ≡ front_end (finds self.now text.now)) }
-        ensures within { IfSome result (λ end. IfSome end (λ e. e ≤ length text.now)) }
-        ensures digits { IfSome result (λ end. AreDigits text.now) }
-    {
-        match &self.digits {
-            Some(digits) => digits.end(text),
-            None => None,
-        }
+        Some(Automaton { core, place })
     }
 
     /// The text with its match at the front, which ends here, replaced by a template, in which `$1`

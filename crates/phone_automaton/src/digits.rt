@@ -1,32 +1,20 @@
 //! A table of the steps over digits. A pattern is mostly asked of digits alone: for these its steps
 //! are worked out whole, so that a search only reads, and all threads may share the table.
-ghost use Rattle.std.specs.Prelude.{◌≡◌, ◌≤◌, ◌<◌, ◌*◌, ◌-◌, ◌==◌, ◌++◌, ◌∷◌, [], ℕ, List, IfOk};
-ghost use Rattle.std.specs.Prelude.{IfSome, IsTrue, Option, true, false, Some, None, drop, length};
-ghost use Rattle.std.specs.Prelude.{if◌then◌else◌, reverse, slice_get, vec_len, ◌+◌, ◌⊎◌, ◌^◌};
+ghost use Rattle.std.specs.Prelude.{◌≡◌, ◌≤◌, ◌<◌, ◌*◌, ◌-◌, ◌==◌, ◌++◌, ◌∷◌, [], ℕ, List};
+ghost use Rattle.std.specs.Prelude.{IfSome, IsTrue, None, Some, drop, if◌then◌else◌, length, slice_get};
+ghost use Rattle.std.specs.Prelude.{slice_index, ◌+◌, ◌^◌};
 ghost use Rattle.std.specs.List.{AllByRecursion};
-ghost use Rattle.std.specs.Option.{option_or};
-ghost use Rattle.regex_dfa.specs.Moves.{Ends, Has, Solves, Test, end_after, first_end};
-ghost use Rattle.regex_dfa.specs.Search.{end_from};
-ghost use Rattle.regex_dfa.specs.Walks.{AreStates};
-ghost use Rattle.regex_hir.specs.declared.look.Look.TheVariants as looks;
-ghost use Rattle.regex_nfa.specs.States.{IsReadable};
-ghost use Rattle.phone_automaton.specs.Digits.{end_of_digits, ends_here, place_of, AreCells};
-ghost use Rattle.phone_automaton.specs.Digits.{AreDigits, AreLeaves, ClosesTo, KnowsIf, LeadTo};
-ghost use Rattle.phone_automaton.specs.Digits.{StepsTo};
+ghost use Rattle.phone_automaton.specs.Digits.{AreDigits, TellsFront, cell_at, end_by};
+ghost use Rattle.phone_automaton.specs.Digits.{end_of_digits, ends_here, place_of};
+ghost use Rattle.phone_automaton.specs.Rows.{AreCopies, AreRows, Grows, IsCopy, IsPlace};
+ghost use Rattle.regex_hir.specs.Find.{find_str};
+ghost use Rattle.regex_hir.specs.Meaning.{meaning};
 
-use regex_hir::Look;
-use regex_nfa::{Nfa, State, StateId};
+use crate::rows::{ACCEPTS, COLUMNS, END, MOST_ROWS, Row, Rows, as_cell};
+use crate::tree::row_of;
+use regex_hir::Hir;
 use std::alloc::Global;
 use std::marker::Model;
-
-/// A table has at most so many rows; a pattern that needs more has none.
-const MOST_ROWS: usize = 1000;
-
-/// A row has a cell for each digit, and one for the end of the text.
-const COLUMNS: usize = 11;
-
-/// The column of the end of the text.
-const END: usize = 10;
 
 /// A pattern's steps over digits, all of them. Contracts see the cells, row by row: a cell is twice
 /// the place of the row that its step leads to, and one more where a match ends before it.
@@ -55,15 +43,32 @@ fn are_digits(text: &[u8]) -> bool
 }
 
 impl Digits {
-    /// The table of an automaton. None where memory is refused, where the table would have too many
-    /// rows, and where a step looks at what stands around it otherwise than for the text's end.
-    pub(crate) fn new(alloc: Global, nfa: &Nfa) -> Option<Digits>
-        ensures { IfSome result (λ d. (hay : List ℕ) → AreDigits hay →
-            end_of_digits d hay ≡ end_from nfa.now hay (length hay) nfa.now.start 0) }
+    /// The table of a tree. None where memory is refused, where the table would have too many rows,
+    /// where a loop has no bound, and where a step looks at what stands around it otherwise than for
+    /// the text's end.
+    pub(crate) fn new(alloc: Global, hir: &Hir) -> Option<Digits>
+        ensures { IfSome result (TellsFront (λ hay. find_str (meaning hir.now) hay 0)) }
     {
-        let mut rows = first_rows(alloc, nfa)?;
-        let mut cells = Vec::new(alloc);
-        fill(alloc, nfa, &mut rows, &mut cells)?;
+        let mut rows = Rows::new(alloc)?;
+        let first = row_of(&mut rows, hir, ACCEPTS)?;
+        rows.known();
+        Digits::from_rows(alloc, &rows, first)
+    }
+
+    /// The table of the row at this place, and of those that it leads to. None where memory is
+    /// refused.
+    fn from_rows(alloc: Global, rows: &Rows, first: usize) -> Option<Digits>
+        requires known { AreRows rows.now }
+        requires first { IsPlace rows.now first }
+        ensures { IfSome result (λ d. (hay : List ℕ) → AreDigits hay →
+            end_of_digits d hay ≡ end_by rows.now first 0 hay) }
+    {
+        let mut order = first_places(alloc, rows.count(), first)?;
+        let mut cells = Vec::with_capacity(alloc, rows.count() * COLUMNS).ok()?;
+        copy_rows(rows, &mut order, &mut cells)?;
+        let Ok(cells) = Vec::from_slice(alloc, &cells) else {
+            return None;
+        };
         Some(Digits { cells })
     }
 
@@ -126,433 +131,118 @@ fn best(last: usize) -> Option<usize>
     if last == 0 { None } else { Some(last - 1) }
 }
 
-/// The threads that a row stands for. Contracts see their states.
-#[derive(Drop)]
-struct Threads {
-    states: Vec<StateId>,
-}
-
-impl Model for Threads {
-    ghost use Rattle.std.specs.Prelude.{ℕ, List};
-
-    ghost Value = { List ℕ };
-
-    ghost view = { λ t. t.states.items };
-}
-
-impl Threads {
-    /// The states.
-    fn states(&self) -> &[StateId]
-        ensures { result.now ≡ self.now }
-    {
-        self.states.as_slice()
-    }
-
-    /// Whether these are the states. Most lists are told apart by their lengths and first states.
-    #[inline]
-    fn are(&self, states: &[StateId]) -> bool
-        ensures { IsTrue result → self.now ≡ states.now }
-    {
-        let own = self.states.as_slice();
-        if own.len() != states.len() || !states.is_empty() && own[0] != states[0] {
-            return false;
-        }
-        own == states
-    }
-}
-
-/// The first row, of no thread, and the second, of the one that a search starts with.
-fn first_rows(alloc: Global, nfa: &Nfa) -> Option<Vec<Threads>>
-    ensures rows { IfSome result (λ rows. rows.items ≡ [] ∷ (nfa.now.start ∷ []) ∷ []) }
-    ensures states { IfSome result (λ rows. AllByRecursion (AreStates nfa.now) rows.items) }
+/// The places of the first two rows, and room for so many.
+fn first_places(alloc: Global, most: usize, first: usize) -> Option<Vec<usize>>
+    ensures { IfSome result (λ order. order.items ≡ 0 ∷ first ∷ []) }
 {
-    let mut rows = Vec::new(alloc);
-    add_row(
-        &mut rows,
-        Threads {
-            states: Vec::new(alloc),
-        },
-    )?;
-    let mut first = Vec::new(alloc);
-    push(&mut first, nfa.start)?;
-    add_row(&mut rows, Threads { states: first })?;
-    Some(rows)
+    let mut order = Vec::with_capacity(alloc, most).ok()?;
+    order.push(0).ok()?;
+    order.push(first).ok()?;
+    Some(order)
 }
 
-/// Appends a state. None where memory is refused.
-fn push(list: &mut Vec<StateId>, state: StateId) -> Option<()>
-    ensures { IfSome result (λ done. list.new.items ≡ list.old.items ++ state ∷ []) }
-{
-    list.push(state).ok()
-}
+/// For each row of a table while it is worked out, the one that may be its copy.
+type Hints = [u16; 1000];
 
-/// Appends a row. None where memory is refused.
-fn add_row(rows: &mut Vec<Threads>, threads: Threads) -> Option<()>
-    ensures { IfSome result (λ done. rows.new.items ≡ rows.old.items ++ threads ∷ []) }
-{
-    rows.push(threads).ok()
-}
-
-/// Lists that are handed on from row to row, so that no row takes memory for its own.
-#[derive(Drop)]
-struct Room {
-    work: Vec<StateId>,
-    leaves: Vec<StateId>,
-    next: Vec<StateId>,
-}
-
-/// Works out each row's cells, which may add rows. None where memory is refused, or a row can't be
-/// worked out, or there are too many.
-fn fill(alloc: Global, nfa: &Nfa, rows: &mut Vec<Threads>, cells: &mut Vec<u16>) -> Option<()>
+/// Copies each row whose place is in the order, which may add places. None where memory is refused.
+fn copy_rows(rows: &Rows, order: &mut Vec<usize>, cells: &mut Vec<u16>) -> Option<()>
+    requires known { AreRows rows.now }
     requires empty { cells.old.items ≡ [] }
-    requires dead { slice_get rows.old.items 0 ≡ Some [] }
-    requires states { AllByRecursion (AreStates nfa.now) rows.old.items }
-    ensures grows { IfSome result (λ done. (more : _) ×
-        (rows.new.items ≡ rows.old.items ++ more)) }
-    ensures all { IfSome result (λ done. length cells.new.items ≡ 11 * length rows.new.items) }
-    ensures cells { IfSome result (λ done. AreCells nfa.now rows.new.items cells.new.items) }
+    requires places { AllByRecursion (IsPlace rows.now) order.old.items }
+    requires none { slice_get order.old.items 0 ≡ Some 0 }
+    ensures grows { IfSome result (λ done. Grows order.old.items order.new.items) }
+    ensures all { IfSome result (λ done. length cells.new.items ≡ 11 * length order.new.items) }
+    ensures copies { IfSome result (λ done.
+        AreCopies rows.now order.new.items cells.new.items) }
 {
-    let mut room = Room {
-        work: Vec::new(alloc),
-        leaves: Vec::new(alloc),
-        next: Vec::new(alloc),
-    };
+    let mut hints = [0u16; 1000];
     for row in 0..MOST_ROWS + 1 {
-        if row >= rows.len() {
+        if row >= order.len() {
             return Some(());
         }
-        fill_row(alloc, nfa, rows, cells, row, &mut room)?;
+        let copy = copy_row(rows, order, &mut hints, order[row])?;
+        push_row(cells, &copy)?;
     }
     None
 }
 
-/// Works out the cells of a row, the first that has none.
-fn fill_row(
-    alloc: Global,
-    nfa: &Nfa,
-    rows: &mut Vec<Threads>,
-    cells: &mut Vec<u16>,
-    row: usize,
-    room: &mut Room,
-) -> Option<()>
-    requires row { row < length rows.old.items }
-    requires first { length cells.old.items ≡ 11 * row }
-    requires dead { slice_get rows.old.items 0 ≡ Some [] }
-    requires states { AllByRecursion (AreStates nfa.now) rows.old.items }
-    requires cells { AreCells nfa.now rows.old.items cells.old.items }
-    ensures grows { IfSome result (λ done. (more : _) ×
-        (rows.new.items ≡ rows.old.items ++ more)) }
-    ensures states { IfSome result (λ done. AllByRecursion (AreStates nfa.now) rows.new.items) }
-    ensures all { IfSome result (λ done. length cells.new.items ≡ 11 * row + 11) }
-    ensures cells { IfSome result (λ done. AreCells nfa.now rows.new.items cells.new.items) }
-{
-    let Room { work, leaves, next } = room;
-    let (matched, ended) = close_row(nfa, rows[row].states(), work, leaves)?;
-    fill_digits(
-        alloc,
-        nfa,
-        rows,
-        cells,
-        row,
-        leaves.as_slice(),
-        matched,
-        next,
-    )?;
-    push_cell(cells, as_cell(0, ended))?;
-    Some(())
+/// A cell, and its copy.
+#[derive(Clone, Copy)]
+struct Copied {
+    own: u16,
+    copy: u16,
 }
 
-/// The leaves of a row's threads before a digit; whether a match ends there; and whether one does at
-/// the end of the text.
-fn close_row(
-    nfa: &Nfa,
-    threads: &[StateId],
-    work: &mut Vec<StateId>,
-    leaves: &mut Vec<StateId>,
-) -> Option<(bool, bool)>
-    requires { AreStates nfa.now threads.now }
-    ensures leaves { IfSome result (λ r. AreLeaves nfa.now leaves.new.items) }
-    ensures states { IfSome result (λ r. AreStates nfa.now leaves.new.items) }
-    ensures closes { IfSome result (λ r.
-        ClosesTo nfa.now true false threads.now leaves.new.items r.0) }
-    ensures ended { IfSome result (λ r. StepsTo nfa.now threads.now None [] r.1) }
+/// The copy of the row at a place. None where memory is refused.
+fn copy_row(rows: &Rows, order: &mut Vec<usize>, hints: &mut Hints, place: usize) -> Option<Row>
+    requires place { IsPlace rows.now place }
+    requires places { AllByRecursion (IsPlace rows.now) order.old.items }
+    requires none { slice_get order.old.items 0 ≡ Some 0 }
+    ensures grows { IfSome result (λ copy. Grows order.old.items order.new.items) }
+    ensures places { IfSome result (λ copy. AllByRecursion (IsPlace rows.now) order.new.items) }
+    ensures whole { IfSome result (λ copy. length copy ≡ 11) }
+    ensures copy { IfSome result (λ copy. (c : ℕ) → c < 11 →
+        IsCopy order.new.items (cell_at rows.now place c) (slice_index copy c)) }
 {
-    let (ended, looked) = close(nfa, threads, true, work, leaves)?;
-    if !looked {
-        return Some((ended, ended));
+    let row = rows.row(place);
+    let mut copies = [0u16; 11];
+    let mut last = Copied { own: 0, copy: 0 };
+    for column in 0..COLUMNS {
+        let own = row[column];
+        let copy = copy_cell(order, hints, own, last)?;
+        copies[column] = copy;
+        last = Copied { own, copy };
     }
-    let (matched, _looked) = close(nfa, threads, false, work, leaves)?;
-    Some((matched, ended))
+    Some(copies)
 }
 
-/// Works out a row's cells for the digits, by the leaves of its threads. Most digits lead where the
-/// digit before does.
-fn fill_digits(
-    alloc: Global,
-    nfa: &Nfa,
-    rows: &mut Vec<Threads>,
-    cells: &mut Vec<u16>,
-    row: usize,
-    leaves: &[StateId],
-    matched: bool,
-    next: &mut Vec<StateId>,
-) -> Option<()>
-    requires row { row < length rows.old.items }
-    requires first { length cells.old.items ≡ 11 * row }
-    requires states { AllByRecursion (AreStates nfa.now) rows.old.items }
-    requires cells { AreCells nfa.now rows.old.items cells.old.items }
-    requires leaves { AreLeaves nfa.now leaves.now }
-    requires known { AreStates nfa.now leaves.now }
-    requires closes { (threads : List ℕ) → slice_get rows.old.items row ≡ Some threads →
-        ClosesTo nfa.now true false threads leaves.now matched }
-    ensures grows { IfSome result (λ done. (more : _) ×
-        (rows.new.items ≡ rows.old.items ++ more)) }
-    ensures states { IfSome result (λ done. AllByRecursion (AreStates nfa.now) rows.new.items) }
-    ensures all { IfSome result (λ done. length cells.new.items ≡ 11 * row + 10) }
-    ensures cells { IfSome result (λ done. AreCells nfa.now rows.new.items cells.new.items) }
+/// The copy of a cell; most are as the cell before, whose copy this is. None where memory is
+/// refused, and where there are too many rows.
+#[inline]
+fn copy_cell(order: &mut Vec<usize>, hints: &mut Hints, own: u16, last: Copied) -> Option<u16>
+    requires place { place_of own < 11000 }
+    requires none { slice_get order.old.items 0 ≡ Some 0 }
+    requires last { IsCopy order.old.items last.own last.copy }
+    ensures grows { IfSome result (λ copy. (more : _) ×
+        (order.new.items ≡ order.old.items ++ more) ×
+        AllByRecursion (λ p. p ≡ place_of own) more) }
+    ensures copy { IfSome result (IsCopy order.new.items own) }
 {
-    let mut near = 0usize;
-    for column in 0..END {
-        read_all(nfa, leaves, 48 + column as u8, next)?;
-        near = row_of_threads(alloc, rows, next.as_slice(), near)?;
-        push_cell(cells, as_cell(near, matched))?;
+    if own < 2 {
+        return Some(own);
     }
-    Some(())
+    if own == last.own {
+        return Some(last.copy);
+    }
+    let row = row_at(order, hints, (own / 2) as usize)?;
+    Some(as_cell(row * COLUMNS, own % 2 == 1))
 }
 
-/// Appends a cell. None where memory is refused.
-fn push_cell(cells: &mut Vec<u16>, cell: u16) -> Option<()>
-    ensures { IfSome result (λ done. cells.new.items ≡ cells.old.items ++ cell ∷ []) }
-{
-    cells.push(cell).ok()
-}
-
-/// A cell of these two.
-fn as_cell(row: usize, matched: bool) -> u16
-    requires { row < 1000 }
-    ensures place { place_of result ≡ row * 11 }
-    ensures ends { ends_here result ≡ matched }
-{
-    let twice = row as u16 * 22;
-    if matched { twice + 1 } else { twice }
-}
-
-/// The row of these threads, which is added where there is none yet; this one is tried first. None
-/// where memory is refused, and where there are too many rows.
-fn row_of_threads(
-    alloc: Global,
-    rows: &mut Vec<Threads>,
-    threads: &[StateId],
-    near: usize,
-) -> Option<usize>
+/// The row of a place in the order, to which it is added where it isn't there yet. None where
+/// memory is refused, and where there are too many rows.
+fn row_at(order: &mut Vec<usize>, hints: &mut Hints, place: usize) -> Option<usize>
+    requires { place < 11000 }
     ensures grows { IfSome result (λ row. (more : _) ×
-        (rows.new.items ≡ rows.old.items ++ more) × AllByRecursion (λ t. t ≡ threads.now) more) }
-    ensures there { IfSome result (λ row. slice_get rows.new.items row ≡ Some threads.now) }
+        (order.new.items ≡ order.old.items ++ more) × AllByRecursion (λ p. p ≡ place) more) }
+    ensures there { IfSome result (λ row. slice_get order.new.items row ≡ Some place) }
     ensures few { IfSome result (λ row. row < 1000) }
 {
-    let found = find(rows.as_slice(), threads, near);
-    if let Some(row) = found {
-        return if row < MOST_ROWS { Some(row) } else { None };
+    let near = hints[place / COLUMNS] as usize;
+    if near < MOST_ROWS && near < order.len() && order[near] == place {
+        return Some(near);
     }
-    let row = rows.len();
+    let row = order.len();
     if row >= MOST_ROWS {
         return None;
     }
-    add_row(rows, own(alloc, threads)?)?;
+    order.push(place).ok()?;
+    hints[place / COLUMNS] = row as u16;
     Some(row)
 }
 
-/// Threads of these states. None where memory is refused.
-fn own(alloc: Global, states: &[StateId]) -> Option<Threads>
-    ensures { IfSome result (λ threads. threads ≡ states.now) }
+/// Appends a row. None where memory is refused.
+fn push_row(cells: &mut Vec<u16>, row: &Row) -> Option<()>
+    ensures { IfSome result (λ done. cells.new.items ≡ cells.old.items ++ row.now) }
 {
-    match Vec::from_slice(alloc, states) {
-        Ok(states) => Some(Threads { states }),
-        Err(_) => None,
-    }
-}
-
-/// The row of these threads, if there is one; this one is tried first.
-fn find(rows: &[Threads], threads: &[StateId], near: usize) -> Option<usize>
-    ensures { IfSome result (λ row. slice_get rows.now row ≡ Some threads.now) }
-{
-    if near < rows.len() && rows[near].are(threads) {
-        return Some(near);
-    }
-    for row in 0..rows.len() {
-        if rows[row].are(threads) {
-            return Some(row);
-        }
-    }
-    None
-}
-
-/// The most states that are visited for one row.
-const MOST_VISITS: usize = 100_000;
-
-/// Replaces threads by the states that they lead to without reading, and that read: the leaves, in
-/// their order, up to where a match ends, if one does. Returns whether one does, and whether the
-/// end of the text was looked for. None where memory is refused, it takes too long, or something
-/// else is looked for.
-fn close(
-    nfa: &Nfa,
-    threads: &[StateId],
-    at_end: bool,
-    work: &mut Vec<StateId>,
-    leaves: &mut Vec<StateId>,
-) -> Option<(bool, bool)>
-    requires { AreStates nfa.now threads.now }
-    ensures leaves { IfSome result (λ r. AreLeaves nfa.now leaves.new.items) }
-    ensures states { IfSome result (λ r. AreStates nfa.now leaves.new.items) }
-    ensures closes { IfSome result (λ r.
-        ClosesTo nfa.now r.1 at_end threads.now leaves.new.items r.0) }
-{
-    let mut looked = false;
-    leaves.clear();
-    stack(work, threads)?;
-    for _visit in 0..MOST_VISITS {
-        let Some(state) = work.pop() else {
-            return Some((false, looked));
-        };
-        if visit(nfa, state, at_end, work, leaves, &mut looked)? {
-            return Some((true, looked));
-        }
-    }
-    None
-}
-
-/// Puts the threads on a stack, the first on top. None where memory is refused.
-fn stack(stack: &mut Vec<StateId>, threads: &[StateId]) -> Option<()>
-    ensures { IfSome result (λ done. reverse stack.new.items ≡ threads.now) }
-{
-    stack.clear();
-    for k in (0..threads.len()).rev() {
-        push(stack, threads[k])?;
-    }
-    Some(())
-}
-
-/// Replaces a thread, which has just left the stack, by what it leads to. Returns whether a match
-/// ends there. None where memory is refused, or something else than the text's end is looked for.
-fn visit(
-    nfa: &Nfa,
-    state: StateId,
-    at_end: bool,
-    work: &mut Vec<StateId>,
-    leaves: &mut Vec<StateId>,
-    looked: &mut bool,
-) -> Option<bool>
-    requires state { state < vec_len nfa.now.states }
-    requires work { AreStates nfa.now work.old.items }
-    requires leaves { AreLeaves nfa.now leaves.old.items }
-    requires known { AreStates nfa.now leaves.old.items }
-    ensures work { IfSome result (λ matched. AreStates nfa.now work.new.items) }
-    ensures leaves { IfSome result (λ matched. AreLeaves nfa.now leaves.new.items) }
-    ensures known { IfSome result (λ matched. AreStates nfa.now leaves.new.items) }
-    ensures looked { IfSome result (λ matched. IsTrue looked.old → IsTrue looked.new) }
-    ensures gives { IfSome result (λ matched. (test : Test) (byte : Option ℕ) (v : Ends) →
-        KnowsIf looked.new at_end test → Solves nfa.now test byte v →
-        option_or (first_end leaves.old.items v.now)
-        (first_end (state ∷ reverse work.old.items) v.now) ≡
-        option_or (first_end leaves.new.items v.now)
-        (if matched then Some v.here else first_end (reverse work.new.items) v.now)) }
-{
-    let kind = nfa.state(state);
-    match kind {
-        State::Split { first, second } => {
-            push(work, second)?;
-            push(work, first)?;
-            Some(false)
-        }
-        State::Save { next, .. } => {
-            push(work, next)?;
-            Some(false)
-        }
-        State::Look { look, next } => {
-            look_on(look, next, at_end, work, looked)?;
-            Some(false)
-        }
-        State::Match => Some(true),
-        _ => {
-            add(leaves, state)?;
-            Some(false)
-        }
-    }
-}
-
-/// Where the text's end is looked for, and it is there, the thread goes on. None where something
-/// else is looked for, and where memory is refused.
-fn look_on(
-    look: Look,
-    target: StateId,
-    at_end: bool,
-    work: &mut Vec<StateId>,
-    looked: &mut bool,
-) -> Option<()>
-    ensures end { IfSome result (λ done. look ≡ looks.End) }
-    ensures looked { IfSome result (λ done. IsTrue looked.new) }
-    ensures goes { IfSome result (λ done. work.new.items ≡
-        (if at_end then work.old.items ++ target ∷ [] else work.old.items)) }
-{
-    if look != Look::End {
-        return None;
-    }
-    *looked = true;
-    if at_end {
-        push(work, target)?;
-    }
-    Some(())
-}
-
-/// The states that leaves lead to over a byte, in their order, each once. None where memory is
-/// refused.
-fn read_all(nfa: &Nfa, leaves: &[StateId], byte: u8, next: &mut Vec<StateId>) -> Option<()>
-    requires leaves { AreLeaves nfa.now leaves.now }
-    requires known { AreStates nfa.now leaves.now }
-    ensures states { IfSome result (λ done. AreStates nfa.now next.new.items) }
-    ensures lead { IfSome result (λ done. LeadTo nfa.now leaves.now byte next.new.items) }
-{
-    next.clear();
-    for k in 0..leaves.len() {
-        read(nfa, nfa.state(leaves[k]), byte, next)?;
-    }
-    Some(())
-}
-
-/// Adds the state that is reached over a byte, if any. None where memory is refused.
-fn read(nfa: &Nfa, state: State, byte: u8, next: &mut Vec<StateId>) -> Option<()>
-    requires readable { IsReadable nfa.now.transitions.items (vec_len nfa.now.states) state }
-    requires next { AreStates nfa.now next.old.items }
-    ensures next { IfSome result (λ done. AreStates nfa.now next.new.items) }
-    ensures gives { IfSome result (λ done. (test : Test) (v : Ends) →
-        first_end next.new.items v.next ≡ option_or (first_end next.old.items v.next)
-        (end_after nfa.now test (Some byte) v state)) }
-{
-    let Some(target) = nfa.next_on(state, byte) else {
-        return Some(());
-    };
-    add(next, target)
-}
-
-/// Appends a state, unless it is there. None where memory is refused.
-fn add(list: &mut Vec<StateId>, state: StateId) -> Option<()>
-    ensures { IfSome result (λ done. (list.new.items ≡ list.old.items × Has list.old.items state) ⊎
-        (list.new.items ≡ list.old.items ++ state ∷ [])) }
-{
-    if has(list.as_slice(), state) {
-        return Some(());
-    }
-    push(list, state)
-}
-
-/// Whether a state is in a list.
-fn has(list: &[StateId], state: StateId) -> bool
-    ensures { IsTrue result → Has list.now state }
-{
-    for k in 0..list.len() {
-        if list[k] == state {
-            return true;
-        }
-    }
-    false
+    cells.extend_from_slice(row).ok()
 }

@@ -9,7 +9,6 @@ ghost use Rattle.regex_hir.specs.Meaning.{meaning};
 ghost use Rattle.regex_hir.specs.Re.{Re};
 ghost use Rattle.regex_syntax.specs.Grammar.{Names};
 
-use crate::automaton::compile;
 use crate::digits::Digits;
 use crate::parts::{front_cells, replace_by_cells};
 use regex_hir::Hir;
@@ -44,18 +43,17 @@ impl Drop for FrontTable {
 }
 
 impl FrontTable {
-    /// The table of a tree whose classes are of ASCII, with this many groups, group 0 included.
-    /// None where memory is refused, where the table would have more than a thousand rows, and
-    /// where a step looks at what stands around it otherwise than for the text's end. No later call
-    /// asks for the memory again.
-    pub fn new(alloc: Global, hir: &Hir, groups: u32) -> Option<FrontTable>
+    /// The table of a tree. None where memory is refused, where the
+    /// table would have more than a thousand rows, where a loop has no bound, and where a step looks
+    /// at what stands around it otherwise than for the text's end. No later call asks for the memory
+    /// again.
+    pub fn new(alloc: Global, hir: &Hir) -> Option<FrontTable>
         ensures { IfSome result (Tells (meaning hir.now)) }
     {
         let Ok(front) = front_cells(alloc, hir) else {
             return None;
         };
-        let nfa = compile(alloc, hir, groups)?;
-        let digits = Digits::new(alloc, &nfa)?;
+        let digits = Digits::new(alloc, hir)?;
         Some(FrontTable { digits, front })
     }
 

@@ -12,7 +12,9 @@ mod machine;
 mod narrow;
 mod parts;
 mod place;
+mod rows;
 mod template;
+mod tree;
 
 pub use automaton::Automaton;
 pub use front_table::FrontTable;

@@ -12,7 +12,7 @@ use Rattle.std.specs.Map.{keys_of, lookup, values_of}
 use Rattle.indexmap.proofs.CallerLemmas.{insert_entry-new}
 use Rattle.indexmap.specs.IndexMap.{IndexMap, insert_entry}
 use Rattle.phone_values.specs.Numbers.{IsHeld, text_of}
-use Rattle.phone_meta.specs.CodeLookUps.{is_listed, is_prefix_free}
+use Rattle.phone_plans.specs.CodeLookUps.{is_listed, is_prefix_free}
 use Rattle.phone_records.specs.declared.loader.Metadata.{Metadata}
 use Rattle.phone_values.specs.declared.reading.Reading.{Reading}
 use Rattle.phone_print.specs.Texts.{e164_text}

@@ -3,7 +3,7 @@ use Rattle.std.specs.Prelude.{◌≡◌, List, String, string_bytes, true}
 use Rattle.std.specs.declared.alloc.Global.{Global}
 use Rattle.std.specs.List.{AllByRecursion}
 use Rattle.phone_values.specs.Numbers.{IsHeld}
-use Rattle.phone_meta.specs.CodeLookUps.{is_listed}
+use Rattle.phone_plans.specs.CodeLookUps.{is_listed}
 use Rattle.phone_records.specs.declared.loader.Metadata.{Metadata}
 use Rattle.phone_values.specs.declared.reading.Reading.{Reading}
 use Rattle.phone_print.specs.Texts.{e164_text}

@@ -2,7 +2,7 @@
 ghost use Rattle.std.specs.Prelude.{◌≡◌, ◌↔◌, ◌++◌, [], List, false, true, length, map, slice_get};
 ghost use Rattle.std.specs.Prelude.{string_bytes, IfErr, IfOk, IsErr, OnErr};
 ghost use Rattle.std.specs.Option.{option_copied};
-ghost use Rattle.phone_meta.specs.CodeLookUps.{is_listed, is_prefix_free};
+ghost use Rattle.phone_plans.specs.CodeLookUps.{is_listed, is_prefix_free};
 ghost use Rattle.phone_values.specs.declared.reading.Reading.{Reading};
 ghost use Rattle.phone_print.specs.Texts.{e164_text};
 ghost use Rattle.phone_book.specs.Answers.{AreAnswered, AreAnsweredBy, HasNumbers, HasNumbersBy};
@@ -17,6 +17,7 @@ use indexmap::IndexMap;
 use phone_choice::laws::code_is_listed;
 use phone_choice::{Rules, parse_by};
 use phone_meta::Database;
+use phone_plans::Plans;
 use phone_values::ParseError;
 use phone_values::country::Id;
 use phonenumber::{PhoneNumber, laws};
@@ -28,14 +29,14 @@ use std::marker::Model;
 /// and the numbers.
 #[derive(Drop)]
 pub struct Book {
-    database: Database,
+    database: Plans,
     entries: IndexMap<String, PhoneNumber>,
 }
 
 impl Model for Book {
     ghost use Rattle.std.specs.Prelude.{◌≡◌, true};
     ghost use Rattle.indexmap.specs.IndexMap.{values};
-    ghost use Rattle.phone_meta.specs.CodeLookUps.{is_prefix_free};
+    ghost use Rattle.phone_plans.specs.CodeLookUps.{is_prefix_free};
     ghost use Rattle.phone_book.specs.Books.{AreKept, Contacts};
     ghost use Rattle.phone_book.specs.Firsts.{firsts};
 
@@ -48,7 +49,8 @@ impl Model for Book {
 }
 
 impl Book {
-    /// An empty book over a database, whose allocator it uses. Takes no memory.
+    /// An empty book over a database, whose allocator it uses. Takes no memory: of the database it
+    /// keeps the light table.
     ///
     /// Refused by `Ambiguous`, with the database given back, exactly where a listed calling code
     /// begins another: two numbers may have one E.164 text then.
@@ -60,11 +62,31 @@ impl Book {
         if !database.codes_prefix_free() {
             return Err((BookNewError::Ambiguous, database));
         }
+        Ok(Book::empty(database.into_plans()))
+    }
+
+    /// The same over a light table.
+    pub fn over(plans: Plans) -> Result<Book, (BookNewError, Plans)>
+        ensures accepted { IfOk result (λ b. b ≡ record { database = plans; entries = [] }) }
+        ensures refused { IfErr result (λ e. e ≡ (new_error.Ambiguous, plans)) }
+        ensures ambiguous { IsErr result ↔ (is_prefix_free plans ≡ false) }
+    {
+        if !plans.codes_prefix_free() {
+            return Err((BookNewError::Ambiguous, plans));
+        }
+        Ok(Book::empty(plans))
+    }
+
+    /// An empty book over a table, no listed code of which begins another.
+    fn empty(database: Plans) -> Book
+        requires { is_prefix_free database ≡ true }
+        ensures { result ≡ record { database = database; entries = [] } }
+    {
         let alloc = database.allocator();
-        Ok(Book {
+        Book {
             database,
             entries: IndexMap::new(alloc),
-        })
+        }
     }
 
     /// How many numbers there are. Takes no memory.

@@ -12,7 +12,7 @@ ghost use Rattle.phone_chars.specs.Viable.{IsViable};
 ghost use Rattle.phone_c_base.specs.Buffers.{IsTooLong, IsTooLongA, IsWritten, IsWrittenA};
 ghost use Rattle.phone_c_base.specs.Handles.{IsClosed, IsKept, IsOpen, IsOpenedBy};
 ghost use Rattle.phone_c_base.specs.Hints.{hint_of};
-ghost use Rattle.phone_c_base.specs.Openings.{IsRefusalOf};
+ghost use Rattle.phone_c_base.specs.Openings.{HasForm, IsRefusalOf};
 ghost use Rattle.phone_c_base.specs.Parses.{IsNoRefusal, IsWordsOf};
 ghost use Rattle.phone_c_base.specs.TextReports.{IsReportOf};
 ghost use Rattle.phone_c_base.specs.Words.{word_of};
@@ -39,16 +39,17 @@ use phone_c_base::words::word;
 use phonenumber::is_viable;
 use std::alloc::Global;
 
-/// Opens the database that a text is, as `Database::parse` reads it. What the handle had open is
-/// closed first, whatever comes of the text.
+/// Opens the database that bytes are, as `Plans::open` reads them: the compact form of its records,
+/// where they begin with that form's first line, else a JSON text. What the handle had open is
+/// closed first, whatever comes of them.
 ///
-/// `OK`: the database is open. `NOT_UTF8` exactly where the text isn't UTF-8. 1 to 5: the number of
-/// the refusal, as `LoadMetadata::number` gives it. `MEMORY`: memory was refused. For each but `OK`
-/// the handle is closed.
+/// `OK`: the database is open. `NOT_UTF8` exactly where the bytes don't begin so and aren't UTF-8. 1
+/// to 5: the number of the refusal, as `LoadMetadata::number` gives it. `MEMORY`: memory was
+/// refused. For each but `OK` the handle is closed.
 #[unsafe(no_mangle)]
 pub extern "C" fn phone_open(alloc: Global, text: &[u8], handle: &mut Handle) -> u32
     ensures opened { result ≡ OK → IsOpenedBy text.now handle.new }
-    ensures not_utf8 { (result ≡ NOT_UTF8) ↔ ¬ (IsUtf8 text.now) }
+    ensures not_utf8 { (result ≡ NOT_UTF8) ↔ ¬ (HasForm text.now) }
     ensures refused { ¬ (result ≡ OK) → ¬ (result ≡ NOT_UTF8) → IsRefusalOf text.now result }
     ensures closed { ¬ (result ≡ OK) → IsClosed handle.new }
 {

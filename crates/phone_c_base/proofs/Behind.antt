@@ -21,8 +21,8 @@ use Rattle.std.proofs.alloc.Global.TheLaws as heap_laws
 use Rattle.std.specs.contracts.alloc.Global as heap
 use Rattle.std.specs.contracts.impls.GlobalAllocator.TheImpl.{ghosts}
 use Rattle.std_alloc.proofs.BoxSteps.Form.{Bx}
-use Rattle.phone_meta.proofs.database.Database.TheLaws as db_laws
-use Rattle.phone_meta.specs.contracts.database.Database as db
+use Rattle.phone_plans.proofs.plans.Plans.TheLaws as db_laws
+use Rattle.phone_plans.specs.contracts.plans.Plans as db
 use Rattle.phone_records.specs.declared.loader.Metadata.{Metadata}
 use Rattle.phone_c_base.specs.Owned.{boxed_at, c_heap, handle_owns}
 use Rattle.phone_c_base.proofs.shared.Owner.TheLaws as owner_laws

@@ -37,12 +37,14 @@ use Rattle.regex_syntax.proofs.Config.TheSendSync as config
 use Rattle.regex.specs.contracts.pattern.Pattern as Source
 use Rattle.regex.specs.contracts.string.regex.Regex as Regex
 use Rattle.phone_base.proofs.text.Text.TheSendSync as text
+use Rattle.once_cell.proofs.race.once_box.OnceBox.TheSendSync as once_box
+use Rattle.phone_automaton.proofs.front_table.FrontTable.TheSendSync as front_table
 use Rattle.phone_pattern.proofs.outline.Outline.TheSendSync as outline
 use Rattle.phone_pattern.proofs.ruled.KeptRuled.TheSendSync as ruled
-use Rattle.phone_pattern.specs.contracts.compiled.Compiled as Compiled
-use Rattle.phone_pattern.specs.contracts.compiled.Compiled.TheInside as Compiled-in
-use Rattle.phone_pattern.specs.contracts.leading.CompiledList as CompiledList
-use Rattle.phone_pattern.specs.contracts.leading.CompiledList.TheInside as CompiledList-in
+use Rattle.phone_pattern.specs.contracts.under_x.UnderX as UnderX
+use Rattle.phone_pattern.specs.contracts.under_x.UnderX.TheInside as UnderX-in
+use Rattle.phone_pattern.specs.contracts.plan.Plan as Plan-of-text
+use Rattle.phone_pattern.specs.contracts.plan.Plan.TheInside as Plan-of-text-in
 use Rattle.phone_pattern.specs.contracts.pattern.Pattern as Pattern
 use Rattle.phone_pattern.specs.contracts.pattern.Pattern.TheInside as Pattern-in
 use Rattle.phone_pattern.specs.contracts.leading.Leading as Leading
@@ -55,13 +57,13 @@ use Rattle.phone_territory.specs.contracts.descriptors.Descriptors as Descriptor
 use Rattle.phone_territory.specs.contracts.descriptors.Descriptors.TheInside as Descriptors-in
 use Rattle.phone_territory.specs.contracts.format.Format as Format
 use Rattle.phone_territory.specs.contracts.format.Format.TheInside as Format-in
-use Rattle.phone_territory.specs.contracts.metadata.Metadata as Metadata
-use Rattle.phone_territory.specs.contracts.metadata.Metadata.TheInside as Metadata-in
-use Rattle.phone_meta.specs.contracts.database.Database as Database
-use Rattle.phone_meta.specs.contracts.database.Database.TheInside as Database-in
+use Rattle.phone_territory.specs.contracts.territory.Territory as Territory
+use Rattle.phone_territory.specs.contracts.territory.Territory.TheInside as Territory-in
+use Rattle.phone_plans.specs.contracts.plans.Plans as Database
+use Rattle.phone_plans.specs.contracts.plans.Plans.TheInside as Database-in
 use Rattle.phone_territory.specs.contracts.patterns.Patterns as Patterns
-use Rattle.phone_territory.proofs.metadata.CompiledParts.TheSendSync as parts
-use Rattle.phone_meta.proofs.index.Index.TheSendSync as index
+use Rattle.phone_territory.proofs.territory.CompiledParts.TheSendSync as parts
+use Rattle.phone_plans.proofs.index.Index.TheSendSync as index
 use Rattle.phone_prefixes.proofs.prefixes.Prefixes.TheSendSync as prefixes
 use Rattle.phone_prefixes.specs.contracts.prefixes.Prefixes as Prefixes
 use Rattle.phone_c_base.specs.contracts.shared.Owner as Owner
@@ -175,19 +177,35 @@ Regex-field-send =
 Regex-send : IsSend Regex.the_row
 Regex-send = recorded_send (Regex.the_field).row _ _ (Regex.the_type).to_one Regex-field-send
 
-Compiled-inside-send : IsSend Compiled-in.the_row
-Compiled-inside-send = recorded_send (Compiled-in.the_field).row _ _ (Compiled-in.the_type).to_one
-    (struct_send (S.shape Compiled-in.the_type) (heap.the_field_send, (Regex-field-send, (outline.the_send, tt))))
+UnderX-inside-send : IsSend UnderX-in.the_row
+UnderX-inside-send = recorded_send (UnderX-in.the_field).row _ _ (UnderX-in.the_type).to_one
+    (struct_send (S.shape UnderX-in.the_type) (Regex-field-send, tt))
 
-Compiled-send : IsSend Compiled.the_row
-Compiled-send = view_send _ _ _ _ _ Compiled-inside-send
+UnderX-send : IsSend UnderX.the_row
+UnderX-send = view_send _ _ _ _ _ UnderX-inside-send
 
-CompiledList-inside-send : IsSend CompiledList-in.the_row
-CompiledList-inside-send = recorded_send (CompiledList-in.the_field).row _ _ (CompiledList-in.the_type).to_one
-    (struct_send (S.shape CompiledList-in.the_type) (heap.the_field_send, (Vec-send _ Regex-send, (outline.the_send, tt))))
+Plan-of-text-inside-send : IsSend Plan-of-text-in.the_row
+Plan-of-text-inside-send =
+    recorded_send (Plan-of-text-in.the_field).row _ _ (Plan-of-text-in.the_type).to_one
+    (struct_send (S.shape Plan-of-text-in.the_type) (
+      heap.the_field_send,
+      (
+        text.the_send,
+        (
+          search sendable,
+          (
+            option.the_field_send _ front_table.the_send,
+            (
+              once_box.the_send _ outline.the_send,
+              (once_box.the_send _ UnderX-send, tt),
+            ),
+          ),
+        ),
+      ),
+    ))
 
-CompiledList-send : IsSend CompiledList.the_row
-CompiledList-send = view_send _ _ _ _ _ CompiledList-inside-send
+Plan-of-text-send : IsSend Plan-of-text.the_row
+Plan-of-text-send = view_send _ _ _ _ _ Plan-of-text-inside-send
 
 -- ---- what several threads may read at once: what an `Arc` shares
 String-field-sync : IsSync (string.the_field Heap.the_row ghosts).row
@@ -297,25 +315,41 @@ Regex-field-sync =
 Regex-sync : IsSync Regex.the_row
 Regex-sync = recorded_sync (Regex.the_field).row _ _ (Regex.the_type).to_one Regex-field-sync
 
-Compiled-inside-sync : IsSync Compiled-in.the_row
-Compiled-inside-sync = recorded_sync (Compiled-in.the_field).row _ _ (Compiled-in.the_type).to_one
-    (struct_sync (S.shape Compiled-in.the_type) (heap.the_field_sync, (Regex-field-sync, (outline.the_sync, tt))))
+UnderX-inside-sync : IsSync UnderX-in.the_row
+UnderX-inside-sync = recorded_sync (UnderX-in.the_field).row _ _ (UnderX-in.the_type).to_one
+    (struct_sync (S.shape UnderX-in.the_type) (Regex-field-sync, tt))
 
-Compiled-sync : IsSync Compiled.the_row
-Compiled-sync = view_sync _ _ _ _ _ Compiled-inside-sync
+UnderX-sync : IsSync UnderX.the_row
+UnderX-sync = view_sync _ _ _ _ _ UnderX-inside-sync
 
-CompiledList-inside-sync : IsSync CompiledList-in.the_row
-CompiledList-inside-sync = recorded_sync (CompiledList-in.the_field).row _ _ (CompiledList-in.the_type).to_one
-    (struct_sync (S.shape CompiledList-in.the_type) (heap.the_field_sync, (Vec-sync _ Regex-sync, (outline.the_sync, tt))))
+Plan-of-text-inside-sync : IsSync Plan-of-text-in.the_row
+Plan-of-text-inside-sync =
+    recorded_sync (Plan-of-text-in.the_field).row _ _ (Plan-of-text-in.the_type).to_one
+    (struct_sync (S.shape Plan-of-text-in.the_type) (
+      heap.the_field_sync,
+      (
+        text.the_sync,
+        (
+          search sendable,
+          (
+            option.the_field_sync _ front_table.the_sync,
+            (
+              once_box.the_sync _ outline.the_send outline.the_sync,
+              (once_box.the_sync _ UnderX-send UnderX-sync, tt),
+            ),
+          ),
+        ),
+      ),
+    ))
 
-CompiledList-sync : IsSync CompiledList.the_row
-CompiledList-sync = view_sync _ _ _ _ _ CompiledList-inside-sync
+Plan-of-text-sync : IsSync Plan-of-text.the_row
+Plan-of-text-sync = view_sync _ _ _ _ _ Plan-of-text-inside-sync
 
 -- ---- what holds these: passed to another thread
 Pattern-inside-send : IsSend Pattern-in.the_row
 Pattern-inside-send = recorded_send (Pattern-in.the_field).row _ _ (Pattern-in.the_type).to_one
     (struct_send (S.shape Pattern-in.the_type)
-    (Arc-send _ Compiled-send Compiled-sync, tt))
+    (Arc-send _ Plan-of-text-send Plan-of-text-sync, tt))
 
 Pattern-send : IsSend Pattern.the_row
 Pattern-send = view_send _ _ _ _ _ Pattern-inside-send
@@ -323,7 +357,7 @@ Pattern-send = view_send _ _ _ _ _ Pattern-inside-send
 Leading-inside-send : IsSend Leading-in.the_row
 Leading-inside-send = recorded_send (Leading-in.the_field).row _ _ (Leading-in.the_type).to_one
     (struct_send (S.shape Leading-in.the_type)
-    (Arc-send _ CompiledList-send CompiledList-sync, tt))
+    (Vec-send _ text.the_send, (option.the_field_send _ Pattern-send, tt)))
 
 Leading-send : IsSend Leading.the_row
 Leading-send = view_send _ _ _ _ _ Leading-inside-send
@@ -447,9 +481,9 @@ Patterns-field-send =
       ),
     )
 
-Metadata-inside-send : IsSend Metadata-in.the_row
-Metadata-inside-send = recorded_send (Metadata-in.the_field).row _ _ (Metadata-in.the_type).to_one
-    (struct_send (S.shape Metadata-in.the_type) (
+Territory-inside-send : IsSend Territory-in.the_row
+Territory-inside-send = recorded_send (Territory-in.the_field).row _ _ (Territory-in.the_type).to_one
+    (struct_send (S.shape Territory-in.the_type) (
       heap.the_field_send,
       (
         Descriptors-send,
@@ -463,15 +497,15 @@ Metadata-inside-send = recorded_send (Metadata-in.the_field).row _ _ (Metadata-i
       ),
     ))
 
-Metadata-send : IsSend Metadata.the_row
-Metadata-send = view_send _ _ _ _ _ Metadata-inside-send
+Territory-send : IsSend Territory.the_row
+Territory-send = view_send _ _ _ _ _ Territory-inside-send
 
 Database-inside-send : IsSend Database-in.the_row
 Database-inside-send = recorded_send (Database-in.the_field).row _ _ (Database-in.the_type).to_one
     (struct_send (S.shape Database-in.the_type) (
       heap.the_field_send,
       (
-        Vec-send _ Metadata-send,
+        Vec-send _ Territory-send,
         (
           index.the_field_send,
           (
@@ -489,7 +523,7 @@ Database-send = view_send _ _ _ _ _ Database-inside-send
 Pattern-inside-sync : IsSync Pattern-in.the_row
 Pattern-inside-sync = recorded_sync (Pattern-in.the_field).row _ _ (Pattern-in.the_type).to_one
     (struct_sync (S.shape Pattern-in.the_type)
-    (Arc-sync _ Compiled-send Compiled-sync, tt))
+    (Arc-sync _ Plan-of-text-send Plan-of-text-sync, tt))
 
 Pattern-sync : IsSync Pattern.the_row
 Pattern-sync = view_sync _ _ _ _ _ Pattern-inside-sync
@@ -497,7 +531,7 @@ Pattern-sync = view_sync _ _ _ _ _ Pattern-inside-sync
 Leading-inside-sync : IsSync Leading-in.the_row
 Leading-inside-sync = recorded_sync (Leading-in.the_field).row _ _ (Leading-in.the_type).to_one
     (struct_sync (S.shape Leading-in.the_type)
-    (Arc-sync _ CompiledList-send CompiledList-sync, tt))
+    (Vec-sync _ text.the_sync, (option.the_field_sync _ Pattern-sync, tt)))
 
 Leading-sync : IsSync Leading.the_row
 Leading-sync = view_sync _ _ _ _ _ Leading-inside-sync
@@ -621,9 +655,9 @@ Patterns-field-sync =
       ),
     )
 
-Metadata-inside-sync : IsSync Metadata-in.the_row
-Metadata-inside-sync = recorded_sync (Metadata-in.the_field).row _ _ (Metadata-in.the_type).to_one
-    (struct_sync (S.shape Metadata-in.the_type) (
+Territory-inside-sync : IsSync Territory-in.the_row
+Territory-inside-sync = recorded_sync (Territory-in.the_field).row _ _ (Territory-in.the_type).to_one
+    (struct_sync (S.shape Territory-in.the_type) (
       heap.the_field_sync,
       (
         Descriptors-sync,
@@ -637,15 +671,15 @@ Metadata-inside-sync = recorded_sync (Metadata-in.the_field).row _ _ (Metadata-i
       ),
     ))
 
-Metadata-sync : IsSync Metadata.the_row
-Metadata-sync = view_sync _ _ _ _ _ Metadata-inside-sync
+Territory-sync : IsSync Territory.the_row
+Territory-sync = view_sync _ _ _ _ _ Territory-inside-sync
 
 Database-inside-sync : IsSync Database-in.the_row
 Database-inside-sync = recorded_sync (Database-in.the_field).row _ _ (Database-in.the_type).to_one
     (struct_sync (S.shape Database-in.the_type) (
       heap.the_field_sync,
       (
-        Vec-sync _ Metadata-sync,
+        Vec-sync _ Territory-sync,
         (
           index.the_field_sync,
           (

@@ -7,7 +7,7 @@ use Rattle.std.specs.declared.alloc.Global.{Global}
 use Rattle.std.specs.contracts.impls.GlobalAllocator.TheImpl.{ghosts}
 use Rattle.std_alloc.specs.Box.Ownership.{box_owns}
 use Rattle.phone_c_base.specs.contracts.shared.Owner as owner
-use Rattle.phone_meta.specs.contracts.database.Database as database
+use Rattle.phone_plans.specs.contracts.plans.Plans as database
 use Rattle.phone_prefixes.specs.Tables.{Entry}
 use Rattle.phone_prefixes.specs.contracts.prefixes.Prefixes as prefixes
 use Rattle.phone_records.specs.declared.loader.Metadata.{Metadata}

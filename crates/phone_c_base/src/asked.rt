@@ -13,7 +13,7 @@ use crate::buffer::give;
 use crate::number::{Number, bare};
 use crate::status::{BAD_NUMBER, MEMORY, OK, TOO_SMALL};
 use phone_choice::{Rules, is_valid_by};
-use phone_meta::Database;
+use phone_plans::Plans;
 use phone_values::KINDS;
 use phone_values::country::Id;
 use phonenumber::{PhoneNumber, Type};
@@ -63,7 +63,7 @@ fn find_kind(kinds: &[Type], number: u32) -> Option<Type>
 }
 
 /// The kind of a number by rules.
-fn kind_by(rules: Rules, database: &Database, number: &PhoneNumber) -> Result<Type, AllocError>
+fn kind_by(rules: Rules, database: &Plans, number: &PhoneNumber) -> Result<Type, AllocError>
     ensures { IfOk result (λ kind. kind ≡ kind_by rules database.now number.now) }
 {
     match rules {
@@ -73,11 +73,7 @@ fn kind_by(rules: Rules, database: &Database, number: &PhoneNumber) -> Result<Ty
 }
 
 /// The region of a number by rules.
-fn region_by(
-    rules: Rules,
-    database: &Database,
-    number: &PhoneNumber,
-) -> Result<Option<Id>, AllocError>
+fn region_by(rules: Rules, database: &Plans, number: &PhoneNumber) -> Result<Option<Id>, AllocError>
     ensures { IfOk result (λ id. id ≡ region_by rules database.now number.now) }
 {
     match rules {
@@ -87,7 +83,7 @@ fn region_by(
 }
 
 /// The kind of a number by rules, by the kind's number.
-pub fn kind(rules: Rules, database: &Database, number: &Number, kind: &mut u32) -> u32
+pub fn kind(rules: Rules, database: &Plans, number: &Number, kind: &mut u32) -> u32
     ensures told { result ≡ OK → IsKindBy rules database.now number.now kind.new }
     ensures bad { (result ≡ BAD_NUMBER) ↔ AreNone number.now }
     ensures other { ¬ (result ≡ OK) → ¬ (result ≡ BAD_NUMBER) → result ≡ MEMORY }
@@ -106,7 +102,7 @@ pub fn kind(rules: Rules, database: &Database, number: &Number, kind: &mut u32) 
 }
 
 /// Whether a number is valid by rules: 1, else 0.
-pub fn validity(rules: Rules, database: &Database, number: &Number, valid: &mut u8) -> u32
+pub fn validity(rules: Rules, database: &Plans, number: &Number, valid: &mut u8) -> u32
     ensures told { result ≡ OK → IsValidityBy rules database.now number.now valid.new }
     ensures bad { (result ≡ BAD_NUMBER) ↔ AreNone number.now }
     ensures other { ¬ (result ≡ OK) → ¬ (result ≡ BAD_NUMBER) → result ≡ MEMORY }
@@ -127,7 +123,7 @@ pub fn validity(rules: Rules, database: &Database, number: &Number, valid: &mut 
 /// The id of a number's region by rules, in a buffer; no byte where it has none.
 pub fn region(
     rules: Rules,
-    database: &Database,
+    database: &Plans,
     number: &Number,
     out: &mut [u8],
     wrote: &mut usize,

@@ -4,7 +4,7 @@ ghost use Rattle.phone_c_base.specs.Comparisons.{AreAlikeBy, AreRefusedAsBy, sam
 
 use crate::status::{MEMORY, NOT_UTF8, OK};
 use phone_choice::Rules;
-use phone_meta::Database;
+use phone_plans::Plans;
 use phone_util::{Sameness, compare_texts};
 
 /// How like two numbers are, by its number.
@@ -23,7 +23,7 @@ fn sameness_number(sameness: Sameness) -> u32
 /// Whether two texts are one number by rules, under a database.
 pub fn comparison(
     rules: Rules,
-    database: &Database,
+    database: &Plans,
     first: &[u8],
     second: &[u8],
     told: &mut u32,

@@ -10,14 +10,14 @@ use crate::buffer::give;
 use crate::hint::id_of;
 use crate::number::{Number, to_phone_number};
 use crate::status::{BAD_NUMBER, MEMORY, NO_REGION, NO_TERRITORY, OK, TOO_SMALL, UNKNOWN_CODE};
-use phone_meta::Database;
+use phone_plans::Plans;
 use phone_util::dialled::{DialError, dialled_from};
 use std::alloc::Global;
 
 /// How a number is dialled from a region, in a buffer.
 pub fn dialled(
     alloc: Global,
-    database: &Database,
+    database: &Plans,
     region: &[u8],
     number: &Number,
     bytes: &[u8],

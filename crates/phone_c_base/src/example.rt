@@ -11,12 +11,12 @@ use crate::number::Number;
 use crate::parse::write_number;
 use crate::status::{MEMORY, NO_EXAMPLE, NO_KIND, NO_REGION, OK, TOO_SMALL};
 use phone_choice::Rules;
-use phone_meta::Database;
+use phone_plans::Plans;
 
 /// Reads the example number of a region and a kind by rules into plain numbers and a buffer.
 pub fn example(
     rules: Rules,
-    database: &Database,
+    database: &Plans,
     region: &[u8],
     kind: u32,
     number: &mut Number,

@@ -12,7 +12,7 @@ use crate::hint::hint_of;
 use crate::status::{MEMORY, NO_LENIENCY, NO_REGION, NOT_UTF8, OK, TOO_SMALL};
 use phone_choice::Rules;
 use phone_find::{Found, Leniency, find_numbers_with};
-use phone_meta::Database;
+use phone_plans::Plans;
 use phone_values::country::Id;
 use phonenumber::PhoneNumber;
 use std::alloc::{AllocError, Global};
@@ -57,7 +57,7 @@ fn places_of(alloc: Global, all: &[Found<PhoneNumber>]) -> Result<Vec<Place>, Al
 /// only for memory.
 fn places_in(
     rules: Rules,
-    database: &Database,
+    database: &Plans,
     hint: Option<Id>,
     leniency: Leniency,
     text: &str,
@@ -73,7 +73,7 @@ fn places_in(
 /// buffer.
 pub fn find(
     rules: Rules,
-    database: &Database,
+    database: &Plans,
     hint: &[u8],
     leniency: u32,
     text: &[u8],

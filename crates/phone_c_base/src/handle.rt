@@ -5,7 +5,7 @@ ghost use Rattle.phone_records.specs.declared.loader.Metadata.{Metadata};
 
 use crate::raw_box::RawBox;
 use crate::shared::{Held, Owner};
-use phone_meta::Database;
+use phone_plans::Plans;
 use std::alloc::Global;
 use std::marker::Model;
 
@@ -38,7 +38,7 @@ impl Handle {
     }
 
     /// The handle at the pointer of a boxed owner.
-    fn of_raw(loose: RawBox<Owner<Database>, Global>) -> Handle
+    fn of_raw(loose: RawBox<Owner<Plans>, Global>) -> Handle
         ensures open { InBlock result.at }
         ensures records { result.records ≡ loose.value }
     {
@@ -47,7 +47,7 @@ impl Handle {
     }
 
     /// The pointer of the boxed owner, where one is open.
-    fn into_raw(self, alloc: Global) -> Option<RawBox<Owner<Database>, Global>>
+    fn into_raw(self, alloc: Global) -> Option<RawBox<Owner<Plans>, Global>>
         ensures { MatchOption result (self.at ≡ null_ptr)
             (λ l. InBlock self.at × (l.value ≡ self.records)) }
     {
@@ -56,7 +56,7 @@ impl Handle {
             None
         } else {
             Some(RawBox {
-                at: at as *mut Owner<Database>,
+                at: at as *mut Owner<Plans>,
                 alloc,
             })
         }
@@ -64,7 +64,7 @@ impl Handle {
 }
 
 /// Takes what a handle holds out of it; the handle is closed then.
-pub fn take(alloc: Global, handle: &mut Handle) -> Option<Held<Database>>
+pub fn take(alloc: Global, handle: &mut Handle) -> Option<Held<Plans>>
     ensures database { MatchOption result (handle.old.at ≡ null_ptr)
         (λ held. InBlock handle.old.at × (held ≡ handle.old.records)) }
     ensures closed { handle.new.at ≡ null_ptr }
@@ -77,7 +77,7 @@ pub fn take(alloc: Global, handle: &mut Handle) -> Option<Held<Database>>
 }
 
 /// Puts what is held of a database into a handle; what the handle held is dropped.
-pub fn put(alloc: Global, handle: &mut Handle, database: Held<Database>)
+pub fn put(alloc: Global, handle: &mut Handle, database: Held<Plans>)
     ensures open { InBlock handle.new.at }
     ensures records { handle.new.records ≡ database }
 {

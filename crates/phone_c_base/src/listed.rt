@@ -8,12 +8,12 @@ ghost use Rattle.phone_c_base.specs.Listed.{region_names};
 
 use crate::buffer::give;
 use crate::status::{MEMORY, OK, TOO_SMALL};
-use phone_meta::Database;
+use phone_plans::Plans;
 use phone_values::country::Id;
 use std::alloc::{AllocError, Global};
 
 /// The ids of a database's regions, one behind the other, in a buffer.
-pub fn regions(alloc: Global, database: &Database, out: &mut [u8], wrote: &mut usize) -> u32
+pub fn regions(alloc: Global, database: &Plans, out: &mut [u8], wrote: &mut usize) -> u32
     ensures written { result ≡ OK →
         IsWritten (region_names database.now) out.old out.new wrote.new }
     ensures too_small { result ≡ TOO_SMALL →
@@ -44,7 +44,7 @@ fn names_of(alloc: Global, ids: &[Id]) -> Result<Vec<u8>, AllocError>
 }
 
 /// A database's calling codes, ascending, in a buffer.
-pub fn codes(database: &Database, out: &mut [u16], wrote: &mut usize) -> u32
+pub fn codes(database: &Plans, out: &mut [u16], wrote: &mut usize) -> u32
     ensures written { result ≡ OK →
         IsWritten (listed_codes database.now) out.old out.new wrote.new }
     ensures too_small { result ≡ TOO_SMALL →

@@ -10,7 +10,7 @@ use crate::hint::hint_of;
 use crate::number::{Number, carrier_of, extension_of, number_of, or_empty, part_of};
 use crate::status::{MEMORY, NO_REGION, NOT_UTF8, OK, TOO_SMALL};
 use phone_choice::{Rules, parse_by};
-use phone_meta::Database;
+use phone_plans::Plans;
 use phonenumber::PhoneNumber;
 
 /// The plain numbers of a number, its texts at the front of a buffer, and their length; only the
@@ -42,7 +42,7 @@ pub fn write_number(
 /// Reads a text by rules, under a database and a hint, into plain numbers and a buffer.
 pub fn parse(
     rules: Rules,
-    database: &Database,
+    database: &Plans,
     hint: &[u8],
     text: &[u8],
     number: &mut Number,

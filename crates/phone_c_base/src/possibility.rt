@@ -9,7 +9,7 @@ use crate::hint::hint_of;
 use crate::number::{Number, bare};
 use crate::status::{BAD_NUMBER, MEMORY, NO_REGION, NOT_UTF8, OK};
 use phone_choice::Rules;
-use phone_meta::Database;
+use phone_plans::Plans;
 use phone_util::{Possibility, possibility_of, possibility_of_text};
 
 /// What a length says, by its number.
@@ -27,7 +27,7 @@ fn possibility_number(possibility: Possibility) -> u32
 }
 
 /// Whether a number is possible by rules.
-pub fn possibility(rules: Rules, database: &Database, number: &Number, told: &mut u32) -> u32
+pub fn possibility(rules: Rules, database: &Plans, number: &Number, told: &mut u32) -> u32
     ensures told { result ≡ OK → IsPossibilityBy rules database.now number.now told.new }
     ensures bad { (result ≡ BAD_NUMBER) ↔ AreNone number.now }
     ensures other { ¬ (result ≡ OK) → ¬ (result ≡ BAD_NUMBER) → result ≡ MEMORY }
@@ -48,7 +48,7 @@ pub fn possibility(rules: Rules, database: &Database, number: &Number, told: &mu
 /// Whether a text is a possible number by rules, under a database and a hint.
 pub fn text_possibility(
     rules: Rules,
-    database: &Database,
+    database: &Plans,
     hint: &[u8],
     text: &[u8],
     told: &mut u32,

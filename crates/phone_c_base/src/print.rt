@@ -12,7 +12,7 @@ use crate::number::{Number, to_phone_number};
 use crate::status::{BAD_NUMBER, MEMORY, NO_MODE, OK, TOO_SMALL, UNKNOWN_CODE};
 use phone_choice::Rules;
 use phone_library::without_carrier;
-use phone_meta::Database;
+use phone_plans::Plans;
 use phonenumber::{FormatError, Mode, PhoneNumber, format_with};
 use std::alloc::Global;
 
@@ -33,7 +33,7 @@ fn mode_of(number: u32) -> Option<Mode>
 /// The text of a number in a mode.
 fn text_in(
     alloc: Global,
-    database: &Database,
+    database: &Plans,
     number: &PhoneNumber,
     mode: Mode,
 ) -> Result<String, FormatError>
@@ -49,7 +49,7 @@ fn text_in(
 fn text_by(
     alloc: Global,
     rules: Rules,
-    database: &Database,
+    database: &Plans,
     number: &PhoneNumber,
     mode: Mode,
 ) -> Result<String, FormatError>
@@ -67,7 +67,7 @@ fn text_by(
 /// The text of a number without its carrier, in a mode.
 fn text_without_carrier(
     alloc: Global,
-    database: &Database,
+    database: &Plans,
     number: &PhoneNumber,
     mode: Mode,
 ) -> Result<String, FormatError>
@@ -86,7 +86,7 @@ fn text_without_carrier(
 pub fn print(
     alloc: Global,
     rules: Rules,
-    database: &Database,
+    database: &Plans,
     number: &Number,
     bytes: &[u8],
     mode: u32,

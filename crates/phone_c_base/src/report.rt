@@ -9,7 +9,7 @@ use crate::hint::hint_of;
 use crate::status::{MEMORY, NO_REGION, OK, TOO_SMALL};
 use phone_choice::Rules;
 use phone_lines::Answers;
-use phone_meta::Database;
+use phone_plans::Plans;
 use phone_report::report_line;
 use phonenumber::report::Reporter;
 use std::alloc::Global;
@@ -17,7 +17,7 @@ use std::alloc::Global;
 /// Writes the report line of a line to the front of a buffer, under a database and a hint.
 pub fn report(
     alloc: Global,
-    database: &Database,
+    database: &Plans,
     hint: &[u8],
     line: &[u8],
     out: &mut [u8],
@@ -48,7 +48,7 @@ pub fn report(
 pub fn report_by(
     alloc: Global,
     rules: Rules,
-    database: &Database,
+    database: &Plans,
     hint: &[u8],
     line: &[u8],
     out: &mut [u8],

@@ -5,7 +5,7 @@ ghost use Rattle.phone_c_base.specs.ShortNumbers.{AreShortFacts, cost_number, fl
 
 use crate::hint::id_of;
 use crate::status::{MEMORY, NO_REGION, NOT_UTF8, OK};
-use phone_meta::Database;
+use phone_plans::Plans;
 use phone_short::{Cost, ShortFacts, short_facts};
 use std::alloc::Global;
 
@@ -61,7 +61,7 @@ fn plain_facts(facts: &ShortFacts) -> PlainFacts
 }
 
 /// Tells what is known of a text as a short number of a region, under a database of short numbers.
-pub fn short(database: &Database, region: &[u8], text: &[u8], facts: &mut PlainFacts) -> u32
+pub fn short(database: &Plans, region: &[u8], text: &[u8], facts: &mut PlainFacts) -> u32
     ensures told { result ≡ OK → AreShortFacts database.now region.now text.now facts.new }
     ensures no_region { (result ≡ NO_REGION) ↔ (id_of region.now ≡ None) }
     ensures not_utf8 { (result ≡ NOT_UTF8) ↔

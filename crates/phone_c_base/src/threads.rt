@@ -3,7 +3,7 @@
 
 use crate::handle::Handle;
 use crate::table::Table;
-use phone_meta::Database;
+use phone_plans::Plans;
 use phone_prefixes::Prefixes;
 
 /// Takes what may be passed to another thread.
@@ -13,12 +13,12 @@ fn crosses<T: Send>(_thing: &T) {}
 fn is_shared<T: Sync>(_thing: &T) {}
 
 /// A database may be passed to another thread.
-pub fn database_crosses(database: &Database) {
+pub fn database_crosses(database: &Plans) {
     crosses(database)
 }
 
 /// Several threads may read a database at a time.
-pub fn database_is_shared(database: &Database) {
+pub fn database_is_shared(database: &Plans) {
     is_shared(database)
 }
 

@@ -9,13 +9,13 @@ ghost use Rattle.phone_typed.specs.Typed.{typed};
 use crate::buffer::give;
 use crate::hint::hint_of;
 use crate::status::{MEMORY, NO_REGION, NOT_UTF8, OK, TOO_SMALL};
-use phone_meta::Database;
+use phone_plans::Plans;
 use phone_typed::typed;
 use phone_values::country::Id;
 use std::alloc::AllocError;
 
 /// Shows the keys of a text in a buffer.
-pub fn show(database: &Database, hint: &[u8], keys: &[u8], out: &mut [u8], wrote: &mut usize) -> u32
+pub fn show(database: &Plans, hint: &[u8], keys: &[u8], out: &mut [u8], wrote: &mut usize) -> u32
     ensures written { result ≡ OK →
         IsWrittenA (IsShown database.now hint.now keys.now) out.old out.new wrote.new }
     ensures too_small { result ≡ TOO_SMALL →
@@ -68,12 +68,7 @@ fn end_of_key(text: &[u8], n: usize) -> usize
 
 /// Where the caret stands after the n-th of the keys of a text, under a hint.
 #[tactic(auto, using(crate::proofs::CaretPlaces::one_byte_each))]
-fn caret_of(
-    database: &Database,
-    hint: Option<Id>,
-    keys: &str,
-    n: usize,
-) -> Result<usize, AllocError>
+fn caret_of(database: &Plans, hint: Option<Id>, keys: &str, n: usize) -> Result<usize, AllocError>
     ensures { IfOk result (IsPlaceOfKey (typed database.now hint (keys_in (chars keys.now))) n) }
 {
     let shown = typed(database, hint, keys)?;
@@ -81,7 +76,7 @@ fn caret_of(
 }
 
 /// Tells where the caret stands after the n-th of the keys of a text.
-pub fn caret(database: &Database, hint: &[u8], keys: &[u8], n: usize, told: &mut usize) -> u32
+pub fn caret(database: &Plans, hint: &[u8], keys: &[u8], n: usize, told: &mut usize) -> u32
     ensures told { result ≡ OK → IsCaret database.now hint.now keys.now n told.new }
     ensures no_region { (result ≡ NO_REGION) ↔ (hint_of hint.now ≡ None) }
     ensures not_utf8 { (result ≡ NOT_UTF8) ↔

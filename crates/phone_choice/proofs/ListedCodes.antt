@@ -17,9 +17,9 @@ use Rattle.phone_library.specs.Readings.{ReadsByLibrary, after_code, after_code_
 use Rattle.phone_library.specs.Stripping.{stripped}
 use Rattle.phone_library_laws.proofs.TakenCodes.{IfOk-code_after_sign, IfOk-code_in, last_any}
 use Rattle.phone_library_text.specs.declared.written.WrittenNumber.{WrittenNumber}
-use Rattle.phone_meta.specs.CodeLookUps.{is_listed}
-use Rattle.phone_meta.specs.Records.{has_id}
-use Rattle.phone_meta.specs.Records as records
+use Rattle.phone_plans.specs.CodeLookUps.{is_listed}
+use Rattle.phone_plans.specs.Records.{has_id}
+use Rattle.phone_plans.specs.Records as records
 use Rattle.phone_rules.specs.Dialling.{after_match, found_in}
 use Rattle.phone_rules.specs.Strips.{Stripped}
 use Rattle.phone_read.proofs.ListedFronts.{shortest-listed}

@@ -5,7 +5,7 @@ use Rattle.phone_values.specs.declared.error.ParseError.{ParseError}
 use Rattle.phone_values.specs.declared.reading.Reading.{Reading}
 use Rattle.phone_library_laws.proofs.ReadOnce as second
 use Rattle.phone_library_text.proofs.WrittenOnes.{written_same}
-use Rattle.phone_meta.specs.CodeLookUps.{first_of, is_listed, territories}
+use Rattle.phone_plans.specs.CodeLookUps.{first_of, is_listed, territories}
 use Rattle.phone_read.proofs.ListedFronts.{listed_none}
 use Rattle.phone_read.proofs.ReadNumbers.{number-listed}
 use Rattle.phone_read.proofs.ReadingOnes as first

@@ -4,7 +4,7 @@ ghost use Rattle.std.specs.Prelude.{◌≡◌, ℕ, List, chars, Option, Result,
 ghost use Rattle.phone_values.specs.declared.country.Id.{Id};
 ghost use Rattle.phone_values.specs.declared.error.ParseError.{ParseError};
 ghost use Rattle.phone_values.specs.declared.reading.Reading.{Reading};
-ghost use Rattle.phone_meta.specs.CodeLookUps.{is_listed};
+ghost use Rattle.phone_plans.specs.CodeLookUps.{is_listed};
 ghost use Rattle.phone_records.specs.declared.loader.Metadata as loader;
 ghost use Rattle.phone_choice.specs.Readings.{ReadsBy};
 ghost use Rattle.phone_choice.specs.declared.rules.Rules.{Rules};

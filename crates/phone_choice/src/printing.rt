@@ -1,13 +1,13 @@
 //! A number's printed texts, by the rules of one's choice.
 ghost use Rattle.std.specs.Prelude.{◌≡◌, ◌↔◌, IfOk, None, Some, Err, string_bytes};
 ghost use Rattle.phone_values.specs.declared.mode.Mode.TheVariants as mode;
-ghost use Rattle.phone_meta.specs.CodeLookUps.{first_of, territories};
+ghost use Rattle.phone_plans.specs.CodeLookUps.{first_of, territories};
 ghost use Rattle.phone_choice.specs.Facts.{printed_as};
 ghost use Rattle.phonenumber.specs.Printed.{printed};
 
 use crate::rules::Rules;
 use phone_library::without_carrier;
-use phone_meta::Database;
+use phone_plans::Plans;
 use phonenumber::{FormatError, PhoneNumber, Texts, format_with};
 use std::alloc::Global;
 
@@ -18,7 +18,7 @@ use std::alloc::Global;
 pub fn texts_by(
     alloc: Global,
     rules: Rules,
-    database: &Database,
+    database: &Plans,
     number: &PhoneNumber,
 ) -> Result<Texts, FormatError>
     ensures e164 { IfOk result (λ t. printed database.now mode.E164 None
@@ -41,7 +41,7 @@ pub fn texts_by(
 /// The texts of a number without its carrier.
 fn texts_without_carrier(
     alloc: Global,
-    database: &Database,
+    database: &Plans,
     number: &PhoneNumber,
 ) -> Result<Texts, FormatError>
     ensures e164 { IfOk result (λ t. printed database.now mode.E164 None
@@ -65,7 +65,7 @@ fn texts_without_carrier(
 }
 
 /// The texts of a number as it is.
-fn texts_of(alloc: Global, database: &Database, number: &PhoneNumber) -> Result<Texts, FormatError>
+fn texts_of(alloc: Global, database: &Plans, number: &PhoneNumber) -> Result<Texts, FormatError>
     ensures e164 { IfOk result (λ t. printed database.now mode.E164 None number.now ≡
         Some (string_bytes t.e164)) }
     ensures international { IfOk result (λ t. printed database.now mode.International None

@@ -3,7 +3,7 @@ ghost use Rattle.std.specs.Prelude.{◌≡◌, ◌⊎◌, Err, chars};
 ghost use Rattle.phone_choice.specs.Readings.{ReadsBy};
 
 use crate::rules::Rules;
-use phone_meta::Database;
+use phone_plans::Plans;
 use phone_values::ParseError;
 use phone_values::country::Id;
 use phonenumber::{PhoneNumber, parse_with};
@@ -13,7 +13,7 @@ use phonenumber::{PhoneNumber, parse_with};
 /// these refuse it; by `Memory` where memory was refused, and nowhere else.
 pub fn parse_by(
     rules: Rules,
-    database: &Database,
+    database: &Plans,
     hint: Option<Id>,
     text: &str,
 ) -> Result<PhoneNumber, ParseError>

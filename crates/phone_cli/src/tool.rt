@@ -15,10 +15,10 @@ use phone_jobs::{
     ByLines, Customers, Finder, Firsts, FoundForm, Job, LineTaker, Loaded, Objects, Reader, Report,
     Shorts, Typist, on_inputs,
 };
+use phone_plans::Plans;
 use phone_table::{Asked, Counts, Extra};
 use phone_words::{Call, Command, Table, call_of};
 use phonenumber::country::Id;
-use phonenumber::metadata::Database;
 use std::alloc::AllocGlobal;
 use std::fs::{self, Files};
 
@@ -174,7 +174,7 @@ fn on_reading<R: Files + AllocGlobal, S: ByteSource, W: Outlet, E: ByteSink>(
 ) -> u8
     ensures { result ≤ 3 }
 {
-    match Database::load(rt, reading.path) {
+    match Plans::load(rt, reading.path) {
         Ok(database) => on_database(rt, reading, database, input, output, errors),
         Err(refusal) => say_refusal(rt.alloc(), reading.path, &refusal, errors),
     }
@@ -184,7 +184,7 @@ fn on_reading<R: Files + AllocGlobal, S: ByteSource, W: Outlet, E: ByteSink>(
 fn on_database<R: Files + AllocGlobal, S: ByteSource, W: Outlet, E: ByteSink>(
     rt: &R,
     reading: Reading<'_, '_>,
-    database: Database,
+    database: Plans,
     input: &mut S,
     output: &mut W,
     errors: &mut E,
@@ -218,7 +218,7 @@ fn shorts_of<'w>(reading: Reading<'_, 'w>) -> Option<&'w str> {
 fn with_shorts<R: Files + AllocGlobal, S: ByteSource, W: Outlet, E: ByteSink>(
     rt: &R,
     reading: Reading<'_, '_>,
-    database: &Database,
+    database: &Plans,
     input: &mut S,
     output: &mut W,
     errors: &mut E,
@@ -229,7 +229,7 @@ fn with_shorts<R: Files + AllocGlobal, S: ByteSource, W: Outlet, E: ByteSink>(
         let reader = reader_of(reading, database, None);
         return by_reader(rt, reading, reader, input, output, errors);
     };
-    match Database::load(rt, path) {
+    match Plans::load(rt, path) {
         Ok(short) => {
             let reader = reader_of(reading, database, Some(&short));
             by_reader(rt, reading, reader, input, output, errors)
@@ -241,8 +241,8 @@ fn with_shorts<R: Files + AllocGlobal, S: ByteSource, W: Outlet, E: ByteSink>(
 /// What reads the numbers of a call.
 fn reader_of<'d>(
     reading: Reading<'_, '_>,
-    database: &'d Database,
-    short: Option<&'d Database>,
+    database: &'d Plans,
+    short: Option<&'d Plans>,
 ) -> Reader<'d>
     ensures rules { result.rules ≡ reading.entry.call.now.rules }
     ensures hint { result.hint ≡ reading.entry.hint }
@@ -352,7 +352,7 @@ fn finder_of<'d, 'l>(reading: Reading<'l, 'l>, reader: Reader<'d>) -> Finder<'d,
 fn firsts<R: Files + AllocGlobal, S: ByteSource, W: Outlet, E: ByteSink>(
     rt: &R,
     reading: Reading<'_, '_>,
-    database: Database,
+    database: Plans,
     input: &mut S,
     output: &mut W,
     errors: &mut E,

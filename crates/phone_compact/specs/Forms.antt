@@ -16,11 +16,12 @@ number_written n = replicate (n / 255) 255 ++ (n % 255 ∷ [])
 abbrev pub number : Form ℕ
 number = record { written = number_written; holds = λ n. n < 65536 }
 
--- a truth value: 1 for true, 0 for false
+-- 1 for true, 0 for false
 abbrev pub truth_written : Bool → List ℕ
 truth_written false = 0 ∷ []
 truth_written true = 1 ∷ []
 
+-- a truth value; each has the form
 abbrev pub truth : Form Bool
 truth = record { written = truth_written; holds = λ b. ⊤ }
 
@@ -28,30 +29,34 @@ truth = record { written = truth_written; holds = λ b. ⊤ }
 abbrev pub text : Form (List ℕ)
 text = record { written = λ t. number_written (length t) ++ t; holds = IsUtf8 }
 
--- what may be absent: 0 where it is, and otherwise 1 and the value
+-- 0 where nothing is, and otherwise 1 and the value
 abbrev pub option_written : {A : Type 0} → (A → List ℕ) → Option A → List ℕ
 option_written written None = 0 ∷ []
 option_written written (Some x) = 1 ∷ written x
 
+-- what is absent has the form, and what is there where its value has it
 abbrev pub option_holds : {A : Type 0} → (A → Type 0) → Option A → Type 0
 option_holds holds None = ⊤
 option_holds holds (Some x) = holds x
 
+-- what may be absent
 abbrev pub option : {A : Type 0} → Form A → Form (Option A)
 option form = record {
   written = option_written form.written;
   holds = option_holds form.holds;
 }
 
--- a list: 1 and an item, for each item, and then 0
+-- 1 and an item, for each item, and then 0
 abbrev pub items_written : {A : Type 0} → (A → List ℕ) → List A → List ℕ
 items_written written [] = 0 ∷ []
 items_written written (x ∷ xs) = 1 ∷ (written x ++ items_written written xs)
 
+-- each item has the form
 abbrev pub items_hold : {A : Type 0} → (A → Type 0) → List A → Type 0
 items_hold holds [] = ⊤
 items_hold holds (x ∷ xs) = holds x × items_hold holds xs
 
+-- a list
 abbrev pub items : {A : Type 0} → Form A → Form (List A)
 items form = record {
   written = items_written form.written;

@@ -10,6 +10,7 @@ use Rattle.phone_compact.specs.Forms.{Form, number, truth, text, option, items, 
 abbrev pub Word : Type 0
 Word = Option (List ℕ)
 
+-- as it is written
 abbrev pub word : Form Word
 word = option text
 
@@ -138,6 +139,10 @@ metadata = seen_as (λ m. (kinds_of m, (prefixes_of m, layouts_of m)))
 -- the first line, with the version of the form
 abbrev pub first_line : List ℕ
 first_line = codes "phone_compact 1\n"
+
+-- bytes that begin with the first line are meant as the compact form
+abbrev pub IsCompact : List ℕ → Type 0
+IsCompact bytes = (rest : List ℕ) × (bytes ≡ first_line ++ rest)
 
 -- the records of a table: the first line, and the list of the records
 abbrev pub written : List Metadata → List ℕ

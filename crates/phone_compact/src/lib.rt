@@ -1,8 +1,9 @@
 //! The compact form of a table's records: bytes that are read in one pass.
 #![tactic(auto)]
 
-ghost use Rattle.std.specs.Prelude.{◌≡◌, ◌⊎◌, ◌++◌, ℕ, List, IfOk, IfErr, MatchOption};
-ghost use Rattle.phone_compact.specs.Records.{first_line, written, IsNotWritten};
+ghost use Rattle.std.specs.Prelude.{◌≡◌, ◌⊎◌, ◌++◌, ℕ, List, IfOk, IfErr, IsTrue, MatchOption};
+ghost use Rattle.std.specs.Prelude.{false};
+ghost use Rattle.phone_compact.specs.Records.{first_line, written, IsCompact, IsNotWritten};
 ghost use Rattle.phone_compact.specs.declared.error.NotRead.TheVariants as error;
 
 mod error;
@@ -26,6 +27,18 @@ fn after_first_line(bytes: &[u8]) -> Option<&[u8]>
         (λ rest. bytes.now ≡ first_line ++ rest.now) }
 {
     bytes.strip_prefix(FIRST_LINE)
+}
+
+/// Whether bytes begin with the first line of the form, and so are meant as records. Takes no
+/// memory.
+pub fn is_compact(bytes: &[u8]) -> bool
+    ensures compact { IsTrue result → IsCompact bytes.now }
+    ensures other { result ≡ false → ¬ (IsCompact bytes.now) }
+{
+    match after_first_line(bytes) {
+        Some(_) => true,
+        None => false,
+    }
 }
 
 /// The records that are written as these bytes. Refused by `Malformed` where no records are written

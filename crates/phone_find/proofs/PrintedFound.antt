@@ -14,7 +14,7 @@ use Rattle.ucd_category.proofs.Computing.{ucd_category}
 use Rattle.phone_chars.specs.Characters.{is_digit, is_punctuation}
 use Rattle.phone_values.specs.Numbers.{text_of}
 use Rattle.phone_values.specs.declared.mode.Mode.TheVariants.{International}
-use Rattle.phone_meta.specs.CodeLookUps.{first_of, territories}
+use Rattle.phone_plans.specs.CodeLookUps.{first_of, territories}
 use Rattle.phonenumber.specs.Bounds.{IsBounded}
 use Rattle.phone_util.specs.Possibilities.{possibility_under}
 use Rattle.phone_util.specs.declared.possibilities.Possibility.TheVariants.{UnknownCode}

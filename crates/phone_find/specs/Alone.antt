@@ -5,7 +5,7 @@ use Rattle.std.specs.List.{list_any}
 use Rattle.phone_chars.specs.Characters.{is_digit}
 use Rattle.phone_values.specs.Numbers.{text_of}
 use Rattle.phone_values.specs.declared.mode.Mode.TheVariants.{International}
-use Rattle.phone_meta.specs.CodeLookUps.{is_prefix_free}
+use Rattle.phone_plans.specs.CodeLookUps.{is_prefix_free}
 use Rattle.phone_print.specs.Texts.{laid_out}
 use Rattle.phone_parts.specs.Texts.{ends}
 use Rattle.phone_records.specs.declared.loader.Metadata.{Metadata}

@@ -3,7 +3,7 @@ ghost use Rattle.std.specs.Prelude.{◌≡◌, IfOk};
 ghost use Rattle.phone_find.specs.Leniencies.{is_possible, suffices};
 
 use phone_choice::{Rules, is_valid_by};
-use phone_meta::Database;
+use phone_plans::Plans;
 use phone_util::{Possibility, possibility_of};
 use phonenumber::PhoneNumber;
 use std::alloc::AllocError;
@@ -19,7 +19,7 @@ pub enum Leniency {
 }
 
 /// Whether a number is possible, perhaps only inside its area. Refused only for memory.
-fn is_possible(rules: Rules, database: &Database, number: &PhoneNumber) -> Result<bool, AllocError>
+fn is_possible(rules: Rules, database: &Plans, number: &PhoneNumber) -> Result<bool, AllocError>
     ensures { IfOk result (λ b. b ≡ is_possible rules database.now number.now) }
 {
     match possibility_of(rules, database, number)? {
@@ -31,7 +31,7 @@ fn is_possible(rules: Rules, database: &Database, number: &PhoneNumber) -> Resul
 /// Whether a number suffices. Refused only for memory.
 pub(crate) fn suffices(
     rules: Rules,
-    database: &Database,
+    database: &Plans,
     leniency: Leniency,
     number: &PhoneNumber,
 ) -> Result<bool, AllocError>

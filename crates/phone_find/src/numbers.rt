@@ -9,7 +9,7 @@ use crate::candidates::{is_candidate, may_begin};
 use crate::leniency::{Leniency, suffices};
 use crate::search::{Found, Judge, all_accepted};
 use phone_choice::{Rules, parse_by};
-use phone_meta::Database;
+use phone_plans::Plans;
 use phone_values::ParseError;
 use phone_values::country::Id;
 use phonenumber::PhoneNumber;
@@ -19,7 +19,7 @@ use std::alloc::{AllocError, Global};
 #[derive(Drop)]
 struct Sufficient<'a> {
     rules: Rules,
-    database: &'a Database,
+    database: &'a Plans,
     hint: Option<Id>,
     leniency: Leniency,
 }
@@ -60,7 +60,7 @@ impl<'a> Judge<PhoneNumber> for Sufficient<'a> {
 /// what stands before it and after it. Refused only for memory.
 fn number_between(
     rules: Rules,
-    database: &Database,
+    database: &Plans,
     hint: Option<Id>,
     leniency: Leniency,
     before: &str,
@@ -83,7 +83,7 @@ fn number_between(
 /// memory.
 fn number_in(
     rules: Rules,
-    database: &Database,
+    database: &Plans,
     hint: Option<Id>,
     leniency: Leniency,
     text: &str,
@@ -111,7 +111,7 @@ fn without_number(error: ParseError) -> Result<Option<PhoneNumber>, AllocError>
 /// The number, where it suffices. Refused only for memory.
 fn where_sufficient(
     rules: Rules,
-    database: &Database,
+    database: &Plans,
     leniency: Leniency,
     number: PhoneNumber,
 ) -> Result<Option<PhoneNumber>, AllocError>
@@ -138,7 +138,7 @@ fn where_sufficient(
 /// pieces are looked at. Refused only for memory.
 pub fn find_numbers_with(
     rules: Rules,
-    database: &Database,
+    database: &Plans,
     hint: Option<Id>,
     leniency: Leniency,
     text: &str,
@@ -157,7 +157,7 @@ pub fn find_numbers_with(
 /// The valid numbers that stand in a running text: [`find_numbers_with`], [`Leniency::Valid`].
 pub fn find_numbers(
     rules: Rules,
-    database: &Database,
+    database: &Plans,
     hint: Option<Id>,
     text: &str,
 ) -> Result<Vec<Found<PhoneNumber>>, AllocError>

@@ -5,8 +5,8 @@ use crate::reader::Reader;
 use phone_csv::FirstError;
 use phone_device::{ByteSink, ByteSource};
 use phone_lines::RunError;
+use phone_plans::Plans;
 use phone_table::{Asked, Counts, TableError, write_table};
-use phonenumber::metadata::Database;
 use std::alloc::Global;
 
 /// Why an input was not answered whole.
@@ -85,7 +85,7 @@ impl<'t, T: LineTaker> Job for ByLines<'t, T> {
 #[derive(Drop)]
 pub struct Customers<'d, 'w> {
     /// The database that reads and tells.
-    pub database: &'d Database,
+    pub database: &'d Plans,
     /// What is asked of it.
     pub asked: Asked<'w>,
     /// Whether the first record of each number is kept alone.

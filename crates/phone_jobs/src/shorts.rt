@@ -4,16 +4,16 @@ ghost use Rattle.phone_jobs.specs.ShortLines.{short_fields, yes_or_no};
 
 use crate::lines::LineTaker;
 use crate::text::push_line;
+use phone_plans::Plans;
 use phone_short::{ShortFacts, short_facts};
 use phonenumber::country::Id;
-use phonenumber::metadata::Database;
 use std::alloc::{AllocError, Global};
 
 /// Six answers on each line, as a short number that is dialled in a region.
 #[derive(Drop)]
 pub struct Shorts<'d> {
     /// The database of short numbers.
-    pub database: &'d Database,
+    pub database: &'d Plans,
     /// The region.
     pub region: Id,
 }

@@ -1,15 +1,15 @@
 //! What lines are answered by commands that count them or keep numbers.
 ghost use Rattle.std.specs.Prelude.{◌≡◌, ◌↔◌, IsNone, false};
-ghost use Rattle.phone_meta.specs.CodeLookUps.{is_prefix_free};
+ghost use Rattle.phone_plans.specs.CodeLookUps.{is_prefix_free};
 
 use crate::lines::LineTaker;
 use crate::reader::Reader;
 use crate::text::{push_line, push_text};
 use phone_book::{Book, BookError, Place};
 use phone_choice::Rules;
+use phone_plans::Plans;
 use phone_table::objects::object_line;
 use phonenumber::country::Id;
-use phonenumber::metadata::Database;
 use std::alloc::{AllocError, Global};
 
 /// A JSON object for each line.
@@ -57,10 +57,10 @@ pub struct Firsts {
 impl Firsts {
     /// What keeps the first line of each number, of which there is none yet. None where the
     /// database can't tell numbers apart: a listed calling code begins another.
-    pub fn new(database: Database, rules: Rules, hint: Option<Id>) -> Option<Firsts>
+    pub fn new(database: Plans, rules: Rules, hint: Option<Id>) -> Option<Firsts>
         ensures { IsNone result ↔ (is_prefix_free database ≡ false) }
     {
-        let Ok(book) = Book::new(database) else {
+        let Ok(book) = Book::over(database) else {
             return None;
         };
         Some(Firsts {

@@ -3,9 +3,9 @@ ghost use Rattle.std.specs.Prelude.{◌≡◌, []};
 
 use crate::lines::LineTaker;
 use crate::text::push_text;
+use phone_plans::Plans;
 use phone_typed::Typing;
 use phonenumber::country::Id;
-use phonenumber::metadata::Database;
 use std::alloc::{AllocError, Global};
 
 /// What is shown after each character of a line, as it is typed into an empty field: the texts of a
@@ -19,7 +19,7 @@ pub struct Typist<'d> {
 impl<'d> Typist<'d> {
     /// What types into an empty field over a database. The hint is the region that digits without a
     /// plus sign are dialled in.
-    pub fn new(database: &'d Database, hint: Option<Id>) -> Typist<'d>
+    pub fn new(database: &'d Plans, hint: Option<Id>) -> Typist<'d>
         ensures { result.field ≡ record { database = database.now; hint = hint; keys = [] } }
     {
         Typist {

@@ -5,9 +5,9 @@ use Rattle.std.proofs.lemmas.List.Folds.{find-append}
 use Rattle.std.specs.List.{find}
 use Rattle.std.specs.Option.{option_or}
 use Rattle.phone_library.specs.Kinds.{has_digits, territory_among, territory_in}
-use Rattle.phone_meta.proofs.InOrder.{alone, in_order, length-in_order, mains-filter, others-filter, territories-in_order}
-use Rattle.phone_meta.specs.CodeLookUps.{is_main, is_main_of, is_other, is_other_of, territories}
-use Rattle.phone_meta.specs.Records.{has_code}
+use Rattle.phone_plans.proofs.InOrder.{alone, in_order, length-in_order, mains-filter, others-filter, territories-in_order}
+use Rattle.phone_plans.specs.CodeLookUps.{is_main, is_main_of, is_other, is_other_of, territories}
+use Rattle.phone_plans.specs.Records.{has_code}
 use Rattle.phone_records.specs.declared.loader.Metadata.{Metadata}
 
 among_several : (digits : List ℕ) (ms : List Metadata) → 1 < length ms → territory_among digits ms ≡ find (has_digits digits) ms

@@ -8,7 +8,7 @@ use Rattle.phone_values.specs.declared.kind.«Type».{«Type»}
 use Rattle.phone_values.specs.declared.kind.«Type».TheVariants.{FixedLine, FixedLineOrMobile}
 use Rattle.phone_values.specs.declared.kind.«Type».TheVariants.{Unknown}
 use Rattle.phone_rules.specs.Kinds.{is_known, tried_kinds}
-use Rattle.phone_meta.specs.CodeLookUps.{territories}
+use Rattle.phone_plans.specs.CodeLookUps.{territories}
 use Rattle.phone_records.specs.declared.loader.Descriptor.{Descriptor}
 use Rattle.phone_records.specs.declared.loader.Metadata.{Metadata}
 use Rattle.phone_territory.specs.First.{at_start, is_whole_match}

@@ -16,7 +16,7 @@ use crate::kinds::matches_general;
 use crate::lengths::{is_too_long, length_in};
 use crate::stripping::strip;
 use phone_base::together::{beside, instead};
-use phone_meta::{Database, Metadata};
+use phone_plans::{Plans, Territory};
 use phone_rules::trims::{begins_with_number, behind_number};
 use phone_values::ParseError;
 use phone_values::country::Source;
@@ -45,8 +45,8 @@ pub(crate) struct Coded<'a> {
 /// `TooShortAfterIdd` where at most two digits follow a plus sign or an international prefix,
 /// `InvalidCountryCode` where there is no code, and `Memory` where memory was refused.
 pub(crate) fn code_in<'a>(
-    db: &Database,
-    territory: Option<&Metadata>,
+    db: &Plans,
+    territory: Option<&Territory>,
     has_plus: bool,
     digits: &'a str,
 ) -> Result<Coded<'a>, ParseError>
@@ -77,11 +77,7 @@ fn cut_off<'a>(coded: Result<Coded<'a>, ParseError>) -> Result<Coded<'a>, ParseE
 
 /// The code after a plus sign or an international prefix: the shortest listed one at the front of
 /// more than two digits. No memory is taken.
-fn code_after_sign<'a>(
-    db: &Database,
-    source: Source,
-    digits: &'a str,
-) -> Result<Coded<'a>, ParseError>
+fn code_after_sign<'a>(db: &Plans, source: Source, digits: &'a str) -> Result<Coded<'a>, ParseError>
     ensures { result_map_both told (λ e. e) result ≡
         code_after_sign db.now source digits.entry.now }
 {
@@ -101,8 +97,8 @@ fn code_after_sign<'a>(
 /// The code without a plus sign: that after the international prefix of the hint's territory, else
 /// the territory's own.
 fn code_by_hint<'a>(
-    db: &Database,
-    territory: Option<&Metadata>,
+    db: &Plans,
+    territory: Option<&Territory>,
     digits: &'a str,
 ) -> Result<Coded<'a>, ParseError>
     ensures { (result ≡ Err ParseError.Memory) ⊎ (result_map_both told (λ e. e) result ≡
@@ -119,7 +115,7 @@ fn code_by_hint<'a>(
 
 /// What follows the international prefix of a territory, where its first match is at the front of
 /// the digits, and no `0` follows it.
-fn after_prefix<'a>(m: &Metadata, digits: &'a str) -> Result<Option<&'a str>, AllocError>
+fn after_prefix<'a>(m: &Territory, digits: &'a str) -> Result<Option<&'a str>, AllocError>
     ensures { IfOk result (λ after. option_copied after ≡
         after_match digits.entry.now (found_in m.now.international_prefix digits.entry.now)) }
 {
@@ -156,7 +152,7 @@ fn begins_with_zero(digits: &str) -> bool
 
 /// The code of the hint's territory, cut off digits that are an international number without its
 /// sign.
-fn code_by_territory<'a>(m: &Metadata, digits: &'a str) -> Result<Coded<'a>, AllocError>
+fn code_by_territory<'a>(m: &Territory, digits: &'a str) -> Result<Coded<'a>, AllocError>
     ensures { IfOk result (λ coded. told coded ≡ code_by_territory m.now digits.entry.now) }
 {
     let value = m.country_code();
@@ -177,7 +173,7 @@ fn code_by_territory<'a>(m: &Metadata, digits: &'a str) -> Result<Coded<'a>, All
 /// The digits without the calling code of a territory, and without what it strips; none where they
 /// aren't an international number without its sign: that begins with the code, and only without
 /// the code does the general pattern match it, or with the code it is too long.
-fn cut_code<'a>(m: &Metadata, digits: &'a str) -> Result<Option<CowStr<'a>>, AllocError>
+fn cut_code<'a>(m: &Territory, digits: &'a str) -> Result<Option<CowStr<'a>>, AllocError>
     ensures { IfOk result (λ rest. option_map cow_str_bytes rest ≡
         (if has_code m.now digits.entry.now then Some (behind_code m.now digits.entry.now)
         else None)) }
@@ -197,7 +193,7 @@ fn cut_code<'a>(m: &Metadata, digits: &'a str) -> Result<Option<CowStr<'a>>, All
 }
 
 /// The digits, if the general pattern of a territory matches them.
-fn if_general<'a>(m: &Metadata, digits: CowStr<'a>) -> Result<Option<CowStr<'a>>, AllocError>
+fn if_general<'a>(m: &Territory, digits: CowStr<'a>) -> Result<Option<CowStr<'a>>, AllocError>
     ensures { IfOk result (λ rest. option_map cow_str_bytes rest ≡
         (if matches_whole m.now.general (cow_str_bytes digits.entry)
         then Some (cow_str_bytes digits.entry) else None)) }
@@ -212,7 +208,7 @@ fn if_general<'a>(m: &Metadata, digits: CowStr<'a>) -> Result<Option<CowStr<'a>>
 }
 
 /// What a territory leaves of digits.
-fn stripped_or_all<'a>(m: &Metadata, digits: &'a str) -> Result<CowStr<'a>, AllocError>
+fn stripped_or_all<'a>(m: &Territory, digits: &'a str) -> Result<CowStr<'a>, AllocError>
     ensures { IfOk result (λ rest. cow_str_bytes rest ≡
         (strip m.now digits.entry.now).national) }
 {

@@ -5,10 +5,10 @@ ghost use Rattle.std.specs.List.{find};
 ghost use Rattle.phone_rules.specs.Kinds.{is_known};
 ghost use Rattle.phone_library.specs.Homes.{TellsKind, territory_of};
 ghost use Rattle.phone_library.specs.Kinds.{has_digits, territory_in};
-ghost use Rattle.phone_meta.specs.CodeLookUps.{is_main_of, is_other_of, territories};
+ghost use Rattle.phone_plans.specs.CodeLookUps.{is_main_of, is_other_of, territories};
 
 use crate::kinds::{is_known, kind_in};
-use phone_meta::{Database, Metadata};
+use phone_plans::{Plans, Territory};
 use phone_values::Type;
 use std::alloc::AllocError;
 
@@ -16,7 +16,7 @@ use std::alloc::AllocError;
 #[derive(Clone, Copy, Drop)]
 pub(crate) struct Home<'d> {
     /// The territory.
-    pub(crate) territory: &'d Metadata,
+    pub(crate) territory: &'d Territory,
     /// The kind of the digits there.
     pub(crate) kind: Option<Type>,
 }
@@ -26,7 +26,7 @@ pub(crate) struct Home<'d> {
 /// kind. The main ones are asked first, the latest of them before the others. None where no
 /// territory has them. Refused only for memory.
 pub(crate) fn home_in<'d>(
-    db: &'d Database,
+    db: &'d Plans,
     code: u16,
     digits: &str,
 ) -> Result<Option<Home<'d>>, AllocError>
@@ -49,7 +49,7 @@ pub(crate) fn home_in<'d>(
 
 /// The first of all territories of a code that has the digits, as if they were several.
 fn home_of_several<'d>(
-    db: &'d Database,
+    db: &'d Plans,
     code: u16,
     digits: &str,
 ) -> Result<Option<Home<'d>>, AllocError>
@@ -64,7 +64,7 @@ fn home_of_several<'d>(
 }
 
 /// Of the main territories of a code the last that has the digits.
-fn last_main<'d>(db: &'d Database, code: u16, digits: &str) -> Result<Option<Home<'d>>, AllocError>
+fn last_main<'d>(db: &'d Plans, code: u16, digits: &str) -> Result<Option<Home<'d>>, AllocError>
     ensures territory { IfOk result (λ home. option_map territory_of home ≡
         find (has_digits digits.now) (reverse (filter (is_main_of code) db.entry.now))) }
     ensures kind { IfOk result (λ home. IfSome home (TellsKind digits.now)) }
@@ -79,11 +79,7 @@ fn last_main<'d>(db: &'d Database, code: u16, digits: &str) -> Result<Option<Hom
 }
 
 /// Of the other territories of a code the first that has the digits.
-fn first_other<'d>(
-    db: &'d Database,
-    code: u16,
-    digits: &str,
-) -> Result<Option<Home<'d>>, AllocError>
+fn first_other<'d>(db: &'d Plans, code: u16, digits: &str) -> Result<Option<Home<'d>>, AllocError>
     ensures territory { IfOk result (λ home. option_map territory_of home ≡
         find (has_digits digits.now) (filter (is_other_of code) db.entry.now)) }
     ensures kind { IfOk result (λ home. IfSome home (TellsKind digits.now)) }
@@ -99,7 +95,7 @@ fn first_other<'d>(
 /// A territory, if it is asked and has the digits.
 fn home_if<'d>(
     is_asked: bool,
-    m: &'d Metadata,
+    m: &'d Territory,
     digits: &str,
 ) -> Result<Option<Home<'d>>, AllocError>
     ensures territory { IfOk result (λ home. option_map territory_of home ≡
@@ -114,7 +110,7 @@ fn home_if<'d>(
 }
 
 /// A territory, if it has the digits.
-fn home_of<'d>(m: &'d Metadata, digits: &str) -> Result<Option<Home<'d>>, AllocError>
+fn home_of<'d>(m: &'d Territory, digits: &str) -> Result<Option<Home<'d>>, AllocError>
     ensures territory { IfOk result (λ home. option_map territory_of home ≡
         (if has_digits digits.now m.entry.now then Some m.entry.now else None)) }
     ensures kind { IfOk result (λ home. IfSome home (TellsKind digits.now)) }
@@ -135,7 +131,7 @@ fn home_of<'d>(m: &'d Metadata, digits: &str) -> Result<Option<Home<'d>>, AllocE
 }
 
 /// A territory and the kind of digits there, if that is known.
-fn if_known(m: &Metadata, kind: Type) -> Option<Home<'_>>
+fn if_known(m: &Territory, kind: Type) -> Option<Home<'_>>
     ensures territory { option_map territory_of result ≡
         (if is_known kind then Some m.entry.now else None) }
     ensures kind { IfSome result (λ home. home.kind ≡ Some kind) }

@@ -7,7 +7,7 @@ ghost use Rattle.phone_library.specs.Kinds.{is_number_of, kind_in, line_or_mobil
 ghost use Rattle.phone_territory.specs.Kinds.{descriptor_for};
 
 use phone_rules::kinds::TRIED;
-use phone_territory::{Descriptor, Descriptors, Metadata};
+use phone_territory::{Descriptor, Descriptors, Territory};
 use phone_values::Type;
 use std::alloc::AllocError;
 
@@ -16,7 +16,7 @@ use std::alloc::AllocError;
 /// shared cost, voip, personal number, pager, uan, voicemail, fixed line, mobile. A fixed line is
 /// `FixedLineOrMobile` where the mobile descriptor has the digits too. `Unknown` where no kind has
 /// them, or the general descriptor doesn't. Refused only for memory.
-pub fn kind_in(m: &Metadata, digits: &str) -> Result<Type, AllocError>
+pub fn kind_in(m: &Territory, digits: &str) -> Result<Type, AllocError>
     ensures { IfOk result (λ kind. kind ≡ kind_in m.now digits.now) }
 {
     let kinds = m.descriptors();
@@ -43,7 +43,7 @@ fn first_kind(kinds: &Descriptors, tried: &[Type], digits: &str) -> Result<Optio
 }
 
 /// The kind, where a fixed line may as well be a mobile.
-fn line_or_mobile(m: &Metadata, digits: &str, kind: Type) -> Result<Type, AllocError>
+fn line_or_mobile(m: &Territory, digits: &str, kind: Type) -> Result<Type, AllocError>
     ensures { IfOk result (λ k. k ≡ line_or_mobile m.now digits.now kind) }
 {
     let Type::FixedLine = kind else {
@@ -75,7 +75,7 @@ fn has_digits(descriptor: &Descriptor, digits: &str) -> Result<bool, AllocError>
 }
 
 /// Whether the general pattern of a territory matches all of the digits.
-pub(crate) fn matches_general(m: &Metadata, digits: &str) -> Result<bool, AllocError>
+pub(crate) fn matches_general(m: &Territory, digits: &str) -> Result<bool, AllocError>
     ensures { IfOk result (λ b. b ≡ matches_whole m.now.general digits.now) }
 {
     m.descriptors().general().pattern().is_whole_match(digits)

@@ -4,13 +4,13 @@ ghost use Rattle.std.specs.List.{list_any};
 ghost use Rattle.phone_library.specs.Lengths.{is_too_long, length_in, may_be_left};
 
 use phone_rules::kinds::length_of;
-use phone_territory::Metadata;
+use phone_territory::Territory;
 use phone_values::{Type, Validation};
 
 /// What so many national digits, whatever their kind, are in a territory: a number that is
 /// possible, possible only within its area, too short, too long, or of a length between these that
 /// no number has. A territory that lists no lengths allows each. No memory is taken.
-pub fn length_in(m: &Metadata, digits: usize) -> Validation
+pub fn length_in(m: &Territory, digits: usize) -> Validation
     ensures { result ≡ length_in m.now digits }
 {
     let general = m.descriptors().general();

@@ -6,7 +6,7 @@ ghost use Rattle.phone_read.specs.Hints.{hinted};
 
 use crate::reading::reading_under;
 use phone_library_text::read_written;
-use phone_meta::{Database, Metadata};
+use phone_plans::{Plans, Territory};
 use phone_values::country::Id;
 use phone_values::{ParseError, Reading};
 use phonenumber::PhoneNumber;
@@ -23,7 +23,7 @@ use phonenumber::PhoneNumber;
 /// follow the calling code; `TooLong` where more than 17 are left, or a value of 2^56 or more.
 /// `Memory` where memory was refused, and nowhere else; the memory is taken by the database's
 /// allocator.
-pub fn parse(database: &Database, hint: Option<Id>, text: &str) -> Result<PhoneNumber, ParseError>
+pub fn parse(database: &Plans, hint: Option<Id>, text: &str) -> Result<PhoneNumber, ParseError>
     ensures { (result ≡ Err ParseError.Memory) ⊎
         ReadsByLibrary database.now hint (chars text.now) result }
 {
@@ -37,7 +37,7 @@ pub fn parse(database: &Database, hint: Option<Id>, text: &str) -> Result<PhoneN
 }
 
 /// The parts of the number that a text is read as.
-fn read(database: &Database, hint: Option<Id>, text: &str) -> Result<Reading, ParseError>
+fn read(database: &Plans, hint: Option<Id>, text: &str) -> Result<Reading, ParseError>
     ensures { (result ≡ Err ParseError.Memory) ⊎
         ReadsByLibrary database.now hint (chars text.now) result }
 {
@@ -46,7 +46,7 @@ fn read(database: &Database, hint: Option<Id>, text: &str) -> Result<Reading, Pa
 }
 
 /// The territory of the hint: the last record with its id.
-fn hint_territory(database: &Database, hint: Option<Id>) -> Option<&Metadata>
+fn hint_territory(database: &Plans, hint: Option<Id>) -> Option<&Territory>
     ensures { option_copied result ≡ hinted database.now hint }
 {
     match hint {

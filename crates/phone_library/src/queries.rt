@@ -14,7 +14,7 @@ ghost use Rattle.phone_records.specs.declared.loader.Metadata as loader;
 use crate::homes::{Home, home_in};
 use crate::kinds::{is_known, kind_in};
 use itoa::Buffer;
-use phone_meta::Database;
+use phone_plans::Plans;
 use phone_print::written::text_of_value;
 use phone_values::Type;
 use phone_values::country::Id;
@@ -34,7 +34,7 @@ pub struct NumberFacts {
 
 /// The region of a number, its kind, and whether it is valid, as [`region`], [`number_type`] and
 /// [`is_valid`] tell them, at once. Refused only for memory.
-pub fn facts(database: &Database, number: &PhoneNumber) -> Result<NumberFacts, AllocError>
+pub fn facts(database: &Plans, number: &PhoneNumber) -> Result<NumberFacts, AllocError>
     ensures region { IfOk result (λ f. f.region ≡ region_of_number database.now number.now) }
     ensures kind { IfOk result (λ f. f.kind ≡ kind_of_number database.now number.now) }
     ensures is_valid { IfOk result (λ f. f.is_valid ≡ is_valid_number database.now number.now) }
@@ -43,7 +43,7 @@ pub fn facts(database: &Database, number: &PhoneNumber) -> Result<NumberFacts, A
 }
 
 /// The same as one value.
-fn facts_told(database: &Database, number: &PhoneNumber) -> Result<NumberFacts, AllocError>
+fn facts_told(database: &Plans, number: &PhoneNumber) -> Result<NumberFacts, AllocError>
     ensures { IfOk result (λ f. f ≡ facts_by database.now number.now.code.value
         (text_of number.now.national)) }
 {
@@ -59,14 +59,14 @@ fn facts_told(database: &Database, number: &PhoneNumber) -> Result<NumberFacts, 
 
 /// The kind of a number in the territory that has it, its leading zeros counted as digits;
 /// `Unknown` where none has it. Refused only for memory.
-pub fn number_type(database: &Database, number: &PhoneNumber) -> Result<Type, AllocError>
+pub fn number_type(database: &Plans, number: &PhoneNumber) -> Result<Type, AllocError>
     ensures { IfOk result (λ kind. kind ≡ kind_of_number database.now number.now) }
 {
     Ok(facts(database, number)?.kind)
 }
 
 /// Whether a number's kind is known in the territory that has it. Refused only for memory.
-pub fn is_valid(database: &Database, number: &PhoneNumber) -> Result<bool, AllocError>
+pub fn is_valid(database: &Plans, number: &PhoneNumber) -> Result<bool, AllocError>
     ensures { IfOk result (λ valid. valid ≡ is_valid_number database.now number.now) }
 {
     Ok(facts(database, number)?.is_valid)
@@ -76,7 +76,7 @@ pub fn is_valid(database: &Database, number: &PhoneNumber) -> Result<bool, Alloc
 /// territory of its calling code; of several the first whose leading digits match at its front, or
 /// that has no leading digits and knows its kind. None where no territory has it, and where that
 /// one's id is no region's. Refused only for memory.
-pub fn region(database: &Database, number: &PhoneNumber) -> Result<Option<Id>, AllocError>
+pub fn region(database: &Plans, number: &PhoneNumber) -> Result<Option<Id>, AllocError>
     ensures { IfOk result (λ id. id ≡ region_of_number database.now number.now) }
 {
     let national = number.national();
@@ -90,7 +90,7 @@ pub fn region(database: &Database, number: &PhoneNumber) -> Result<Option<Id>, A
 }
 
 /// The region of digits of a calling code.
-fn region_in(database: &Database, code: u16, digits: &str) -> Result<Option<Id>, AllocError>
+fn region_in(database: &Plans, code: u16, digits: &str) -> Result<Option<Id>, AllocError>
     ensures { IfOk result (λ id. id ≡ option_and_then
         (λ (m : loader.Metadata). option_and_then id_of m.id)
         (territory_in database.now code digits.now)) }
@@ -102,7 +102,7 @@ fn region_in(database: &Database, code: u16, digits: &str) -> Result<Option<Id>,
 }
 
 /// What is told of digits of a calling code.
-fn facts_in(database: &Database, code: u16, digits: &str) -> Result<NumberFacts, AllocError>
+fn facts_in(database: &Plans, code: u16, digits: &str) -> Result<NumberFacts, AllocError>
     ensures { IfOk result (λ f. f ≡ facts_by database.now code digits.now) }
 {
     let (region, kind) = region_and_kind_in(database, code, digits)?;
@@ -115,7 +115,7 @@ fn facts_in(database: &Database, code: u16, digits: &str) -> Result<NumberFacts,
 
 /// The region of digits of a calling code, and their kind there.
 fn region_and_kind_in(
-    database: &Database,
+    database: &Plans,
     code: u16,
     digits: &str,
 ) -> Result<(Option<Id>, Type), AllocError>

@@ -10,7 +10,7 @@ use crate::codes::{Coded, code_in};
 use crate::stripping::{Left, strip_national_prefix};
 use phone_base::together::{beside, instead};
 use phone_library_text::WrittenNumber;
-use phone_meta::{Database, Metadata};
+use phone_plans::{Plans, Territory};
 use phone_rules::trims::without_zeros;
 use phone_values::consts::{MAX_LENGTH_FOR_NSN, MIN_LENGTH_FOR_NSN};
 use phone_values::country::{Code, Source};
@@ -23,8 +23,8 @@ use std::alloc::{AllocError, Global};
 /// `TooLong` where more than 17 are left of them, or a value of 2^56 or more; `Memory` where memory
 /// was refused.
 pub(crate) fn reading_under(
-    db: &Database,
-    territory: Option<&Metadata>,
+    db: &Plans,
+    territory: Option<&Territory>,
     number: WrittenNumber,
 ) -> Result<Reading, ParseError>
     ensures { (result ≡ Err ParseError.Memory) ⊎ (result ≡
@@ -63,8 +63,8 @@ struct MainNumber {
 
 /// The number of these digits, which a plus sign stands before or not.
 fn main_number(
-    db: &Database,
-    territory: Option<&Metadata>,
+    db: &Plans,
+    territory: Option<&Territory>,
     has_plus: bool,
     digits: &str,
 ) -> Result<MainNumber, ParseError>
@@ -83,8 +83,8 @@ fn main_number(
 
 /// The number of a calling code and the digits that follow it.
 fn after_code(
-    db: &Database,
-    territory: Option<&Metadata>,
+    db: &Plans,
+    territory: Option<&Territory>,
     coded: &Coded<'_>,
 ) -> Result<MainNumber, ParseError>
     ensures { (result ≡ Err ParseError.Memory) ⊎ ((extension : Option (List ℕ)) →
@@ -120,10 +120,10 @@ fn reading_of_left(
 /// The territory by whose rules digits after a code are stripped: the hint's where no code was cut
 /// off, else the code's first.
 fn stripping_territory<'d>(
-    db: &'d Database,
-    territory: Option<&'d Metadata>,
+    db: &'d Plans,
+    territory: Option<&'d Territory>,
     coded: &Coded<'_>,
-) -> Option<&'d Metadata>
+) -> Option<&'d Territory>
     ensures { option_copied result ≡
         stripping_territory db.entry.now (option_copied territory.entry) (told coded.now) }
 {
@@ -135,7 +135,7 @@ fn stripping_territory<'d>(
 
 /// What a territory's stripping leaves of digits; none where they stay.
 fn left_after_code<'a>(
-    territory: Option<&Metadata>,
+    territory: Option<&Territory>,
     digits: &'a str,
 ) -> Result<Option<Left<'a>>, AllocError>
     ensures { IfOk result (λ left. left_of digits.entry.now left ≡

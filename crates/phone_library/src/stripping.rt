@@ -13,7 +13,7 @@ use crate::kinds::matches_general;
 use crate::lengths::{length_in, may_be_left};
 use phone_base::together::{beside, instead};
 use phone_rules::trims::{has_front, trim};
-use phone_territory::{Captured, Metadata, Pattern};
+use phone_territory::{Captured, Pattern, Territory};
 use std::alloc::AllocError;
 use std::borrow::CowStr;
 
@@ -29,7 +29,7 @@ pub(crate) struct Left<'a> {
 /// What a territory's stripping leaves of digits; none where they stay, as they do where fewer than
 /// a number has would be left, or not as many as one can have.
 pub(crate) fn strip_national_prefix<'a>(
-    m: &Metadata,
+    m: &Territory,
     digits: &'a str,
 ) -> Result<Option<Left<'a>>, AllocError>
     ensures { IfOk result (λ left. left_of digits.entry.now left ≡
@@ -47,7 +47,7 @@ pub(crate) fn strip_national_prefix<'a>(
 
 /// What a territory cuts off digits, whatever their count; none where they stay, as they do where
 /// the general pattern matches them and would no longer match what is left.
-pub(crate) fn strip<'a>(m: &Metadata, digits: &'a str) -> Result<Option<Left<'a>>, AllocError>
+pub(crate) fn strip<'a>(m: &Territory, digits: &'a str) -> Result<Option<Left<'a>>, AllocError>
     ensures { IfOk result (λ left. left_of digits.entry.now left ≡ strip m.now digits.entry.now) }
 {
     let Some(left) = left_by_prefix(m, digits)? else {
@@ -63,7 +63,7 @@ pub(crate) fn strip<'a>(m: &Metadata, digits: &'a str) -> Result<Option<Left<'a>
 }
 
 /// Whether the general pattern matches the digits, and no longer what is left of them.
-fn leaves_general(m: &Metadata, digits: &str, left: &str) -> Result<bool, AllocError>
+fn leaves_general(m: &Territory, digits: &str, left: &str) -> Result<bool, AllocError>
     ensures { IfOk result (λ b. b ≡
         (matches_whole m.now.general digits.now && not (matches_whole m.now.general left.now))) }
 {
@@ -74,7 +74,7 @@ fn leaves_general(m: &Metadata, digits: &str, left: &str) -> Result<bool, AllocE
 }
 
 /// What is left once the national prefix is cut off; none where the digits don't begin with it.
-fn left_by_prefix<'a>(m: &Metadata, digits: &'a str) -> Result<Option<Left<'a>>, AllocError>
+fn left_by_prefix<'a>(m: &Territory, digits: &'a str) -> Result<Option<Left<'a>>, AllocError>
     ensures { IfOk result (λ left. left_of digits.entry.now left ≡
         left_by_prefix m.now digits.entry.now) }
 {
@@ -164,7 +164,7 @@ fn left_by_match<'a>(
 fn has_two_groups(pattern: &Pattern) -> bool
     ensures { result ≡ nat_le 2 (last_group pattern.now) }
 {
-    pattern.regex().captures_len() > 2
+    pattern.captures_len() > 2
 }
 
 /// The part of a text that a group holds, where it took part.

@@ -18,7 +18,7 @@ use Rattle.phone_library.specs.Kinds.{matches_whole}
 use Rattle.phone_library.specs.Lengths.{is_too_long, length_in}
 use Rattle.phone_library_laws.specs.Agreement
 use Rattle.phone_library_laws.specs.Agreement.{IsCodedAlike, after_prefix, digits_text}
-use Rattle.phone_meta.specs.CodeLookUps.{shortest}
+use Rattle.phone_plans.specs.CodeLookUps.{shortest}
 use Rattle.phone_parts.specs.Texts.{begins, is_front}
 use Rattle.phone_rules.specs.Dialling.{after_match, found_in, source_of, unsigned}
 use Rattle.phone_read.proofs.ListedFronts.{more_than_two}

@@ -11,8 +11,8 @@ use Rattle.phone_library.specs.Kinds.{matches_whole}
 use Rattle.phone_library.specs.Lengths.{length_in, may_be_left}
 use Rattle.phone_library.specs.Stripping.{left_by_match, left_by_pattern, left_by_prefix, left_by_text, strip, stripped, untouched}
 use Rattle.phone_library_text.specs.Letters.{digits_in, is_lettered, key_of, value_of, zeros}
-use Rattle.phone_meta.proofs.InOrder.{All-territories}
-use Rattle.phone_meta.specs.CodeLookUps.{first_of, territories}
+use Rattle.phone_plans.proofs.InOrder.{All-territories}
+use Rattle.phone_plans.specs.CodeLookUps.{first_of, territories}
 use Rattle.phone_parts.specs.Texts.{is_front, without_front}
 use Rattle.phone_rules.specs.Strips.{Stripped}
 use Rattle.phone_read.proofs.ReadNumbers.{All-replaced}

@@ -17,7 +17,7 @@ use Rattle.phone_library.specs.Readings.{ReadsByLibrary, after_code, after_code_
 use Rattle.phone_library_laws.specs.Again.{IsSettled, e164_reading}
 use Rattle.phone_library_text.specs.Written.{IsWritten, most_characters}
 use Rattle.phone_library_text.specs.declared.written.WrittenNumber.{WrittenNumber}
-use Rattle.phone_meta.specs.CodeLookUps.{shortest}
+use Rattle.phone_plans.specs.CodeLookUps.{shortest}
 use Rattle.phone_print.specs.Texts.{e164_text}
 use Rattle.phone_read.specs.CallingCodes.{code_by_front}
 use Rattle.phone_read.specs.Hints.{Coded, hinted}

@@ -15,7 +15,7 @@ use Rattle.phone_library.specs.Readings.{ReadsByLibrary, after_code_if_any, read
 use Rattle.phone_library_laws.specs.Signs.{is_told_by_sign, without_sign}
 use Rattle.phone_library_text.specs.Written.{IsWritten}
 use Rattle.phone_library_text.specs.declared.written.WrittenNumber.{WrittenNumber}
-use Rattle.phone_meta.specs.CodeLookUps.{shortest}
+use Rattle.phone_plans.specs.CodeLookUps.{shortest}
 use Rattle.phone_read.specs.Hints.{Coded, hinted}
 use Rattle.phone_records.specs.declared.loader.Metadata.{Metadata}
 use Rattle.phone_library_laws.proofs.ReadOnce.{OneWritten, read_if_refused, read_if_written}

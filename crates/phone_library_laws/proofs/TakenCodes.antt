@@ -9,8 +9,8 @@ use Rattle.phone_values.specs.declared.country.Source.TheVariants.{Plus, Idd, Nu
 use Rattle.phone_values.specs.declared.error.ParseError.{ParseError}
 use Rattle.phone_values.specs.declared.error.ParseError.TheVariants as refusal
 use Rattle.phone_library.specs.LibraryCodes.{code_after_sign, code_by_hint, code_in, cut_off, or_by_hint}
-use Rattle.phone_meta.specs.CodeLookUps.{shortest}
-use Rattle.phone_meta.specs.Records.{last_where}
+use Rattle.phone_plans.specs.CodeLookUps.{shortest}
+use Rattle.phone_plans.specs.Records.{last_where}
 use Rattle.phone_read.specs.CallingCodes.{code_by_front}
 use Rattle.phone_read.specs.Hints.{Coded}
 use Rattle.phone_records.specs.declared.loader.Metadata.{Metadata}

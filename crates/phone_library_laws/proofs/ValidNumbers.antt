@@ -12,8 +12,8 @@ use Rattle.phone_values.specs.declared.reading.Reading.{Reading}
 use Rattle.phone_rules.specs.Kinds.{is_known}
 use Rattle.phone_library.specs.Facts.{is_valid_number, kind_of_number, territory_of_number}
 use Rattle.phone_library.specs.Kinds.{has_digits, kind_in, territory_among}
-use Rattle.phone_meta.specs.CodeLookUps.{is_main_of, is_other_of, territories}
-use Rattle.phone_meta.specs.Records.{has_code}
+use Rattle.phone_plans.specs.CodeLookUps.{is_main_of, is_other_of, territories}
+use Rattle.phone_plans.specs.Records.{has_code}
 use Rattle.phone_records.specs.declared.loader.Metadata.{Metadata}
 
 -- a kind is known where it isn't unknown

@@ -24,9 +24,9 @@ use Rattle.phone_library_laws.specs.Again.{IsSettled, IsSettledIfRead}
 use Rattle.phone_library_text.specs.Written
 use Rattle.phone_library_text.specs.Written.{IsWritten, IsWrittenIn}
 use Rattle.phone_library_text.specs.declared.written.WrittenNumber.{WrittenNumber}
-use Rattle.phone_meta.specs.CodeLookUps.{is_listed}
-use Rattle.phone_meta.specs.Records.{has_id, last_where}
-use Rattle.phone_meta.specs.Records as records
+use Rattle.phone_plans.specs.CodeLookUps.{is_listed}
+use Rattle.phone_plans.specs.Records.{has_id, last_where}
+use Rattle.phone_plans.specs.Records as records
 use Rattle.phone_parts.specs.Texts.{begins}
 use Rattle.phone_rules.specs.Dialling.{after_match, found_in}
 use Rattle.phone_rules.specs.Strips.{Stripped}

@@ -5,7 +5,7 @@ use Rattle.phone_values.specs.declared.country.Source.TheVariants.{Plus}
 use Rattle.phone_values.specs.declared.reading.Reading.{Reading}
 use Rattle.phone_library.specs.Readings.{stripped}
 use Rattle.phone_library.specs.Stripping.{untouched}
-use Rattle.phone_meta.specs.CodeLookUps.{first_of, is_listed, is_prefix_free, territories}
+use Rattle.phone_plans.specs.CodeLookUps.{first_of, is_listed, is_prefix_free, territories}
 use Rattle.phone_records.specs.declared.loader.Metadata.{Metadata}
 
 -- the number's code is listed and has at most three digits, no listed code begins another, its

@@ -13,7 +13,7 @@ use Rattle.phone_library.specs.Readings as second
 use Rattle.phone_library.specs.Stripping.{untouched}
 use Rattle.phone_library_laws.specs.Again.{IsSettled}
 use Rattle.phone_library_text.specs.Written.{most_characters}
-use Rattle.phone_meta.specs.CodeLookUps.{shortest}
+use Rattle.phone_plans.specs.CodeLookUps.{shortest}
 use Rattle.phone_parts.specs.Texts.{is_front}
 use Rattle.phone_rules.specs.Dialling.{after_match, found_in}
 use Rattle.phone_rules.specs.Strips as first

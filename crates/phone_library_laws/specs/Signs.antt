@@ -2,7 +2,7 @@
 use Rattle.std.specs.Prelude.{◌&&◌, ◌||◌, nat_le, Bool, false, List, length}
 use Rattle.std.specs.Option.{is_some}
 use Rattle.phone_library_text.specs.declared.written.WrittenNumber.{WrittenNumber}
-use Rattle.phone_meta.specs.CodeLookUps.{shortest}
+use Rattle.phone_plans.specs.CodeLookUps.{shortest}
 use Rattle.phone_records.specs.declared.loader.Metadata.{Metadata}
 
 -- a number is written with a plus sign, and a listed code stands after it; or at most two digits

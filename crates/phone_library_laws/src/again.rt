@@ -5,7 +5,7 @@ ghost use Rattle.phone_values.specs.declared.country.Id.{Id};
 ghost use Rattle.phone_values.specs.declared.reading.Reading.{Reading};
 ghost use Rattle.phone_library.specs.Readings.{ReadsByLibrary};
 ghost use Rattle.phone_library_laws.specs.Again.{IsSettled, IsSettledIfRead, e164_reading};
-ghost use Rattle.phone_meta.specs.CodeLookUps.{is_listed};
+ghost use Rattle.phone_plans.specs.CodeLookUps.{is_listed};
 ghost use Rattle.phone_print.specs.Texts.{e164_text};
 ghost use Rattle.phone_read.specs.TransformRules.{rules_have_no_plus};
 ghost use Rattle.phone_records.specs.declared.loader.Metadata as loader;

@@ -12,7 +12,7 @@ ghost use Rattle.phone_library.specs.Facts.{is_valid_number, kind_of_number, ter
 ghost use Rattle.phone_library.specs.Kinds.{kind_in};
 ghost use Rattle.phone_library.specs.Lengths.{length_in, local_lengths};
 ghost use Rattle.phone_library_laws.specs.Lengths.{is_ascending};
-ghost use Rattle.phone_meta.specs.Records.{has_code};
+ghost use Rattle.phone_plans.specs.Records.{has_code};
 ghost use Rattle.phone_records.specs.declared.loader.Descriptor as descriptor;
 ghost use Rattle.phone_records.specs.declared.loader.Metadata as loader;
 ghost use Rattle.phone_territory.specs.Records.{allows_length};

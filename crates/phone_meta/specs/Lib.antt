@@ -1,6 +1,1 @@
-pub mod CodeLookUps
-pub mod Index
-pub mod Lasts
-pub mod Records
-pub mod Refusals
-pub mod Texts
+pub mod Compiled

@@ -1,82 +1,81 @@
 //! A database: its territories in order, from records or from text, by id and by calling code.
 ghost use Rattle.std.specs.Prelude.{◌≡◌, ◌⊎◌, ◌<◌, ◌≤◌, ◌+◌, ◌^◌, ◌++◌, ℕ, List, None, Some, Ok};
-ghost use Rattle.std.specs.Prelude.{Err};
-ghost use Rattle.std.specs.Prelude.{IfOk, IfErr, IfSome, IsUtf8, OnOk, filter, map, option_map};
-ghost use Rattle.std.specs.Prelude.{reverse};
+ghost use Rattle.std.specs.Prelude.{Err, IfOk, IfErr, IfSome, IsUtf8, OnOk, filter, map};
+ghost use Rattle.std.specs.Prelude.{option_map, reverse};
 ghost use Rattle.std.specs.Borrow.{Bor};
-ghost use Rattle.std.specs.List.{AllByRecursion, Contains, IsDistinct, find, slice_get};
+ghost use Rattle.std.specs.List.{AllByRecursion, Contains, IsDistinct, find};
 ghost use Rattle.std.specs.Result.{IsOk};
-ghost use Rattle.std.specs.Option.{option_and_then, option_copied, option_flatten};
+ghost use Rattle.std.specs.Option.{option_copied};
 ghost use Rattle.std.specs.Str.{bytes_eq};
 ghost use Rattle.serde_json.specs.Read.{read};
 ghost use Rattle.phone_device.specs.Passing.{IsAtEnd, PassesSome};
 ghost use Rattle.phone_json.specs.Records.{records_of};
-ghost use Rattle.phone_meta.specs.CodeLookUps.{first_of, if_any, is_listed, is_main, is_main_of};
-ghost use Rattle.phone_meta.specs.CodeLookUps.{is_other, is_other_of};
-ghost use Rattle.phone_meta.specs.CodeLookUps.{is_prefix_free, regions, shortest, territories};
-ghost use Rattle.phone_meta.specs.Index.{count_of_ids};
-ghost use Rattle.phone_meta.specs.Lasts.{last_of, last_places, seen, with_last};
-ghost use Rattle.phone_meta.specs.Records.{has_code, last_with, places_where};
-ghost use Rattle.phone_meta.specs.Refusals.{patterns, IsRefusalOf, TellsMissing};
-ghost use Rattle.phone_meta.specs.Texts.{IsByteRefusal, IsCutShort, IsRefusalOfSome, IsTextRefusal};
-ghost use Rattle.phone_meta.specs.Texts.{faults_of};
+ghost use Rattle.phone_plans.specs.CodeLookUps.{first_of, if_any, is_main_of, is_other_of};
+ghost use Rattle.phone_plans.specs.CodeLookUps.{territories};
+ghost use Rattle.phone_plans.specs.Index.{count_of_ids};
+ghost use Rattle.phone_plans.specs.Records.{last_with};
+ghost use Rattle.phone_plans.specs.Refusals.{patterns, IsRefusalOf};
+ghost use Rattle.phone_plans.specs.Texts.{IsByteRefusal, IsCutShort, IsRefusalOfSome};
+ghost use Rattle.phone_plans.specs.Texts.{IsTextRefusal, faults_of};
 ghost use Rattle.phone_records.specs.Missing.{first_missing};
 ghost use Rattle.phone_records.specs.declared.loader.Metadata as loader;
-ghost use Rattle.phone_territory.specs.First.{IsPattern, IsPatternOf};
-ghost use Rattle.phone_territory.specs.Records.{code_of, id_of};
 ghost use Rattle.phone_pattern.specs.Rules.{first_group_pattern};
+ghost use Rattle.phone_territory.specs.First.{IsPattern, IsPatternOf};
+ghost use Rattle.phone_territory.specs.Records.{id_of};
 ghost use Rattle.phone_base.specs.declared.error.LoadMetadata.TheVariants as error;
-ghost use Rattle.phone_index.specs.ListedCodes.{is_in};
 
-use crate::index::Index;
 use crate::iter::Iter;
-use crate::of_code::{Placed, WithLast, WithLasts};
-use phone_base::MetadataError;
+use crate::metadata::Metadata;
+use crate::tree::Tree;
 use phone_device::{ByteSource, ReadError, Std, read_all};
-use phone_index::{Coded, Steps, Trie};
-use phone_records::LoadMetadata;
-use phone_records::missing::{self, Missing};
-use phone_territory::together::{both, both_read};
-use phone_territory::{FirstGroup, Metadata, compile_all, loader};
+use phone_plans::{Plans, Steps};
+use phone_territory::LoadMetadata;
+use phone_territory::loader::{self, Items};
+use phone_territory::together::both;
 use regex::Regex;
 use std::alloc::{AllocError, Global};
 use std::fs::{self, Files};
 use std::marker::Model;
+use std::ops::Deref;
 
-/// Territories in the order in which their records were handed in. Contracts see these records.
+/// Territories in the order in which their records were handed in, with their patterns compiled,
+/// and the light table of the same records. Contracts see these records.
 pub struct Database {
-    alloc: Global,
-    territories: Vec<Metadata>,
-    index: Index,
-    first_group: FirstGroup,
+    plans: Plans,
+    tree: Tree,
 }
 
 /// Written out, so that the crates above drop a database by this one function, and don't prove anew
 /// the drop of each type that it owns.
 impl Drop for Database {
     fn drop(self) {
-        let Database {
-            alloc: _,
-            territories,
-            index,
-            first_group,
-        } = self;
-        drop(territories);
-        drop(index);
-        drop(first_group);
+        let Database { plans, tree } = self;
+        drop(plans);
+        drop(tree);
     }
 }
 
 impl Model for Database {
-    ghost use Rattle.std.specs.Prelude.{List};
-    ghost use Rattle.phone_meta.specs.Index.{IsIndexOf};
+    ghost use Rattle.std.specs.Prelude.{◌≡◌, List};
     ghost use Rattle.phone_records.specs.declared.loader.Metadata as loader;
 
     ghost Value = { List loader.Metadata };
 
-    ghost view = { λ d. d.territories.items };
+    ghost view = { λ d. d.plans };
 
-    ghost invariant = { λ d. IsIndexOf d.index d.territories.items };
+    ghost invariant = { λ d. d.tree ≡ d.plans };
+}
+
+impl Deref for Database {
+    type Target = Plans;
+
+    ghost use Rattle.std.specs.Prelude.{◌≡◌};
+
+    ghost deref_gives = { λ d plans. plans ≡ d };
+
+    fn deref(&self) -> &Plans {
+        &self.plans
+    }
 }
 
 impl Database {
@@ -91,19 +90,11 @@ impl Database {
         ensures read { IsOk result → AllByRecursion IsPattern (patterns records.items) }
         ensures refused { IfErr result (IsRefusalOf records.items) }
     {
-        if let Some(missing) = missing::first_missing(records.as_slice()) {
-            return Err(missing_value(alloc, missing));
-        }
-        let territories = compile_all(alloc, records)?;
-        let index = Index::of(alloc, territories.as_slice());
-        let others = both_read(index, FirstGroup::compile(alloc));
-        let (territories, (index, first_group)) = both_read(Ok(territories), others)?;
-        Ok(Database {
-            alloc,
-            territories,
-            index,
-            first_group,
-        })
+        let records = Items::from(records);
+        let copies = records.clone(alloc)?;
+        let plans = Plans::from(alloc, copies.into_vec())?;
+        let tree = Tree::compile(alloc, records.into_vec())?;
+        Ok(Database { plans, tree })
     }
 
     /// The database that a text is: a JSON array of records, in their order, each an object whose
@@ -194,28 +185,27 @@ impl Database {
         }
     }
 
-    /// The allocator that the database keeps, for calls on it and its parts.
-    pub fn allocator(&self) -> Global {
-        self.alloc
+    /// The light table of the same records. What was compiled is given up.
+    pub fn into_plans(self) -> Plans
+        ensures { result ≡ self }
+    {
+        let Database { plans, tree } = self;
+        drop(tree);
+        plans
     }
 
     /// The pattern `(\$\d)` of the first group that a template names.
     pub fn first_group(&self) -> &Regex
         ensures { IsPatternOf first_group_pattern result.now }
     {
-        self.first_group.regex()
-    }
-
-    /// The same, as what layouts take.
-    pub fn first_group_finder(&self) -> &FirstGroup {
-        &self.first_group
+        self.tree.first_group()
     }
 
     /// The territories in order of arrival.
-    pub(crate) fn territories(&self) -> &[Metadata]
+    fn territories(&self) -> &[Metadata]
         ensures { result.now ≡ self.now }
     {
-        self.territories.as_slice()
+        self.tree.territories()
     }
 
     /// The territory of an id: the last of its records.
@@ -231,69 +221,7 @@ impl Database {
         ensures territory { option_copied result ≡ last_with id.now self.now }
         ensures bound { (k : ℕ) → count_of_ids self.now < 2 ^ k → steps.new ≤ steps.old + k }
     {
-        let place = self.index.by_id.find_in(id, steps)?;
-        self.territories.get(place)
-    }
-
-    /// The territory at a place, with the last one of its id.
-    pub(crate) fn with_last_at(&self, place: usize) -> Option<WithLast<'_>>
-        ensures { option_map seen result ≡
-            option_map (with_last self.now) (slice_get self.now place) }
-    {
-        let territory = self.territories.get(place)?;
-        let last = self.last_at(place);
-        Some(WithLast { territory, last })
-    }
-
-    /// The last territory of the id that the one at a place has.
-    fn last_at(&self, place: usize) -> Option<&Metadata>
-        ensures { option_copied result ≡
-            option_and_then (last_of self.now) (slice_get self.now place) }
-    {
-        let last = self.last_place_at(place)?;
-        self.territories.get(last)
-    }
-
-    /// The place of the last territory of the id that the one at a place has.
-    fn last_place_at(&self, place: usize) -> Option<usize>
-        ensures { result ≡ option_flatten (slice_get (last_places self.now) place) }
-    {
-        *self.index.lasts.get(place)?
-    }
-
-    /// The places of the territories of a calling code, in order of arrival.
-    pub(crate) fn places_of(&self, code: u16) -> &[Coded]
-        ensures { map (λ e. e.place) result.now ≡ places_where (has_code code) self.now }
-    {
-        self.index.by_code.of_code(code)
-    }
-
-    /// The listed calling codes, by their digits.
-    pub(crate) fn codes(&self) -> &Trie
-        ensures { (code : ℕ) → is_in code result.now ≡ is_listed code self.now }
-    {
-        &self.index.codes
-    }
-
-    /// The territories of a calling code, in order of arrival. Takes no memory.
-    pub fn of_code(&self, code: u16) -> Placed<'_>
-        ensures { result ≡ filter (has_code code) self.now }
-    {
-        Placed {
-            places: self.places_of(code),
-            territories: self.territories(),
-        }
-    }
-
-    /// The territories of a calling code, in order of arrival, each with the last one of its id.
-    /// Takes no memory, and looks up no id.
-    pub fn of_code_with_lasts(&self, code: u16) -> WithLasts<'_>
-        ensures { result ≡ map (with_last self.now) (filter (has_code code) self.now) }
-    {
-        WithLasts {
-            places: self.places_of(code),
-            database: self,
-        }
+        self.tree.by_id_in(id, steps)
     }
 
     /// The territories of a calling code: the main ones, latest first, then the others in order of
@@ -303,21 +231,10 @@ impl Database {
             option_map (λ v. map (λ (t : Bor loader.Metadata). t.now) v.items) found ≡
             if_any (territories code.now self.now)) }
     {
-        let (mains, others) = both(self.mains(*code), self.others(*code))?;
+        let alloc = self.allocator();
+        let all = self.territories();
+        let (mains, others) = both(mains(alloc, all, *code), others(alloc, all, *code))?;
         backwards_before(mains, others)
-    }
-
-    /// The ids of the territories of a calling code, in the order of `by_code`. Refused only for
-    /// memory.
-    pub fn region(&self, code: &u16) -> Result<Option<Vec<&str>>, AllocError>
-        ensures { IfOk result (λ found.
-            option_map (λ v. map (λ (id : Bor (List ℕ)). id.now) v.items) found ≡
-            if_any (regions code.now self.now)) }
-    {
-        let Some(found) = self.by_code(code)? else {
-            return Ok(None);
-        };
-        Ok(Some(ids(self.allocator(), found.as_slice())?))
     }
 
     /// The first territory of a calling code: its latest main one, or else its earliest. Takes no
@@ -325,62 +242,11 @@ impl Database {
     pub fn first_by_code(&self, code: &u16) -> Option<&Metadata>
         ensures { option_copied result ≡ first_of (territories code.now self.now) }
     {
-        let all = self.of_code(*code);
-        match last_main(&all) {
+        let all = self.territories();
+        match last_main(all, *code) {
             Some(main) => Some(main),
-            None => first_other(&all),
+            None => first_other(all, *code),
         }
-    }
-
-    fn mains(&self, code: u16) -> Result<Vec<&Metadata>, AllocError>
-        ensures { IfOk result (λ v. map (λ (t : Bor loader.Metadata). t.now) v.items ≡
-            filter (is_main_of code) self.now) }
-    {
-        self.of_code(code)
-            .filter(|t| t.is_main_country_for_code())
-            .collect(self.allocator())
-    }
-
-    fn others(&self, code: u16) -> Result<Vec<&Metadata>, AllocError>
-        ensures { IfOk result (λ v. map (λ (t : Bor loader.Metadata). t.now) v.items ≡
-            filter (is_other_of code) self.now) }
-    {
-        self.of_code(code)
-            .filter(|t| !t.is_main_country_for_code())
-            .collect(self.allocator())
-    }
-
-    /// Whether a calling code has a territory. Takes no memory.
-    pub fn is_listed(&self, code: &u16) -> bool
-        ensures { result ≡ is_listed code.now self.now }
-    {
-        !self.places_of(*code).is_empty()
-    }
-
-    /// The calling code that stands in front of a text: the least number of digits, one to three,
-    /// whose number is listed. None where the text begins with `0`, since no calling code does.
-    /// Takes no memory.
-    pub fn shortest(&self, text: &str) -> Option<u16>
-        ensures { result ≡ shortest self.now text.now }
-    {
-        self.shortest_in(text, &mut Steps::new())
-    }
-
-    /// The same, with its steps counted: each move to a digit's child in the trie of codes is one,
-    /// of which it takes at most three.
-    pub fn shortest_in(&self, text: &str, steps: &mut Steps) -> Option<u16>
-        ensures code { result ≡ shortest self.now text.now }
-        ensures bound { steps.new ≤ steps.old + 3 }
-    {
-        self.codes().shortest_in(text, steps)
-    }
-
-    /// Whether no listed calling code's decimal text begins that of another listed one. Takes no
-    /// memory.
-    pub fn codes_prefix_free(&self) -> bool
-        ensures { result ≡ is_prefix_free self.now }
-    {
-        self.codes().is_prefix_free()
     }
 
     /// For each id its last territory, each once, in no order that is promised. Takes no memory.
@@ -397,38 +263,55 @@ impl Database {
     }
 }
 
-/// The last main one of territories.
-fn last_main<'a>(all: &Placed<'a>) -> Option<&'a Metadata>
-    ensures { option_copied result ≡ find is_main (reverse all.now) }
+/// The main territories of a calling code, in order of arrival. Refused only for memory.
+fn mains(alloc: Global, all: &[Metadata], code: u16) -> Result<Vec<&Metadata>, AllocError>
+    ensures { IfOk result (λ v. map (λ (t : Bor loader.Metadata). t.now) v.items ≡
+        filter (is_main_of code) all.now) }
 {
-    let mut rest = all.again();
-    while let Some(territory) = rest.take_last() {
-        if territory.is_main_country_for_code() {
-            return Some(territory);
+    all.iter().filter(|t| is_main(t, code)).collect(alloc)
+}
+
+/// The other territories of a calling code, in order of arrival. Refused only for memory.
+fn others(alloc: Global, all: &[Metadata], code: u16) -> Result<Vec<&Metadata>, AllocError>
+    ensures { IfOk result (λ v. map (λ (t : Bor loader.Metadata). t.now) v.items ≡
+        filter (is_other_of code) all.now) }
+{
+    all.iter().filter(|t| is_other(t, code)).collect(alloc)
+}
+
+/// Whether a territory is a main one of a calling code.
+fn is_main(territory: &Metadata, code: u16) -> bool
+    ensures { result ≡ is_main_of code territory.now }
+{
+    territory.country_code() == code && territory.is_main_country_for_code()
+}
+
+/// Whether a territory is of a calling code, and isn't a main one.
+fn is_other(territory: &Metadata, code: u16) -> bool
+    ensures { result ≡ is_other_of code territory.now }
+{
+    territory.country_code() == code && !territory.is_main_country_for_code()
+}
+
+/// The last main one of a calling code's territories.
+fn last_main(all: &[Metadata], code: u16) -> Option<&Metadata>
+    ensures { option_copied result ≡ find (is_main_of code) (reverse all.now) }
+{
+    let mut rest = all;
+    while let Some((last, others)) = rest.split_last() {
+        rest = others;
+        if is_main(last, code) {
+            return Some(last);
         }
     }
     None
 }
 
-/// The first of territories that isn't a main one.
-fn first_other<'a>(all: &Placed<'a>) -> Option<&'a Metadata>
-    ensures { option_copied result ≡ find is_other all.now }
+/// The first of a calling code's territories that isn't a main one.
+fn first_other(all: &[Metadata], code: u16) -> Option<&Metadata>
+    ensures { option_copied result ≡ find (is_other_of code) all.now }
 {
-    all.again().find(|t| !t.is_main_country_for_code())
-}
-
-/// The refusal that tells of a missing value, or of memory for its text.
-fn missing_value(alloc: Global, missing: Missing) -> LoadMetadata
-    ensures { TellsMissing missing result ⊎ (result ≡ error.Memory) }
-{
-    let phase = String::from_str(alloc, missing.phase());
-    let name = String::from_str(alloc, missing.name());
-    match both(phase, name) {
-        Ok((phase, name)) => {
-            LoadMetadata::Metadata(MetadataError::MissingValue { phase, name })
-        },
-        Err(_) => LoadMetadata::Memory,
-    }
+    all.iter().find(|t| is_other(t, code))
 }
 
 /// The first items backwards, and after them the others, where there is any. Refused only for
@@ -445,15 +328,4 @@ fn backwards_before<T: Drop>(first: Vec<T>, others: Vec<T>) -> Result<Option<Vec
         return Ok(None);
     }
     Ok(Some(all))
-}
-
-fn ids<'a>(alloc: Global, found: &[&'a Metadata]) -> Result<Vec<&'a str>, AllocError>
-    ensures { IfOk result (λ v. map (λ (id : Bor (List ℕ)). id.now) v.items ≡
-        map (λ (t : Bor loader.Metadata). id_of t.now) found.now) }
-{
-    let mut ids = Vec::new(alloc);
-    for territory in found {
-        ids.push(territory.id())?;
-    }
-    Ok(ids)
 }

@@ -2,9 +2,9 @@
 ghost use Rattle.std.specs.Prelude.{◌≡◌};
 ghost use Rattle.std.specs.Iterator.{YieldsFirstRef, item_count};
 ghost use Rattle.std.specs.List.{list_any};
-ghost use Rattle.phone_meta.specs.Records.{has_id};
+ghost use Rattle.phone_plans.specs.Records.{has_id};
 
-use phone_territory::Metadata;
+use crate::metadata::Metadata;
 use std::marker::Model;
 
 /// For each id its last territory. Contracts see those that are still to come.
@@ -15,7 +15,7 @@ pub struct Iter<'a> {
 
 impl<'a> Model for Iter<'a> {
     ghost use Rattle.std.specs.Prelude.{List};
-    ghost use Rattle.phone_meta.specs.Records.{lasts};
+    ghost use Rattle.phone_plans.specs.Records.{lasts};
     ghost use Rattle.phone_records.specs.declared.loader.Metadata as loader;
 
     ghost Value = { List loader.Metadata };

@@ -1,17 +1,24 @@
-//! A database: its territories in their order, read from records or from text, and looked up by id
-//! and calling code.
+//! The table whose patterns are compiled where it is made, so that each part lends its `Regex`. It
+//! stands on the light table of `phone_plans`, which it also is.
 #![tactic(auto)]
 
 mod database;
+mod descriptor;
+mod descriptors;
+mod format;
 mod index;
 mod iter;
-mod of_code;
+pub mod laws;
+mod metadata;
+mod patterns;
+mod tree;
 
 pub use database::Database;
+pub use descriptor::Descriptor;
+pub use descriptors::Descriptors;
+pub use format::Format;
 pub use iter::Iter;
-pub use of_code::{Placed, WithLast, WithLasts};
+pub use metadata::Metadata;
 pub use phone_device::ByteSource;
-pub use phone_index::Steps;
-pub use phone_territory::{
-    Captured, Descriptor, Descriptors, FirstGroup, Format, LoadMetadata, Metadata, Pattern, loader,
-};
+pub use phone_plans::{Plans, Steps};
+pub use phone_territory::{LoadMetadata, loader};

@@ -14,6 +14,7 @@ use Rattle.regex.specs.declared.string.captures.Captures.{Captures}
 use Rattle.regex.specs.declared.string.regex.Regex.{Regex}
 use Rattle.regex.proofs.CapturesLemmas.{group_span-zero}
 use Rattle.regex_hir.specs.Find.{matches_from}
+use Rattle.regex_hir.specs.declared.hir.Hir.{Hir}
 use Rattle.regex_syntax.specs.Grammar.{read, Names}
 use Rattle.regex_syntax.specs.Brackets.{Nested}
 use Rattle.regex_syntax.proofs.CapturesLemmas.{find_str_alike}
@@ -37,6 +38,11 @@ named (Some x) P names p f = f x p
 is_read_as : (o : Option Parsed) (P : Parsed → Type 0) → IsSomeAnd o P → IsSome o
 is_read_as None P p = absurd p
 is_read_as (Some x) P p = refl
+
+-- what the grammar reads is a pattern
+pub pattern_read : (pattern : List ℕ) (hir : Hir) (names : Names) → Reads verbose pattern hir names → IsPattern pattern
+unfolding IsPattern Reads
+pattern_read pattern hir names reads = is_read_as (read verbose (chars pattern)) _ reads
 
 through : (o : Option Match) → option_map span o ≡ option_map (λ (s : Seen). (s.0, s.1)) (option_map seen_of o)
 through None = refl

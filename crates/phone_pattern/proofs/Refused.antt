@@ -1,5 +1,5 @@
 -- One text is refused of a list of texts, where those before it are patterns.
-use Rattle.std.proofs.Common.{◌≡◌, ℕ, List, [], ◌∷◌, ◌++◌, append_assoc, ap, subst, sym, ◌∙◌}
+use Rattle.std.proofs.Common.{◌≡◌, ◌<◌, ℕ, zero, suc, List, [], ◌∷◌, ◌++◌, append_assoc, ap, arith, drop, get_or, length, subst, sym, take, ◌∙◌}
 use Rattle.std.specs.List.{AllByRecursion, flat_map}
 use Rattle.phone_pattern.specs.First.{IsPattern}
 use Rattle.phone_pattern.specs.Refusals.{IsPatternRefusal, IsRefusedIn}
@@ -53,3 +53,13 @@ refused-right before ps e are = by ps (before ++ ps) e (λ p h. (
 -- one text is refused of a list, where the texts before it are patterns
 pub refused_here : (before after all : Texts) (t : List ℕ) (e : LoadMetadata) → before ++ t ∷ after ≡ all → ArePatterns before → IsPatternRefusal (t ∷ []) e → IsPatternRefusal all e
 refused_here before after all t e is are h = subst (λ xs. IsPatternRefusal xs e) is (refused-right before (t ∷ after) e are (refused-left (t ∷ []) after e h))
+
+-- a list is parted at each of its items
+parted_at : {X : Type 0} (xs : List X) (k : ℕ) (x : X) → k < length xs → x ≡ get_or xs k x → take k xs ++ x ∷ drop (suc k) xs ≡ xs
+parted_at [] k x h e = absurd (omega (arith, h))
+parted_at (y ∷ ys) zero x h e = ap (λ z. z ∷ ys) e
+parted_at (y ∷ ys) (suc k) x h e = ap (λ zs. y ∷ zs) (parted_at ys k x (omega (arith, h)) e)
+
+-- the text at a place is refused, where those before it are patterns
+pub refused_at : (texts : Texts) (k : ℕ) (t : List ℕ) (e : LoadMetadata) → k < length texts → t ≡ get_or texts k t → ArePatterns (take k texts) → IsPatternRefusal (t ∷ []) e → IsPatternRefusal texts e
+refused_at texts k t e inside is are h = refused_here (take k texts) (drop (suc k) texts) texts t e (parted_at texts k t inside is) are h

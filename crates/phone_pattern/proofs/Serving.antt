@@ -1,13 +1,13 @@
 -- What a machine finds in ASCII texts is what the text of its pattern finds there.
-use Rattle.std.proofs.Common.{⊎_elim, is_some, ◌≡◌, ◌<◌, ◌≤◌, ◌-◌, ◌==◌, ◌&&◌, ◌⊎◌, inl, inr, ℕ, Bool, List, length, true, false, Option, None, Some, Result, Ok, Err, IfOk, IfSome, String, Global, string_bytes, All, option_map, reverse, [], ◌∷◌, ◌++◌, slice_get, get_or, refl, sym, subst, ap, ap₂, ◌∙◌, arith, true≢false, cond, ne_eqb}
-use Rattle.std.proofs.lemmas.List.{get_or_default, reverse-append}
+use Rattle.std.proofs.Common.{⊎_elim, is_some, ◌≡◌, ◌<◌, ◌≤◌, ◌-◌, ◌==◌, ◌&&◌, ◌⊎◌, inl, inr, ℕ, Bool, List, length, true, false, Option, None, Some, Result, Ok, Err, IfOk, IfSome, String, Global, string_bytes, All, option_map, slice_get, get_or, refl, sym, subst, ap, ap₂, ◌∙◌, arith, true≢false, cond, ne_eqb}
+use Rattle.std.proofs.lemmas.List.{get_or_default}
 use Rattle.std.proofs.lemmas.Bool.{cases_eq}
 use Rattle.std.proofs.lemmas.Option.{none-some, same_Some, slice_get_cases}
 use Rattle.std.specs.Prelude.{slice_index_or}
 use Rattle.std.specs.declared.alloc.AllocError.{AllocError}
 use Rattle.std.specs.Option.{option_and_then, option_map_or}
 use Rattle.std.specs.Str.{chars}
-use Rattle.phone_pattern.specs.First.{at_start, front_end, is_whole_match, captured, captured_by, first_match, first_span, last_group, led_by, names_in, replaced, verbose, with_first_replaced, IsCut, Seen, seen_of}
+use Rattle.phone_pattern.specs.First.{at_start, front_end, is_whole_match, captured, captured_by, first_match, first_span, last_group, names_in, replaced, verbose, with_first_replaced, IsCut, Seen, seen_of}
 use Rattle.phone_pattern.specs.Machines.{as_captured, Serves}
 use Rattle.phone_pattern.proofs.Matches.{found, named}
 use Rattle.phone_automaton.specs.Finds.{at_front, finds, FindsInAscii, Searcher}
@@ -19,7 +19,7 @@ use Rattle.phone_automaton.proofs.Fronting.{barred}
 use Rattle.phone_automaton.specs.Fronts.{BeginsIn, may_begin}
 use Rattle.phone_automaton.specs.Lengths.{any_length, Bounds, HasLengths, IsTooLong, IsTooShort}
 use Rattle.phone_automaton.specs.Templates.{with_match_replaced}
-use Rattle.phone_pattern.specs.Outlines.{AreFronts, AreLengths, IsShape, IsShapeOfFirst, Shape}
+use Rattle.phone_pattern.specs.Outlines.{AreFronts, AreLengths, IsShape, Shape}
 use Rattle.regex_extract.specs.Frames.{Has}
 use Rattle.regex_hir.specs.Find.{find_str}
 use Rattle.regex.specs.Patterns.{Match, span}
@@ -28,7 +28,7 @@ use Rattle.regex_hir.specs.declared.hir.Hir.{Hir}
 use Rattle.regex_syntax.specs.Grammar.{read, Names}
 use Rattle.regex_syntax.specs.Verdict.{Reads}
 
-names_read : (pattern : List ℕ) (hir : Hir) (names : Names) → Reads verbose pattern hir names → names ≡ names_in pattern
+pub names_read : (pattern : List ℕ) (hir : Hir) (names : Names) → Reads verbose pattern hir names → names ≡ names_in pattern
 unfolding names_in Reads
 names_read pattern hir names reads = named (read verbose (chars pattern)) _ names reads (λ x h. h.2)
 
@@ -96,7 +96,7 @@ whole_at_start : (pattern text : List ℕ) → at_start pattern text ≡ false �
 whole_at_start pattern text e =
     whole_at_front pattern text ∙ ap (λ o. option_map_or (λ e. e == length text) o false) (none_at_front pattern text e)
 
-front_end_seen : (o : Option Match) →
+pub front_end_seen : (o : Option Match) →
     searched.front_end o ≡ option_and_then (λ (s : ℕ × ℕ). cond (s.0 == 0) (Some s.1) None) (option_map (λ (s : Seen). (s.0, s.1)) (option_map seen_of o))
 front_end_seen None = refl
 front_end_seen (Some m) = refl
@@ -129,24 +129,6 @@ lengths_served pattern hir names b reads lengths hay ok = (
 pub whole_by_end : (pattern text : List ℕ) (o : Option ℕ) → o ≡ front_end pattern text → option_map_or (λ e. e == length text) o false ≡ is_whole_match pattern text
 whole_by_end pattern text o is = ap (λ o. option_map_or (λ e. e == length text) o false) is ∙ sym (whole_at_front pattern text)
 
--- patterns of which the last has no match at the front of a text don't lead it
-pub not_led : (texts others : List (List ℕ)) (last text : List ℕ) (s : Shape) → texts ≡ others ++ last ∷ [] → IsShapeOfFirst (reverse texts) s →
-    ((pattern : List ℕ) → IsShape pattern s → at_start pattern text ≡ false) → led_by text (reverse texts) ≡ false
-not_led texts others last text s parted shape none =
-    let turned : reverse texts ≡ last ∷ reverse others = ap reverse parted ∙ reverse-append others (last ∷ []) in
-    let own : IsShape last s = subst (λ front. IsShapeOfFirst front s) turned shape in
-    subst (λ front. led_by text front ≡ false) (sym turned) (none last own)
-
--- what is made of the first of patterns turned round is made of their last
-pub shape_last : (texts others : List (List ℕ)) (last : List ℕ) (s : Shape) → texts ≡ others ++ last ∷ [] → IsShapeOfFirst (reverse texts) s → IsShape last s
-shape_last texts others last s parted is =
-    subst (λ front. IsShapeOfFirst front s) (ap reverse parted ∙ reverse-append others (last ∷ [])) is
-
--- what is known of the last of patterns is known of the first of them turned round
-pub shape_of_last : (texts others : List (List ℕ)) (last : List ℕ) (s : Shape) → texts ≡ others ++ last ∷ [] → IsShape last s → IsShapeOfFirst (reverse texts) s
-shape_of_last texts others last s parted is =
-    subst (λ front. IsShapeOfFirst front s) (sym (ap reverse parted ∙ reverse-append others (last ∷ []))) is
-
 -- nor is anything said where no length is known
 pub lengths_of_any : (pattern : List ℕ) (b : Bounds) → b ≡ any_length → AreLengths pattern b
 lengths_of_any pattern b e hay ok = rw e (λ short. absurd (omega (arith, short)), λ long. absurd long.0)
@@ -160,9 +142,13 @@ if_made pattern hir names (Some s) reads finds_it last = serves pattern hir name
 -- what is made of a tree is made of the text that it is read from
 pub shape_served : (pattern : List ℕ) (hir : Hir) (names : Names) (s : Shape) → Reads verbose pattern hir names →
     BeginsIn s.fronts (meaning hir) → HasLengths s.lengths (meaning hir) →
-    IfSome s.searcher (λ s. FindsInAscii (meaning hir) (finds s)) → IfSome s.searcher (λ s. s.last ≡ length names - 1) → IsShape pattern s
-shape_served pattern hir names s reads begins lengths finds_it last =
-    (fronts_served pattern hir names s.fronts reads begins, lengths_served pattern hir names s.lengths reads lengths, if_made pattern hir names s.searcher reads finds_it last)
+    IfSome s.searcher (λ s. FindsInAscii (meaning hir) (finds s)) → IfSome s.searcher (λ s. s.last ≡ length names - 1) →
+    IsShape pattern s
+shape_served pattern hir names s reads begins lengths finds_it last = (
+  fronts_served pattern hir names s.fronts reads begins,
+  lengths_served pattern hir names s.lengths reads lengths,
+  if_made pattern hir names s.searcher reads finds_it last,
+)
 
 module _ (pattern : List ℕ) (s : Shape) (is : IsShape pattern s) (text : List ℕ) (bytes : (k : ℕ) → get_or text k 0 < 256) where
   small : All (λ b. b < 256) text
@@ -185,7 +171,7 @@ captured_seen : (last : ℕ) (o : Option Match) →
 captured_seen last None = refl
 captured_seen last (Some m) = refl
 
-replaced_seen : (names : Names) (template hay : List ℕ) (o : Option Match) →
+pub replaced_seen : (names : Names) (template hay : List ℕ) (o : Option Match) →
     with_match_replaced names template hay o ≡ with_first_replaced names template hay (option_map seen_of o)
 replaced_seen names template hay None = refl
 replaced_seen names template hay (Some m) = refl

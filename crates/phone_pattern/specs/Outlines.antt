@@ -1,11 +1,29 @@
--- What is made of pattern texts at once.
-use Rattle.std.specs.Prelude.{◌≡◌, ◌<◌, ℕ, Bool, false, List, [], ◌∷◌, length, All}
+-- What is made of pattern texts for their searches.
+use Rattle.std.specs.Prelude.{◌≡◌, ◌<◌, ℕ, Bool, false, List, length, All, option_map}
 use Rattle.std.specs.Prelude.{Option, IfSome}
 use Rattle.phone_automaton.specs.Finds.{Searcher}
 use Rattle.phone_automaton.specs.Fronts.{may_begin}
 use Rattle.phone_automaton.specs.Lengths.{Bounds, IsTooLong, IsTooShort}
-use Rattle.phone_pattern.specs.First.{at_start, is_whole_match}
+use Rattle.phone_automaton.specs.Tables.{FrontCells, Tells}
+use Rattle.phone_pattern.specs.First.{at_start, first_match, is_whole_match, names_in, seen_of}
+use Rattle.phone_pattern.specs.First.{IsPattern}
 use Rattle.phone_pattern.specs.Machines.{Serves}
+use Rattle.regex_hir.specs.Find.{find_str}
+use Rattle.regex_hir.specs.Re.{Re}
+
+-- in each text of ASCII the tree's first match is that of the pattern text
+abbrev pub FindsAs : List ℕ → Re → Type 0
+FindsAs pattern re = (hay : List ℕ) → All (λ b. b < 128) hay →
+    option_map seen_of (find_str re hay 0) ≡ first_match pattern hay
+
+-- a text is a pattern, finds as the tree, and has so many groups, the match itself included
+abbrev pub IsReadAs : List ℕ → Re → ℕ → Type 0
+IsReadAs pattern re groups =
+    IsPattern pattern × FindsAs pattern re × (groups ≡ length (names_in pattern))
+
+-- a table tells of a tree that finds as the pattern text
+abbrev pub TellsOf : List ℕ → FrontCells → Type 0
+TellsOf pattern t = (re : Re) × FindsAs pattern re × Tells re t
 
 -- the bytes with which matches begin, their lengths, and what finds them
 pub record Shape : Type 0 where
@@ -29,8 +47,3 @@ AreLengths pattern lengths = (hay : List ℕ) → All (λ b. b < 256) hay →
 abbrev pub IsShape : List ℕ → Shape → Type 0
 IsShape pattern s =
     AreFronts pattern s.fronts × AreLengths pattern s.lengths × IfSome s.searcher (Serves pattern)
-
--- they are those of the first of these pattern texts, if there is one
-abbrev pub IsShapeOfFirst : List (List ℕ) → Shape → Type 0
-IsShapeOfFirst [] s = Unit {0}
-IsShapeOfFirst (first ∷ others) s = IsShape first s

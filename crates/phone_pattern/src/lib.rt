@@ -1,5 +1,5 @@
-//! Patterns of digits, compiled once, kept with a machine that searches, and shared by their texts;
-//! and the formatting rules that change the template of a match.
+//! Patterns of digits, read once, kept with what searches them, and shared by their texts; and the
+//! formatting rules that change the template of a match.
 #![tactic(auto)]
 
 mod compiled;
@@ -7,13 +7,18 @@ mod intern_table;
 mod leading;
 mod outline;
 mod pattern;
+mod plan;
 mod pool;
 mod reading;
 mod ruled;
 mod rules;
+mod scans;
 mod searches;
+mod size;
 mod uncached;
+mod under_x;
 
+pub use compiled::{Compiled, CompiledList};
 pub use leading::Leading;
 pub use pattern::{Captured, Pattern};
 pub use pool::Pool;

@@ -1,23 +1,22 @@
-//! A pattern that is compiled once and held. Contracts see its text.
-ghost use Rattle.std.specs.Prelude.{◌≡◌, [], ◌∷◌, IfErr, IfOk, IfSome, string_bytes};
+//! A pattern that was read once and is held. Contracts see its text.
+ghost use Rattle.std.specs.Prelude.{◌≡◌, [], ◌∷◌, IfErr, IfOk, IfSome, length, string_bytes};
 ghost use Rattle.std.specs.Arc.{arc_value};
-ghost use Rattle.phone_pattern.specs.First.{at_start, captured, first_span, front_end};
-ghost use Rattle.phone_pattern.specs.First.{is_whole_match, replaced, AreCuts, IsCut};
-ghost use Rattle.phone_pattern.specs.First.{IsPattern, IsPatternOf};
+ghost use Rattle.phone_pattern.specs.First.{at_start, captured, first_span, front_end, names_in};
+ghost use Rattle.phone_pattern.specs.First.{is_whole_match, replaced, AreCuts, IsCut, IsPattern};
 ghost use Rattle.phone_pattern.specs.Refusals.{IsPatternRefusal};
 
-use crate::compiled::Compiled;
+use crate::plan::Plan;
+use crate::searches;
 use phone_base::{LoadMetadata, Text};
-use regex::Regex;
 use std::alloc::{AllocError, Global};
 use std::marker::Model;
 use std::sync::Arc;
 
-/// A compiled pattern of a database, read under flag x: white space and `#` comments in it don't
-/// count. What is compiled, and the machine that searches, is shared with all patterns of the same
-/// text, and may be shared with other threads.
+/// A pattern of a database, read under flag x: white space and `#` comments in it don't count. What
+/// is made for its searches is shared with all patterns of the same text, and may be shared with
+/// other threads.
 pub struct Pattern {
-    compiled: Arc<Compiled>,
+    plan: Arc<Plan>,
 }
 
 impl Model for Pattern {
@@ -26,53 +25,53 @@ impl Model for Pattern {
 
     ghost Value = { List ℕ };
 
-    ghost view = { λ p. arc_value p.compiled };
+    ghost view = { λ p. arc_value p.plan };
 }
 
-/// Drops what was compiled: as a function it is proved once.
+/// Drops what was made: as a function it is proved once.
 impl Drop for Pattern {
     fn drop(self) {
-        let Pattern { compiled } = self;
-        drop(compiled);
+        let Pattern { plan } = self;
+        drop(plan);
     }
 }
 
 impl Pattern {
-    /// Compiles a text. Refused by `Regex` with the text where it is no pattern or compiles to more
+    /// Reads a text. Refused by `Regex` with the text where it is no pattern or compiles to more
     /// than 10 MiB, by `Memory` where memory is refused.
     pub fn new(alloc: Global, text: Text) -> Result<Pattern, LoadMetadata>
-        ensures compiled { IfOk result (λ p. p ≡ text) }
+        ensures made { IfOk result (λ p. p ≡ text) }
         ensures read { IfOk result (λ p. IsPattern text) }
         ensures refused { IfErr result (IsPatternRefusal (text ∷ [])) }
     {
-        let compiled = Arc::new(alloc, Compiled::new(alloc, text)?)?;
-        Ok(Pattern::of(compiled))
+        let plan = Arc::new(alloc, Plan::new(alloc, text)?)?;
+        Ok(Pattern::of(plan))
     }
 
-    /// The pattern of what was compiled.
-    pub(crate) fn of(compiled: Arc<Compiled>) -> Pattern
-        ensures { result ≡ arc_value compiled }
+    /// The pattern of what was made.
+    pub(crate) fn of(plan: Arc<Plan>) -> Pattern
+        ensures { result ≡ arc_value plan }
     {
-        Pattern { compiled }
-    }
-
-    /// The compiled pattern.
-    pub fn regex(&self) -> &Regex
-        ensures { IsPatternOf self.now result.now }
-    {
-        self.compiled.regex()
+        Pattern { plan }
     }
 
     /// The text of the pattern.
     pub fn as_str(&self) -> &str
         ensures { result.now ≡ self.now }
     {
-        self.compiled.as_str()
+        self.plan.as_str()
     }
 
     /// The allocator that the pattern keeps, for its searches.
     pub fn allocator(&self) -> Global {
-        self.compiled.allocator()
+        self.plan.allocator()
+    }
+
+    /// How many groups the pattern has, the match itself included.
+    pub fn captures_len(&self) -> usize
+        ensures { result ≡ length (names_in self.now) }
+    {
+        self.plan.groups()
     }
 
     /// Whether the first match begins at the first byte; it need not reach the end. Refused only
@@ -81,7 +80,7 @@ impl Pattern {
     pub fn is_at_start(&self, text: &str) -> Result<bool, AllocError>
         ensures { IfOk result (λ b. b ≡ at_start self.now text.now) }
     {
-        self.compiled.is_at_start(text)
+        searches::is_at_start(&self.plan, text)
     }
 
     /// Where the first match ends, if it begins at the first byte; none where it doesn't, and where
@@ -91,7 +90,7 @@ impl Pattern {
         ensures end { IfOk result (λ end. end ≡ front_end self.now text.now) }
         ensures border { IfOk result (λ end. IfSome end (λ e. IsCut text.now (0, e))) }
     {
-        self.compiled.front_end(text)
+        searches::front_end(&self.plan, text)
     }
 
     /// The bytes at which the first match begins and ends; none where the text has no match.
@@ -101,7 +100,7 @@ impl Pattern {
         ensures span { IfOk result (λ found. found ≡ first_span self.now text.now) }
         ensures borders { IfOk result (λ found. IfSome found (IsCut text.now)) }
     {
-        self.compiled.first_span(text)
+        searches::first_span(&self.plan, text)
     }
 
     /// Whether the first match begins at the first byte and ends after the last. Refused only for
@@ -110,7 +109,7 @@ impl Pattern {
     pub fn is_whole_match(&self, text: &str) -> Result<bool, AllocError>
         ensures { IfOk result (λ b. b ≡ is_whole_match self.now text.now) }
     {
-        self.compiled.is_whole_match(text)
+        searches::is_whole_match(&self.plan, text)
     }
 
     /// What the first match spans, and its first and its last group; none where the text has no
@@ -120,7 +119,7 @@ impl Pattern {
         ensures found { IfOk result (λ found. found ≡ captured self.now text.now) }
         ensures borders { IfOk result (λ found. IfSome found (AreCuts text.now)) }
     {
-        self.compiled.captures(text)
+        searches::captures(&self.plan, text)
     }
 
     /// The text with its first match replaced by a template, in which `$1` stands for the first
@@ -129,7 +128,7 @@ impl Pattern {
     pub fn replace(&self, template: &str, text: &str) -> Result<String, AllocError>
         ensures { IfOk result (λ out. string_bytes out ≡ replaced self.now template.now text.now) }
     {
-        self.compiled.replace(template, text)
+        searches::replace(&self.plan, template, text)
     }
 }
 

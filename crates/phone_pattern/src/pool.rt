@@ -1,24 +1,28 @@
-//! What is compiled once for all that have the same text.
-ghost use Rattle.std.specs.Prelude.{◌≡◌, [], ◌∷◌, IfOk, IfErr};
+//! What is made once for all that have the same text.
+ghost use Rattle.std.specs.Prelude.{◌≡◌, ◌++◌, [], ◌∷◌, IfOk, IfErr};
 ghost use Rattle.std.specs.Arc.{arc_value};
 ghost use Rattle.std.specs.List.{AllByRecursion};
 ghost use Rattle.phone_pattern.specs.First.{IsPattern};
 ghost use Rattle.phone_pattern.specs.Refusals.{IsPatternRefusal};
 
-use crate::compiled::Compiled;
+use crate::compiled::{CompiledList, Regexes};
 use crate::intern_table::InternTable;
-use crate::leading::{CompiledList, Leading};
+use crate::leading::Leading;
 use crate::pattern::Pattern;
+use crate::plan::Plan;
+use crate::reading::{self, Unread};
+use crate::under_x::UnderX;
 use phone_base::{LoadMetadata, Text};
 use std::alloc::{AllocError, Global};
 use std::sync::Arc;
 
-/// The patterns and the lists of leading digits that a database compiled so far, by their texts.
-/// The texts of what is found are compared.
+/// What a database made so far of the texts of its patterns, and compiled of them and of its lists
+/// of leading digits. The texts of what is found are compared.
 pub struct Pool {
     alloc: Global,
-    patterns: InternTable<Compiled>,
-    lists: InternTable<CompiledList>,
+    plans: InternTable<Plan>,
+    compiled: InternTable<UnderX>,
+    lists: InternTable<Regexes>,
 }
 
 /// Drops what is kept: as a function it is proved once.
@@ -26,104 +30,140 @@ impl Drop for Pool {
     fn drop(self) {
         let Pool {
             alloc: _,
-            patterns,
+            plans,
+            compiled,
             lists,
         } = self;
-        drop(patterns);
+        drop(plans);
+        drop(compiled);
         drop(lists);
     }
 }
 
 impl Pool {
-    /// Nothing is compiled yet.
+    /// Nothing is made yet.
     pub fn new(alloc: Global) -> Pool {
         Pool {
             alloc,
-            patterns: InternTable::new(alloc),
+            plans: InternTable::new(alloc),
+            compiled: InternTable::new(alloc),
             lists: InternTable::new(alloc),
         }
     }
 
-    /// The allocator of what is compiled.
+    /// The allocator of what is made.
     pub fn allocator(&self) -> Global {
         self.alloc
     }
 
-    /// The pattern of a text, compiled where the text is new. Refused by `Regex` with the text
-    /// where it is no pattern or compiles to more than 10 MiB, by `Memory` where memory is refused.
+    /// The pattern of a text, read where the text is new. Refused by `Regex` with the text where it
+    /// is no pattern or compiles to more than 10 MiB, by `Memory` where memory is refused.
     pub fn pattern(&self, text: Text) -> Result<Pattern, LoadMetadata>
-        ensures compiled { IfOk result (λ p. p ≡ text) }
+        ensures made { IfOk result (λ p. p ≡ text) }
         ensures read { IfOk result (λ p. IsPattern text) }
         ensures refused { IfErr result (IsPatternRefusal (text ∷ [])) }
     {
-        Ok(Pattern::of(self.compiled(text)?))
-    }
-
-    /// What is compiled of a text.
-    fn compiled(&self, text: Text) -> Result<Arc<Compiled>, LoadMetadata>
-        ensures compiled { IfOk result (λ c. arc_value c ≡ text) }
-        ensures read { IfOk result (λ c. IsPattern text) }
-        ensures refused { IfErr result (IsPatternRefusal (text ∷ [])) }
-    {
-        if let Some(found) = self.patterns.find(text.as_str())? {
+        if let Some(found) = self.plans.find(text.as_str())? {
             if found.is_of(text.as_str()) {
-                return Ok(found);
+                return Ok(Pattern::of(found));
             }
         }
-        self.compile(text)
+        Ok(Pattern::of(self.plan(text)?))
     }
 
-    /// The same, of a text for which nothing is kept.
-    fn compile(&self, text: Text) -> Result<Arc<Compiled>, LoadMetadata>
-        ensures compiled { IfOk result (λ c. arc_value c ≡ text) }
-        ensures read { IfOk result (λ c. IsPattern text) }
+    /// What is made of a text for which nothing is kept.
+    fn plan(&self, text: Text) -> Result<Arc<Plan>, LoadMetadata>
+        ensures made { IfOk result (λ p. arc_value p ≡ text) }
+        ensures read { IfOk result (λ p. IsPattern text) }
         ensures refused { IfErr result (IsPatternRefusal (text ∷ [])) }
     {
-        let made = Arc::new(self.alloc, Compiled::new(self.alloc, text)?)?;
+        let made = Arc::new(self.alloc, Plan::new(self.alloc, text)?)?;
         let name = String::from_str(self.alloc, made.as_str());
-        self.patterns.keep(name, &made)?;
+        self.plans.keep(name, &made)?;
         Ok(made)
     }
 
-    /// A list of leading digits, compiled where its texts are new. Refused by `Regex` with the
-    /// first text that is no pattern or compiles to more than 10 MiB, by `Memory` where memory is
-    /// refused.
-    pub fn leading(&self, texts: Vec<Text>) -> Result<Leading, LoadMetadata>
-        ensures compiled { IfOk result (λ l. l ≡ texts.items) }
-        ensures read { IfOk result (λ l. AllByRecursion IsPattern texts.items) }
-        ensures refused { IfErr result (IsPatternRefusal texts.items) }
+    /// Looks whether a text is a pattern. Refused as `pattern` refuses it.
+    fn check(&self, text: &Text) -> Result<(), LoadMetadata>
+        ensures read { IfOk result (λ done. IsPattern text.now) }
+        ensures refused { IfErr result (IsPatternRefusal (text.now ∷ [])) }
     {
-        Ok(Leading::of(self.compiled_list(texts)?))
+        match reading::check(self.alloc, text.as_str()) {
+            Ok(()) => Ok(()),
+            Err(Unread::Memory) => Err(LoadMetadata::Memory),
+            Err(Unread::Refused) => Err(LoadMetadata::Regex(text.clone()?.into_string())),
+        }
     }
 
-    /// What is compiled of a list of texts.
-    fn compiled_list(&self, texts: Vec<Text>) -> Result<Arc<CompiledList>, LoadMetadata>
-        ensures compiled { IfOk result (λ l. arc_value l ≡ texts.items) }
+    /// Looks whether each of these texts is a pattern. Refused as the first that is refused.
+    fn check_all(&self, texts: &[Text]) -> Result<(), LoadMetadata>
+        ensures read { IfOk result (λ done. AllByRecursion IsPattern texts.now) }
+        ensures refused { IfErr result (IsPatternRefusal texts.now) }
+    {
+        for text in texts {
+            self.check(text)?;
+        }
+        Ok(())
+    }
+
+    /// A list of leading digits, whose last pattern is read where its text is new. Refused by
+    /// `Regex` with the first text that is no pattern or compiles to more than 10 MiB, by `Memory`
+    /// where memory is refused.
+    pub fn leading(&self, texts: Vec<Text>) -> Result<Leading, LoadMetadata>
+        ensures made { IfOk result (λ l. l ≡ texts.items) }
         ensures read { IfOk result (λ l. AllByRecursion IsPattern texts.items) }
         ensures refused { IfErr result (IsPatternRefusal texts.items) }
     {
-        let name = join(self.alloc, texts.as_slice())?;
-        if let Some(found) = self.lists.find(name.as_str())? {
-            if found.is_of(texts.as_slice()) {
+        let mut others = texts;
+        match others.pop() {
+            Some(last) => self.leading_by(others, last),
+            None => Ok(Leading::none(others)),
+        }
+    }
+
+    /// The same of the last text and of those before it.
+    fn leading_by(&self, others: Vec<Text>, last: Text) -> Result<Leading, LoadMetadata>
+        ensures made { IfOk result (λ l. l ≡ others.items ++ last ∷ []) }
+        ensures read { IfOk result (λ l. AllByRecursion IsPattern (others.items ++ last ∷ [])) }
+        ensures refused { IfErr result (IsPatternRefusal (others.items ++ last ∷ [])) }
+    {
+        self.check_all(others.as_slice())?;
+        Ok(Leading::of(others, self.pattern(last)?))
+    }
+
+    /// What is compiled of a text, where the text is new. Refused by `Regex` with the text where it
+    /// is no pattern or compiles to more than 10 MiB, by `Memory` where memory is refused.
+    pub(crate) fn compiled(&self, text: &str) -> Result<Arc<UnderX>, LoadMetadata>
+        ensures compiled { IfOk result (λ c. arc_value c ≡ text.now) }
+        ensures refused { IfErr result (IsPatternRefusal (text.now ∷ [])) }
+    {
+        if let Some(found) = self.compiled.find(text)? {
+            if found.is_of(text) {
                 return Ok(found);
             }
         }
-        self.compile_list(name, texts)
+        let made = Arc::new(self.alloc, UnderX::of(self.alloc, text)?)?;
+        let name = String::from_str(self.alloc, text);
+        self.compiled.keep(name, &made)?;
+        Ok(made)
     }
 
-    /// The same, of texts for which nothing is kept, and their name.
-    fn compile_list(
-        &self,
-        name: String,
-        texts: Vec<Text>,
-    ) -> Result<Arc<CompiledList>, LoadMetadata>
-        ensures compiled { IfOk result (λ l. arc_value l ≡ texts.items) }
-        ensures read { IfOk result (λ l. AllByRecursion IsPattern texts.items) }
-        ensures refused { IfErr result (IsPatternRefusal texts.items) }
+    /// What is compiled of a list of texts, where they are new. Refused by `Regex` with the first
+    /// text that is no pattern or compiles to more than 10 MiB, by `Memory` where memory is
+    /// refused.
+    pub(crate) fn compiled_list(&self, texts: &[Text]) -> Result<CompiledList, LoadMetadata>
+        ensures compiled { IfOk result (λ l. l ≡ texts.now) }
+        ensures refused { IfErr result (IsPatternRefusal texts.now) }
     {
-        let made = Arc::new(self.alloc, CompiledList::new(self.alloc, texts)?)?;
+        let name = join(self.alloc, texts)?;
+        if let Some(found) = self.lists.find(name.as_str())? {
+            if found.is_of(texts) {
+                return Ok(CompiledList::of(found));
+            }
+        }
+        let made = Arc::new(self.alloc, Regexes::new(self.alloc, texts)?)?;
         self.lists.keep(Ok(name), &made)?;
-        Ok(made)
+        Ok(CompiledList::of(made))
     }
 }
 

@@ -1,14 +1,13 @@
 //! How a formatting rule changes a layout's template: the rule, its marks filled, is written in the
 //! place of the first group.
 ghost use Rattle.std.specs.Prelude.{◌≡◌, [], ◌∷◌, IfOk, IfErr, string_bytes};
-ghost use Rattle.phone_pattern.specs.First.{IsPattern, IsPatternOf};
+ghost use Rattle.phone_pattern.specs.First.{IsPattern};
 ghost use Rattle.phone_pattern.specs.Rules.{filled_rule, ruled_template};
 ghost use Rattle.phone_pattern.specs.Rules.{first_group_pattern};
 ghost use Rattle.phone_pattern.specs.Refusals.{IsPatternRefusal};
 
 use crate::pattern::Pattern;
 use phone_base::{LoadMetadata, Text};
-use regex::Regex;
 use std::alloc::{AllocError, Global};
 use std::marker::Model;
 
@@ -42,23 +41,22 @@ impl Model for FirstGroup {
 }
 
 impl FirstGroup {
-    /// Compiles the pattern, `(\$\d)`. Refused by `Memory` where memory is refused; by `Regex`
-    /// where the pattern is refused.
-    pub fn compile(alloc: Global) -> Result<FirstGroup, LoadMetadata>
+    /// Reads the pattern, `(\$\d)`. Refused by `Memory` where memory is refused; by `Regex` where
+    /// the pattern is refused.
+    pub fn new(alloc: Global) -> Result<FirstGroup, LoadMetadata>
         ensures read { IfOk result (λ g. IsPattern first_group_pattern) }
         ensures refused { IfErr result (IsPatternRefusal (first_group_pattern ∷ [])) }
     {
-        let text = Text::from(String::from_str(alloc, FIRST_GROUP)?);
         Ok(FirstGroup {
-            pattern: Pattern::new(alloc, text)?,
+            pattern: Pattern::new(alloc, FirstGroup::text(alloc)?)?,
         })
     }
 
-    /// The compiled pattern.
-    pub fn regex(&self) -> &Regex
-        ensures { IsPatternOf first_group_pattern result.now }
+    /// The text of the pattern.
+    pub fn text(alloc: Global) -> Result<Text, AllocError>
+        ensures { IfOk result (λ t. t ≡ first_group_pattern) }
     {
-        self.pattern.regex()
+        Ok(Text::from(String::from_str(alloc, FIRST_GROUP)?))
     }
 
     /// A template with its first group written by a rule, in which `$NP` stands for the national

@@ -9,7 +9,7 @@ ghost use Rattle.phone_print.specs.Texts.{extension_parameter, extension_part, h
 
 use crate::Printable;
 use crate::hyphens::push_hyphenated;
-use phone_territory::Metadata;
+use phone_territory::Territory;
 use phone_values::consts::{DEFAULT_EXTN_PREFIX, RFC3966_EXTN_PREFIX, RFC3966_PREFIX};
 use std::alloc::AllocError;
 
@@ -49,7 +49,7 @@ pub(crate) fn push_international(
     out: &mut String,
     code: &str,
     laid: &str,
-    m: &Metadata,
+    m: &Territory,
     number: &Printable<'_>,
 ) -> Result<(), AllocError>
     ensures text { OnOk result (IsOk done × (string_bytes out.new ≡ string_bytes out.old ++
@@ -67,7 +67,7 @@ pub(crate) fn push_national(
     done: Result<(), AllocError>,
     out: &mut String,
     laid: &str,
-    m: &Metadata,
+    m: &Territory,
     number: &Printable<'_>,
 ) -> Result<(), AllocError>
     ensures text { OnOk result (IsOk done × (string_bytes out.new ≡ string_bytes out.old ++
@@ -118,7 +118,7 @@ fn push_hyphens(
 pub(crate) fn push_extension(
     done: Result<(), AllocError>,
     out: &mut String,
-    m: &Metadata,
+    m: &Territory,
     number: &Printable<'_>,
 ) -> Result<(), AllocError>
     ensures text { OnOk result (IsOk done × (string_bytes out.new ≡ string_bytes out.old ++

@@ -21,7 +21,7 @@ use crate::appending::{
 use crate::written::{ROOM, text_of_value};
 use itoa::Buffer;
 use phone_base::together::both;
-use phone_territory::{FirstGroup, Format, Metadata};
+use phone_territory::{FirstGroup, Format, Territory};
 use phone_values::Mode;
 use std::alloc::{AllocError, Global};
 
@@ -29,7 +29,7 @@ use std::alloc::{AllocError, Global};
 pub fn text_by(
     alloc: Global,
     finder: &FirstGroup,
-    m: &Metadata,
+    m: &Territory,
     mode: Mode,
     own: Option<&Format>,
     number: &Printable<'_>,
@@ -66,7 +66,7 @@ pub struct Texts {
 pub fn texts_by(
     alloc: Global,
     finder: &FirstGroup,
-    m: &Metadata,
+    m: &Territory,
     own: Option<&Format>,
     number: &Printable<'_>,
 ) -> Result<Texts, AllocError>
@@ -89,7 +89,7 @@ pub fn texts_by(
 fn texts_of(
     alloc: Global,
     finder: &FirstGroup,
-    m: &Metadata,
+    m: &Territory,
     own: Option<&Format>,
     number: &Printable<'_>,
     digits: &str,
@@ -126,7 +126,7 @@ fn texts_laid(
     alloc: Global,
     abroad: &str,
     at_home: String,
-    m: &Metadata,
+    m: &Territory,
     number: &Printable<'_>,
 ) -> Result<Texts, AllocError>
     ensures e164 { IfOk result (λ t. string_bytes t.e164 ≡ e164_text number.now) }
@@ -164,7 +164,7 @@ pub fn push_texts(
     line: &mut String,
     alloc: Global,
     finder: &FirstGroup,
-    m: &Metadata,
+    m: &Territory,
     own: Option<&Format>,
     number: &Printable<'_>,
 ) -> Result<(), AllocError>
@@ -187,7 +187,7 @@ fn push_some(
     line: &mut String,
     alloc: Global,
     finder: &FirstGroup,
-    m: &Metadata,
+    m: &Territory,
     own: Option<&Format>,
     number: &Printable<'_>,
 ) -> Result<(), AllocError>
@@ -211,7 +211,7 @@ fn push_texts_of(
     line: &mut String,
     alloc: Global,
     finder: &FirstGroup,
-    m: &Metadata,
+    m: &Territory,
     own: Option<&Format>,
     number: &Printable<'_>,
     digits: &str,
@@ -235,7 +235,7 @@ fn push_texts_of(
 
 /// Whether it is certain that the territory has the same layouts for national text as for other
 /// text.
-fn has_one_list(m: &Metadata) -> bool
+fn has_one_list(m: &Territory) -> bool
     ensures { IsTrue result →
         layouts_for m.now mode.National ≡ layouts_for m.now mode.International }
 {
@@ -244,7 +244,7 @@ fn has_one_list(m: &Metadata) -> bool
 
 /// Whether it is certain that a number is laid out at home as it is abroad, by this layout: the
 /// territory has the same layouts for both, no carrier was dialled, and the layout has no rule.
-fn is_laid_alike(m: &Metadata, abroad: Option<&Format>, number: &Printable<'_>) -> bool
+fn is_laid_alike(m: &Territory, abroad: Option<&Format>, number: &Printable<'_>) -> bool
     ensures { IsTrue result → (own : Option loader.Format) → option_copied abroad.entry ≡
         layout_for m.now mode.International own (text_of number.now.national) →
         laid_out m.now mode.National own number.now ≡
@@ -264,7 +264,7 @@ fn is_laid_alike(m: &Metadata, abroad: Option<&Format>, number: &Printable<'_>) 
 /// and is laid out so, abroad and at home.
 fn push_laid(
     line: &mut String,
-    m: &Metadata,
+    m: &Territory,
     number: &Printable<'_>,
     digits: &str,
     abroad: &str,
@@ -283,7 +283,7 @@ fn push_laid(
 /// The same where the code is this.
 fn push_coded(
     line: &mut String,
-    m: &Metadata,
+    m: &Territory,
     number: &Printable<'_>,
     code: &str,
     digits: &str,
@@ -308,7 +308,7 @@ fn push_coded(
 fn international(
     alloc: Global,
     laid: &str,
-    m: &Metadata,
+    m: &Territory,
     number: &Printable<'_>,
 ) -> Result<String, AllocError>
     ensures { IfOk result (λ t. string_bytes t ≡
@@ -338,7 +338,7 @@ fn rfc3966(alloc: Global, laid: &str, number: &Printable<'_>) -> Result<String, 
 
 /// A text and the extension after it, announced by the territory's preferred prefix, else by ` ext.
 /// `.
-fn with_extension(text: String, m: &Metadata, number: &Printable<'_>) -> Result<String, AllocError>
+fn with_extension(text: String, m: &Territory, number: &Printable<'_>) -> Result<String, AllocError>
     ensures { IfOk result (λ t. string_bytes t ≡ string_bytes text ++
         extension_part m.now number.now.extension) }
 {
@@ -351,7 +351,7 @@ fn with_extension(text: String, m: &Metadata, number: &Printable<'_>) -> Result<
 fn laid_out(
     alloc: Global,
     finder: &FirstGroup,
-    m: &Metadata,
+    m: &Territory,
     mode: Mode,
     own: Option<&Format>,
     number: &Printable<'_>,
@@ -368,7 +368,7 @@ fn laid_out(
 fn laid_in_mode(
     alloc: Global,
     finder: &FirstGroup,
-    m: &Metadata,
+    m: &Territory,
     mode: Mode,
     own: Option<&Format>,
     number: &Printable<'_>,
@@ -386,7 +386,7 @@ fn laid_in_mode(
 fn laid_by(
     alloc: Global,
     finder: &FirstGroup,
-    m: &Metadata,
+    m: &Territory,
     mode: Mode,
     layout: Option<&Format>,
     number: &Printable<'_>,
@@ -427,7 +427,7 @@ struct Layouts<'a> {
 /// The layouts that count for digits. They are looked for once where national text and other text
 /// have the same ones.
 fn layouts_of<'a>(
-    m: &'a Metadata,
+    m: &'a Territory,
     own: Option<&'a Format>,
     digits: &str,
 ) -> Result<Layouts<'a>, AllocError>
@@ -444,7 +444,7 @@ fn layouts_of<'a>(
 /// The layout at home, where the one abroad is known: it is the same where the territory has the
 /// same layouts for both.
 fn at_home<'a>(
-    m: &'a Metadata,
+    m: &'a Territory,
     own: Option<&'a Format>,
     digits: &str,
     abroad: Option<&'a Format>,
@@ -462,7 +462,7 @@ fn at_home<'a>(
 
 /// The layout that was handed in, else the first of the territory's that suits the digits.
 fn layout_for<'a>(
-    m: &'a Metadata,
+    m: &'a Territory,
     mode: Mode,
     own: Option<&'a Format>,
     digits: &str,
@@ -478,7 +478,7 @@ fn layout_for<'a>(
 
 /// The layouts by which a territory prints in a mode: its own in `National`, in the other modes
 /// those for international use, or its own where it lists none of these. No memory is taken.
-pub fn layouts_for(m: &Metadata, mode: Mode) -> &[Format]
+pub fn layouts_for(m: &Territory, mode: Mode) -> &[Format]
     ensures { result.now ≡ layouts_for m.now mode }
 {
     let others = m.international_formats();

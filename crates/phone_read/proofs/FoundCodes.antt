@@ -11,7 +11,7 @@ use Rattle.phone_values.specs.declared.country.Source.{Source}
 use Rattle.phone_values.specs.declared.country.Source.TheVariants.{Plus, Idd, Number, Default}
 use Rattle.phone_values.specs.declared.error.ParseError.{ParseError}
 use Rattle.phone_values.specs.declared.error.ParseError.TheVariants.{InvalidCountryCode, MalformedInteger, Memory, TooShortNsn}
-use Rattle.phone_meta.specs.CodeLookUps.{is_listed, shortest}
+use Rattle.phone_plans.specs.CodeLookUps.{is_listed, shortest}
 use Rattle.phone_records.specs.declared.loader.Metadata.{Metadata}
 use Rattle.phone_parts.specs.declared.number.Number.{Number as Parts}
 use Rattle.phone_read.specs.CallingCodes.{IsCoded, code_by, code_by_front, code_by_prefix, code_of, dialled_under, international_prefix_of, prefix_of, with_three}

@@ -12,9 +12,9 @@ use Rattle.phone_values.specs.declared.country.Source.{Source}
 use Rattle.phone_values.specs.declared.country.Source.TheVariants.{Plus, Idd, Number, Default}
 use Rattle.phone_values.specs.declared.error.ParseError.{ParseError}
 use Rattle.phone_values.specs.declared.error.ParseError.TheVariants.{InvalidCountryCode, MalformedInteger, TooShortNsn}
-use Rattle.phone_meta.specs.CodeLookUps.{is_listed, shortest}
+use Rattle.phone_plans.specs.CodeLookUps.{is_listed, shortest}
 use Rattle.phone_territory.specs.Records.{code_of}
-use Rattle.phone_meta.specs.Records.{has_code, has_id, last_where}
+use Rattle.phone_plans.specs.Records.{has_code, has_id, last_where}
 use Rattle.phone_records.specs.declared.loader.Metadata.{Metadata}
 use Rattle.phone_read.specs.CallingCodes
 use Rattle.phone_read.specs.CallingCodes.{code_by, code_by_front, code_by_prefix, dialled_under, with_three}

@@ -14,8 +14,8 @@ use Rattle.phone_values.specs.Numbers.{number_in}
 use Rattle.phone_values.specs.declared.country.Source.TheVariants.{Plus}
 use Rattle.phone_values.specs.declared.error.ParseError.{ParseError}
 use Rattle.phone_values.specs.declared.error.ParseError.TheVariants.{InvalidCountryCode, MalformedInteger}
-use Rattle.phone_meta.specs.CodeLookUps.{first_of, front_number, is_listed, is_main_of, is_other_of, listed_front, listed_if_some, shortest, territories}
-use Rattle.phone_meta.specs.Records.{has_code}
+use Rattle.phone_plans.specs.CodeLookUps.{first_of, front_number, is_listed, is_main_of, is_other_of, listed_front, listed_if_some, shortest, territories}
+use Rattle.phone_plans.specs.Records.{has_code}
 use Rattle.phone_records.specs.declared.loader.Metadata.{Metadata}
 use Rattle.phone_read.specs.CallingCodes.{code_by_prefix, with_three}
 use Rattle.phone_read.specs.Hints.{Coded}

@@ -29,11 +29,11 @@ use Rattle.phone_values.specs.declared.error.ParseError.TheVariants.{InvalidCoun
 use Rattle.phone_values.proofs.Finds.{IfSome-option_or}
 use Rattle.phone_chars.proofs.Norms.{list_all-norm}
 use Rattle.phone_values.proofs.ReadBack.{after_zeros_of}
-use Rattle.phone_meta.proofs.InOrder.{All-territories}
-use Rattle.phone_meta.specs.CodeLookUps.{first_of, is_listed, shortest, territories}
+use Rattle.phone_plans.proofs.InOrder.{All-territories}
+use Rattle.phone_plans.specs.CodeLookUps.{first_of, is_listed, shortest, territories}
 use Rattle.phone_territory.specs.First.{Captured, Seen, captured, first_match, group_in, names_in, replaced, with_first_replaced}
 use Rattle.phone_territory.specs.Records.{code_of as code_of_territory}
-use Rattle.phone_meta.specs.Records.{has_id, last_where, last_with}
+use Rattle.phone_plans.specs.Records.{has_id, last_where, last_with}
 use Rattle.phone_records.specs.declared.loader.Metadata.{Metadata}
 use Rattle.phone_parts.specs.Parts.{Parts}
 use Rattle.phone_parts.specs.Texts.{is_front, without_front}

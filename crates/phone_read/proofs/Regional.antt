@@ -12,12 +12,12 @@ use Rattle.either.specs.declared.Either.TheVariants.{Left, Right}
 use Rattle.phone_values.specs.Ids as ids
 use Rattle.phone_values.specs.declared.country.Id.{Id}
 use Rattle.phone_values.proofs.Texts.{name-id_of}
-use Rattle.phone_meta.proofs.CodeLemmas.{filter-filter, map-reverse}
-use Rattle.phone_meta.proofs.InOrder.{alone, in_order, length-in_order, territories-in_order}
-use Rattle.phone_meta.specs.CodeLookUps.{first_of, is_main_of, is_other_of, regions, territories}
-use Rattle.phone_meta.specs.Lasts.{with_last}
+use Rattle.phone_plans.proofs.CodeLemmas.{filter-filter, map-reverse}
+use Rattle.phone_plans.proofs.InOrder.{alone, in_order, length-in_order, territories-in_order}
+use Rattle.phone_plans.specs.CodeLookUps.{first_of, is_main_of, is_other_of, regions, territories}
+use Rattle.phone_plans.specs.Lasts.{with_last}
 use Rattle.phone_territory.specs.Records.{id_of}
-use Rattle.phone_meta.specs.Records.{has_code, last_with}
+use Rattle.phone_plans.specs.Records.{has_code, last_with}
 use Rattle.phone_rules.proofs.TriedKinds.{find-map}
 use Rattle.phone_read.specs.Origins.{Given, by_name, first_given, first_other, latest_main, told}
 use Rattle.phone_read.specs.declared.validator.Origin.{Origin}

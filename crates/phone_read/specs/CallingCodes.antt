@@ -14,7 +14,7 @@ use Rattle.phone_values.specs.declared.country.Source.TheVariants.{Plus, Default
 use Rattle.phone_values.specs.declared.error.ParseError.{ParseError}
 use Rattle.phone_values.specs.declared.error.ParseError.TheVariants.{InvalidCountryCode}
 use Rattle.phone_values.specs.declared.error.ParseError.TheVariants.{MalformedInteger, TooShortNsn}
-use Rattle.phone_meta.specs.CodeLookUps.{is_listed, shortest}
+use Rattle.phone_plans.specs.CodeLookUps.{is_listed, shortest}
 use Rattle.phone_records.specs.declared.loader.Metadata.{Metadata}
 use Rattle.phone_parts.specs.declared.number.Number.{Number as Parts}
 use Rattle.phone_rules.specs.Dialling.{Dialled, dialled, found_in}

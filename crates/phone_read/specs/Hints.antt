@@ -9,7 +9,7 @@ use Rattle.phone_values.specs.declared.country.Id.{Id}
 use Rattle.phone_values.specs.declared.country.Source.{Source}
 use Rattle.phone_values.specs.declared.country.Source.TheVariants.{Number, Default}
 use Rattle.phone_territory.specs.Records.{code_of}
-use Rattle.phone_meta.specs.Records.{last_with}
+use Rattle.phone_plans.specs.Records.{last_with}
 use Rattle.phone_records.specs.declared.loader.Metadata.{Metadata}
 use Rattle.phone_parts.specs.Texts.{is_front}
 use Rattle.phone_rules.specs.Kinds.{is_of}

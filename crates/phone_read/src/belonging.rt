@@ -4,7 +4,7 @@ ghost use Rattle.phone_records.specs.declared.loader.Metadata as loader;
 ghost use Rattle.phone_rules.specs.Kinds.{belongs_to, is_known, type_of};
 ghost use Rattle.phone_read.specs.Belonging.{IsOfKind, is_member};
 
-use phone_meta::Metadata;
+use phone_plans::Territory;
 use phone_rules::kinds::number_type;
 use phone_values::Type;
 use std::alloc::AllocError;
@@ -22,7 +22,7 @@ pub(crate) enum Belonging {
 
 /// Whether a number belongs to a territory: its leading digits are at the front, or where the
 /// territory has none, the number's kind is known there. Refused only for memory.
-pub(crate) fn membership(text: &str, m: &Metadata) -> Result<Belonging, AllocError>
+pub(crate) fn membership(text: &str, m: &Territory) -> Result<Belonging, AllocError>
     ensures belongs { IfOk result (λ b. is_member b ≡ belongs_to text.now m.now) }
     ensures kind { IfOk result (IsOfKind m.now text.now) }
 {

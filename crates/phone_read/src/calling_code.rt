@@ -21,8 +21,8 @@ ghost use Rattle.phone_read.specs.WithoutMemory.{AnswersAtOnce, AnswersWithoutMe
 
 use crate::hints::{hint_territory, looks_national};
 use phone_base::together::{beside, instead};
-use phone_meta::{Database, Metadata, Pattern};
 use phone_parts::Number;
+use phone_plans::{Pattern, Plans, Territory};
 use phone_rules::dialled::{OfTerritory, read_dialling};
 use phone_rules::trims::{begins_with_number, behind_number, lent_front, trim};
 use phone_values::ParseError;
@@ -43,7 +43,7 @@ pub(crate) struct CodedNumber<'a, 'd> {
     pub(crate) number: Number<'a>,
 
     /// The territory of the hint, where there is a hint and a record of it.
-    pub(crate) territory: Option<&'d Metadata>,
+    pub(crate) territory: Option<&'d Territory>,
 }
 
 /// A number with its calling code: the source of the code, the digits that are left, and as prefix
@@ -66,7 +66,7 @@ pub(crate) struct CodedNumber<'a, 'd> {
 /// that is cut off is borrowed from the national part too. So the result is never `Memory` where
 /// prefix and extension are ASCII digits as well, and there is no hint or no record of the hint.
 pub fn country_code<'a>(
-    db: &Database,
+    db: &Plans,
     hint: Option<Id>,
     number: Number<'a>,
 ) -> Result<Number<'a>, ParseError>
@@ -120,7 +120,7 @@ fn in_decimal(alloc: Global, code: u16) -> Result<String, AllocError>
 /// A number with its calling code, as [`country_code`] has it but for a prefix that would be a
 /// copy, the code itself, and the territory of the hint, which is looked up once.
 pub(crate) fn find_calling_code<'a, 'd>(
-    db: &'d Database,
+    db: &'d Plans,
     hint: Option<Id>,
     number: Number<'a>,
 ) -> Result<CodedNumber<'a, 'd>, ParseError>
@@ -147,8 +147,8 @@ pub(crate) fn find_calling_code<'a, 'd>(
 /// A number of which is known how it was dialled, with its code: by its prefix where it has one, by
 /// the hint's territory where nothing else tells it, and else by the front of its digits.
 fn with_code<'a, 'd>(
-    db: &Database,
-    territory: Option<&'d Metadata>,
+    db: &Plans,
+    territory: Option<&'d Territory>,
     number: Number<'a>,
 ) -> Result<CodedNumber<'a, 'd>, ParseError>
     requires { IsSome number.prefix → number.country ≡ Plus }
@@ -183,7 +183,7 @@ fn with_code<'a, 'd>(
 /// A number with the code of its prefix.
 fn by_prefix<'a, 'd>(
     code: Result<u16, ParseError>,
-    territory: Option<&'d Metadata>,
+    territory: Option<&'d Territory>,
     number: Number<'a>,
 ) -> Result<CodedNumber<'a, 'd>, ParseError>
     ensures { result ≡ result_map_both (λ code. record {
@@ -201,7 +201,7 @@ fn by_prefix<'a, 'd>(
 }
 
 /// The international prefix of a territory.
-fn prefix_pattern(territory: Option<&Metadata>) -> Option<&Pattern>
+fn prefix_pattern(territory: Option<&Territory>) -> Option<&Pattern>
     ensures { option_copied result ≡ international_prefix_of (option_copied territory.entry) }
 {
     match territory {
@@ -212,7 +212,7 @@ fn prefix_pattern(territory: Option<&Metadata>) -> Option<&Pattern>
 
 /// The number of a reader's prefix before more than two digits, which is to be listed. No memory is
 /// taken.
-fn code_by_prefix(db: &Database, prefix: &str, digits: &str) -> Result<u16, ParseError>
+fn code_by_prefix(db: &Plans, prefix: &str, digits: &str) -> Result<u16, ParseError>
     ensures { with_three digits.now (code_by_prefix db.now prefix.now digits.now) ≡
         result_map_both (λ code. record { source = Plus; value = code; rest = digits.now })
         (λ e. e) result }
@@ -221,7 +221,7 @@ fn code_by_prefix(db: &Database, prefix: &str, digits: &str) -> Result<u16, Pars
 }
 
 /// The number of a reader's prefix, which is to be listed.
-fn listed_number(db: &Database, prefix: &str) -> Result<u16, ParseError>
+fn listed_number(db: &Plans, prefix: &str) -> Result<u16, ParseError>
     ensures { (digits : List ℕ) → code_by_prefix db.now prefix.now digits ≡
         result_map_both (λ code. record { source = Plus; value = code; rest = digits })
         (λ e. e) result }
@@ -237,7 +237,7 @@ fn listed_number(db: &Database, prefix: &str) -> Result<u16, ParseError>
 }
 
 /// The shortest listed code at the front of more than two digits. No memory is taken.
-fn code_by_front(db: &Database, digits: &str) -> Result<u16, ParseError>
+fn code_by_front(db: &Plans, digits: &str) -> Result<u16, ParseError>
     ensures code { (source : Source) →
         with_three digits.now (code_by_front db.now source digits.now) ≡
         result_map_both (λ code. record {
@@ -251,7 +251,7 @@ fn code_by_front(db: &Database, digits: &str) -> Result<u16, ParseError>
 }
 
 /// The shortest listed code at the front of digits.
-fn shortest_code(db: &Database, digits: &str) -> Result<u16, ParseError>
+fn shortest_code(db: &Plans, digits: &str) -> Result<u16, ParseError>
     ensures code { (source : Source) →
         code_by_front db.now source digits.now ≡
         result_map_both (λ code. record {
@@ -283,8 +283,8 @@ fn unless_too_short(digits: &str, found: Result<u16, ParseError>) -> Result<u16,
 /// An international number with the code at the front of its digits, which is cut off. No memory is
 /// taken.
 fn by_front<'a, 'd>(
-    db: &Database,
-    territory: Option<&'d Metadata>,
+    db: &Plans,
+    territory: Option<&'d Territory>,
     number: Number<'a>,
 ) -> Result<CodedNumber<'a, 'd>, ParseError>
     ensures coded { IfOk result (λ r. (c : Coded) ×
@@ -312,7 +312,7 @@ fn by_front<'a, 'd>(
 fn cut_off<'a, 'd>(
     code: u16,
     country: Source,
-    territory: Option<&'d Metadata>,
+    territory: Option<&'d Territory>,
     number: Number<'a>,
 ) -> CodedNumber<'a, 'd>
     requires { is_front (decimal code) (cow_str_bytes number.national) ≡ true }
@@ -344,7 +344,7 @@ fn cut_off<'a, 'd>(
 
 /// A number with the code of the hint's territory.
 fn by_hint<'a, 'd>(
-    territory: Option<&'d Metadata>,
+    territory: Option<&'d Territory>,
     number: Number<'a>,
 ) -> Result<CodedNumber<'a, 'd>, ParseError>
     ensures coded { IfOk result (λ r. (c : Coded) ×
@@ -384,7 +384,7 @@ fn by_hint<'a, 'd>(
 
 /// Whether digits begin with the territory's code in decimal, and the code is no part of a national
 /// number.
-fn is_code_apart(territory: &Metadata, code: u16, digits: &str) -> Result<bool, AllocError>
+fn is_code_apart(territory: &Territory, code: u16, digits: &str) -> Result<bool, AllocError>
     ensures { IfOk result (λ b. b ≡
         (is_front (decimal code) digits.now && not (looks_national territory.now digits.now))) }
 {

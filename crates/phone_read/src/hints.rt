@@ -3,14 +3,14 @@ ghost use Rattle.std.specs.Prelude.{◌≡◌, IfOk};
 ghost use Rattle.std.specs.Option.{option_copied};
 ghost use Rattle.phone_read.specs.Hints.{hinted, looks_national};
 
-use phone_meta::{Database, Metadata};
+use phone_plans::{Plans, Territory};
 use phone_rules::kinds::{is_general, length_of};
 use phone_values::Type;
 use phone_values::country::Id;
 use std::alloc::AllocError;
 
 /// The territory of the hint: the last record with its id.
-pub(crate) fn hint_territory(db: &Database, hint: Option<Id>) -> Option<&Metadata>
+pub(crate) fn hint_territory(db: &Plans, hint: Option<Id>) -> Option<&Territory>
     ensures { option_copied result ≡ hinted db.now hint }
 {
     match hint {
@@ -21,7 +21,7 @@ pub(crate) fn hint_territory(db: &Database, hint: Option<Id>) -> Option<&Metadat
 
 /// Whether the digits as they stand look like a number of the territory, and have a possible
 /// length.
-pub(crate) fn looks_national(territory: &Metadata, digits: &str) -> Result<bool, AllocError>
+pub(crate) fn looks_national(territory: &Territory, digits: &str) -> Result<bool, AllocError>
     ensures { IfOk result (λ b. b ≡ looks_national territory.now digits.now) }
 {
     let is_general = is_general(territory, digits)?;

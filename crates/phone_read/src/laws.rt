@@ -6,7 +6,7 @@ ghost use Rattle.std.specs.Fmt.{decimal};
 ghost use Rattle.phone_values.specs.declared.country.Id.{Id};
 ghost use Rattle.phone_values.specs.declared.error.ParseError.{ParseError};
 ghost use Rattle.phone_records.specs.declared.loader.Metadata as loader;
-ghost use Rattle.phone_meta.specs.CodeLookUps.{is_listed, shortest};
+ghost use Rattle.phone_plans.specs.CodeLookUps.{is_listed, shortest};
 ghost use Rattle.phone_read.specs.CallingCodes.{code_of};
 ghost use Rattle.phone_read.specs.Hints.{Coded};
 ghost use Rattle.phone_read.specs.Readings.{Reads};

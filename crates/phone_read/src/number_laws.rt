@@ -6,7 +6,7 @@ ghost use Rattle.std.specs.Option.{option_map_or};
 ghost use Rattle.phone_chars.specs.Characters.{is_digit};
 ghost use Rattle.phone_values.specs.Numbers.{text_of};
 ghost use Rattle.phone_values.specs.declared.country.Id.{Id};
-ghost use Rattle.phone_meta.specs.CodeLookUps.{is_listed};
+ghost use Rattle.phone_plans.specs.CodeLookUps.{is_listed};
 ghost use Rattle.phone_records.specs.declared.loader.Metadata as loader;
 ghost use Rattle.phone_read.specs.Readings.{Reads};
 ghost use Rattle.phone_read.specs.TransformRules.{rules_have_no_plus};

@@ -15,8 +15,8 @@ use crate::calling_code::{CodedNumber, find_calling_code};
 use crate::validator::territory_of;
 use phone_base::together::{both, instead};
 use phone_chars::is_viable;
-use phone_meta::{Database, Metadata};
 use phone_parts::{Number, parts};
+use phone_plans::{Plans, Territory};
 use phone_rules::stripping::strip_national_prefix;
 use phone_rules::trims::without_zeros;
 use phone_values::consts::{MAX_LENGTH_FOR_NSN, MIN_LENGTH_FOR_NSN};
@@ -35,7 +35,7 @@ use std::borrow::CowStr;
 /// text of fewer than 2 bytes, `TooLong` for one of more than 17 and for a value from 2^56 on,
 /// `MalformedInteger` for a national text that is no number, as zeros alone. `Memory` where memory
 /// was refused, and nowhere else.
-pub fn read(db: &Database, hint: Option<Id>, text: &str) -> Result<Reading, ParseError>
+pub fn read(db: &Plans, hint: Option<Id>, text: &str) -> Result<Reading, ParseError>
     ensures { (result ≡ Err ParseError.Memory) ⊎ Reads db.now hint (chars text.now) result }
 {
     let Some(parts) = parts(text) else {
@@ -52,10 +52,10 @@ pub fn read(db: &Database, hint: Option<Id>, text: &str) -> Result<Reading, Pars
 /// The territory whose rules strip the digits: the hint's, or without a hint the one that the
 /// digits without their leading zeros belong to.
 fn stripping_territory<'d>(
-    db: &'d Database,
+    db: &'d Plans,
     hint: Option<Id>,
     coded: &CodedNumber<'_, 'd>,
-) -> Result<Option<&'d Metadata>, AllocError>
+) -> Result<Option<&'d Territory>, AllocError>
     ensures { (source : Source) →
         option_copied coded.now.territory ≡ hinted db.entry.now hint → IfOk result
         (λ m. option_copied m ≡ stripping_territory db.entry.now hint
@@ -78,7 +78,7 @@ fn stripping_territory<'d>(
 /// The number of a code and the digits that stripping by a territory leaves.
 fn reading_of(
     alloc: Global,
-    territory: Option<&Metadata>,
+    territory: Option<&Territory>,
     coded: CodedNumber<'_, '_>,
 ) -> Result<Reading, ParseError>
     ensures { (result ≡ Err ParseError.Memory) ⊎
@@ -112,7 +112,7 @@ fn reading_of(
 /// The national number and the carrier that stripping by a territory leaves.
 fn left_of(
     alloc: Global,
-    territory: Option<&Metadata>,
+    territory: Option<&Territory>,
     digits: &str,
 ) -> Result<(NationalNumber, Option<Carrier>), ParseError>
     ensures left { IfOk result (λ left.

@@ -5,7 +5,7 @@ ghost use Rattle.std.specs.Option.{option_and_then, option_copied};
 ghost use Rattle.std.specs.Str.{bytes_eq};
 ghost use Rattle.either.specs.declared.Either.TheVariants as either;
 ghost use Rattle.phone_rules.specs.Kinds.{type_of};
-ghost use Rattle.phone_meta.specs.Lasts.{seen};
+ghost use Rattle.phone_plans.specs.Lasts.{seen};
 ghost use Rattle.phone_territory.specs.Records.{id_of};
 ghost use Rattle.phone_read.specs.Belonging.{IsOfKind, is_member};
 ghost use Rattle.phone_read.specs.Origins.{FoundKind, TellsKind, by_name, first_given};
@@ -15,7 +15,7 @@ ghost use Rattle.phone_read.specs.Regions.{with_territory};
 
 use crate::belonging::{Belonging, membership};
 use either::{Either, Left, Right};
-use phone_meta::{Database, Metadata, WithLast, WithLasts};
+use phone_plans::{Plans, Territory, WithLast, WithLasts};
 pub use phone_rules::kinds::{is_general, length, length_of, number_type};
 use phone_values::Type;
 use phone_values::consts::REGION_CODE_FOR_NON_GEO_ENTITY;
@@ -28,11 +28,7 @@ use std::alloc::AllocError;
 /// `001` stands for the code itself. None where the code isn't listed, where it has several ids and
 /// the number belongs to none of them, and where the id that was found is no region's. Refused only
 /// for memory.
-pub fn source_for(
-    db: &Database,
-    code: u16,
-    text: &str,
-) -> Result<Option<Either<Id, u16>>, AllocError>
+pub fn source_for(db: &Plans, code: u16, text: &str) -> Result<Option<Either<Id, u16>>, AllocError>
     ensures { IfOk result (λ r. r ≡ region_of db.now code text.now) }
 {
     match origin_of(db, code, text)? {
@@ -46,13 +42,13 @@ pub fn source_for(
 #[derive(Drop)]
 struct Origin<'a> {
     region: Either<Id, u16>,
-    territory: Option<&'a Metadata>,
+    territory: Option<&'a Territory>,
     kind: Option<Type>,
 }
 
 /// The region of a number with this calling code and these digits, as [`source_for`] tells it, and
 /// its territory, as [`territory_of`] does.
-fn origin_of<'a>(db: &'a Database, code: u16, text: &str) -> Result<Option<Origin<'a>>, AllocError>
+fn origin_of<'a>(db: &'a Plans, code: u16, text: &str) -> Result<Option<Origin<'a>>, AllocError>
     ensures origin { IfOk result (λ r. option_map told r ≡
         option_map (with_territory db.entry.now) (region_of db.entry.now code text.now)) }
     ensures kind { IfOk result (λ r. IfSome r (TellsKind text.now)) }
@@ -81,7 +77,7 @@ fn origin_of_several<'a>(all: &WithLasts<'a>, text: &str) -> Result<Option<Origi
 }
 
 /// The same by the sole territory of a code, given with the last one of its id.
-fn sole<'a>(code: u16, territory: &'a Metadata, last: Option<&'a Metadata>) -> Option<Origin<'a>>
+fn sole<'a>(code: u16, territory: &'a Territory, last: Option<&'a Territory>) -> Option<Origin<'a>>
     ensures origin { option_map told result ≡
         (if bytes_eq (id_of territory.entry.now) (codes "001")
         then Some (either.Right code, Some territory.entry.now)
@@ -102,8 +98,8 @@ fn sole<'a>(code: u16, territory: &'a Metadata, last: Option<&'a Metadata>) -> O
 
 /// The region of a territory's id, with the last territory of the id; none where it is no region's.
 fn origin_named<'a>(
-    territory: &Metadata,
-    last: Option<&'a Metadata>,
+    territory: &Territory,
+    last: Option<&'a Territory>,
     kind: Option<Type>,
 ) -> Option<Origin<'a>>
     ensures origin { option_map told result ≡
@@ -124,8 +120,8 @@ fn origin_named<'a>(
 /// there, where it was told on the way.
 #[derive(Clone, Copy, Drop)]
 struct Found<'a> {
-    territory: &'a Metadata,
-    last: Option<&'a Metadata>,
+    territory: &'a Territory,
+    last: Option<&'a Territory>,
     kind: Option<Type>,
 }
 
@@ -203,8 +199,8 @@ fn found_in<'a>(pair: WithLast<'a>, text: &str) -> Result<Option<Found<'a>>, All
 
 /// A territory, given with the last one of its id, to which a number belongs so.
 fn found_by<'a>(
-    territory: &'a Metadata,
-    last: &'a Metadata,
+    territory: &'a Territory,
+    last: &'a Territory,
     belonging: Belonging,
 ) -> Option<Found<'a>>
     ensures region { option_map shown result ≡
@@ -231,10 +227,10 @@ fn found_by<'a>(
 /// first territory of the code where `001` is its sole id; none where it belongs to none. Refused
 /// only for memory.
 pub fn territory_of<'a>(
-    db: &'a Database,
+    db: &'a Plans,
     code: u16,
     text: &str,
-) -> Result<Option<&'a Metadata>, AllocError>
+) -> Result<Option<&'a Territory>, AllocError>
     ensures { IfOk result (λ m. option_copied m ≡ home db.entry.now code text.now) }
 {
     match origin_of(db, code, text)? {
@@ -247,7 +243,7 @@ pub fn territory_of<'a>(
 #[derive(Clone, Copy, Drop)]
 pub struct Home<'a> {
     /// The territory.
-    pub territory: &'a Metadata,
+    pub territory: &'a Territory,
     /// The kind of the digits in it.
     pub kind: Type,
 }
@@ -255,7 +251,7 @@ pub struct Home<'a> {
 /// The territory that a number of a calling code belongs to, as [`territory_of`] tells it, and the
 /// kind of the number there, as [`number_type`] does; each of its patterns is asked once. None
 /// where the number belongs to none. Refused only for memory.
-pub fn home_of<'a>(db: &'a Database, code: u16, text: &str) -> Result<Option<Home<'a>>, AllocError>
+pub fn home_of<'a>(db: &'a Plans, code: u16, text: &str) -> Result<Option<Home<'a>>, AllocError>
     ensures territory { IfOk result (λ h. option_map (λ h. h.territory.now) h ≡
         home db.entry.now code text.now) }
     ensures kind { IfOk result (λ h.
@@ -272,7 +268,7 @@ pub fn home_of<'a>(db: &'a Database, code: u16, text: &str) -> Result<Option<Hom
 
 /// A territory and the kind of digits there, which may have been told on the way.
 fn home_in<'a>(
-    territory: &'a Metadata,
+    territory: &'a Territory,
     told: Option<Type>,
     text: &str,
 ) -> Result<Home<'a>, AllocError>

@@ -9,7 +9,7 @@ use Rattle.phone_choice.specs.declared.rules.Rules.TheVariants.{Library, Crate}
 use Rattle.phone_library.specs.Readings.{ReadsByLibrary}
 use Rattle.phone_lines.proofs.AnswerLemmas as on_lines
 use Rattle.phone_lines.specs.LineReports.{HasAnAnswer}
-use Rattle.phone_meta.specs.CodeLookUps.{first_of, territories}
+use Rattle.phone_plans.specs.CodeLookUps.{first_of, territories}
 use Rattle.phone_records.specs.declared.loader.Metadata.{Metadata}
 use Rattle.phone_report.proofs.CrateReports.{line_of_port, report_of_port}
 use Rattle.phone_report.specs.ReportLines.{IsReportLineBy, number_line_by}

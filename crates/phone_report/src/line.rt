@@ -5,7 +5,7 @@ ghost use Rattle.phone_report.specs.ReportLines.{IsReportLineBy};
 use crate::number::number_line;
 use phone_choice::{Rules, parse_by};
 use phone_lines::Answers;
-use phone_meta::Database;
+use phone_plans::Plans;
 use phone_values::country::Id;
 use phonenumber::FormatError;
 use phonenumber::report::refusal_line;
@@ -23,7 +23,7 @@ use std::marker::Model;
 pub fn report_line(
     alloc: Global,
     rules: Rules,
-    database: &Database,
+    database: &Plans,
     hint: Option<Id>,
     line: &[u8],
 ) -> Result<String, AllocError>
@@ -50,7 +50,7 @@ pub struct Reporter<'d> {
     /// By whose rules lines are read and numbers described.
     pub rules: Rules,
     /// The database that reads, prints and tells.
-    pub database: &'d Database,
+    pub database: &'d Plans,
     /// The region under which lines are read.
     pub hint: Option<Id>,
 }

@@ -2,7 +2,7 @@
 ghost use Rattle.std.specs.Prelude.{◌≡◌, ◌∷◌, ◌++◌, None, Some, Err};
 ghost use Rattle.std.specs.Prelude.{IfOk, OnOk, string_bytes};
 ghost use Rattle.phone_choice.specs.Facts.{printed_as};
-ghost use Rattle.phone_meta.specs.CodeLookUps.{first_of, territories};
+ghost use Rattle.phone_plans.specs.CodeLookUps.{first_of, territories};
 ghost use Rattle.phone_print.specs.Tabbed.{texts_by};
 ghost use Rattle.phone_records.specs.declared.loader.Metadata.{Metadata};
 ghost use Rattle.phone_report.specs.Known.{known_words_by};
@@ -10,7 +10,7 @@ ghost use Rattle.phone_report.specs.ReportLines.{number_line_by};
 
 use phone_choice::{Rules, facts_by};
 use phone_library::without_carrier;
-use phone_meta::Database;
+use phone_plans::Plans;
 use phonenumber::report::{
     first_field, kind_word, push_words, region_word, source_word, validity_word,
 };
@@ -22,7 +22,7 @@ use std::alloc::{AllocError, Global};
 pub(crate) fn number_line(
     alloc: Global,
     rules: Rules,
-    database: &Database,
+    database: &Plans,
     number: &PhoneNumber,
 ) -> Result<String, FormatError>
     ensures line { IfOk result (λ line. (m : Metadata) ×
@@ -43,7 +43,7 @@ pub(crate) fn number_line(
 fn push_number(
     line: &mut String,
     rules: Rules,
-    database: &Database,
+    database: &Plans,
     number: &PhoneNumber,
 ) -> Result<(), FormatError>
     ensures fields { OnOk result ((m : Metadata) ×
@@ -66,7 +66,7 @@ fn push_number(
 fn push_printed(
     line: &mut String,
     rules: Rules,
-    database: &Database,
+    database: &Plans,
     number: &PhoneNumber,
 ) -> Result<(), FormatError>
     ensures texts { OnOk result ((m : Metadata) ×
@@ -86,7 +86,7 @@ fn push_printed(
 /// as it is.
 fn push_without_carrier(
     line: &mut String,
-    database: &Database,
+    database: &Plans,
     number: &PhoneNumber,
 ) -> Result<(), FormatError>
     ensures texts { OnOk result ((m : Metadata) ×
@@ -106,11 +106,7 @@ fn push_without_carrier(
 }
 
 /// Puts the texts of a number as it is behind a line.
-fn push_texts(
-    line: &mut String,
-    database: &Database,
-    number: &PhoneNumber,
-) -> Result<(), FormatError>
+fn push_texts(line: &mut String, database: &Plans, number: &PhoneNumber) -> Result<(), FormatError>
     ensures texts { OnOk result ((m : Metadata) ×
         (first_of (territories number.now.code.value database.now) ≡ Some m) ×
         (string_bytes line.new ≡ string_bytes line.old ++ 9 ∷ texts_by m None number.now)) }
@@ -125,7 +121,7 @@ fn push_texts(
 fn push_known(
     line: &mut String,
     rules: Rules,
-    database: &Database,
+    database: &Plans,
     number: &PhoneNumber,
 ) -> Result<(), AllocError>
     ensures { OnOk result (string_bytes line.new ≡ string_bytes line.old ++

@@ -6,7 +6,7 @@ use crate::line::Reporter;
 use phone_choice::Rules;
 use phone_device::{ByteSink, ByteSource};
 use phone_lines::{RunError, answer_lines};
-use phone_meta::Database;
+use phone_plans::Plans;
 use phone_values::country::Id;
 use std::alloc::Global;
 
@@ -28,7 +28,7 @@ use std::alloc::Global;
 pub fn run<S: ByteSource, W: ByteSink>(
     alloc: Global,
     rules: Rules,
-    database: &Database,
+    database: &Plans,
     hint: Option<Id>,
     source: &mut S,
     sink: &mut W,

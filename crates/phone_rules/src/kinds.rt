@@ -10,7 +10,7 @@ ghost use Rattle.phone_rules.specs.Kinds.{line_or_mobile, type_of};
 ghost use Rattle.phone_rules.specs.Verdicts.{last_of, verdict_by, verdict_for};
 
 use phone_parts::Number;
-use phone_territory::{Descriptor, Descriptors, Metadata};
+use phone_territory::{Descriptor, Descriptors, Territory};
 use phone_values::{Type, Validation};
 use std::alloc::AllocError;
 
@@ -33,14 +33,14 @@ pub const TRIED: [Type; 10] = [
 /// it stands, and it is weighed by the lengths of numbers of any kind and by the local lengths of
 /// the kind. `InvalidLength` where the territory has no lengths, or none of the kind. No memory is
 /// taken.
-pub fn length(m: &Metadata, number: &Number<'_>, kind: Type) -> Validation
+pub fn length(m: &Territory, number: &Number<'_>, kind: Type) -> Validation
     ensures { result ≡ verdict_for m.now kind (length (cow_str_bytes number.now.national)) }
 {
     length_of(m, number.national.as_str().len(), kind)
 }
 
 /// What a length in bytes says of a number of this kind, as [`length`] has it. No memory is taken.
-pub fn length_of(m: &Metadata, bytes: usize, kind: Type) -> Validation
+pub fn length_of(m: &Territory, bytes: usize, kind: Type) -> Validation
     ensures { result ≡ verdict_for m.now kind bytes }
 {
     let Some(descriptor) = m.descriptors().get(kind) else {
@@ -103,7 +103,7 @@ fn has_length(lengths: &[u16], bytes: usize) -> bool
 /// fixed line, mobile. A fixed line is `FixedLineOrMobile` where both have one pattern or the
 /// mobile descriptor matches too. `Unknown` where no kind matches, or the general descriptor
 /// doesn't. Refused only for memory.
-pub fn number_type(m: &Metadata, text: &str) -> Result<Type, AllocError>
+pub fn number_type(m: &Territory, text: &str) -> Result<Type, AllocError>
     ensures { IfOk result (λ k. k ≡ type_of m.now text.now) }
 {
     let kinds = m.descriptors();
@@ -132,7 +132,7 @@ fn first_kind(kinds: &Descriptors, tried: &[Type], text: &str) -> Result<Option<
 /// Whether the digits are of the territory's general kind: its general descriptor lists their
 /// length in bytes, or none, and the pattern's first match begins at their front. Refused only for
 /// memory.
-pub fn is_general(m: &Metadata, digits: &str) -> Result<bool, AllocError>
+pub fn is_general(m: &Territory, digits: &str) -> Result<bool, AllocError>
     ensures { IfOk result (λ b. b ≡ is_of m.now.general digits.now) }
 {
     m.descriptors().general().is_match(digits)
@@ -149,7 +149,7 @@ fn is_of(descriptor: Option<&Descriptor>, text: &str) -> Result<bool, AllocError
 }
 
 /// The kind of a number, where a fixed line may as well be a mobile.
-fn line_or_mobile(m: &Metadata, text: &str, kind: Type) -> Result<Type, AllocError>
+fn line_or_mobile(m: &Territory, text: &str, kind: Type) -> Result<Type, AllocError>
     ensures { IfOk result (λ k. k ≡ line_or_mobile m.now text.now kind) }
 {
     let Type::FixedLine = kind else {
@@ -173,7 +173,7 @@ fn is_one_pattern(line: Option<&Descriptor>, mobile: Option<&Descriptor>) -> boo
 }
 
 /// Whether the number belongs to a territory.
-pub fn belongs_to(text: &str, m: &Metadata) -> Result<bool, AllocError>
+pub fn belongs_to(text: &str, m: &Territory) -> Result<bool, AllocError>
     ensures { IfOk result (λ b. b ≡ belongs_to text.now m.now) }
 {
     match m.leading_digits_pattern() {

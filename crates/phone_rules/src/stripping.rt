@@ -16,7 +16,7 @@ use crate::kinds::{is_general, length_of};
 use crate::trims::{part, trim, without_front};
 use phone_base::together::{beside, instead};
 use phone_parts::Number;
-use phone_territory::{Captured, Metadata, Pattern};
+use phone_territory::{Captured, Pattern, Territory};
 use phone_values::{Type, Validation};
 use std::alloc::{AllocError, Global};
 use std::borrow::CowStr;
@@ -45,7 +45,7 @@ enum Cut<'a> {
 /// A borrowed national part stays borrowed unless the rule wrote it anew, and a carrier that a
 /// match names is then borrowed too. Refused only for memory, and never under a territory without a
 /// parsing pattern.
-pub fn national_number<'a>(m: &Metadata, number: Number<'a>) -> Result<Number<'a>, AllocError>
+pub fn national_number<'a>(m: &Territory, number: Number<'a>) -> Result<Number<'a>, AllocError>
     ensures national { IfOk result (λ n. cow_str_bytes n.national ≡
         (step m.now (cow_str_bytes number.entry.national)
         (option_map cow_str_bytes number.entry.carrier)).national) }
@@ -71,7 +71,7 @@ pub fn national_number<'a>(m: &Metadata, number: Number<'a>) -> Result<Number<'a
 
 /// What a cut leaves of a national part, and the carrier that is named then.
 fn left_by<'a>(
-    m: &Metadata,
+    m: &Territory,
     cut: Cut<'a>,
     national: CowStr<'a>,
     carrier: Option<CowStr<'a>>,
@@ -99,7 +99,7 @@ fn left_by<'a>(
 }
 
 /// What a territory's rules do to a national part. A name of the carrier is borrowed if that is.
-fn cut_of<'a>(m: &Metadata, digits: &CowStr<'a>) -> Result<Cut<'a>, AllocError>
+fn cut_of<'a>(m: &Territory, digits: &CowStr<'a>) -> Result<Cut<'a>, AllocError>
     ensures cut { IfOk result (λ cut. told_by cut ≡ cut_of m.now (cow_str_bytes digits.now)) }
     ensures ends { IfOk result (λ cut. EndsBetween (cow_str_bytes digits.now) cut) }
     ensures lends { IfOk result (λ cut. IsBorrowedStr digits.now → LendsName cut) }
@@ -116,7 +116,7 @@ fn cut_of<'a>(m: &Metadata, digits: &CowStr<'a>) -> Result<Cut<'a>, AllocError>
 }
 
 /// What the first match of a parsing pattern does to a national part.
-fn cut_by<'a>(m: &Metadata, pattern: &Pattern, digits: &CowStr<'a>) -> Result<Cut<'a>, AllocError>
+fn cut_by<'a>(m: &Territory, pattern: &Pattern, digits: &CowStr<'a>) -> Result<Cut<'a>, AllocError>
     ensures cut { IfOk result (λ cut. told_by cut ≡
         cut_by m.now pattern.now (cow_str_bytes digits.now)) }
     ensures ends { IfOk result (λ cut. EndsBetween (cow_str_bytes digits.now) cut) }
@@ -134,7 +134,7 @@ fn cut_by<'a>(m: &Metadata, pattern: &Pattern, digits: &CowStr<'a>) -> Result<Cu
 
 /// What a match at the front does to a national part.
 fn by_match<'a>(
-    m: &Metadata,
+    m: &Territory,
     pattern: &Pattern,
     found: Captured,
     digits: &CowStr<'a>,
@@ -156,7 +156,7 @@ fn by_match<'a>(
 
 /// What the transform rule does to a national part, where the last group of the match took part.
 fn by_rule<'a>(
-    m: &Metadata,
+    m: &Territory,
     pattern: &Pattern,
     rule: &str,
     found: Captured,
@@ -179,7 +179,7 @@ fn by_rule<'a>(
 /// The digits as the transform rule writes them anew; none where they would leave the territory's
 /// general kind.
 fn written_in_kind(
-    m: &Metadata,
+    m: &Territory,
     pattern: &Pattern,
     rule: &str,
     digits: &str,
@@ -201,7 +201,7 @@ fn written_in_kind(
 
 /// Whether the digits are of the territory's general kind, and no longer are as they are written
 /// anew.
-fn leaves_general(m: &Metadata, digits: &str, written: &str) -> Result<bool, AllocError>
+fn leaves_general(m: &Territory, digits: &str, written: &str) -> Result<bool, AllocError>
     ensures { IfOk result (λ b. b ≡
         (is_of m.now.general digits.now && not (is_of m.now.general written.now))) }
 {
@@ -230,7 +230,7 @@ fn part_if_any<'a>(
 /// The digits that stripping by a territory leaves, with the carrier that was named:
 /// [`national_number`], then the national prefix once more; but the digits as they are where too
 /// few would be left. They are lent where they can be.
-pub fn strip<'b>(m: &Metadata, digits: &'b str) -> Result<Number<'b>, AllocError>
+pub fn strip<'b>(m: &Territory, digits: &'b str) -> Result<Number<'b>, AllocError>
     ensures national { IfOk result (λ n. cow_str_bytes n.national ≡
         (strip m.now digits.entry.now).national) }
     ensures carrier { IfOk result (λ n. option_map cow_str_bytes n.carrier ≡
@@ -254,7 +254,7 @@ pub fn strip<'b>(m: &Metadata, digits: &'b str) -> Result<Number<'b>, AllocError
 
 /// The digits that stripping leaves; all of them without a territory.
 pub fn strip_national_prefix<'b>(
-    m: Option<&Metadata>,
+    m: Option<&Territory>,
     digits: &'b str,
 ) -> Result<Number<'b>, AllocError>
     ensures national { IfOk result (λ n. cow_str_bytes n.national ≡

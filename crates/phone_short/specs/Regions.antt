@@ -4,7 +4,7 @@ use Rattle.std.specs.Prelude.{ℕ, Bool, false, List, Option}
 use Rattle.std.specs.Option.{option_and_then, option_map_or}
 use Rattle.phone_values.specs.Ids.{name}
 use Rattle.phone_values.specs.declared.country.Id.{Id}
-use Rattle.phone_meta.specs.Records.{last_with}
+use Rattle.phone_plans.specs.Records.{last_with}
 use Rattle.phone_records.specs.declared.loader.Metadata.{Metadata}
 use Rattle.phone_short.specs.Costs.{cost_in}
 use Rattle.phone_short.specs.Emergencies.{is_emergency_in, reaches_emergency_in}

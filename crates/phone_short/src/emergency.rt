@@ -8,12 +8,12 @@ ghost use Rattle.phone_short.specs.Emergencies.{reaches_emergency_in};
 
 use crate::digits::{digits_in, is_dialled_within};
 use phone_chars::cuts::{before, split_first};
-use phone_territory::Metadata;
+use phone_territory::Territory;
 use std::alloc::AllocError;
 
 /// Whether digits are an emergency number: the pattern of these matches all of them. Refused only
 /// for memory.
-pub(crate) fn is_emergency_number(m: &Metadata, digits: &str) -> Result<bool, AllocError>
+pub(crate) fn is_emergency_number(m: &Territory, digits: &str) -> Result<bool, AllocError>
     ensures { IfOk result (λ b. b ≡ is_emergency_number m.now digits.now) }
 {
     match m.descriptors().emergency() {
@@ -24,7 +24,7 @@ pub(crate) fn is_emergency_number(m: &Metadata, digits: &str) -> Result<bool, Al
 
 /// Whether digits begin with an emergency number. Each of their fronts is asked; a pattern is left
 /// at the first digit that none of its numbers has there. Refused only for memory.
-fn begins_with_emergency(m: &Metadata, digits: &str) -> Result<bool, AllocError>
+fn begins_with_emergency(m: &Territory, digits: &str) -> Result<bool, AllocError>
     requires { list_all is_digit digits.now ≡ true }
     ensures { IfOk result (λ b. b ≡ begins_with_emergency m.now digits.now) }
 {
@@ -39,14 +39,14 @@ fn begins_with_emergency(m: &Metadata, digits: &str) -> Result<bool, AllocError>
 }
 
 /// Whether the region is one in which an emergency number connects only where nothing follows it.
-fn is_exact(m: &Metadata) -> bool
+fn is_exact(m: &Territory) -> bool
     ensures { result ≡ is_exact m.now }
 {
     matches!(m.id(), "BR" | "CL" | "NI")
 }
 
 /// Whether digits reach emergency services. Refused only for memory.
-fn connects(m: &Metadata, digits: &str) -> Result<bool, AllocError>
+fn connects(m: &Territory, digits: &str) -> Result<bool, AllocError>
     requires { list_all is_digit digits.now ≡ true }
     ensures { IfOk result (λ b. b ≡ connects m.now digits.now) }
 {
@@ -59,7 +59,7 @@ fn connects(m: &Metadata, digits: &str) -> Result<bool, AllocError>
 
 /// Whether a text is an emergency number: it is dialled within the region, and its digits are one.
 /// Refused only for memory.
-pub(crate) fn is_emergency_in(m: &Metadata, text: &str) -> Result<bool, AllocError>
+pub(crate) fn is_emergency_in(m: &Territory, text: &str) -> Result<bool, AllocError>
     ensures { IfOk result (λ b. b ≡ is_emergency_in m.now (chars text.now)) }
 {
     if !is_dialled_within(text) {
@@ -71,7 +71,7 @@ pub(crate) fn is_emergency_in(m: &Metadata, text: &str) -> Result<bool, AllocErr
 
 /// Whether a text reaches emergency services: it is dialled within the region, and its digits do.
 /// Refused only for memory.
-pub(crate) fn reaches_emergency_in(m: &Metadata, text: &str) -> Result<bool, AllocError>
+pub(crate) fn reaches_emergency_in(m: &Territory, text: &str) -> Result<bool, AllocError>
     ensures { IfOk result (λ b. b ≡ reaches_emergency_in m.now (chars text.now)) }
 {
     if !is_dialled_within(text) {

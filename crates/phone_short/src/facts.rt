@@ -4,7 +4,7 @@ ghost use Rattle.phone_short.specs.Regions as regions;
 
 use crate::rates::Cost;
 use crate::regions;
-use phone_meta::Database;
+use phone_plans::Plans;
 use phone_values::country::Id;
 use std::alloc::AllocError;
 
@@ -26,7 +26,7 @@ pub struct ShortFacts {
 }
 
 /// The answers of the six calls on a text, at once. Refused only for memory.
-pub fn short_facts(db: &Database, region: Id, text: &str) -> Result<ShortFacts, AllocError>
+pub fn short_facts(db: &Plans, region: Id, text: &str) -> Result<ShortFacts, AllocError>
     ensures { IfOk result (λ facts. facts ≡ regions.short_facts db.now region (chars text.now)) }
 {
     Ok(ShortFacts {

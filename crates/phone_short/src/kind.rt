@@ -7,7 +7,7 @@ ghost use Rattle.phone_short.specs.Texts as texts;
 use crate::digits::{digits_in, is_dialled_within};
 use crate::emergency::is_emergency_in;
 use crate::numbers::is_valid;
-use phone_territory::Metadata;
+use phone_territory::Territory;
 use std::alloc::AllocError;
 
 /// What kind of short number a text is.
@@ -33,7 +33,7 @@ impl ShortKind {
 
 /// The kind of a text: an emergency number, before all else; or a text that is dialled within the
 /// region and whose digits are valid; or none. Refused only for memory.
-pub(crate) fn kind_in(m: &Metadata, text: &str) -> Result<Option<ShortKind>, AllocError>
+pub(crate) fn kind_in(m: &Territory, text: &str) -> Result<Option<ShortKind>, AllocError>
     ensures { IfOk result (λ kind. kind ≡ kind_in m.now (chars text.now)) }
 {
     if is_emergency_in(m, text)? {
@@ -46,7 +46,7 @@ pub(crate) fn kind_in(m: &Metadata, text: &str) -> Result<Option<ShortKind>, All
 }
 
 /// Whether a text is dialled within the region, and its digits are valid. Refused only for memory.
-fn is_valid_within(m: &Metadata, text: &str) -> Result<bool, AllocError>
+fn is_valid_within(m: &Territory, text: &str) -> Result<bool, AllocError>
     ensures { IfOk result (λ b. b ≡ (texts.is_dialled_within (chars text.now) &&
         numbers.is_valid m.now (texts.digits_in (chars text.now)))) }
 {

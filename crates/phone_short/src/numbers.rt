@@ -4,7 +4,7 @@ ghost use Rattle.std.specs.List.{list_any};
 ghost use Rattle.std.specs.Option.{option_copied};
 ghost use Rattle.phone_short.specs.Numbers.{has_number, is_carrier_specific, is_possible, is_valid};
 
-use phone_territory::{Descriptor, Metadata};
+use phone_territory::{Descriptor, Territory};
 use std::alloc::AllocError;
 
 /// Whether a descriptor is there and has the digits: it allows their count, and its pattern matches
@@ -34,7 +34,7 @@ fn lists(lengths: &[u16], count: usize) -> bool
 }
 
 /// Whether the general descriptor lists the count of the digits. Takes no memory.
-pub(crate) fn is_possible(m: &Metadata, digits: &str) -> bool
+pub(crate) fn is_possible(m: &Territory, digits: &str) -> bool
     ensures { result ≡ is_possible m.now digits.now }
 {
     lists(m.descriptors().general().possible_length(), digits.len())
@@ -42,7 +42,7 @@ pub(crate) fn is_possible(m: &Metadata, digits: &str) -> bool
 
 /// Whether the digits are possible, and both the general descriptor and that of short codes have
 /// them. Refused only for memory.
-pub(crate) fn is_valid(m: &Metadata, digits: &str) -> Result<bool, AllocError>
+pub(crate) fn is_valid(m: &Territory, digits: &str) -> Result<bool, AllocError>
     ensures { IfOk result (λ b. b ≡ is_valid m.now digits.now) }
 {
     let kinds = m.descriptors();
@@ -53,7 +53,7 @@ pub(crate) fn is_valid(m: &Metadata, digits: &str) -> Result<bool, AllocError>
 }
 
 /// Whether the carriers' descriptor has the digits. Refused only for memory.
-pub(crate) fn is_carrier_specific(m: &Metadata, digits: &str) -> Result<bool, AllocError>
+pub(crate) fn is_carrier_specific(m: &Territory, digits: &str) -> Result<bool, AllocError>
     ensures { IfOk result (λ b. b ≡ is_carrier_specific m.now digits.now) }
 {
     has_number(m.descriptors().carrier(), digits)

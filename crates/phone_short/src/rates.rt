@@ -4,7 +4,7 @@ ghost use Rattle.phone_short.specs.Costs.{cost_in, cost_word, otherwise};
 
 use crate::emergency::is_emergency_number;
 use crate::numbers::{has_number, is_possible};
-use phone_territory::Metadata;
+use phone_territory::Territory;
 use std::alloc::AllocError;
 
 /// What a call of a short number costs.
@@ -37,7 +37,7 @@ impl Cost {
 /// The cost of digits: that of the first descriptor that has them, of premium rate, standard rate
 /// and toll free; without one an emergency number is free. Unknown for all others, and where the
 /// digits aren't possible. Refused only for memory.
-pub(crate) fn cost_in(m: &Metadata, digits: &str) -> Result<Cost, AllocError>
+pub(crate) fn cost_in(m: &Territory, digits: &str) -> Result<Cost, AllocError>
     ensures { IfOk result (λ cost. cost ≡ cost_in m.now digits.now) }
 {
     if !is_possible(m, digits) {
@@ -57,7 +57,7 @@ pub(crate) fn cost_in(m: &Metadata, digits: &str) -> Result<Cost, AllocError>
 }
 
 /// The cost of digits that no descriptor of a cost has. Refused only for memory.
-fn otherwise(m: &Metadata, digits: &str) -> Result<Cost, AllocError>
+fn otherwise(m: &Territory, digits: &str) -> Result<Cost, AllocError>
     ensures { IfOk result (λ cost. cost ≡ otherwise m.now digits.now) }
 {
     if is_emergency_number(m, digits)? {

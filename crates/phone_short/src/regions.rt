@@ -7,14 +7,14 @@ use crate::emergency::{is_emergency_in, reaches_emergency_in};
 use crate::kind::{ShortKind, kind_in};
 use crate::numbers;
 use crate::rates::{Cost, cost_in};
-use phone_meta::Database;
+use phone_plans::Plans;
 use phone_values::country::Id;
 use std::alloc::AllocError;
 
 /// Whether a text may be a short number of a region: the region's general descriptor lists the
 /// count of its digits. These are the values of its digits of any script; nothing else counts, not
 /// even a plus sign. Refused only for memory.
-pub fn is_possible_short(db: &Database, region: Id, text: &str) -> Result<bool, AllocError>
+pub fn is_possible_short(db: &Plans, region: Id, text: &str) -> Result<bool, AllocError>
     ensures { IfOk result (λ b. b ≡ regions.is_possible_short db.now region (chars text.now)) }
 {
     let Some(m) = db.by_id(region.as_str()) else {
@@ -26,7 +26,7 @@ pub fn is_possible_short(db: &Database, region: Id, text: &str) -> Result<bool, 
 
 /// Whether a text is a short number of a region: its digits are possible, and both the general
 /// descriptor and that of short codes have them. Refused only for memory.
-pub fn is_valid_short(db: &Database, region: Id, text: &str) -> Result<bool, AllocError>
+pub fn is_valid_short(db: &Plans, region: Id, text: &str) -> Result<bool, AllocError>
     ensures { IfOk result (λ b. b ≡ regions.is_valid_short db.now region (chars text.now)) }
 {
     let Some(m) = db.by_id(region.as_str()) else {
@@ -39,7 +39,7 @@ pub fn is_valid_short(db: &Database, region: Id, text: &str) -> Result<bool, All
 /// What a call of a text's digits costs in a region: of premium rate, standard rate and toll free
 /// the first whose descriptor has them; without one an emergency number is free. Unknown for all
 /// others, and where the digits aren't possible. Refused only for memory.
-pub fn cost(db: &Database, region: Id, text: &str) -> Result<Cost, AllocError>
+pub fn cost(db: &Plans, region: Id, text: &str) -> Result<Cost, AllocError>
     ensures { IfOk result (λ cost. cost ≡ regions.cost db.now region (chars text.now)) }
 {
     let Some(m) = db.by_id(region.as_str()) else {
@@ -51,7 +51,7 @@ pub fn cost(db: &Database, region: Id, text: &str) -> Result<Cost, AllocError>
 
 /// Whether only some carriers of a region connect a text's digits: the carriers' descriptor has
 /// them. Refused only for memory.
-pub fn is_carrier_specific(db: &Database, region: Id, text: &str) -> Result<bool, AllocError>
+pub fn is_carrier_specific(db: &Plans, region: Id, text: &str) -> Result<bool, AllocError>
     ensures { IfOk result (λ b. b ≡ regions.is_carrier_specific db.now region (chars text.now)) }
 {
     let Some(m) = db.by_id(region.as_str()) else {
@@ -64,7 +64,7 @@ pub fn is_carrier_specific(db: &Database, region: Id, text: &str) -> Result<bool
 /// Whether a text is an emergency number of a region: the first of its plus signs and digits is a
 /// digit, and the pattern of emergency numbers matches all of its digits, whatever their count.
 /// Refused only for memory.
-pub fn is_emergency(db: &Database, region: Id, text: &str) -> Result<bool, AllocError>
+pub fn is_emergency(db: &Plans, region: Id, text: &str) -> Result<bool, AllocError>
     ensures { IfOk result (λ b. b ≡ regions.is_emergency db.now region (chars text.now)) }
 {
     match db.by_id(region.as_str()) {
@@ -76,7 +76,7 @@ pub fn is_emergency(db: &Database, region: Id, text: &str) -> Result<bool, Alloc
 /// Whether a text that is dialled in a region reaches emergency services: the first of its plus
 /// signs and digits is a digit, and its digits begin with an emergency number; in Brazil, Chile and
 /// Nicaragua they have to be one. Refused only for memory.
-pub fn reaches_emergency(db: &Database, region: Id, text: &str) -> Result<bool, AllocError>
+pub fn reaches_emergency(db: &Plans, region: Id, text: &str) -> Result<bool, AllocError>
     ensures { IfOk result (λ b. b ≡ regions.reaches_emergency db.now region (chars text.now)) }
 {
     match db.by_id(region.as_str()) {
@@ -87,7 +87,7 @@ pub fn reaches_emergency(db: &Database, region: Id, text: &str) -> Result<bool, 
 
 /// What kind of short number a text is in a region: an emergency number; or one that is valid, and
 /// the first of whose plus signs and digits is a digit; else none. Refused only for memory.
-pub fn short_kind(db: &Database, region: Id, text: &str) -> Result<Option<ShortKind>, AllocError>
+pub fn short_kind(db: &Plans, region: Id, text: &str) -> Result<Option<ShortKind>, AllocError>
     ensures { IfOk result (λ kind. kind ≡ regions.short_kind db.now region (chars text.now)) }
 {
     match db.by_id(region.as_str()) {

@@ -9,7 +9,7 @@ use Rattle.phone_values.specs.declared.error.ParseError.{ParseError}
 use Rattle.phone_values.specs.declared.mode.Mode.TheVariants.{E164, International, National}
 use Rattle.phone_values.specs.declared.reading.Reading.{Reading}
 use Rattle.phone_csv.specs.Formats.{Record}
-use Rattle.phone_meta.specs.CodeLookUps.{first_of, territories}
+use Rattle.phone_plans.specs.CodeLookUps.{first_of, territories}
 use Rattle.phone_records.specs.declared.loader.Metadata.{Metadata}
 use Rattle.phone_short.specs.declared.kind.ShortKind.TheVariants.{Emergency, ShortNumber}
 use Rattle.phonenumber.specs.Reports.{kind_word, region_word, validity_word}

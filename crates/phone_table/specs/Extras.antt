@@ -8,7 +8,7 @@ use Rattle.phone_values.specs.declared.kind.«Type».{«Type»}
 use Rattle.phone_values.specs.declared.kind.«Type».TheVariants.{Unknown}
 use Rattle.phone_values.specs.declared.reading.Reading.{Reading}
 use Rattle.phone_csv.specs.Formats.{Record}
-use Rattle.phone_meta.specs.Records.{last_with}
+use Rattle.phone_plans.specs.Records.{last_with}
 use Rattle.phone_records.specs.declared.loader.Metadata.{Metadata}
 use Rattle.phone_prefixes.specs.Tables.{Entry, IsLongest, NoneBegins}
 use Rattle.phone_maps.specs.Maps.{code_digits, digits_of, has_carrier, is_first, is_geographical}

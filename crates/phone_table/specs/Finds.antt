@@ -6,7 +6,7 @@ use Rattle.serde_json.specs.Written.{compact_text}
 use Rattle.phone_choice.specs.declared.rules.Rules.{Rules}
 use Rattle.phone_values.specs.declared.reading.Reading.{Reading}
 use Rattle.phone_csv.specs.Formats.{Record}
-use Rattle.phone_meta.specs.CodeLookUps.{first_of, territories}
+use Rattle.phone_plans.specs.CodeLookUps.{first_of, territories}
 use Rattle.phone_records.specs.declared.loader.Metadata.{Metadata}
 use Rattle.phone_table.specs.Answers.{number_answer}
 use Rattle.phone_table.specs.Objects.{field}

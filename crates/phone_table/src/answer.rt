@@ -1,7 +1,7 @@
 //! What the field of a number is answered.
 ghost use Rattle.std.specs.Prelude.{◌≡◌, ◌++◌, [], Err, Some, None, IfOk, OnOk, option_map};
 ghost use Rattle.csv.specs.Records.{fields_of, partial_of};
-ghost use Rattle.phone_meta.specs.CodeLookUps.{first_of, territories};
+ghost use Rattle.phone_plans.specs.CodeLookUps.{first_of, territories};
 ghost use Rattle.phone_records.specs.declared.loader.Metadata as loader;
 ghost use Rattle.phone_table.specs.Answers.{IsFieldAnswer, IsReply, IsTextAnswer, is_blank};
 ghost use Rattle.phone_table.specs.Answers.{number_answer};
@@ -15,9 +15,9 @@ use crate::objects::{Fields, parts_of};
 use crate::words::refusal_words;
 use csv::ByteRecord;
 use phone_choice::{Rules, facts_by, parse_by, texts_by};
+use phone_plans::Plans;
 use phone_short::{ShortKind, short_kind};
 use phonenumber::country::Id;
-use phonenumber::metadata::Database;
 use phonenumber::{Facts, FormatError, PhoneNumber, Texts};
 use std::alloc::{AllocError, Global};
 
@@ -48,8 +48,8 @@ pub enum Answer {
 pub fn answer_to(
     alloc: Global,
     rules: Rules,
-    database: &Database,
-    short: Option<&Database>,
+    database: &Plans,
+    short: Option<&Plans>,
     hint: Option<Id>,
     field: &[u8],
 ) -> Result<Answer, AllocError>
@@ -67,8 +67,8 @@ pub fn answer_to(
 fn answer_to_text(
     alloc: Global,
     rules: Rules,
-    database: &Database,
-    short: Option<&Database>,
+    database: &Plans,
+    short: Option<&Plans>,
     hint: Option<Id>,
     text: &str,
 ) -> Result<Answer, AllocError>
@@ -93,7 +93,7 @@ fn answer_to_text(
 /// The region of a hint, and what kind of short number a text is there, by a database of these;
 /// none without a database or a hint. Refused only for memory.
 fn short_in(
-    short: Option<&Database>,
+    short: Option<&Plans>,
     hint: Option<Id>,
     text: &str,
 ) -> Result<Option<(Id, ShortKind)>, AllocError>
@@ -123,7 +123,7 @@ fn is_valid(answer: &Answer) -> bool
 fn reply_to(
     alloc: Global,
     rules: Rules,
-    database: &Database,
+    database: &Plans,
     hint: Option<Id>,
     text: &str,
 ) -> Result<Answer, AllocError>
@@ -157,7 +157,7 @@ fn is_blank(text: &str) -> bool
 pub(crate) fn known_of(
     alloc: Global,
     rules: Rules,
-    database: &Database,
+    database: &Plans,
     number: &PhoneNumber,
 ) -> Result<Known, FormatError>
     ensures spelled { IfOk result (λ k. (m : loader.Metadata) ×

@@ -15,10 +15,10 @@ use csv::ByteRecord;
 use itoa::Buffer;
 use phone_choice::Rules;
 use phone_maps::{Owner, has_carrier, is_geographical};
+use phone_plans::Plans;
 use phone_prefixes::Prefixes;
 use phone_values::Type;
 use phonenumber::country::Id;
-use phonenumber::metadata::Database;
 use phonenumber::{Facts, PhoneNumber};
 use std::alloc::AllocError;
 use std::marker::Model;
@@ -76,7 +76,7 @@ fn text_of_code(table: &Prefixes, code: u16) -> &str
 }
 
 /// Whether a mobile number of a region can be kept when the carrier changes.
-fn is_portable(database: &Database, region: Option<Id>) -> bool
+fn is_portable(database: &Plans, region: Option<Id>) -> bool
     ensures { result ≡ is_portable database.now region }
 {
     let Some(region) = region else {
@@ -89,7 +89,7 @@ fn is_portable(database: &Database, region: Option<Id>) -> bool
 }
 
 /// Whether the carrier is told of a number of this kind and region.
-fn tells_carrier(database: &Database, owner: Owner, kind: Type, region: Option<Id>) -> bool
+fn tells_carrier(database: &Plans, owner: Owner, kind: Type, region: Option<Id>) -> bool
     ensures { result ≡ (has_carrier kind && (is_first owner || not (is_portable database.now
         region))) }
 {
@@ -122,7 +122,7 @@ fn zones_of<'a>(table: &'a Prefixes, number: &PhoneNumber, kind: Type, digits: &
 
 /// What a column tells of a number whose digits these are.
 fn found<'a>(
-    database: &Database,
+    database: &Plans,
     column: &Extra<'a>,
     number: &PhoneNumber,
     facts: Facts,
@@ -158,7 +158,7 @@ fn behind_plus(text: &str) -> &str
 }
 
 /// What a column tells of an answer: nothing where no number was read.
-fn told_by<'a>(rules: Rules, database: &Database, column: &Extra<'a>, answer: &Answer) -> &'a str
+fn told_by<'a>(rules: Rules, database: &Plans, column: &Extra<'a>, answer: &Answer) -> &'a str
     requires { IsKnownIn rules database.now answer.now }
     ensures { IsTold rules database.now column.now (number_in answer.now) result.now }
 {
@@ -175,7 +175,7 @@ fn told_by<'a>(rules: Rules, database: &Database, column: &Extra<'a>, answer: &A
 pub(crate) fn push_told(
     fields: &mut ByteRecord,
     rules: Rules,
-    database: &Database,
+    database: &Plans,
     extra: &[Extra<'_>],
     answer: &Answer,
 ) -> Result<(), AllocError>

@@ -3,7 +3,7 @@ ghost use Rattle.std.specs.Prelude.{◌≡◌, ◌++◌, [], Err, IfOk, None, On
 ghost use Rattle.std.specs.Prelude.{unwrap_or};
 ghost use Rattle.csv.specs.Records as records;
 ghost use Rattle.phone_csv.specs.Formats.{Record};
-ghost use Rattle.phone_meta.specs.CodeLookUps.{first_of, territories};
+ghost use Rattle.phone_plans.specs.CodeLookUps.{first_of, territories};
 ghost use Rattle.serde_json.specs.Written.{compact_text};
 ghost use Rattle.serde_json.specs.View.{view};
 ghost use Rattle.phone_table.specs.Finds.{IsFoundObject, IsFoundRecord, found_names};
@@ -16,7 +16,7 @@ use crate::objects::{Fields, object_with, parts_of_known, with_answer, with_numb
 use csv::ByteRecord;
 use itoa::Buffer;
 use phone_choice::Rules;
-use phonenumber::metadata::Database;
+use phone_plans::Plans;
 use phonenumber::{FormatError, PhoneNumber};
 use serde_json::{Map, Value};
 use std::alloc::{AllocError, Global};
@@ -40,7 +40,7 @@ pub struct Spot<'a> {
 pub fn found_object(
     alloc: Global,
     rules: Rules,
-    database: &Database,
+    database: &Plans,
     spot: Spot<'_>,
     number: &PhoneNumber,
 ) -> Result<String, FormatError>
@@ -63,7 +63,7 @@ pub fn found_object(
 pub fn push_found(
     alloc: Global,
     rules: Rules,
-    database: &Database,
+    database: &Plans,
     spot: Spot<'_>,
     number: &PhoneNumber,
     row: &mut ByteRecord,

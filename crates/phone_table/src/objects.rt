@@ -12,8 +12,8 @@ ghost use Rattle.phone_table.specs.Objects.{with_answer};
 
 use crate::answer::{Answer, Known, answer_to};
 use phone_choice::Rules;
+use phone_plans::Plans;
 use phonenumber::country::Id;
-use phonenumber::metadata::Database;
 use phonenumber::report::{kind_word, region_word, validity_word};
 use serde_json::{Map, Value};
 use std::alloc::{AllocError, Global};
@@ -41,8 +41,8 @@ pub(crate) struct Fields<'a> {
 pub fn object_line(
     alloc: Global,
     rules: Rules,
-    database: &Database,
-    short: Option<&Database>,
+    database: &Plans,
+    short: Option<&Plans>,
     hint: Option<Id>,
     place: u64,
     line: &[u8],
@@ -62,8 +62,8 @@ pub fn object_line(
 fn object(
     alloc: Global,
     rules: Rules,
-    database: &Database,
-    short: Option<&Database>,
+    database: &Plans,
+    short: Option<&Plans>,
     hint: Option<Id>,
     place: u64,
     line: &[u8],

@@ -11,8 +11,8 @@ use csv::ByteRecord;
 use phone_choice::Rules;
 use phone_csv::{FirstError, RunError, first_record, is_delimiter};
 use phone_device::{ByteSink, ByteSource};
+use phone_plans::Plans;
 use phonenumber::country::Id;
-use phonenumber::metadata::Database;
 
 /// What is asked of a table.
 #[derive(Clone, Copy)]
@@ -35,7 +35,7 @@ pub struct Asked<'a> {
     /// The columns that stand between the header's own and the seven.
     pub extra: &'a [Extra<'a>],
     /// The database of short numbers, where the kinds of these are told.
-    pub short: Option<&'a Database>,
+    pub short: Option<&'a Plans>,
 }
 
 /// Why a table was not answered whole.
@@ -83,7 +83,7 @@ pub enum TableError {
 /// `Rows` and `Header` have `Quote` where the table ends between quotes, with the line of the quote
 /// that is never closed, counted from 1.
 pub fn write_table<S: ByteSource, W: ByteSink>(
-    database: &Database,
+    database: &Plans,
     asked: Asked<'_>,
     source: &mut S,
     sink: &mut W,

@@ -16,7 +16,7 @@ use crate::region::{Named, hint_under, region_named};
 use crate::run::Asked;
 use csv::ByteRecord;
 use phone_csv::{Answers, Refusal};
-use phonenumber::metadata::Database;
+use phone_plans::Plans;
 use std::alloc::{AllocError, Global};
 use std::marker::Model;
 
@@ -24,7 +24,7 @@ use std::marker::Model;
 #[derive(Clone, Copy)]
 pub struct Table<'d> {
     /// The database that reads, prints and tells.
-    pub database: &'d Database,
+    pub database: &'d Plans,
     /// What is asked of the table.
     pub asked: Asked<'d>,
     /// Its columns.

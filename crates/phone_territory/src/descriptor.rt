@@ -1,8 +1,8 @@
-//! What the numbers of one kind look like, with its pattern compiled.
+//! What the numbers of one kind look like, with its pattern read.
 ghost use Rattle.std.specs.Prelude.{◌≡◌, ◌==◌, false, length, None, Some, Ok, IfOk, IfErr};
 ghost use Rattle.std.specs.List.{AllByRecursion, list_any};
 ghost use Rattle.std.specs.Option.{option_copied};
-ghost use Rattle.phone_territory.specs.First.{IsPattern, IsPatternOf};
+ghost use Rattle.phone_territory.specs.First.{IsPattern};
 ghost use Rattle.phone_records.specs.Missing.{missing_in_descriptor};
 ghost use Rattle.phone_territory.specs.Refusals.{IsPatternRefusal, patterns_in_descriptor};
 ghost use Rattle.phone_territory.specs.Records.{allows_length, matches, pattern_of};
@@ -12,7 +12,6 @@ use crate::loader::{self, Text};
 use crate::together::both;
 use phone_pattern::{Pattern, Pool};
 use phone_records::LoadMetadata;
-use regex::Regex;
 use std::alloc::AllocError;
 use std::marker::Model;
 
@@ -41,10 +40,7 @@ impl Model for Descriptor {
 
 impl Descriptor {
     /// Compiles a record, whose pattern must be there.
-    pub(crate) fn compile(
-        pool: &Pool,
-        given: loader::Descriptor,
-    ) -> Result<Descriptor, LoadMetadata>
+    pub fn compile(pool: &Pool, given: loader::Descriptor) -> Result<Descriptor, LoadMetadata>
         requires { missing_in_descriptor (Some given) ≡ None }
         ensures compiled { IfOk result (λ d. d ≡ given) }
         ensures read { IfOk result (λ d.
@@ -65,13 +61,6 @@ impl Descriptor {
     }
 
     /// The pattern of the numbers' digits.
-    pub fn national_number(&self) -> &Regex
-        ensures { IsPatternOf (pattern_of self.now) result.now }
-    {
-        self.national_number.regex()
-    }
-
-    /// The same, as a pattern that searches.
     pub fn pattern(&self) -> &Pattern
         ensures { result.now ≡ pattern_of self.now }
     {

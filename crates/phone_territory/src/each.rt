@@ -27,10 +27,7 @@ pub trait Compile: Drop + Sized {
 }
 
 /// Compiles each of these records, which lack nothing.
-pub(crate) fn compile_each<T: Compile>(
-    pool: &Pool,
-    given: Vec<T::Record>,
-) -> Result<Vec<T>, LoadMetadata>
+pub fn compile_each<T: Compile>(pool: &Pool, given: Vec<T::Record>) -> Result<Vec<T>, LoadMetadata>
     requires { first_given (map T.missing given.items) ≡ None }
     ensures compiled { IfOk result (λ all. map T.record_of all.items ≡ given.items) }
     ensures read { AreRead (flat_map T.patterns given.items) result }

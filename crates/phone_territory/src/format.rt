@@ -3,7 +3,6 @@ ghost use Rattle.std.specs.Prelude.{◌≡◌, ℕ, List, [], true, Some, Ok, op
 ghost use Rattle.std.specs.Prelude.{string_bytes};
 ghost use Rattle.std.specs.Borrow.{Bor};
 ghost use Rattle.std.specs.Option.{option_copied};
-ghost use Rattle.phone_territory.specs.First.{ArePatternsOf, IsLentPattern};
 ghost use Rattle.phone_territory.specs.Layouts.{laid_by, layout_template, national_template};
 ghost use Rattle.phone_territory.specs.Layouts.{rule_for};
 ghost use Rattle.phone_pattern.specs.Rules.{ruled_template};
@@ -16,7 +15,6 @@ use crate::loader::{self, Text};
 use crate::together::both_read;
 use phone_pattern::{FirstGroup, KeptRuled, Leading, Pattern, Pool};
 use phone_records::LoadMetadata;
-use regex::Regex;
 use std::alloc::AllocError;
 use std::marker::Model;
 
@@ -87,13 +85,6 @@ impl Compile for Format {
 
 impl Format {
     /// The pattern that parts the digits into groups.
-    pub fn pattern(&self) -> &Regex
-        ensures { IsLentPattern self.now.pattern (Some result) }
-    {
-        self.pattern.regex()
-    }
-
-    /// The same, as a pattern that searches.
     pub fn whole_pattern(&self) -> &Pattern
         ensures { self.now.pattern ≡ Some result.now }
     {
@@ -105,14 +96,6 @@ impl Format {
         ensures { self.now.format ≡ Some result.now }
     {
         self.text.as_str()
-    }
-
-    /// Patterns of the digits in front for which the layout is meant; the last of them decides
-    /// (`is_led`).
-    pub fn leading_digits(&self) -> &[Regex]
-        ensures { ArePatternsOf self.now.leading_digits result.now }
-    {
-        self.leading_digits.as_slice()
     }
 
     /// Whether the layout is meant for these digits: it has no leading digits, or the first match

@@ -1,23 +1,11 @@
 //! Parts that a record may lack, lent where they are there.
 ghost use Rattle.std.specs.Prelude.{◌≡◌};
 ghost use Rattle.std.specs.Option.{option_copied};
-ghost use Rattle.phone_territory.specs.First.{IsLentPattern};
 
 use crate::loader::Text;
 use phone_pattern::Pattern;
-use regex::Regex;
 
-/// The pattern, as the kit's regular expression.
-pub fn regex(pattern: &Option<Pattern>) -> Option<&Regex>
-    ensures { IsLentPattern pattern.now result }
-{
-    match pattern {
-        Some(pattern) => Some(pattern.regex()),
-        None => None,
-    }
-}
-
-/// The pattern, as one that searches.
+/// The pattern.
 pub fn pattern(pattern: &Option<Pattern>) -> Option<&Pattern>
     ensures { option_copied result ≡ pattern.now }
 {

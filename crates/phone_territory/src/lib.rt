@@ -8,15 +8,16 @@ mod each;
 mod format;
 mod lent;
 pub mod loader;
-mod metadata;
 mod patterns;
 mod prefixes;
+mod territory;
 mod territory_id;
 pub mod together;
 
 pub use descriptor::Descriptor;
 pub use descriptors::Descriptors;
+pub use each::{Compile, compile_each};
 pub use format::Format;
-pub use metadata::{Metadata, compile_all};
 pub use phone_pattern::{Captured, FirstGroup, Pattern};
 pub use phone_records::LoadMetadata;
+pub use territory::{Territory, compile_all};

@@ -12,7 +12,7 @@ use Rattle.phone_library_text.specs.Written.{IsWritten, most_characters}
 use Rattle.phone_library_text.specs.declared.written.WrittenNumber.{WrittenNumber}
 use Rattle.phone_library_text.proofs.PlainWritten.{international_written, national_written}
 use Rattle.phone_library_text.proofs.WrittenOnes.{written_same}
-use Rattle.phone_meta.specs.CodeLookUps.{first_of, shortest, territories}
+use Rattle.phone_plans.specs.CodeLookUps.{first_of, shortest, territories}
 use Rattle.phone_parts.proofs.Ends.{all_wider}
 use Rattle.phone_records.specs.declared.loader.Metadata.{Metadata}
 use Rattle.phone_typed.specs.Keys.{is_key, is_mark}

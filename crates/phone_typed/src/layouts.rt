@@ -12,9 +12,9 @@ ghost use Rattle.phone_typed.specs.Typed.{is_short};
 ghost use Rattle.std.specs.Option.{option_or};
 
 use crate::keys::{end_of_shown, shows};
-use phone_meta::Database;
+use phone_plans::Plans;
 use phone_print::printing::layouts_for;
-use phone_territory::{FirstGroup, Format, Metadata};
+use phone_territory::{FirstGroup, Format, Territory};
 use phone_values::Mode;
 use std::alloc::AllocError;
 
@@ -68,7 +68,7 @@ fn lays_out(layout: &Format, n: usize, digits: &str) -> Result<bool, AllocError>
 /// The digits laid out by a layout in a mode. Refused only for memory.
 fn lay_out(
     finder: &FirstGroup,
-    m: &Metadata,
+    m: &Territory,
     mode: Mode,
     layout: &Format,
     digits: &str,
@@ -97,7 +97,7 @@ fn if_shows(keys: &str, text: String) -> Option<String>
 /// keys. Refused only for memory.
 fn complete_text(
     finder: &FirstGroup,
-    m: &Metadata,
+    m: &Territory,
     mode: Mode,
     national: &str,
     keys: &str,
@@ -117,7 +117,7 @@ fn complete_text(
 /// others after them, if that shows the keys. Refused only for memory.
 fn partial_text(
     finder: &FirstGroup,
-    m: &Metadata,
+    m: &Territory,
     mode: Mode,
     n: usize,
     digits: &str,
@@ -149,7 +149,7 @@ fn beginning(keys: &str, text: String) -> Option<String>
 /// for memory.
 fn first_complete(
     finder: &FirstGroup,
-    m: &Metadata,
+    m: &Territory,
     mode: Mode,
     national: &str,
     keys: &str,
@@ -170,7 +170,7 @@ fn first_complete(
 /// only for memory.
 fn first_partial(
     finder: &FirstGroup,
-    m: &Metadata,
+    m: &Territory,
     mode: Mode,
     national: &str,
     keys: &str,
@@ -190,7 +190,7 @@ fn first_partial(
 /// The same of n digits with others after them.
 fn first_of_nines(
     finder: &FirstGroup,
-    m: &Metadata,
+    m: &Territory,
     mode: Mode,
     n: usize,
     digits: &str,
@@ -219,8 +219,8 @@ pub(crate) fn is_short(digits: &str) -> bool
 /// beginning; the keys as they are where they are too short, and where no layout's text shows them.
 /// Refused only for memory.
 pub(crate) fn text_of_keys(
-    db: &Database,
-    m: &Metadata,
+    db: &Plans,
+    m: &Territory,
     mode: Mode,
     national: &str,
     keys: &str,
@@ -241,7 +241,7 @@ pub(crate) fn text_of_keys(
 /// Refused only for memory.
 fn by_layouts(
     finder: &FirstGroup,
-    m: &Metadata,
+    m: &Territory,
     mode: Mode,
     national: &str,
     keys: &str,

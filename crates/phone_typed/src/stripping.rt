@@ -12,12 +12,12 @@ ghost use Rattle.phone_territory.specs.First.{replaced};
 use phone_base::together::{beside, instead};
 use phone_rules::kinds::is_general;
 use phone_rules::trims::has_front;
-use phone_territory::{Metadata, Pattern};
+use phone_territory::{Pattern, Territory};
 use std::alloc::AllocError;
 use std::borrow::CowStr;
 
 /// What a territory's rules leave of keys as national digits. Refused only for memory.
-pub(crate) fn national_digits<'k>(m: &Metadata, keys: &'k str) -> Result<CowStr<'k>, AllocError>
+pub(crate) fn national_digits<'k>(m: &Territory, keys: &'k str) -> Result<CowStr<'k>, AllocError>
     ensures { IfOk result (λ left. cow_str_bytes left ≡
         (step m.now keys.entry.now None).national) }
 {
@@ -49,7 +49,7 @@ fn past_front<'k>(front: &str, keys: &'k str) -> &'k str
 }
 
 /// The national digits where the territory has this parsing pattern.
-fn past_match<'k>(m: &Metadata, pattern: &Pattern, keys: &'k str) -> Result<CowStr<'k>, AllocError>
+fn past_match<'k>(m: &Territory, pattern: &Pattern, keys: &'k str) -> Result<CowStr<'k>, AllocError>
     requires { m.now.national_prefix_for_parsing ≡ Some pattern.now }
     ensures { IfOk result (λ left. cow_str_bytes left ≡
         (step m.now keys.entry.now None).national) }
@@ -76,7 +76,7 @@ fn behind_match<'k>(pattern: &Pattern, keys: &'k str) -> Result<&'k str, AllocEr
 /// The same where the territory has this transform rule: it writes the keys anew where the last
 /// group took part in a match at the front; else the match is cut off.
 fn by_rule<'k>(
-    m: &Metadata,
+    m: &Territory,
     pattern: &Pattern,
     rule: &str,
     keys: &'k str,
@@ -102,7 +102,7 @@ fn by_rule<'k>(
 /// The keys as a transform rule writes them anew; as they are where they would leave the
 /// territory's general kind.
 fn anew<'k>(
-    m: &Metadata,
+    m: &Territory,
     pattern: &Pattern,
     rule: &str,
     keys: &'k str,
@@ -122,7 +122,7 @@ fn anew<'k>(
 }
 
 /// Whether keys are of the territory's general kind, and no longer are as they are written anew.
-fn leaves_general(m: &Metadata, keys: &str, written: &str) -> Result<bool, AllocError>
+fn leaves_general(m: &Territory, keys: &str, written: &str) -> Result<bool, AllocError>
     ensures { IfOk result (λ b. b ≡
         (is_of m.now.general keys.now && not (is_of m.now.general written.now))) }
 {

@@ -16,7 +16,7 @@ use crate::keys::{are_keys, keys_in};
 use crate::layouts::{is_short, text_of_keys};
 use crate::stripping::national_digits;
 use phone_base::together::instead;
-use phone_meta::{Database, Metadata};
+use phone_plans::{Plans, Territory};
 use phone_print::written::ROOM;
 use phone_rules::trims::behind_number;
 use phone_values::Mode;
@@ -31,7 +31,7 @@ use std::alloc::AllocError;
 /// with nines after its digits. Where a layout doesn't show the keys as they are, and where there
 /// is none, they stand without marks. A code is followed by a space. Refused only for memory, which
 /// the database's allocator takes.
-pub fn typed(database: &Database, hint: Option<Id>, text: &str) -> Result<String, AllocError>
+pub fn typed(database: &Plans, hint: Option<Id>, text: &str) -> Result<String, AllocError>
     ensures { IfOk result (λ t. string_bytes t ≡
         typed database.now hint (keys_in (chars text.now))) }
 {
@@ -44,7 +44,7 @@ pub fn typed(database: &Database, hint: Option<Id>, text: &str) -> Result<String
 }
 
 /// What is shown of keys. Refused only for memory.
-fn shown_of(db: &Database, hint: Option<Id>, keys: &str) -> Result<String, AllocError>
+fn shown_of(db: &Plans, hint: Option<Id>, keys: &str) -> Result<String, AllocError>
     ensures { IfOk result (λ t. string_bytes t ≡ typed db.now hint keys.now) }
 {
     if is_shown_as_it_is(keys) {
@@ -56,7 +56,7 @@ fn shown_of(db: &Database, hint: Option<Id>, keys: &str) -> Result<String, Alloc
 
 /// The first territory of the calling code of the hint; it isn't looked for where the keys begin
 /// with a plus sign.
-fn home_of<'d>(db: &'d Database, hint: Option<Id>, keys: &str) -> Option<&'d Metadata>
+fn home_of<'d>(db: &'d Plans, hint: Option<Id>, keys: &str) -> Option<&'d Territory>
     ensures { HasNoPlus keys.now → option_copied result ≡ layout_territory db.entry.now hint }
 {
     match keys.strip_prefix('+') {
@@ -80,8 +80,8 @@ fn is_shown_as_it_is(keys: &str) -> bool
 /// What is shown of keys, by the territory in which digits without a plus sign are typed. Refused
 /// only for memory.
 pub(crate) fn text_of(
-    db: &Database,
-    home: Option<&Metadata>,
+    db: &Plans,
+    home: Option<&Territory>,
     keys: &str,
 ) -> Result<String, AllocError>
     ensures { (hint : Option country.Id) →
@@ -98,7 +98,7 @@ pub(crate) fn text_of(
 }
 
 /// The first territory of the calling code of the hint.
-pub(crate) fn layout_territory(db: &Database, hint: Option<Id>) -> Option<&Metadata>
+pub(crate) fn layout_territory(db: &Plans, hint: Option<Id>) -> Option<&Territory>
     ensures { option_copied result ≡ layout_territory db.now hint }
 {
     let m = hint_territory(db, hint)?;
@@ -106,7 +106,7 @@ pub(crate) fn layout_territory(db: &Database, hint: Option<Id>) -> Option<&Metad
 }
 
 /// The territory of the hint: the last record with its id.
-fn hint_territory(db: &Database, hint: Option<Id>) -> Option<&Metadata>
+fn hint_territory(db: &Plans, hint: Option<Id>) -> Option<&Territory>
     ensures { option_copied result ≡ hinted db.now hint }
 {
     match hint {
@@ -116,7 +116,7 @@ fn hint_territory(db: &Database, hint: Option<Id>) -> Option<&Metadata>
 }
 
 /// What is shown of digits that are typed in a territory. Refused only for memory.
-fn text_at(db: &Database, m: &Metadata, keys: &str) -> Result<String, AllocError>
+fn text_at(db: &Plans, m: &Territory, keys: &str) -> Result<String, AllocError>
     ensures { IfOk result (λ t. string_bytes t ≡ text_at m.now keys.now) }
 {
     if is_short(keys) {
@@ -128,7 +128,7 @@ fn text_at(db: &Database, m: &Metadata, keys: &str) -> Result<String, AllocError
 }
 
 /// What is shown of digits that are typed after a plus sign. Refused only for memory.
-fn text_abroad(db: &Database, digits: &str) -> Result<String, AllocError>
+fn text_abroad(db: &Plans, digits: &str) -> Result<String, AllocError>
     ensures { IfOk result (λ t. string_bytes t ≡ text_abroad db.now digits.now) }
 {
     match db.shortest(digits) {
@@ -138,7 +138,7 @@ fn text_abroad(db: &Database, digits: &str) -> Result<String, AllocError>
 }
 
 /// The digits after a plus sign. Refused only for memory.
-fn signed(db: &Database, digits: &str) -> Result<String, AllocError>
+fn signed(db: &Plans, digits: &str) -> Result<String, AllocError>
     ensures { IfOk result (λ t. string_bytes t ≡ 43 ∷ digits.now) }
 {
     let mut text = String::with_capacity(db.allocator(), ROOM)?;
@@ -149,7 +149,7 @@ fn signed(db: &Database, digits: &str) -> Result<String, AllocError>
 
 /// What is shown of digits after a plus sign that begin with this calling code. Refused only for
 /// memory.
-fn text_of_code(db: &Database, code: u16, digits: &str) -> Result<String, AllocError>
+fn text_of_code(db: &Plans, code: u16, digits: &str) -> Result<String, AllocError>
     requires { is_front (decimal code) digits.now ≡ true }
     ensures { IfOk result (λ t. string_bytes t ≡ text_of_code db.now digits.now code) }
 {
@@ -163,7 +163,7 @@ fn text_of_code(db: &Database, code: u16, digits: &str) -> Result<String, AllocE
 }
 
 /// A calling code after a plus sign, a space, and a text. Refused only for memory.
-fn after_code(db: &Database, code: &str, text: String) -> Result<String, AllocError>
+fn after_code(db: &Plans, code: &str, text: String) -> Result<String, AllocError>
     ensures { IfOk result (λ t. string_bytes t ≡ 43 ∷ (code.now ++ 32 ∷ string_bytes text)) }
 {
     let shown = joined(db, code, text.as_str());
@@ -171,7 +171,7 @@ fn after_code(db: &Database, code: &str, text: String) -> Result<String, AllocEr
 }
 
 /// The same with a text that is lent.
-fn joined(db: &Database, code: &str, text: &str) -> Result<String, AllocError>
+fn joined(db: &Plans, code: &str, text: &str) -> Result<String, AllocError>
     ensures { IfOk result (λ t. string_bytes t ≡ 43 ∷ (code.now ++ 32 ∷ text.now)) }
 {
     let mut shown = signed(db, code)?;

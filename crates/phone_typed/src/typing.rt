@@ -5,7 +5,7 @@ ghost use Rattle.phone_typed.specs.Keys.{up_to_key, with_key};
 
 use crate::keys::{end_of_key, push_key};
 use crate::texts::{layout_territory, text_of};
-use phone_meta::{Database, Metadata};
+use phone_plans::{Plans, Territory};
 use phone_values::country::Id;
 use std::alloc::AllocError;
 use std::marker::Model;
@@ -14,10 +14,10 @@ use std::marker::Model;
 /// Contracts see the records of the database, the hint and the keys.
 #[derive(Drop)]
 pub struct Typing<'d> {
-    database: &'d Database,
+    database: &'d Plans,
     hint: Option<Id>,
     /// The territory in which digits without a plus sign are typed.
-    home: Option<&'d Metadata>,
+    home: Option<&'d Territory>,
     keys: String,
     shown: String,
 }
@@ -46,7 +46,7 @@ impl<'d> Model for Typing<'d> {
 impl<'d> Typing<'d> {
     /// A field in which nothing is typed yet. The hint is the region that digits without a plus
     /// sign are dialled in. Takes no memory.
-    pub fn new(database: &'d Database, hint: Option<Id>) -> Typing<'d>
+    pub fn new(database: &'d Plans, hint: Option<Id>) -> Typing<'d>
         ensures { result ≡ record { database = database.now; hint = hint; keys = [] } }
     {
         let alloc = database.allocator();

@@ -23,7 +23,7 @@ use Rattle.phone_values.specs.declared.country.Id.{Id}
 use Rattle.phone_values.specs.declared.country.Source.{Source}
 use Rattle.phone_values.specs.declared.country.Source.TheVariants.{Default, Idd, Plus}
 use Rattle.phone_values.specs.declared.mode.Mode.TheVariants.{International}
-use Rattle.phone_meta.specs.CodeLookUps.{first_of, is_listed, territories}
+use Rattle.phone_plans.specs.CodeLookUps.{first_of, is_listed, territories}
 use Rattle.phone_records.specs.declared.loader.Metadata.{Metadata}
 use Rattle.phone_parts.proofs.Ends.{ends-append}
 use Rattle.phone_parts.proofs.PrintedInternational.{some_text}

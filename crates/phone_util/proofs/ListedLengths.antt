@@ -7,7 +7,7 @@ use Rattle.std.specs.Option.{option_map_or, option_or}
 use Rattle.phone_values.specs.Numbers.{text_of}
 use Rattle.phone_values.specs.declared.kind.«Type».{«Type»}
 use Rattle.phone_values.specs.declared.kind.«Type».TheVariants as kind
-use Rattle.phone_meta.specs.CodeLookUps.{first_of, territories}
+use Rattle.phone_plans.specs.CodeLookUps.{first_of, territories}
 use Rattle.phone_territory.specs.Kinds.{Kinds, descriptor_for, kinds_of}
 use Rattle.phone_territory.specs.Records.{allows_length, matches, pattern_of}
 use Rattle.phone_territory.specs.First.{at_start}

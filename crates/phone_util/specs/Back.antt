@@ -9,8 +9,8 @@ use Rattle.phone_values.specs.Numbers.{text_of}
 use Rattle.phone_values.specs.declared.country.Id.{Id}
 use Rattle.phone_values.specs.declared.country.Source.{Source}
 use Rattle.phone_territory.specs.Records.{code_of}
-use Rattle.phone_meta.specs.CodeLookUps.{is_prefix_free}
-use Rattle.phone_meta.specs.Records.{last_with}
+use Rattle.phone_plans.specs.CodeLookUps.{is_prefix_free}
+use Rattle.phone_plans.specs.Records.{last_with}
 use Rattle.phone_records.specs.declared.loader.Metadata.{Metadata}
 use Rattle.phone_rules.specs.Dialling.{after_match, found_in}
 use Rattle.phone_read.specs.Readings.{Reads}

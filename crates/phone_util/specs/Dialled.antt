@@ -9,8 +9,8 @@ use Rattle.phone_values.specs.Ids.{name}
 use Rattle.phone_values.specs.declared.country.Id.{Id}
 use Rattle.phone_values.specs.declared.mode.Mode.TheVariants.{International}
 use Rattle.phone_territory.specs.Records.{code_of}
-use Rattle.phone_meta.specs.CodeLookUps.{first_of, territories}
-use Rattle.phone_meta.specs.Records.{last_with}
+use Rattle.phone_plans.specs.CodeLookUps.{first_of, territories}
+use Rattle.phone_plans.specs.Records.{last_with}
 use Rattle.phone_records.specs.declared.loader.Metadata.{Metadata}
 use Rattle.phone_values.specs.declared.reading.Reading.{Reading}
 use Rattle.phone_print.specs.Texts.{extension_part, laid_out, national_text}

@@ -11,8 +11,8 @@ use Rattle.phone_values.specs.declared.error.ParseError.{ParseError}
 use Rattle.phone_values.specs.declared.error.ParseError.TheVariants.{Memory}
 use Rattle.phone_values.specs.declared.kind.«Type».{«Type»}
 use Rattle.phone_territory.specs.Kinds.{descriptor_for, kinds_of}
-use Rattle.phone_meta.specs.CodeLookUps.{is_listed}
-use Rattle.phone_meta.specs.Records.{last_with}
+use Rattle.phone_plans.specs.CodeLookUps.{is_listed}
+use Rattle.phone_plans.specs.Records.{last_with}
 use Rattle.phone_records.specs.declared.loader.Descriptor.{Descriptor}
 use Rattle.phone_records.specs.declared.loader.Metadata.{Metadata}
 use Rattle.phone_choice.specs.Readings.{ReadsBy}

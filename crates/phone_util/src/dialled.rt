@@ -10,7 +10,7 @@ ghost use Rattle.phone_util.specs.Dialled.{if_digits, if_some};
 
 pub mod laws;
 
-use phone_meta::{Database, Metadata};
+use phone_plans::{Plans, Territory};
 use phone_values::Mode;
 use phone_values::country::Id;
 use phonenumber::{FormatError, PhoneNumber, format_with};
@@ -47,11 +47,7 @@ pub enum DialError {
 /// refused. The rule is that of libphonenumber's `formatOutOfCountryCallingNumber`, which besides
 /// puts `1 ` before a national text between regions of the code 1, and for an unknown region
 /// answers international text.
-pub fn dialled_from(
-    database: &Database,
-    region: Id,
-    number: &PhoneNumber,
-) -> Result<String, DialError>
+pub fn dialled_from(database: &Plans, region: Id, number: &PhoneNumber) -> Result<String, DialError>
     ensures text { IfOk result
         (λ t. dialled_text database.now region number.now ≡ Ok (string_bytes t)) }
     ensures unknown_region { (result ≡ Err DialError.UnknownRegion) ↔
@@ -74,7 +70,7 @@ pub fn dialled_from(
 
 /// The text of a number in a mode. `UnknownCode` exactly where its code isn't listed; `Memory`
 /// where memory was refused.
-fn text_in(database: &Database, number: &PhoneNumber, mode: Mode) -> Result<String, DialError>
+fn text_in(database: &Plans, number: &PhoneNumber, mode: Mode) -> Result<String, DialError>
     ensures text { IfOk result
         (λ t. printed database.now mode None number.now ≡ Some (string_bytes t)) }
     ensures unknown { (result ≡ Err DialError.UnknownCode) ↔
@@ -91,7 +87,7 @@ fn text_in(database: &Database, number: &PhoneNumber, mode: Mode) -> Result<Stri
 
 /// An international text with what is dialled in the place of its plus sign. Refused only for
 /// memory.
-fn dialled_abroad(alloc: Global, from: &Metadata, text: &str) -> Result<String, AllocError>
+fn dialled_abroad(alloc: Global, from: &Territory, text: &str) -> Result<String, AllocError>
     ensures { IfOk result (λ t. (rest : List ℕ) → text.now ≡ codes "+" ++ rest →
         string_bytes t ≡ dialling_prefix_of from.now ++ rest) }
 {
@@ -120,7 +116,7 @@ fn behind_prefix(alloc: Global, prefix: &str, rest: &str) -> Result<String, Allo
 }
 
 /// The international prefix that is dialled in a territory.
-fn dialled_prefix(from: &Metadata) -> Option<&str>
+fn dialled_prefix(from: &Territory) -> Option<&str>
     ensures { option_copied result ≡ dialled_prefix from.entry.now }
 {
     match preferred_prefix(from) {
@@ -130,7 +126,7 @@ fn dialled_prefix(from: &Metadata) -> Option<&str>
 }
 
 /// The international prefix that a territory prefers, where it isn't empty.
-fn preferred_prefix(from: &Metadata) -> Option<&str>
+fn preferred_prefix(from: &Territory) -> Option<&str>
     ensures { option_copied result ≡
         option_and_then if_some from.entry.now.preferred_international_prefix }
 {
@@ -146,7 +142,7 @@ fn some(text: &str) -> Option<&str>
 }
 
 /// The pattern of a territory's international prefixes, where that is digits alone.
-fn only_prefix(from: &Metadata) -> Option<&str>
+fn only_prefix(from: &Territory) -> Option<&str>
     ensures { option_copied result ≡
         option_and_then if_digits from.entry.now.international_prefix }
 {

@@ -10,7 +10,7 @@ ghost use Rattle.phone_rules.specs.Verdicts.{general_lengths};
 ghost use Rattle.phone_library.specs.Facts.{is_valid_number, territory_of_number};
 ghost use Rattle.phone_library.specs.Lengths.{local_lengths};
 ghost use Rattle.phone_library_laws.specs.Lengths.{is_ascending};
-ghost use Rattle.phone_meta.specs.CodeLookUps.{first_of, is_prefix_free, territories};
+ghost use Rattle.phone_plans.specs.CodeLookUps.{first_of, is_prefix_free, territories};
 ghost use Rattle.phone_records.specs.declared.loader.Metadata as loader;
 ghost use Rattle.phone_values.specs.declared.reading.Reading.{Reading};
 ghost use Rattle.phonenumber.specs.Bounds.{IsBounded};

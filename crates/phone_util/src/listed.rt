@@ -4,7 +4,7 @@ ghost use Rattle.phone_util.specs.Listed.{AnswersExample, example_text, has_regi
 ghost use Rattle.phone_util.specs.Listed.{codes_below, listed_codes, listed_regions};
 
 use phone_choice::{Rules, parse_by};
-use phone_meta::Database;
+use phone_plans::Plans;
 use phone_values::country::{ALL, Id};
 use phone_values::{ParseError, Type};
 use phonenumber::PhoneNumber;
@@ -12,14 +12,14 @@ use std::alloc::AllocError;
 
 /// The regions that a database has a territory of, each once, by the alphabet of their ids. Refused
 /// only for memory.
-pub fn regions(database: &Database) -> Result<Vec<Id>, AllocError>
+pub fn regions(database: &Plans) -> Result<Vec<Id>, AllocError>
     ensures { IfOk result (λ v. v.items ≡ listed_regions database.now) }
 {
     listed_among(database, &ALL)
 }
 
 /// Of these ids those that a database has a territory of. Refused only for memory.
-fn listed_among(database: &Database, ids: &[Id]) -> Result<Vec<Id>, AllocError>
+fn listed_among(database: &Plans, ids: &[Id]) -> Result<Vec<Id>, AllocError>
     ensures { IfOk result (λ v. v.items ≡ filter (has_region database.now) ids.now) }
 {
     let mut found = Vec::new(database.allocator());
@@ -33,7 +33,7 @@ fn listed_among(database: &Database, ids: &[Id]) -> Result<Vec<Id>, AllocError>
 
 /// Whether a database has a territory of a region.
 #[tactic(auto, unfolding(crate::specs::Listed::has_region))]
-fn has_region(database: &Database, region: Id) -> bool
+fn has_region(database: &Plans, region: Id) -> bool
     ensures { result ≡ has_region database.now region }
 {
     database.by_id(region.as_str()).is_some()
@@ -41,7 +41,7 @@ fn has_region(database: &Database, region: Id) -> bool
 
 /// The calling codes that a database has a territory of, each once, ascending. Refused only for
 /// memory.
-pub fn codes(database: &Database) -> Result<Vec<u16>, AllocError>
+pub fn codes(database: &Plans) -> Result<Vec<u16>, AllocError>
     ensures { IfOk result (λ v. v.items ≡ listed_codes database.now) }
 {
     codes_below(database, 65536)
@@ -49,7 +49,7 @@ pub fn codes(database: &Database) -> Result<Vec<u16>, AllocError>
 
 /// The calling codes below this number that a database has a territory of, ascending. Refused only
 /// for memory.
-fn codes_below(database: &Database, end: u32) -> Result<Vec<u16>, AllocError>
+fn codes_below(database: &Plans, end: u32) -> Result<Vec<u16>, AllocError>
     requires { end ≤ 65536 }
     ensures { IfOk result (λ v. v.items ≡ codes_below database.now end) }
 {
@@ -69,7 +69,7 @@ fn codes_below(database: &Database, end: u32) -> Result<Vec<u16>, AllocError>
 /// refused.
 pub fn example(
     rules: Rules,
-    database: &Database,
+    database: &Plans,
     region: Id,
     kind: Type,
 ) -> Result<Option<PhoneNumber>, ParseError>

@@ -18,7 +18,7 @@ ghost use Rattle.phone_choice.specs.Readings.{ReadsBy};
 
 use phone_choice::{Rules, parse_by};
 use phone_library::length_in;
-use phone_meta::{Database, Descriptor, Metadata};
+use phone_plans::{Descriptor, Plans, Territory};
 use phone_read::validator::territory_of;
 use phone_rules::kinds::TRIED;
 use phone_values::country::Id;
@@ -60,7 +60,7 @@ pub enum Possibility {
 /// Refused only for memory.
 pub fn possibility_of(
     rules: Rules,
-    database: &Database,
+    database: &Plans,
     number: &PhoneNumber,
 ) -> Result<Possibility, AllocError>
     ensures { IfOk result (λ p. p ≡ possibility_of rules database.now number.now) }
@@ -72,7 +72,7 @@ pub fn possibility_of(
 }
 
 /// The same by the rules of libphonenumber.
-fn possible_by_library(database: &Database, number: &PhoneNumber) -> Result<Possibility, AllocError>
+fn possible_by_library(database: &Plans, number: &PhoneNumber) -> Result<Possibility, AllocError>
     ensures { IfOk result (λ p. p ≡ possibility_by_library database.now number.now) }
 {
     let Some(territory) = database.first_by_code(&number.code().value()) else {
@@ -98,7 +98,7 @@ fn verdict_said(verdict: Validation) -> Possibility
 }
 
 /// The same by the rules of the crate.
-fn possible_by_crate(database: &Database, number: &PhoneNumber) -> Result<Possibility, AllocError>
+fn possible_by_crate(database: &Plans, number: &PhoneNumber) -> Result<Possibility, AllocError>
     ensures { IfOk result (λ p. p ≡ possibility_by_crate database.now number.now) }
 {
     let digits = number.national().to_string(database.allocator())?;
@@ -115,7 +115,7 @@ fn possible_by_crate(database: &Database, number: &PhoneNumber) -> Result<Possib
 /// refuses it; `Memory` where memory was refused.
 pub fn possibility_of_text(
     rules: Rules,
-    database: &Database,
+    database: &Plans,
     hint: Option<Id>,
     text: &str,
 ) -> Result<Possibility, ParseError>
@@ -137,10 +137,10 @@ pub fn possibility_of_text(
 
 /// The territory that the digits of a number belong to, or else the first of its calling code.
 fn counting_territory<'a>(
-    database: &'a Database,
+    database: &'a Plans,
     number: &PhoneNumber,
     digits: &str,
-) -> Result<Option<&'a Metadata>, AllocError>
+) -> Result<Option<&'a Territory>, AllocError>
     requires { digits.now ≡ text_of number.now.national }
     ensures { IfOk result (λ m. option_copied m ≡
         counting_territory database.entry.now number.now) }
@@ -153,7 +153,7 @@ fn counting_territory<'a>(
 }
 
 /// What a count of digits says under a territory. Refused only for memory.
-fn possible_length(m: &Metadata, digits: usize) -> Result<Possibility, AllocError>
+fn possible_length(m: &Territory, digits: usize) -> Result<Possibility, AllocError>
     ensures { IfOk result (λ p. p ≡ possibility_under m.now digits) }
 {
     let lengths = lengths_of(m)?;
@@ -200,7 +200,7 @@ fn is_more_than_each(digits: usize, lengths: &[u16]) -> bool
 
 /// The lengths of a territory's numbers. Refused only for memory.
 #[tactic(auto, using(crate::proofs::Lent::lengths_lent))]
-fn lengths_of(m: &Metadata) -> Result<Vec<u16>, AllocError>
+fn lengths_of(m: &Territory) -> Result<Vec<u16>, AllocError>
     ensures { IfOk result (λ v. v.items ≡ lengths_of m.now) }
 {
     let counting = counting_descriptors(m)?;
@@ -221,7 +221,7 @@ fn all_lengths(alloc: Global, counting: &[&Descriptor]) -> Result<Vec<u16>, Allo
 
 /// The lengths that suffice inside an area. Refused only for memory.
 #[tactic(auto, using(crate::proofs::Lent::local_lengths_lent))]
-fn local_lengths_of(m: &Metadata) -> Result<Vec<u16>, AllocError>
+fn local_lengths_of(m: &Territory) -> Result<Vec<u16>, AllocError>
     ensures { IfOk result (λ v. v.items ≡ local_lengths_of m.now) }
 {
     let counting = counting_descriptors(m)?;
@@ -242,7 +242,7 @@ fn all_local_lengths(alloc: Global, counting: &[&Descriptor]) -> Result<Vec<u16>
 
 /// The descriptors whose lengths count: the general one where it lists any, else those of the
 /// kinds. Refused only for memory.
-fn counting_descriptors(m: &Metadata) -> Result<Vec<&Descriptor>, AllocError>
+fn counting_descriptors(m: &Territory) -> Result<Vec<&Descriptor>, AllocError>
     ensures { IfOk result (λ v. map (λ (d : Bor loader.Descriptor). d.now) v.items ≡
         counting_descriptors m.entry.now) }
 {
@@ -256,7 +256,7 @@ fn counting_descriptors(m: &Metadata) -> Result<Vec<&Descriptor>, AllocError>
 }
 
 /// The descriptors of the kinds that a number is told to be of. Refused only for memory.
-fn kind_descriptors(m: &Metadata) -> Result<Vec<&Descriptor>, AllocError>
+fn kind_descriptors(m: &Territory) -> Result<Vec<&Descriptor>, AllocError>
     ensures { IfOk result (λ v. map (λ (d : Bor loader.Descriptor). d.now) v.items ≡
         kind_descriptors m.entry.now) }
 {
@@ -264,7 +264,7 @@ fn kind_descriptors(m: &Metadata) -> Result<Vec<&Descriptor>, AllocError>
 }
 
 /// The descriptors of these kinds, of those that have one. Refused only for memory.
-fn descriptors_of<'a>(m: &'a Metadata, kinds: &[Type]) -> Result<Vec<&'a Descriptor>, AllocError>
+fn descriptors_of<'a>(m: &'a Territory, kinds: &[Type]) -> Result<Vec<&'a Descriptor>, AllocError>
     ensures { IfOk result (λ v. map (λ (d : Bor loader.Descriptor). d.now) v.items ≡
         filter_map (λ k. descriptor_for k (kinds_of m.entry.now)) kinds.now) }
 {

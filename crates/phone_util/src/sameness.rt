@@ -8,7 +8,7 @@ ghost use Rattle.phone_util.specs.Sameness.{sameness_without_code};
 
 use crate::sides::{Side, taken_as};
 use phone_choice::Rules;
-use phone_meta::Database;
+use phone_plans::Plans;
 use phone_values::{Extension, ParseError};
 use std::alloc::{AllocError, Global};
 
@@ -44,7 +44,7 @@ pub enum Sameness {
 /// each for a reason of its own: then the two refusals change places.
 pub fn compare_texts(
     rules: Rules,
-    database: &Database,
+    database: &Plans,
     a: &str,
     b: &str,
 ) -> Result<Sameness, ParseError>

@@ -15,8 +15,8 @@ use phone_chars::chars::{is_plus, normalize};
 use phone_choice::Rules;
 use phone_library::national_number;
 use phone_library_text::{WrittenNumber, read_written};
-use phone_meta::Database;
 use phone_parts::{Number, parts};
+use phone_plans::Plans;
 use phone_read::{Reading, nsn, read};
 use phone_values::{Extension, NationalNumber, ParseError};
 use phonenumber::PhoneNumber;
@@ -40,7 +40,7 @@ pub struct Side {
 ///
 /// Errors: those of `parse_by` for the text without a hint; for the digits of a text without a
 /// code, those for a national number. `Memory` where memory was refused, and nowhere else.
-pub fn taken_as(rules: Rules, database: &Database, text: &str) -> Result<Side, ParseError>
+pub fn taken_as(rules: Rules, database: &Plans, text: &str) -> Result<Side, ParseError>
     ensures { (result ≡ Err ParseError.Memory) ⊎
         IsTaken rules database.now (chars text.now) result }
 {
@@ -51,7 +51,7 @@ pub fn taken_as(rules: Rules, database: &Database, text: &str) -> Result<Side, P
 }
 
 /// The same by the rules of libphonenumber.
-fn taken_by_library(database: &Database, text: &str) -> Result<Side, ParseError>
+fn taken_by_library(database: &Plans, text: &str) -> Result<Side, ParseError>
     ensures { (result ≡ Err ParseError.Memory) ⊎
         IsTaken Rules.Library database.now (chars text.now) result }
 {
@@ -116,7 +116,7 @@ fn written_side(number: WrittenNumber) -> Result<Side, ParseError>
 }
 
 /// The same by the rules of the crate.
-fn taken_by_crate(database: &Database, text: &str) -> Result<Side, ParseError>
+fn taken_by_crate(database: &Plans, text: &str) -> Result<Side, ParseError>
     ensures { (result ≡ Err ParseError.Memory) ⊎
         IsTaken Rules.Crate database.now (chars text.now) result }
 {

@@ -13,9 +13,9 @@ use Rattle.std.specs.Str.{all_ascii_digits, bytes_eq}
 use Rattle.std.specs.Str.Parse.{digits_value, without_leading_plus}
 use Rattle.phone_values.proofs.Digits.{number_some}
 use Rattle.phone_values.specs.Numbers.{number_in}
-use Rattle.phone_meta.specs.CodeLookUps.{begins, front_number, is_listed, is_prefix_free, listed_front, listed_if_some, shortest}
+use Rattle.phone_plans.specs.CodeLookUps.{begins, front_number, is_listed, is_prefix_free, listed_front, listed_if_some, shortest}
 use Rattle.phone_territory.specs.Records.{code_of}
-use Rattle.phone_meta.specs.Records.{has_code}
+use Rattle.phone_plans.specs.Records.{has_code}
 use Rattle.phone_records.specs.declared.loader.Metadata.{Metadata}
 use Rattle.phone_read.proofs.ListedFronts.{shortest-front, shortest-listed}
 

@@ -19,7 +19,7 @@ use Rattle.phone_values.specs.Numbers.{IsHeld, text_of}
 use Rattle.phone_values.specs.declared.country.Source.TheVariants.{Plus}
 use Rattle.phone_values.specs.declared.mode.Mode.{Mode}
 use Rattle.phone_values.specs.declared.mode.Mode.TheVariants.{E164, International, Rfc3966}
-use Rattle.phone_meta.specs.CodeLookUps.{first_of, is_listed, is_prefix_free, territories}
+use Rattle.phone_plans.specs.CodeLookUps.{first_of, is_listed, is_prefix_free, territories}
 use Rattle.phone_records.specs.declared.loader.Metadata.{Metadata}
 use Rattle.phone_parts.proofs.Ends.{all_wider}
 use Rattle.phone_parts.specs.Announcements.{IsAnnouncement}

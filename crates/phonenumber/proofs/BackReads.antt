@@ -14,7 +14,7 @@ use Rattle.phone_chars.specs.Viable.{IsViable}
 use Rattle.phone_values.specs.declared.country.Source.{Source}
 use Rattle.phone_values.specs.declared.country.Source.TheVariants.{Plus}
 use Rattle.phone_values.specs.declared.error.ParseError.{ParseError}
-use Rattle.phone_meta.specs.CodeLookUps.{is_listed, is_prefix_free, shortest}
+use Rattle.phone_plans.specs.CodeLookUps.{is_listed, is_prefix_free, shortest}
 use Rattle.phone_records.specs.declared.loader.Metadata.{Metadata}
 use Rattle.phone_parts.specs.Parts.{Parts}
 use Rattle.phone_parts.specs.Readers.{HasParts}

@@ -8,9 +8,9 @@ use Rattle.std.specs.Fmt.{decimal}
 use Rattle.std.specs.List.{list_all, list_any}
 use Rattle.phone_values.specs.Numbers.{National, IsHeld, text_of}
 use Rattle.phone_values.proofs.ReadBack.{text_of-injective}
-use Rattle.phone_meta.specs.CodeLookUps.{begins, is_listed, is_prefix_free}
+use Rattle.phone_plans.specs.CodeLookUps.{begins, is_listed, is_prefix_free}
 use Rattle.phone_territory.specs.Records.{code_of}
-use Rattle.phone_meta.specs.Records.{has_code}
+use Rattle.phone_plans.specs.Records.{has_code}
 use Rattle.phone_records.specs.declared.loader.Metadata.{Metadata}
 use Rattle.phone_values.specs.declared.reading.Reading.{Reading}
 use Rattle.phone_print.specs.Texts.{e164_text}

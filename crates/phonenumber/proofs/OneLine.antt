@@ -6,7 +6,7 @@ use Rattle.std.proofs.lemmas.Option.{same_Some}
 use Rattle.std.proofs.lemmas.Result.{IfErr-at_err, IfOk-at_ok, MatchResult-at_err}
 use Rattle.phone_values.specs.declared.country.Id.{Id}
 use Rattle.phone_values.specs.declared.error.ParseError.{ParseError}
-use Rattle.phone_meta.specs.CodeLookUps.{first_of, territories}
+use Rattle.phone_plans.specs.CodeLookUps.{first_of, territories}
 use Rattle.phone_read.proofs.ReadNumbers.{has_territory}
 use Rattle.phone_read.proofs.ReadingOnes.{reading_same}
 use Rattle.phone_read.specs.Readings.{Reads}

@@ -8,7 +8,7 @@ use Rattle.phone_chars.specs.Characters.{is_digit, is_one_of, is_punctuation, is
 use Rattle.phone_values.specs.Numbers.{text_of}
 use Rattle.phone_values.specs.declared.country.Id.{Id}
 use Rattle.phone_values.specs.declared.mode.Mode.TheVariants.{International}
-use Rattle.phone_meta.specs.CodeLookUps.{first_of, territories}
+use Rattle.phone_plans.specs.CodeLookUps.{first_of, territories}
 use Rattle.phone_records.specs.declared.loader.Metadata.{Metadata}
 use Rattle.phone_parts.proofs.Ends.{all_wider}
 use Rattle.phone_read.proofs.ListedFronts.{listed_none}

@@ -11,7 +11,7 @@ use Rattle.phone_values.specs.declared.error.ParseError.{ParseError}
 use Rattle.phone_values.specs.declared.error.ParseError.TheVariants.{InvalidCountryCode}
 use Rattle.phone_records.specs.declared.loader.Metadata.{Metadata}
 use Rattle.phone_records.specs.Empty.{no_metadata}
-use Rattle.phone_meta.specs.Records.{last_with, has_id}
+use Rattle.phone_plans.specs.Records.{last_with, has_id}
 use Rattle.phone_read.specs.CallingCodes.{code_by, code_of, international_prefix_of}
 use Rattle.phone_rules.specs.Dialling.{found_in}
 use Rattle.phone_parts.specs.Cores.{IsCore, is_start}

@@ -2,7 +2,7 @@
 use Rattle.std.specs.Prelude.{ℕ, List, Option, option_map}
 use Rattle.phone_values.specs.declared.mode.Mode.{Mode}
 use Rattle.phone_values.specs.declared.reading.Reading.{Reading}
-use Rattle.phone_meta.specs.CodeLookUps.{first_of, territories}
+use Rattle.phone_plans.specs.CodeLookUps.{first_of, territories}
 use Rattle.phone_print.specs.Tabbed.{texts_by}
 use Rattle.phone_print.specs.Texts.{text_by}
 use Rattle.phone_records.specs.declared.loader.Format.{Format}

@@ -7,7 +7,7 @@ use Rattle.phone_values.specs.declared.country.Id.{Id}
 use Rattle.phone_device.specs.Passing.{Takes, TakesFront}
 use Rattle.phone_lines.specs.declared.blocks.RunError.{RunError}
 use Rattle.phone_lines.specs.declared.blocks.RunError.TheVariants.{Input, Memory, Output}
-use Rattle.phone_meta.specs.Texts.{IsRefusalOfSome}
+use Rattle.phone_plans.specs.Texts.{IsRefusalOfSome}
 use Rattle.phone_records.specs.declared.loader.Metadata.{Metadata}
 use Rattle.phone_base.specs.Errors.{told}
 use Rattle.phone_base.specs.declared.error.LoadMetadata.{LoadMetadata}

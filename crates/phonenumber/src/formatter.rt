@@ -10,7 +10,7 @@ ghost use Rattle.phonenumber.specs.Printed.{printed};
 ghost use Rattle.phonenumber.specs.Sinks.{IsWrittenWhole, puts};
 
 use crate::{PhoneNumber, TextSink};
-use phone_meta::{Database, Format};
+use phone_plans::{Format, Plans};
 use phone_print::{Texts, printing};
 use phone_values::Mode;
 use std::alloc::Global;
@@ -34,14 +34,14 @@ pub enum FormatError {
 #[derive(Clone, Copy)]
 pub struct Formatter<'n, 'd, 'f> {
     number: &'n PhoneNumber,
-    database: &'d Database,
+    database: &'d Plans,
     mode: Mode,
     format: Option<&'f Format>,
 }
 
 /// The printer of a number under a database, in the mode `E164`, with the territory's own layouts.
 pub fn format_with<'d, 'n>(
-    database: &'d Database,
+    database: &'d Plans,
     number: &'n PhoneNumber,
 ) -> Formatter<'n, 'd, 'static>
     ensures database { database_of result ≡ database.now }
@@ -59,7 +59,7 @@ pub fn format_with<'d, 'n>(
 
 impl PhoneNumber {
     /// The printer of this number under a database, as the function `format_with` gives it.
-    pub fn format_with<'n, 'd>(&'n self, database: &'d Database) -> Formatter<'n, 'd, 'static>
+    pub fn format_with<'n, 'd>(&'n self, database: &'d Plans) -> Formatter<'n, 'd, 'static>
         ensures database { database_of result ≡ database.now }
         ensures number { number_of result ≡ self.now }
         ensures mode { mode_of result ≡ mode.E164 }
@@ -71,7 +71,7 @@ impl PhoneNumber {
 
 impl<'n, 'd, 'f> Formatter<'n, 'd, 'f> {
     /// The same printer under another database.
-    pub fn database<'a>(self, database: &'a Database) -> Formatter<'n, 'a, 'f>
+    pub fn database<'a>(self, database: &'a Plans) -> Formatter<'n, 'a, 'f>
         ensures database { database_of result ≡ database.now }
         ensures number { number_of result ≡ number_of self.entry }
         ensures mode { mode_of result ≡ mode_of self.entry }

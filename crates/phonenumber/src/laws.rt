@@ -9,7 +9,7 @@ ghost use Rattle.phone_values.specs.Numbers.{IsHeld, text_of};
 ghost use Rattle.phone_values.specs.declared.country.Id.{Id};
 ghost use Rattle.phone_values.specs.declared.error.ParseError.{ParseError};
 ghost use Rattle.phone_values.specs.declared.mode.Mode.TheVariants as mode;
-ghost use Rattle.phone_meta.specs.CodeLookUps.{is_listed, is_prefix_free};
+ghost use Rattle.phone_plans.specs.CodeLookUps.{is_listed, is_prefix_free};
 ghost use Rattle.phone_records.specs.declared.loader.Metadata as loader;
 ghost use Rattle.phone_read.specs.Readings.{Reads};
 ghost use Rattle.phone_read.specs.TransformRules.{rules_have_no_plus};

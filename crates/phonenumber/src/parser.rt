@@ -3,7 +3,7 @@ ghost use Rattle.std.specs.Prelude.{◌≡◌, ◌⊎◌, Err, chars};
 ghost use Rattle.phone_read.specs.Readings.{Reads};
 
 use crate::PhoneNumber;
-use phone_meta::Database;
+use phone_plans::Plans;
 use phone_read::{Reading, read};
 use phone_values::ParseError;
 use phone_values::country::Id;
@@ -17,11 +17,7 @@ use phone_values::country::Id;
 /// code is found; `TooShortNsn`, `TooLong` and `MalformedInteger` as `phone_read::read` refuses
 /// calling codes and national numbers. `Memory` where memory was refused, and nowhere else; the
 /// memory is taken by the database's allocator.
-pub fn parse_with(
-    database: &Database,
-    hint: Option<Id>,
-    text: &str,
-) -> Result<PhoneNumber, ParseError>
+pub fn parse_with(database: &Plans, hint: Option<Id>, text: &str) -> Result<PhoneNumber, ParseError>
     ensures { (result ≡ Err ParseError.Memory) ⊎ Reads database.now hint (chars text.now) result }
 {
     let Reading {

@@ -10,8 +10,10 @@ ghost use Rattle.phonenumber.specs.Queries.{is_valid, kind_of_number, region_of_
 ghost use Rattle.phonenumber.specs.Queries.{territory_of_number};
 
 use crate::PhoneNumber;
+use either::Either::{Left, Right};
 use itoa::Buffer;
 use phone_meta::{Database, Metadata};
+use phone_plans::{Plans, Territory};
 use phone_print::written::text_of_value;
 use phone_read::validator;
 use phone_values::Type;
@@ -52,12 +54,12 @@ impl<'a> Country<'a> {
         self.number.code().value()
     }
 
-    /// The region's id: that of the number's territory, as `metadata` has it. None where the number
+    /// The region's id: that of the number's territory, as `territory` has it. None where the number
     /// has no territory, and where the territory's id is no region's. Refused only for memory.
-    pub fn id(&self, database: &Database) -> Result<Option<Id>, AllocError>
+    pub fn id(&self, database: &Plans) -> Result<Option<Id>, AllocError>
         ensures { IfOk result (λ id. id ≡ region_of_number database.now self.now) }
     {
-        match self.number.metadata(database)? {
+        match self.number.territory(database)? {
             Some(territory) => Ok(territory.region()),
             None => Ok(None),
         }
@@ -81,7 +83,7 @@ impl PhoneNumber {
 
     /// The territory that the number belongs to, by its value in decimal without leading zeros;
     /// none where it belongs to none. Refused only for memory.
-    pub fn metadata<'a>(&self, database: &'a Database) -> Result<Option<&'a Metadata>, AllocError>
+    pub fn territory<'a>(&self, database: &'a Plans) -> Result<Option<&'a Territory>, AllocError>
         ensures { IfOk result (λ m. option_copied m ≡ territory_of_number database.now self.now) }
     {
         let mut buffer = Buffer::new();
@@ -89,9 +91,23 @@ impl PhoneNumber {
         validator::territory_of(database, self.code().value(), value)
     }
 
+    /// The same territory in a database that keeps each pattern compiled, so that it lends them.
+    /// Refused only for memory.
+    pub fn metadata<'a>(&self, database: &'a Database) -> Result<Option<&'a Metadata>, AllocError>
+        ensures { IfOk result (λ m. option_copied m ≡ territory_of_number database.now self.now) }
+    {
+        let mut buffer = Buffer::new();
+        let value = buffer.format(self.national().value());
+        match validator::source_for(database, self.code().value(), value)? {
+            Some(Left(id)) => Ok(database.by_id(id.as_str())),
+            Some(Right(code)) => Ok(database.first_by_code(&code)),
+            None => Ok(None),
+        }
+    }
+
     /// The kind of number that the value is, without leading zeros, in its territory; `Unknown`
     /// where it belongs to none. Refused only for memory.
-    pub fn number_type(&self, database: &Database) -> Result<Type, AllocError>
+    pub fn number_type(&self, database: &Plans) -> Result<Type, AllocError>
         ensures { IfOk result (λ kind. kind ≡ kind_of_number database.now self.now) }
     {
         let (_, kind) = self.region_and_kind(database)?;
@@ -99,7 +115,7 @@ impl PhoneNumber {
     }
 
     /// The region of the number's territory, and the kind of number that its value is there.
-    fn region_and_kind(&self, database: &Database) -> Result<(Option<Id>, Type), AllocError>
+    fn region_and_kind(&self, database: &Plans) -> Result<(Option<Id>, Type), AllocError>
         ensures region { IfOk result (λ told. told.0 ≡ region_of_number database.now self.now) }
         ensures kind { IfOk result (λ told. told.1 ≡ kind_of_number database.now self.now) }
     {
@@ -111,7 +127,7 @@ impl PhoneNumber {
     /// The number's kind, region and validity at once, as `number_type`, `country` and
     /// `is_valid_with` tell them: its territory and its kind are looked for once where the number
     /// has no leading zeros. Refused only for memory.
-    pub fn facts(&self, database: &Database) -> Result<Facts, AllocError>
+    pub fn facts(&self, database: &Plans) -> Result<Facts, AllocError>
         ensures kind { IfOk result (λ q. q.kind ≡ kind_of_number database.now self.now) }
         ensures region { IfOk result (λ q. q.region ≡ region_of_number database.now self.now) }
         ensures is_valid { IfOk result (λ q. q.is_valid ≡ is_valid database.now self.now) }
@@ -130,7 +146,7 @@ impl PhoneNumber {
 
     /// Whether the number is of a known kind in a territory, its leading zeros counted as digits.
     /// Refused only for memory.
-    pub fn is_valid_with(&self, database: &Database) -> Result<bool, AllocError>
+    pub fn is_valid_with(&self, database: &Plans) -> Result<bool, AllocError>
         ensures { IfOk result (λ valid. valid ≡ is_valid database.now self.now) }
     {
         let national = self.national();
@@ -141,7 +157,7 @@ impl PhoneNumber {
 
 /// The region of the territory that digits of this calling code belong to, and their kind there.
 fn region_and_kind_of(
-    database: &Database,
+    database: &Plans,
     code: u16,
     digits: &str,
 ) -> Result<(Option<Id>, Type), AllocError>
@@ -159,7 +175,7 @@ fn region_and_kind_of(
 }
 
 /// Whether digits of this calling code are of a known kind in a territory.
-fn is_known_in(database: &Database, code: u16, digits: &str) -> Result<bool, AllocError>
+fn is_known_in(database: &Plans, code: u16, digits: &str) -> Result<bool, AllocError>
     ensures { IfOk result (λ known. known ≡
         option_map_or (λ (m : loader.Metadata). is_known (type_of m digits.now))
         (home database.now code digits.now) false) }
@@ -172,7 +188,7 @@ fn is_known_in(database: &Database, code: u16, digits: &str) -> Result<bool, All
 
 /// Whether a number is of a known kind in a territory, its leading zeros counted as digits. Refused
 /// only for memory.
-pub fn is_valid_with(database: &Database, number: &PhoneNumber) -> Result<bool, AllocError>
+pub fn is_valid_with(database: &Plans, number: &PhoneNumber) -> Result<bool, AllocError>
     ensures { IfOk result (λ valid. valid ≡ is_valid database.now number.now) }
 {
     number.is_valid_with(database)

@@ -2,20 +2,20 @@
 ghost use Rattle.std.specs.Prelude.{◌≡◌, ◌⊎◌, ◌≤◌, None, true};
 ghost use Rattle.phone_values.specs.Numbers.{text_of};
 ghost use Rattle.phone_values.specs.declared.mode.Mode.TheVariants as mode;
-ghost use Rattle.phone_meta.specs.CodeLookUps.{is_prefix_free};
+ghost use Rattle.phone_plans.specs.CodeLookUps.{is_prefix_free};
 ghost use Rattle.phonenumber.specs.RoundTrips.{IsAgain, IsReadOfPrinted};
 ghost use Rattle.phonenumber.specs.Plain.{IsBenign, IsIdle};
 ghost use Rattle.phonenumber.specs.Plain.{IsPlainE164, IsPlainInternational, IsPlainRfc3966};
 
 use crate::{FormatError, PhoneNumber, format_with, parse_with};
-use phone_meta::Database;
+use phone_plans::Plans;
 use phone_values::{Mode, ParseError};
 
 /// What the E.164 text of a number is read as. Where the number is plain, stripping leaves its
 /// digits alone, its code has one to three digits and no listed code begins another, it is a number
 /// of the same code and national number, without an extension, or `Memory` where memory was
 /// refused. `InvalidCountryCode` where its code isn't listed.
-pub fn e164(database: &Database, number: &PhoneNumber) -> Result<PhoneNumber, ParseError>
+pub fn e164(database: &Plans, number: &PhoneNumber) -> Result<PhoneNumber, ParseError>
     ensures read { IsReadOfPrinted database.now mode.E164 number.now result }
     ensures back { IsPlainE164 database.now number.now →
         IsIdle database.now number.now.code.value (text_of number.now.national) →
@@ -29,7 +29,7 @@ pub fn e164(database: &Database, number: &PhoneNumber) -> Result<PhoneNumber, Pa
 /// What the RFC 3966 text of a number is read as. Where the number is plain and stripping leaves
 /// its digits alone, it is a number of the same code, national number and extension, or `Memory`
 /// where memory was refused. `InvalidCountryCode` where its code isn't listed.
-pub fn rfc3966(database: &Database, number: &PhoneNumber) -> Result<PhoneNumber, ParseError>
+pub fn rfc3966(database: &Plans, number: &PhoneNumber) -> Result<PhoneNumber, ParseError>
     ensures read { IsReadOfPrinted database.now mode.Rfc3966 number.now result }
     ensures back { IsPlainRfc3966 database.now number.now →
         IsIdle database.now number.now.code.value (text_of number.now.national) →
@@ -44,7 +44,7 @@ pub fn rfc3966(database: &Database, number: &PhoneNumber) -> Result<PhoneNumber,
 /// extension, if it has one, is announced by ` ext. ` or, where the laid-out text ends in an ASCII
 /// digit, by a benign prefix, it is a number of the same code, national number and extension, or
 /// `Memory` where memory was refused. `InvalidCountryCode` where its code isn't listed.
-pub fn international(database: &Database, number: &PhoneNumber) -> Result<PhoneNumber, ParseError>
+pub fn international(database: &Plans, number: &PhoneNumber) -> Result<PhoneNumber, ParseError>
     ensures read { IsReadOfPrinted database.now mode.International number.now result }
     ensures back { (plain : IsPlainInternational database.now number.now) →
         IsIdle database.now number.now.code.value (text_of number.now.national) →
@@ -58,7 +58,7 @@ pub fn international(database: &Database, number: &PhoneNumber) -> Result<PhoneN
 
 /// What a number's text in a mode is read as, without a hint.
 fn read_of_printed(
-    database: &Database,
+    database: &Plans,
     number: &PhoneNumber,
     mode: Mode,
 ) -> Result<PhoneNumber, ParseError>

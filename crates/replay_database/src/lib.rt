@@ -6,6 +6,7 @@ pub mod look_ups;
 pub mod named;
 pub mod patterns;
 pub mod records;
+pub mod tables;
 pub mod texts;
 
 use anyhow::Result;

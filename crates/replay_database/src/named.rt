@@ -1,6 +1,7 @@
 //! What a line names: a database, and in it a code and a territory.
 use anyhow::{Result, anyhow};
 use phone_meta::{Database, Metadata};
+use phone_plans::{Plans, Territory};
 use replay_base::table::Row;
 use std::alloc::AllocGlobal;
 use std::fs::Files;
@@ -62,5 +63,13 @@ pub fn territory<'a>(database: &'a Database, row: &Row) -> Result<&'a Metadata> 
     match database.by_id(row.argument(1)) {
         Some(territory) => Ok(territory),
         None => Err(anyhow!("the database has no territory of this id")),
+    }
+}
+
+/// The same of the light table.
+pub fn light_territory<'a>(plans: &'a Plans, row: &Row) -> Result<&'a Territory> {
+    match plans.by_id(row.argument(1)) {
+        Some(territory) => Ok(territory),
+        None => Err(anyhow!("the light table has no territory of this id")),
     }
 }

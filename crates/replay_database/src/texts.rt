@@ -1,9 +1,12 @@
 //! Databases read from a text, from bytes, from a source that fails, and from a file: what the
-//! answer is, told as the tables tell it.
+//! answer is, told as the tables tell it. Each is read twice, as the one that lends compiled
+//! patterns and as the light table, which have to answer alike.
+use crate::tables::{Counted, agreed};
 use anyhow::{Result, anyhow};
 use phone_base::MetadataError;
 use phone_device::{ByteSource, MemorySource, Script};
 use phone_meta::{Database, LoadMetadata};
+use phone_plans::Plans;
 use replay_base::devices::fault;
 use replay_base::marks::{around, begin};
 use replay_base::table::Row;
@@ -37,33 +40,49 @@ fn database_text(alloc: Global, bytes: &[u8]) -> Result<String> {
 
 /// The database that a text is.
 fn of_text(alloc: Global, text: &str) -> Result<String> {
-    answer_words(
-        alloc,
-        around(alloc, begin(alloc), Database::parse(alloc, text)),
-    )
+    let answer = around(alloc, begin(alloc), Database::parse(alloc, text));
+    let compiled = answer_words(alloc, answer)?;
+    agreed(compiled, answer_words(alloc, Plans::parse(alloc, text))?)
 }
 
 /// The database that bytes are which come from a source in memory.
 fn of_bytes(alloc: Global, bytes: &[u8]) -> Result<String> {
-    of_source(alloc, &mut MemorySource::new(bytes))
+    let mut source = MemorySource::new(bytes);
+    let mut again = MemorySource::new(bytes);
+    of_source(alloc, &mut source, &mut again)
 }
 
-/// The database whose text comes from this source.
-fn of_source<S: ByteSource>(alloc: Global, source: &mut S) -> Result<String> {
-    answer_words(
-        alloc,
-        around(alloc, begin(alloc), Database::read_from(alloc, source)),
+/// The database whose text comes from this source, and from the same once more.
+fn of_source<S: ByteSource>(alloc: Global, source: &mut S, again: &mut S) -> Result<String> {
+    let answer = around(alloc, begin(alloc), Database::read_from(alloc, source));
+    let compiled = answer_words(alloc, answer)?;
+    agreed(
+        compiled,
+        answer_words(alloc, Plans::read_from(alloc, again))?,
     )
 }
 
 /// The database whose text comes, behind so many spaces, from a source that fails where the line
 /// says.
 fn read_from(alloc: Global, row: &Row) -> Result<String> {
+    let mut source = behind_spaces(alloc, row)?;
+    let mut again = behind_spaces(alloc, row)?;
+    of_source(alloc, &mut source, &mut again)
+}
+
+/// The source of a line's text behind so many spaces, which fails where the line says.
+fn behind_spaces(alloc: Global, row: &Row) -> Result<Script> {
     let at = fault(row.argument(2))?;
     let spaces = row.argument(0).parse::<usize>()?;
     let mut bytes = vec![in alloc; b' '; spaces]?;
     bytes.extend_from_slice(row.argument_bytes(1))?;
-    of_source(alloc, &mut Script::new(bytes, at))
+    Ok(Script::new(bytes, at))
+}
+
+/// The source of these bytes that fails at this place.
+fn failing(alloc: Global, bytes: &[u8], at: &str) -> Result<Script> {
+    let at = fault(at)?;
+    Ok(Script::new(Vec::from_slice(alloc, bytes)?, at))
 }
 
 /// A source of these bytes fails at each place in turn, from the first on: how many times the
@@ -71,9 +90,9 @@ fn read_from(alloc: Global, row: &Row) -> Result<String> {
 fn each_fault(alloc: Global, kind: &str, bytes: &[u8]) -> Result<String> {
     for number in 0..=bytes.len().saturating_add(1) {
         let at = format!(in alloc; "{kind} {number}")?;
-        let at = fault(at.as_str())?;
-        let bytes = Vec::from_slice(alloc, bytes)?;
-        let told = of_source(alloc, &mut Script::new(bytes, at))?;
+        let mut source = failing(alloc, bytes, at.as_str())?;
+        let mut again = failing(alloc, bytes, at.as_str())?;
+        let told = of_source(alloc, &mut source, &mut again)?;
         if !told.as_str().starts_with("Io") {
             return Ok(format!(in alloc; "{number}\t{told}")?);
         }
@@ -87,7 +106,7 @@ fn each_front(alloc: Global, text: &str) -> Result<String> {
     let mut fronts = 0u64;
     for end in 0..=text.len() {
         if text.is_char_boundary(end) {
-            let told = answer_words(alloc, Database::parse(alloc, &text[..end]))?;
+            let told = of_front(alloc, &text[..end])?;
             if !told.as_str().starts_with("Json") {
                 return Ok(format!(in alloc; "{fronts}\t{told}")?);
             }
@@ -97,28 +116,27 @@ fn each_front(alloc: Global, text: &str) -> Result<String> {
     Ok(format!(in alloc; "{fronts}\t{NO_WORD}")?)
 }
 
+/// The database that a front of a text is.
+fn of_front(alloc: Global, text: &str) -> Result<String> {
+    let compiled = answer_words(alloc, Database::parse(alloc, text))?;
+    agreed(compiled, answer_words(alloc, Plans::parse(alloc, text))?)
+}
+
 /// The database in the file at a path.
 fn load<R: Files + AllocGlobal>(rt: &R, path: &str) -> Result<String> {
     let alloc = rt.alloc();
-    answer_words(alloc, around(alloc, begin(alloc), Database::load(rt, path)))
+    let answer = around(alloc, begin(alloc), Database::load(rt, path));
+    let compiled = answer_words(alloc, answer)?;
+    agreed(compiled, answer_words(alloc, Plans::load(rt, path))?)
 }
 
 /// The answer's name and two words on it, parted by tabs. Want of memory is no answer, but an
 /// error.
-fn answer_words(alloc: Global, answer: Result<Database, LoadMetadata>) -> Result<String> {
+fn answer_words<T: Counted>(alloc: Global, answer: Result<T, LoadMetadata>) -> Result<String> {
     match answer {
-        Ok(database) => count_words(alloc, count_of_ids(&database)),
+        Ok(table) => count_words(alloc, table.count_of_ids()),
         Err(refusal) => refusal_words(alloc, &refusal),
     }
-}
-
-/// How many different ids a database has.
-fn count_of_ids(database: &Database) -> u64 {
-    let mut ids = 0u64;
-    for _ in database.iter() {
-        ids = ids.saturating_add(1);
-    }
-    ids
 }
 
 /// A database of so many different ids.

@@ -4,7 +4,8 @@ use crate::given::with_extension;
 use anyhow::{Result, anyhow};
 use phone_base::together::both;
 use phone_chars::chars::{is_digit, is_punctuation, is_separator};
-use phone_meta::{Database, Metadata};
+use phone_meta::Database;
+use phone_plans::Territory;
 use phone_read::Number;
 use phone_read::helper::national_number;
 use phone_read::validator::{length_of, territory_of};
@@ -257,7 +258,7 @@ pub fn is_idle(database: &Database, code: u16, digits: &str) -> Result<bool, All
 
 /// Whether a territory's rules leave all digits: national prefix and carrier are cut off in one
 /// step, then the national prefix once more, and all digits stay where too few would be left.
-pub fn leaves_all(territory: &Metadata, digits: &str) -> Result<bool, AllocError> {
+pub fn leaves_all(territory: &Territory, digits: &str) -> Result<bool, AllocError> {
     let stepped = national_number(territory, Number::of(digits))?;
     let left = without_prefix(territory, stepped.national.as_str());
     let verdict = length_of(territory, left.len(), Type::Unknown);
@@ -265,7 +266,7 @@ pub fn leaves_all(territory: &Metadata, digits: &str) -> Result<bool, AllocError
 }
 
 /// The digits without the national prefix of a territory, where it has one and they begin with it.
-fn without_prefix<'a>(territory: &Metadata, digits: &'a str) -> &'a str {
+fn without_prefix<'a>(territory: &Territory, digits: &'a str) -> &'a str {
     match territory.national_prefix() {
         Some(prefix) => digits.strip_prefix(prefix).unwrap_or(digits),
         None => digits,

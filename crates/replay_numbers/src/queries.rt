@@ -8,6 +8,7 @@ use replay_base::marks::{around, begin};
 use replay_base::table::Row;
 use replay_base::words::{said, truth};
 use replay_database::look_ups::record;
+use replay_database::tables::agreed;
 use std::alloc::Global;
 
 /// What the database tells of a line's number, as the table writes it; none for any other call. An
@@ -41,7 +42,8 @@ fn query_words(alloc: Global, call: &str, db: &Database, number: &PhoneNumber) -
 
 /// The territory of a number.
 fn metadata(alloc: Global, db: &Database, number: &PhoneNumber) -> Result<String> {
-    record(alloc, around(alloc, begin(alloc), number.metadata(db))?)
+    let compiled = record(alloc, around(alloc, begin(alloc), number.metadata(db))?)?;
+    agreed(compiled, record(alloc, number.territory(db)?)?)
 }
 
 /// The region of a number.

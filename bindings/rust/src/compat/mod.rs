@@ -13,7 +13,7 @@
 //! ```
 //!
 //! There is one table, [`metadata::DATABASE`]; what it has of a region isn't shown. The first call opens it,
-//! for all threads, and it takes some 57 MB. A call ends the program where memory is refused.
+//! for all threads, and it takes some 6 MB. A call ends the program where memory is refused.
 use crate::Rules;
 use crate::database::{By, world};
 use crate::number::PhoneNumber as Read;

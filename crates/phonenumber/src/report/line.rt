@@ -1,7 +1,7 @@
 //! What the report says of one line.
 ghost use Rattle.std.specs.Prelude.{◌≡◌, [], ◌∷◌, ◌++◌, None, Some, Err};
 ghost use Rattle.std.specs.Prelude.{IfOk, OnOk, codes, string_bytes};
-ghost use Rattle.phone_meta.specs.CodeLookUps.{first_of, territories};
+ghost use Rattle.phone_plans.specs.CodeLookUps.{first_of, territories};
 ghost use Rattle.phone_records.specs.declared.loader.Metadata.{Metadata};
 ghost use Rattle.phonenumber.specs.Lines.{known_words};
 ghost use Rattle.phonenumber.specs.Reports.{number_line};
@@ -10,7 +10,7 @@ ghost use Rattle.phone_print.specs.Tabbed.{tabbed, texts_by};
 use crate::report::words::{kind_word, refusal_line, region_word, source_word, validity_word};
 use crate::{FormatError, PhoneNumber, format_with, parse_with};
 use phone_lines::Answers;
-use phone_meta::Database;
+use phone_plans::Plans;
 use phone_values::country::Id;
 use std::alloc::{AllocError, Global};
 use std::marker::Model;
@@ -19,18 +19,14 @@ use std::marker::Model;
 #[derive(Clone, Copy)]
 pub struct Reporter<'d> {
     /// The database that reads, prints and tells.
-    pub database: &'d Database,
+    pub database: &'d Plans,
     /// The region under which lines are read.
     pub hint: Option<Id>,
 }
 
 /// The report line of a number. Refused by `UnknownCode` where no territory has its code, and by
 /// `Memory`.
-fn number_line(
-    alloc: Global,
-    database: &Database,
-    number: &PhoneNumber,
-) -> Result<String, FormatError>
+fn number_line(alloc: Global, database: &Plans, number: &PhoneNumber) -> Result<String, FormatError>
     ensures line { IfOk result (λ line. (m : Metadata) ×
         (first_of (territories number.now.code.value database.now) ≡ Some m) ×
         (string_bytes line ≡ number_line database.now m number.now)) }
@@ -58,11 +54,7 @@ pub fn first_field(alloc: Global) -> Result<String, AllocError>
 
 /// Puts the other fields behind a line, each after one tab. Refused by `UnknownCode` where no
 /// territory has the number's code, and by `Memory`.
-fn push_number(
-    line: &mut String,
-    database: &Database,
-    number: &PhoneNumber,
-) -> Result<(), FormatError>
+fn push_number(line: &mut String, database: &Plans, number: &PhoneNumber) -> Result<(), FormatError>
     ensures fields { OnOk result ((m : Metadata) ×
         (first_of (territories number.now.code.value database.now) ≡ Some m) ×
         (string_bytes line.new ≡ (string_bytes line.old ++ 9 ∷ texts_by m None number.now) ++
@@ -78,11 +70,7 @@ fn push_number(
 }
 
 /// Puts what is known of a number behind a line, each word after one tab. Refused only for memory.
-fn push_known(
-    line: &mut String,
-    database: &Database,
-    number: &PhoneNumber,
-) -> Result<(), AllocError>
+fn push_known(line: &mut String, database: &Plans, number: &PhoneNumber) -> Result<(), AllocError>
     ensures { OnOk result (string_bytes line.new ≡ string_bytes line.old ++
         9 ∷ known_words database.now number.now) }
 {

@@ -10,7 +10,7 @@ ghost use Rattle.phonenumber.specs.Report.{IsBeginning, IsReport, TakesBeginning
 use crate::report::line::Reporter;
 use phone_device::{ByteSink, ByteSource};
 use phone_lines::{RunError, answer_lines, without_return};
-use phone_meta::Database;
+use phone_plans::Plans;
 use phone_read::laws::some_reading;
 use phone_values::country::Id;
 
@@ -33,7 +33,7 @@ use phone_values::country::Id;
 ///   bytes after the last line feed count as a line only if the source was at its end.
 /// - `Memory`: memory was refused. The report lines of some first lines are written, each whole.
 pub fn run<S: ByteSource, W: ByteSink>(
-    database: &Database,
+    database: &Plans,
     hint: Option<Id>,
     source: &mut S,
     sink: &mut W,

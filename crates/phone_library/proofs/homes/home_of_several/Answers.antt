@@ -4,7 +4,7 @@ use Rattle.std.specs.Option.{option_or}
 use Rattle.phone_library.proofs.CodeTerritories.{find-territories}
 use Rattle.phone_library.specs.Homes.{territory_of}
 use Rattle.phone_library.specs.Kinds.{has_digits}
-use Rattle.phone_meta.specs.CodeLookUps.{is_other_of}
+use Rattle.phone_plans.specs.CodeLookUps.{is_other_of}
 use Rattle.phone_library.proofs.homes.home_of_several.Goals as goal
 
 pub returns-in-Some-clause-territory : goal.returns-in-Some-clause-territory

@@ -3,7 +3,7 @@ use Rattle.std.specs.List.{find}
 use Rattle.phone_library.proofs.CodeTerritories.{last_main}
 use Rattle.phone_library.specs.Homes.{TellsKind, territory_of}
 use Rattle.phone_library.specs.Kinds.{has_digits}
-use Rattle.phone_meta.specs.CodeLookUps.{is_main_of}
+use Rattle.phone_plans.specs.CodeLookUps.{is_main_of}
 use Rattle.phone_library.proofs.homes.last_main.Given as goal
 
 abbrev pub invariant-loop-territory : goal.invariant-loop-territory

@@ -1,7 +1,6 @@
 use Rattle.std.proofs.Common.{◌≡◌, ◌-◌, ℕ, ⊎_elim, length, nat_le, nat_lt, arith, ap, sym, ◌∙◌}
 use Rattle.std.proofs.lemmas.Bool.{cases_lt, le-leb, le-ltb, lt-leb, lt-ltb}
-use Rattle.phone_pattern.proofs.Matches.{regex_names-names_in}
-use Rattle.phone_territory.specs.First.{last_group, names_in}
+use Rattle.phone_territory.specs.First.{names_in}
 use Rattle.phone_library.proofs.stripping.has_two_groups.Goals as goal
 
 -- group 0 is the match
@@ -11,10 +10,4 @@ past_match n =
     (λ few. le-ltb 2 n few ∙ sym (lt-leb 2 (n - 1) (omega (arith, few)))) (cases_lt 2 n)
 
 pub returns : goal.returns
-returns c =
-    let re = c.regex.result.now in
-    let of = c.regex.ensures in
-    ap (nat_lt 2) c.captures_len.ensures.names
-    ∙ ap (λ names. nat_lt 2 (length names)) (regex_names-names_in re of.1.0 of.1.1)
-    ∙ past_match (length (names_in _))
-    ∙ ap (λ p. nat_le 2 (last_group p)) of.0
+returns c = ap (nat_lt 2) c.captures_len.ensures ∙ past_match (length (names_in c.args.pattern.now))

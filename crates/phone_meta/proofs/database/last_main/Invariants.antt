@@ -1,10 +1,10 @@
 use Rattle.std.proofs.Common.{◌≡◌, length, reverse}
 use Rattle.std.specs.List.{find}
-use Rattle.phone_meta.specs.CodeLookUps.{is_main}
+use Rattle.phone_plans.specs.CodeLookUps.{is_main_of}
 use Rattle.phone_meta.proofs.database.last_main.Given as goal
 
-abbrev pub invariant-loop-territory : goal.invariant-loop-territory
-invariant-loop-territory l = find is_main (reverse l.all) ≡ find is_main (reverse l.rest)
+abbrev pub invariant-loop-last : goal.invariant-loop-last
+invariant-loop-last l = find (is_main_of l.code) (reverse l.all) ≡ find (is_main_of l.code) (reverse l.rest)
 
-abbrev pub decreases-loop-territory : goal.decreases-loop-territory
-decreases-loop-territory l = length l.rest
+abbrev pub decreases-loop-last : goal.decreases-loop-last
+decreases-loop-last l = length l.rest

@@ -1,6 +1,6 @@
 use Rattle.std.proofs.Common.{◌≡◌, ℕ, List, map, reverse, take}
 use Rattle.phone_territory.specs.Records.{id_of}
-use Rattle.phone_meta.specs.Records.{has_id, last_place}
+use Rattle.phone_plans.specs.Records.{has_id, last_place}
 use Rattle.phone_index.specs.Orders.{place_of, text_of}
 use Rattle.phone_meta.proofs.index.id_places.Given as goal
 

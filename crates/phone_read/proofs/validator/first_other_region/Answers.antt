@@ -1,5 +1,5 @@
 use Rattle.std.proofs.Common.{Some, None, option_map, ap, sym, ◌∙◌}
-use Rattle.phone_meta.specs.Lasts.{seen}
+use Rattle.phone_plans.specs.Lasts.{seen}
 use Rattle.phone_read.specs.Origins.{shown}
 use Rattle.phone_read.specs.Regions.{is_of_last}
 use Rattle.phone_read.proofs.Regional.{first_other-turn}

@@ -1,5 +1,5 @@
 use Rattle.std.proofs.Common.{◌≡◌, ◌∷◌, IfOk, ap, option_map, sym, subst, ◌∙◌}
-use Rattle.phone_meta.specs.Lasts.{seen}
+use Rattle.phone_plans.specs.Lasts.{seen}
 use Rattle.phone_read.specs.Origins.{told}
 use Rattle.phone_read.proofs.ToldKinds.{none_told}
 use Rattle.phone_read.proofs.Regional.{no_origin, several_found, sole_origin}

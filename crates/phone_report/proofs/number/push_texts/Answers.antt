@@ -1,6 +1,6 @@
 use Rattle.std.proofs.Common.{string_bytes}
 use Rattle.std.proofs.lemmas.Result.{on_ok_weaker}
-use Rattle.phone_meta.specs.CodeLookUps.{first_of, territories}
+use Rattle.phone_plans.specs.CodeLookUps.{first_of, territories}
 use Rattle.phonenumber.proofs.NumberLines.{printed_texts_own}
 use Rattle.phone_report.proofs.NumberLines.{by_first}
 use Rattle.phone_report.proofs.number.push_texts.Goals as goal

@@ -9,7 +9,8 @@ pub returns-then-place-eq0-clause-digits : goal.returns-then-place-eq0-clause-di
 returns-then-place-eq0-clause-digits c =
     let digit = c.if-not-is_ascii_digit.ensures.cases in
     IfSome-weaker _ _
-    (λ _ back. digits_all c.args.text.now c.loop-at.at c.loop-at-test.true c.loop-at.invariant.3 (omega (arith, digit.0), omega (arith, digit.1)) back)
+    (λ _ back. digits_all c.args.text.now c.loop-at.at c.loop-at-test.true c.loop-at.invariant.3
+    (omega (arith, digit.0), omega (arith, digit.1)) back)
     c.settled.result c.settled.ensures.digits
 
 pub returns-then-place-eq0-clause-end : goal.returns-then-place-eq0-clause-end

@@ -1,14 +1,19 @@
-use Rattle.phone_automaton.proofs.Tabling.{HasRows-of, table_tells, two_rows}
+use Rattle.std.proofs.Common.{◌∙◌}
+use Rattle.regex_hir.specs.Meaning.{meaning}
+use Rattle.phone_automaton.proofs.Bridge.{IfSome-weaker}
+use Rattle.phone_automaton.proofs.Joining.{TellsAccept-grows}
+use Rattle.phone_automaton.proofs.Telling.{tells_of}
 use Rattle.phone_automaton.proofs.digits.Digits.new.Goals as goal
 
-pub invariant_of-result : goal.invariant_of-result
-invariant_of-result c =
-    let (more, grown) = c.in_ok-fill.ensures.grows in
-    HasRows-of c.args.nfa.now c.fill.new.rows.items c.fill.new.cells.items c.in_ok-fill.ensures.all
-    (two_rows c.args.nfa.now _ c.in_ok-rows.rows.items more grown c.in_ok-rows.ensures.rows) c.in_ok-fill.ensures.cells
-
 pub returns : goal.returns
-returns c hay digits =
-    let (more, grown) = c.in_ok-fill.ensures.grows in
-    table_tells c.args.nfa.now c.fill.new.rows.items c.in_ok-rows.rows.items more c.fill.new.cells.items grown c.in_ok-rows.ensures.rows
-    c.in_ok-fill.ensures.all c.in_ok-fill.ensures.cells hay digits
+returns c =
+    let old = c.in_ok-rows.rows in
+    let new = c.row_of.new.rows in
+    let made = c.in_ok-first.ensures in
+    let accepts = TellsAccept-grows old new 11 c.in_ok-rows.ensures.known.rows made.grows
+    c.in_ok-rows.ensures.place c.in_ok-rows.ensures.accepts in
+    IfSome-weaker _ _
+    (λ d told hay digits. told hay digits
+    ∙ tells_of (meaning c.args.hir.now) new c.in_ok-first.first 11 made.tells accepts hay
+    digits)
+    c.from_rows.result c.from_rows.ensures

@@ -1,5 +1,4 @@
-use Rattle.std.proofs.Common.{◌≡◌, List, ℕ, Option, Some, None, MatchOption, Result, Ok, Err, IfOk, IfSome, String, Global, string_bytes, ap, ◌∙◌}
-use Rattle.std.specs.declared.alloc.AllocError.{AllocError}
+use Rattle.std.proofs.Common.{◌≡◌, MatchOption, ap, ◌∙◌}
 use Rattle.regex_syntax.specs.Grammar.{Names}
 use Rattle.phone_automaton.specs.declared.automaton.Tables.{Tables}
 use Rattle.phone_automaton.specs.Finds.{finds, found_by, Searcher}

@@ -1,7 +1,7 @@
 use Rattle.std.proofs.Common.{◌≡◌, ◌∷◌, ◌++◌, [], true, false, length, slice_get, Some, ap, refl, sym, subst, ◌∙◌}
 use Rattle.std.proofs.lemmas.List.{length-map}
 use Rattle.std.specs.Map.{values_of}
-use Rattle.phone_meta.specs.CodeLookUps.{is_listed}
+use Rattle.phone_plans.specs.CodeLookUps.{is_listed}
 use Rattle.phone_values.specs.declared.reading.Reading.{Reading}
 use Rattle.phone_book.specs.Books.{AreKept}
 use Rattle.phone_book.specs.Firsts.{firsts, is_among}

@@ -8,7 +8,7 @@ use denote.Param.Send.{IsSend, AllSend, owning_send, struct_send, sendable}
 use Rattle.std.proofs.Common.{List}
 use Rattle.std.proofs.Crossing as heap
 use Rattle.std_alloc.proofs.SendSync.{quiet, lies}
-use Rattle.phone_meta.specs.contracts.database.Database as Database
+use Rattle.phone_plans.specs.contracts.plans.Plans as Database
 use Rattle.phone_records.specs.declared.loader.Metadata.{Metadata}
 use Rattle.phone_c_base.specs.Owned.{c_heap, handle_owns}
 use Rattle.phone_c_base.specs.contracts.handle.Handle.{the_row, the_type}

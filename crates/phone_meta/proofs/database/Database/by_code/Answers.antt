@@ -1,7 +1,7 @@
 use Rattle.std.proofs.Common.{◌≡◌, ◌++◌, ◌∙◌, Bor, List, [], ◌∷◌, Option, None, Some, Result, Ok, Err, IfOk, ap, filter, map, option_map, refl, reverse, subst}
-use Rattle.phone_meta.specs.CodeLookUps.{if_any, is_main_of, is_other_of}
+use Rattle.phone_plans.specs.CodeLookUps.{if_any, is_main_of, is_other_of}
 use Rattle.phone_records.specs.declared.loader.Metadata.{Metadata}
-use Rattle.phone_meta.proofs.CodeLemmas.{territories-parts}
+use Rattle.phone_plans.proofs.CodeLemmas.{territories-parts}
 use Rattle.phone_meta.proofs.database.Database.by_code.Goals as goal
 
 mapped_any : {X Y : Type 0} (f : X → Y) (xs : List X) → option_map (map f) (if_any xs) ≡ if_any (map f xs)
@@ -23,8 +23,8 @@ returns c =
     let now = λ (t : Bor Metadata). t.now in
     let code = c.args.code.now in
     let db = c.args.self.now in
-    let mains = subst (λ r. IfOk r (λ v. map now v.items ≡ filter (is_main_of code) db)) c.in_ok-mains.ensures.made.0 c.mains.ensures in
-    let others = subst (λ r. IfOk r (λ v. map now v.items ≡ filter (is_other_of code) db)) c.in_ok-mains.ensures.made.1 c.others.ensures in
+    let mains = subst (λ r. IfOk r (λ v. map now v.items ≡ filter (is_main_of code) db)) c.in_ok-mains.ensures.made.0 (rw c.territories-all.ensures at c.mains.ensures) in
+    let others = subst (λ r. IfOk r (λ v. map now v.items ≡ filter (is_other_of code) db)) c.in_ok-mains.ensures.made.1 (rw c.territories-all.ensures at c.others.ensures) in
     let first = c.in_ok-mains.mains.items in
     let last = c.in_ok-mains.others.items in
     let same = territories-parts now code db first (reverse first) last (reverse first ++ last) mains refl others refl in

@@ -1,18 +1,21 @@
-use Rattle.std.proofs.Common.{ap, filter, reverse, ◌≡◌, ◌∙◌}
+use Rattle.std.proofs.Common.{ap, ◌∙◌}
 use Rattle.std.specs.List.{find}
 use Rattle.std.specs.Option.{option_or}
-use Rattle.phone_meta.specs.CodeLookUps.{is_main, is_other}
-use Rattle.phone_meta.specs.Records.{has_code}
-use Rattle.phone_meta.proofs.CodeLemmas.{first_of-given}
+use Rattle.phone_plans.specs.CodeLookUps.{is_other_of}
+use Rattle.phone_plans.proofs.CodeLemmas.{first_of-territories}
 use Rattle.phone_meta.proofs.database.Database.first_by_code.Goals as goal
 
 pub returns-in-Some : goal.returns-in-Some
 returns-in-Some c =
-    ap (λ o. option_or o (find is_other c.of_code-all.result)) c.in-Some.ensures
-    ∙ first_of-given c.args.code.now c.args.self.now c.of_code-all.result c.of_code-all.ensures
+    let code = c.args.code.now in
+    let db = c.args.self.now in
+    ap (λ o. option_or o (find (is_other_of code) db)) (rw c.territories-all.ensures at c.in-Some.ensures)
+    ∙ first_of-territories code db
 
 pub returns-in-None : goal.returns-in-None
 returns-in-None c =
-    c.first_other.ensures
-    ∙ ap (λ o. option_or o (find is_other c.of_code-all.result)) c.in-None.ensures
-    ∙ first_of-given c.args.code.now c.args.self.now c.of_code-all.result c.of_code-all.ensures
+    let code = c.args.code.now in
+    let db = c.args.self.now in
+    rw c.territories-all.ensures at c.first_other.ensures
+    ∙ ap (λ o. option_or o (find (is_other_of code) db)) (rw c.territories-all.ensures at c.in-None.ensures)
+    ∙ first_of-territories code db

@@ -2,7 +2,7 @@ use Rattle.std.proofs.Common.{map, rules, subst}
 use Rattle.std.specs.List.{Contains, IsDistinct}
 use Rattle.std.specs.Str.{bytes_eq}
 use Rattle.phone_territory.specs.Records.{id_of}
-use Rattle.phone_meta.proofs.Lasts.{distinct-lasts, lasts-last, last-lasts}
+use Rattle.phone_plans.proofs.Lasts.{distinct-lasts, lasts-last, last-lasts}
 use Rattle.phone_meta.proofs.database.Database.iter.Goals as goal
 
 pub returns-clause-last_of_its_id : goal.returns-clause-last_of_its_id

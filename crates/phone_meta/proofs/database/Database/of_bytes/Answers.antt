@@ -1,4 +1,4 @@
-use Rattle.phone_meta.proofs.TextFaults.{faults_of-text}
+use Rattle.phone_plans.proofs.TextFaults.{faults_of-text}
 use Rattle.phone_meta.proofs.database.Database.of_bytes.Goals as goal
 
 pub returns-in-Ok-clause-no_io : goal.returns-in-Ok-clause-no_io

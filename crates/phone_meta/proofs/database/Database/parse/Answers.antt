@@ -1,7 +1,7 @@
 use Rattle.std.proofs.Common.{◌≡◌, Err}
 use Rattle.std.proofs.lemmas.Result.{err_from_is_err_and}
 use Rattle.phone_base.specs.declared.error.LoadMetadata.TheVariants as error
-use Rattle.phone_meta.proofs.TextFaults.{read-none}
+use Rattle.phone_plans.proofs.TextFaults.{read-none}
 use Rattle.phone_meta.proofs.database.Database.parse.Goals as goal
 
 pub returns-in_err-records-clause-json : goal.returns-in_err-records-clause-json

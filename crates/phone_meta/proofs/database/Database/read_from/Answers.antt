@@ -1,5 +1,5 @@
 use Rattle.std.proofs.Common.{◌≡◌, ap, arith}
-use Rattle.phone_meta.specs.Texts.{faults_of}
+use Rattle.phone_plans.specs.Texts.{faults_of}
 use Rattle.phone_meta.proofs.database.Database.read_from.Goals as goal
 
 pub returns-clause-io : goal.returns-clause-io

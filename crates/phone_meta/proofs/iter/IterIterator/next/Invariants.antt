@@ -1,5 +1,5 @@
 use Rattle.std.proofs.Common.{◌≡◌, length}
-use Rattle.phone_meta.specs.Records.{lasts}
+use Rattle.phone_plans.specs.Records.{lasts}
 use Rattle.phone_meta.proofs.iter.IterIterator.next.Given as goal
 
 abbrev pub invariant-loop-first : goal.invariant-loop-first

@@ -1,5 +1,5 @@
 use Rattle.std.proofs.Common.{◌∷◌, ◌++◌, string_bytes, ap, ◌∙◌}
-use Rattle.phone_meta.specs.CodeLookUps.{first_of, territories}
+use Rattle.phone_plans.specs.CodeLookUps.{first_of, territories}
 use Rattle.phonenumber.proofs.NumberLines.{printed_texts_own, texts_by-from}
 use Rattle.phonenumber.specs.Lines.{known_words}
 use Rattle.phonenumber.proofs.report.line.push_number.Goals as goal

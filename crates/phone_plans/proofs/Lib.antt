@@ -1,0 +1,10 @@
+pub mod Chains
+pub mod CodeLemmas
+pub mod InOrder
+pub mod Indexes
+pub mod LastItems
+pub mod LastPlaces
+pub mod Lasts
+pub mod Places
+pub mod Refused
+pub mod TextFaults
