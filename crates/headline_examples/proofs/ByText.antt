@@ -9,7 +9,7 @@ use Rattle.std.specs.Option.{option_map_or}
 use Rattle.phone_chars.specs.Characters.{is_digit, is_one_of, is_punctuation, is_separator}
 use Rattle.phone_values.specs.Numbers.{text_of}
 use Rattle.phone_values.specs.declared.mode.Mode.TheVariants.{International}
-use Rattle.phone_meta.specs.CodeLookUps.{first_of, territories}
+use Rattle.phone_plans.specs.CodeLookUps.{first_of, territories}
 use Rattle.phone_territory.specs.Prefixes.{is_benign_prefix}
 use Rattle.phone_parts.specs.Texts.{ends}
 use Rattle.phone_records.specs.declared.loader.Metadata.{Metadata}

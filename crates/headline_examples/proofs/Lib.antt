@@ -3,3 +3,4 @@ mod Digits
 mod Laid
 mod Prefixed
 mod Searches
+mod SideBySide

@@ -1,6 +1,6 @@
 //! Numbers that a premise refuses, which shows why it is there, and which of the others take them.
 ghost use Rattle.std.specs.Prelude.{◌≡◌, codes, None, Some, false};
-ghost use Rattle.phone_meta.specs.CodeLookUps.{is_prefix_free, shortest};
+ghost use Rattle.phone_plans.specs.CodeLookUps.{is_prefix_free, shortest};
 ghost use Rattle.phone_read.specs.TransformRules.{rules_have_no_plus};
 ghost use Rattle.phonenumber.specs.Plain.{IsBenign, IsIdle, IsPlainE164};
 ghost use Rattle.phonenumber.specs.Plain.{IsPlainInternational, IsPlainRfc3966};

@@ -28,7 +28,6 @@ with each:  --rules RULES     library (the default): numbers are read and descri
             --short-database FILE   that of short numbers
             --time-zones FILE, --carriers FILE   the tables of time zones and carriers
             -o, --output FILE what is written goes there
-            --jobs N          N parts of the input are read side by side (not with --unique)
             --skipped N       lines are counted as if N stood before them (of a table: after its
                               header)
             --                the words after it are a region and files
@@ -78,6 +77,8 @@ key, parted by |. In a terminal, without FILE, it shows the number in place, key
 tabs: whether its count of digits is possible; whether it is a short number; what it costs; whether
 only some carriers connect it; whether it is an emergency number; whether it reaches emergency
 services.
+GNU parallel has the lines of a long file read side by side, each part by a run of its own:
+parallel --pipepart --block -1 -k -a FILE ./phone REGION
 --prove proves and builds, once, the two programs; until then the first run compiles its program
 without proof, which takes minutes, and keeps it.
 

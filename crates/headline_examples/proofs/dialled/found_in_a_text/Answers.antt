@@ -2,7 +2,7 @@ use Rattle.std.proofs.Common.{None, refl, arith, inl, inr}
 use Rattle.std.specs.Fmt.{digits}
 use Rattle.std.specs.Str.{chars}
 use Rattle.phone_values.specs.Ids.{id_of, name}
-use Rattle.phone_meta.specs.CodeLookUps.{begins}
+use Rattle.phone_plans.specs.CodeLookUps.{begins}
 use Rattle.headline_examples.proofs.ByText.{international, is_plain}
 use Rattle.headline_examples.proofs.Laid.{nz_laid}
 use Rattle.headline_examples.proofs.ByText.{ends_in_digit}

@@ -1,7 +1,7 @@
 use Rattle.std.proofs.Common.{refl, inr}
 use Rattle.std.specs.Fmt.{digits}
 use Rattle.phone_values.specs.Ids.{id_of, name}
-use Rattle.phone_meta.specs.CodeLookUps.{begins}
+use Rattle.phone_plans.specs.CodeLookUps.{begins}
 use Rattle.headline_examples.proofs.ByText.{is_plain}
 use Rattle.headline_examples.specs.Samples.{ar, bare_ad}
 use Rattle.headline_examples.proofs.needed.codes_apart.Goals as goal
