@@ -1,0 +1,103 @@
+-- The international text of a coded number is read as the number exactly where nothing is stripped
+-- off its digits.
+use Rattle.std.proofs.Common.{◌≡◌, ℕ, ◌≤◌, ◌<◌, ◌^◌, true, List, [], ◌∷◌, ◌++◌, length, chars, None}
+use Rattle.std.proofs.Common.{Some, Ok, Option, refl, ap, ap₂, sym, subst, ◌∙◌, append_assoc, arith}
+use Rattle.std.proofs.lemmas.Bool.{and_from}
+use Rattle.std.proofs.lemmas.List.Folds.{list_all-append}
+use Rattle.std.proofs.lemmas.Str.{chars-append}
+use Rattle.std.specs.Fmt.{decimal}
+use Rattle.std.specs.List.{list_all}
+use Rattle.phone_chars.specs.Characters.{is_digit}
+use Rattle.phone_values.specs.Numbers.{text_of}
+use Rattle.phone_values.specs.declared.country.Id.{Id}
+use Rattle.phone_values.specs.declared.mode.Mode.TheVariants.{International}
+use Rattle.phone_values.specs.declared.reading.Reading.{Reading}
+use Rattle.phone_library.specs.Readings.{ReadsByLibrary}
+use Rattle.phone_library_text.specs.Written.{IsWritten, most_characters}
+use Rattle.phone_print.specs.Texts.{extension_part, international_text, laid_out}
+use Rattle.phone_read.specs.TransformRules.{rules_have_no_plus}
+use Rattle.phone_records.specs.declared.loader.Metadata.{Metadata}
+use Rattle.phonenumber.specs.Printed.{printed}
+use Rattle.phonenumber.proofs.BackNumbers.{list_all-decimal}
+use Rattle.phonenumber.proofs.BackTexts.{IsUtf8-low, chars-low, is_low, low_digits}
+use Rattle.phone_library_back.specs.Announced.{prefix_of}
+use Rattle.phone_library_back.specs.Coded.{IsCoded, IsIdle}
+use Rattle.phone_library_back.specs.Plain.{IsPlainInternational}
+use Rattle.phone_library_back.specs.Printed.{printed_reading, uncarried}
+use Rattle.phone_library_back.proofs.CodedNumbers.{coded_digits, coded_number, no_front}
+use Rattle.phone_library_back.proofs.Exactly.{idle_if_read}
+use Rattle.phone_library_back.proofs.PrintedTexts.{chars-part, printed_text}
+use Rattle.phone_library_back.proofs.ReadSigned.{enough, read_signed, signed}
+use Rattle.phone_library_back.proofs.Tails.{announced_tail, tail}
+use Rattle.phone_library_back.proofs.WrittenLaidOut.{IsNumber}
+
+module _ (db : List Metadata) (n : Reading) (h : IsCoded db n)
+    (p : IsPlainInternational db (uncarried n)) where
+  abbrev cd : List ℕ
+  cd = decimal n.code.value
+
+  abbrev laid : List ℕ
+  laid = laid_out p.layout.territory International None (uncarried n)
+
+  fits : n.code.value < 2 ^ 64
+  fits = omega (arith, h.short_code)
+
+  code : list_all is_digit cd ≡ true
+  code = list_all-decimal n.code.value fits
+
+  abbrev number : List ℕ
+  number = 43 ∷ (cd ++ 32 ∷ chars laid)
+
+  abbrev behind : List ℕ
+  behind = tail (chars (prefix_of p.layout.territory)) n.extension
+
+  front_low : list_all is_low (43 ∷ (cd ++ 32 ∷ [])) ≡ true
+  front_low = list_all-append is_low cd (32 ∷ []) ∙ and_from _ _ (low_digits cd code) refl
+
+  parted_text : (rest : List ℕ) → 43 ∷ (cd ++ 32 ∷ rest) ≡ (43 ∷ (cd ++ 32 ∷ [])) ++ rest
+  parted_text rest = ap (λ t. 43 ∷ t) (sym (append_assoc cd (32 ∷ []) rest))
+
+  characters : chars (international_text p.layout.territory None (uncarried n)) ≡ number ++ behind
+  characters =
+      ap chars (parted_text (laid ++ extension_part p.layout.territory n.extension))
+      ∙ chars-append (43 ∷ (cd ++ 32 ∷ [])) (laid ++ extension_part p.layout.territory n.extension)
+      (IsUtf8-low (43 ∷ (cd ++ 32 ∷ [])) front_low)
+      ∙ ap₂ (λ a b. a ++ b) (chars-low (43 ∷ (cd ++ 32 ∷ [])) front_low)
+      (chars-append laid (extension_part p.layout.territory n.extension) p.layout.utf8
+      ∙ ap (λ t. chars laid ++ t) (chars-part p.layout.territory n.extension p.announced))
+      ∙ sym (append_assoc (43 ∷ (cd ++ 32 ∷ [])) (chars laid) behind)
+      ∙ ap (λ t. t ++ behind) (sym (parted_text (chars laid)))
+
+  is_number : IsNumber number
+  is_number = coded_number cd (chars laid) (text_of n.national) 32 code refl refl p.layout.laid
+      (enough db n h)
+
+  written : IsWritten (number ++ behind) (Ok (signed db n h))
+  written =
+      subst (λ d. IsWritten (number ++ behind)
+      (Ok (record { has_plus = true; digits = d; extension = n.extension })))
+      (coded_digits cd (chars laid) (text_of n.national) 32 code refl refl p.layout.laid
+      (enough db n h))
+      (announced_tail [] number no_front is_number (prefix_of p.layout.territory) n.extension
+      p.announced (subst (λ t. length t ≤ most_characters) characters p.layout.few))
+
+  -- the text that is printed has these characters
+  printed_is : (text : List ℕ) → printed db International None (uncarried n) ≡ Some text →
+      chars text ≡ number ++ behind
+  printed_is text e =
+      ap chars (sym (printed_text db International (uncarried n) p.layout.territory text
+      p.layout.first e)) ∙ characters
+
+  pub international_back : (hint : Option Id) (text : List ℕ) →
+      printed db International None (uncarried n) ≡ Some text → IsIdle db n →
+      ReadsByLibrary db hint (chars text) (Ok (printed_reading n))
+  international_back hint text e idle =
+      subst (λ t. ReadsByLibrary db hint t (Ok (printed_reading n))) (sym (printed_is text e))
+      (read_signed db n h idle hint (number ++ behind) written)
+
+  pub international_idle : rules_have_no_plus db ≡ true → (hint : Option Id) (text : List ℕ) →
+      printed db International None (uncarried n) ≡ Some text →
+      ReadsByLibrary db hint (chars text) (Ok (printed_reading n)) → IsIdle db n
+  international_idle rules hint text e read =
+      idle_if_read db n h rules hint (number ++ behind) written
+      (subst (λ t. ReadsByLibrary db hint t (Ok (printed_reading n))) (printed_is text e) read)

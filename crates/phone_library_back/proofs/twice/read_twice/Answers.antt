@@ -1,0 +1,20 @@
+use Rattle.phone_library_laws.proofs.WhatIsRead.{settled_if_read}
+use Rattle.phone_library_back.proofs.ExtensionsRead.{extension_read}
+use Rattle.phone_library_back.proofs.InternationalBack.{international_back}
+use Rattle.phone_library_back.proofs.Prefixes.{announced_by_default}
+use Rattle.phone_library_back.proofs.ReadSigned.{coded_of}
+use Rattle.phone_library_back.proofs.Rfc3966Back.{rfc3966_back}
+use Rattle.phone_library_back.proofs.twice.read_twice.Goals as goal
+
+pub returns-clause-international : goal.returns-clause-international
+returns-clause-international c db hint other text again n rules settled read layout none e =
+    let extension = extension_read db hint text n read in
+    let announced = announced_by_default layout.territory n.extension none extension in
+    international_back db n (coded_of db n (settled_if_read db hint text n rules settled read))
+    (record { layout = layout; announced = announced }) other again e settled.idle
+
+pub returns-clause-rfc3966 : goal.returns-clause-rfc3966
+returns-clause-rfc3966 c db hint other text again n rules settled read layout e =
+    rfc3966_back db n (coded_of db n (settled_if_read db hint text n rules settled read))
+    (record { layout = layout; parameter = extension_read db hint text n read }) other again e
+    settled.idle

@@ -1,0 +1,6 @@
+pub mod Announced
+pub mod Coded
+pub mod Layouts
+pub mod Plain
+pub mod Printed
+pub mod Told

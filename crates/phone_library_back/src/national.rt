@@ -1,0 +1,43 @@
+//! The national text of a number is read, inside its territory, as the number.
+ghost use Rattle.std.specs.Prelude.{◌≡◌, List, None, Option, Some, Ok, chars, ℕ};
+ghost use Rattle.phone_values.specs.declared.country.Id.{Id};
+ghost use Rattle.phone_values.specs.declared.mode.Mode.TheVariants as mode;
+ghost use Rattle.phone_values.specs.declared.reading.Reading.{Reading};
+ghost use Rattle.phone_library.specs.Facts.{region_of_number};
+ghost use Rattle.phone_library.specs.Readings.{ReadsByLibrary, stripped};
+ghost use Rattle.phone_read.specs.Hints.{hinted};
+ghost use Rattle.phone_records.specs.declared.loader.Metadata as loader;
+ghost use Rattle.phonenumber.specs.Printed.{printed};
+ghost use Rattle.phone_library_back.specs.Plain.{IsPlainNational};
+ghost use Rattle.phone_library_back.specs.Printed.{inside_reading, uncarried};
+
+/// The national text of a number is read, under a hint whose territory has the number's code, as
+/// the number: the same calling code, which is the hint's, the same national number with its
+/// leading zeros, and the same extension, or none. The carrier is what stripping finds, as the text
+/// shows none. The number's own region is such a hint, where the database has it.
+///
+/// The text is plain:
+///
+/// - It is laid out as an international text must be, but the layout may write digits before those
+///   of the number, such as a national prefix, and brackets may stand at the front.
+/// - There are three digits at least, as two are a number only where they stand alone.
+/// - The territory's international prefix doesn't match at their front, as a code would be read
+///   behind it; they aren't taken for a number that begins with the calling code; and what the
+///   territory strips off them leaves the national number.
+/// - The national number has 2 to 17 digits, as others are refused.
+/// - The extension, if there is one, is announced as in an international text, and the text has at
+///   most 250 characters.
+pub fn national_again()
+    ensures inside { (db : List loader.Metadata) (hint : Option Id) (m : loader.Metadata)
+        (n : Reading) (text : List ℕ) → hinted db hint ≡ Some m →
+        (plain : IsPlainNational db m (uncarried n)) →
+        printed db mode.National None (uncarried n) ≡ Some text →
+        ReadsByLibrary db hint (chars text)
+        (Ok (inside_reading n (stripped (Some m) plain.digits).carrier)) }
+    ensures own_region { (db : List loader.Metadata) (m : loader.Metadata) (n : Reading)
+        (text : List ℕ) → hinted db (region_of_number db n) ≡ Some m →
+        (plain : IsPlainNational db m (uncarried n)) →
+        printed db mode.National None (uncarried n) ≡ Some text →
+        ReadsByLibrary db (region_of_number db n) (chars text)
+        (Ok (inside_reading n (stripped (Some m) plain.digits).carrier)) }
+{}
