@@ -9,7 +9,8 @@ use Rattle.std.proofs.lemmas.List.{length-drop, get_or-drop}
 use Rattle.std.specs.Option.{option_or}
 use Rattle.regex_hir.specs.Re.{Re}
 use Rattle.phone_automaton.specs.Digits.{cell_at, end_by, or_here, place_of, AreDigits, HasRows}
-use Rattle.phone_automaton.specs.Rows.{by_cell, AreRows, Grows, IsEither, IsEitherCell, IsPlace}
+use Rattle.phone_automaton.specs.Rows.{by_cell, AreEither, AreRows, Grows, IsEither, IsEitherCell}
+use Rattle.phone_automaton.specs.Rows.{IsPlace}
 use Rattle.phone_automaton.specs.Rows.{LeadInto, TellsAccept, TellsBefore}
 use Rattle.phone_automaton.proofs.Tabling.{dead_end}
 
@@ -42,7 +43,7 @@ module _ (cells more : List ℕ) (has : HasRows cells) where
       (end_by_grows (place_of cell) (at + 1) bs (has.inside (place + (b - 48)) (omega arith))
       (λ k d h. digits (suc k) d (omega arith)))
 
-  by_cell_grows : (cell at : ℕ) (rest : Option (List ℕ)) → IsPlace cells (place_of cell) →
+  pub by_cell_grows : (cell at : ℕ) (rest : Option (List ℕ)) → IsPlace cells (place_of cell) →
       IfSome rest AreDigits → by_cell (cells ++ more) cell at rest ≡ by_cell cells cell at rest
   by_cell_grows cell at None inside digits = refl
   by_cell_grows cell at (Some rest) inside digits = ap (or_here cell at)
@@ -145,31 +146,30 @@ cell_grown old new place column (more, grown) inside low = ap (λ l. cell_at l p
     ∙ cell_grows old more place column inside low
 
 -- one more cell of a row that stands for two
-pub more_joined : (old new row : List ℕ) (a b column cell : ℕ) → HasRows old → Grows old new →
-    IsPlace old a → IsPlace old b → length row ≡ 11 → column < 11 →
-    LeadInto old row → ((c : ℕ) → c < column →
-    IsEitherCell old (slice_index row c) (cell_at old a c) (cell_at old b c)) →
-    IsEitherCell new cell (cell_at old a column) (cell_at old b column) →
-    (c : ℕ) → c < column + 1 → IsEitherCell new (slice_index (slice_set row column cell) c)
-    (cell_at new a c) (cell_at new b c)
-more_joined old new row a b column cell has grows in_a in_b long low lead before here c h =
+pub more_joined : (old new row a b : List ℕ) (column cell : ℕ) → HasRows old → Grows old new →
+    LeadInto old a → LeadInto old b → length row ≡ 11 → column < 11 → LeadInto old row →
+    ((c : ℕ) → c < column → IsEitherCell old (slice_index row c) (slice_index a c)
+    (slice_index b c)) →
+    IsEitherCell new cell (slice_index a column) (slice_index b column) →
+    (c : ℕ) → c < column + 1 →
+    IsEitherCell new (slice_index (slice_set row column cell) c) (slice_index a c) (slice_index b c)
+more_joined old new row a b column cell has grows lead_a lead_b long low lead before here c h =
     let c_low : c < 11 = omega (arith, h, low) in
-    let of_a = cell_grown old new a c grows in_a c_low in
-    let of_b = cell_grown old new b c grows in_b c_low in
     ⊎_elim
     (λ (same : c ≡ column).
-    cell_moved new cell (cell_at old a column) (cell_at old b column) _ _ _
+    cell_moved new cell (slice_index a column) (slice_index b column) _ _ _
     (ap (λ j. slice_index (slice_set row column cell) j) same
     ∙ get_or-set_same row column cell 0 (omega (arith, long, low)))
-    (of_a ∙ ap (cell_at old a) same) (of_b ∙ ap (cell_at old b) same) here)
+    (ap (slice_index a) same) (ap (slice_index b) same) here)
     (λ other.
-    let inside_a = has.inside (a + c) (omega (arith, in_a, c_low)) in
-    let inside_b = has.inside (b + c) (omega (arith, in_b, c_low)) in
-    cell_moved new (slice_index row c) (cell_at old a c) (cell_at old b c) _ _ _
-    (get_or-set_other row column c cell 0 other) of_a of_b
-    (IsEitherCell-grows old new _ _ _ has grows (lead c c_low) inside_a inside_b
+    cell_moved new (slice_index row c) (slice_index a c) (slice_index b c) _ _ _
+    (get_or-set_other row column c cell 0 other) refl refl
+    (IsEitherCell-grows old new _ _ _ has grows (lead c c_low) (lead_a c c_low) (lead_b c c_low)
     (before c (omega (arith, h, other)))))
     (cases_eq c column)
+
+pub LeadInto-grows : (old new row : List ℕ) → Grows old new → LeadInto old row → LeadInto new row
+LeadInto-grows old new row grows lead c low = IsPlace-grows old new _ grows (lead c low)
 
 pub more_leads : (old new row : List ℕ) (column cell : ℕ) → Grows old new → length row ≡ 11 →
     column < 11 → LeadInto old row → IsPlace new (place_of cell) →
@@ -186,25 +186,28 @@ more_leads old new row column cell grows long low lead here c c_low =
     (cases_eq c column)
 
 -- a row of such cells stands for the two
-pub pushed_either : (cells row new : List ℕ) (a b place : ℕ) → new ≡ cells ++ row → AreRows cells →
-    place ≡ length cells → (a ≡ 0 → ⊥) → (b ≡ 0 → ⊥) →
-    IsPlace cells a → IsPlace cells b → LeadInto cells row →
-    ((c : ℕ) → c < 11 → IsEitherCell cells (slice_index row c) (cell_at cells a c)
-    (cell_at cells b c)) → IsEither new place a b
-pushed_either cells row new a b place grown are at some_a some_b in_a in_b lead each =
+pub pushed_either : (first cells row new of_a of_b : List ℕ) (a b place : ℕ) → AreRows first →
+    new ≡ cells ++ row → AreRows cells → Grows first cells → place ≡ length cells →
+    (a ≡ 0 → ⊥) → (b ≡ 0 → ⊥) → IsPlace first a → IsPlace first b →
+    ((c : ℕ) → c < 11 → slice_index of_a c ≡ cell_at first a c) →
+    ((c : ℕ) → c < 11 → slice_index of_b c ≡ cell_at first b c) →
+    LeadInto first of_a → LeadInto first of_b → LeadInto cells row → AreEither cells row of_a of_b →
+    IsEither new place a b
+pushed_either first cells row new of_a of_b a b place begun grown are grows at some_a some_b in_a
+    in_b is_a is_b lead_a lead_b lead each =
     let has = are.rows in
+    let all = Grows-twice first cells new grows (row, grown) in
     either_row new place a b (omega (arith, at, has.two)) (omega (arith, some_a))
     (omega (arith, some_b))
     (λ c low.
-    let inside_a = has.inside (a + c) (omega (arith, in_a, low)) in
-    let inside_b = has.inside (b + c) (omega (arith, in_b, low)) in
-    cell_moved new (slice_index row c) (cell_at cells a c) (cell_at cells b c) _ _ _
+    cell_moved new (slice_index row c) (slice_index of_a c) (slice_index of_b c) _ _ _
     (ap (λ l. slice_index l (place + c)) grown ∙ ap (λ j. slice_index (cells ++ row) (j + c)) at
     ∙ get_or-append-add cells row c 0)
-    (cell_grown cells new a c (row, grown) in_a low)
-    (cell_grown cells new b c (row, grown) in_b low)
-    (IsEitherCell-grows cells new _ _ _ has (row, grown) (lead c low) inside_a inside_b
-    (each c low)))
+    (cell_grown first new a c all in_a low ∙ sym (is_a c low))
+    (cell_grown first new b c all in_b low ∙ sym (is_b c low))
+    (IsEitherCell-grows cells new _ _ _ has (row, grown) (lead c low)
+    (IsPlace-grows first cells _ grows (lead_a c low))
+    (IsPlace-grows first cells _ grows (lead_b c low)) (each c low)))
 
 pub IfSome-both : {A : Type 0} (P Q R : A → Type 0) (o : Option A) → ((x : A) → P x → Q x → R x) →
     IfSome o P → IfSome o Q → IfSome o R

@@ -4,7 +4,7 @@ pub mod Cutting
 pub mod Fitting
 pub mod Fronting
 pub mod Joining
-pub mod Packing
+pub mod Moving
 pub mod Parting
 pub mod Reading
 pub mod Tabling

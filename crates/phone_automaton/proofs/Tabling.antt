@@ -1,21 +1,13 @@
 -- A table whose cells are steps tells of a text of digits where its match ends.
-use Rattle.std.proofs.Common.{◌≡◌, ⊎_elim, ◌<◌, ◌≤◌, ◌+◌, ◌-◌, ◌++◌, ◌∷◌, [], ℕ, zero, suc, Bool}
+use Rattle.std.proofs.Common.{◌≡◌, ⊎_elim, ◌<◌, ◌≤◌, ◌+◌, ◌-◌, ◌∷◌, [], ℕ, zero, suc, Bool}
 use Rattle.std.proofs.Common.{true, false, cond, List, length, Option, Some, None, IfSome}
-use Rattle.std.proofs.Common.{slice_get, slice_index, refl, sym, ap, ◌∙◌, subst, arith, ne_eqb}
+use Rattle.std.proofs.Common.{slice_index, refl, sym, ap, ◌∙◌, subst, arith, ne_eqb}
 use Rattle.std.proofs.Common.{get_or, drop}
 use Rattle.std.proofs.lemmas.Bool.{cases_eq, cases_lt, cond-false}
 use Rattle.std.proofs.lemmas.List.{length-drop, drop_more, get_or-drop, get_or_default}
-use Rattle.std.proofs.lemmas.Option.{none-some}
 use Rattle.std.specs.Option.{option_or}
 use Rattle.regex_dfa.specs.Links.{best}
 use Rattle.phone_automaton.specs.Digits.{cell_at, end_by, ends_here, or_here, place_of, AreDigits}
-
--- an element stays where it is if more elements come behind it
-pub slice_get-append : {A : Type 0} (xs ys : List A) (i : ℕ) (x : A) → slice_get xs i ≡ Some x →
-    slice_get (xs ++ ys) i ≡ Some x
-slice_get-append [] ys i x is = absurd (none-some x is)
-slice_get-append (y ∷ xs) ys zero x is = is
-slice_get-append (y ∷ xs) ys (suc i) x is = slice_get-append xs ys i x is
 
 -- ---- a walk through a table
 pub dead_end : (cells : List ℕ) (at : ℕ) (text : List ℕ) → end_by cells 0 at text ≡ None

@@ -5,10 +5,10 @@ use Rattle.std.proofs.lemmas.Bool.{cond-true}
 use Rattle.std.proofs.lemmas.List.{length-set}
 use Rattle.phone_automaton.proofs.Bridge.{ascii_boundary, ends_at_front}
 use Rattle.phone_automaton.proofs.Parting.{front_by_end}
-use Rattle.phone_automaton.specs.Digits.{AreDigits, end_by}
+use Rattle.phone_automaton.specs.Digits.{AreDigits}
 use Rattle.phone_automaton.specs.Finds.{front_end}
 use Rattle.phone_automaton.specs.Parts.{AreFrontCells, with_end}
-use Rattle.phone_automaton.specs.Rows.{TellsAccept, TellsBefore}
+use Rattle.phone_automaton.specs.Rows.{by_row, GivesBefore, TellsAccept}
 use Rattle.regex_hir.specs.Find.{find_str}
 use Rattle.regex_hir.specs.Re.{Re, Rest, Trace, accept, attempt}
 use Rattle.regex_hir.specs.Text.{is_boundary}
@@ -34,11 +34,11 @@ unfolding find_str
 ends_first re hay = ends_at_front (tries re hay) (length hay)
 
 -- a row that tells of a tree, and then of a match that ends there, tells of the match at the front
-pub tells_of : (re : Re) (cells : List ℕ) (place next : ℕ) → TellsBefore cells place next re →
-    TellsAccept cells next →
-    (hay : List ℕ) → AreDigits hay → end_by cells place 0 hay ≡ front_end (find_str re hay 0)
-tells_of re cells place next tells accepts hay digits =
-    tells hay digits accept (accepts hay digits) 0 (omega arith)
+pub tells_of : (re : Re) (cells row : List ℕ) (next : ℕ) → GivesBefore cells row next re →
+    TellsAccept cells next → (hay : List ℕ) → AreDigits hay →
+    by_row cells row 0 hay ≡ front_end (find_str re hay 0)
+tells_of re cells row next gives accepts hay digits =
+    gives.tell hay digits accept (accepts hay digits) 0 (omega arith)
     ∙ ap (option_map (λ (t : Trace). t.end)) (sym (at_first re hay digits))
     ∙ sym (ends_first re hay)
 

@@ -1,12 +1,10 @@
 -- Rows of a table that is worked out from a pattern's tree, and what they tell.
-use Rattle.std.specs.Prelude.{◌≡◌, ◌≤◌, ◌<◌, ◌+◌, ◌*◌, ◌++◌, ℕ, Bool, true, false, List, length}
-use Rattle.std.specs.Prelude.{Option, Some, None, IfSome, drop, if◌then◌else◌, option_map}
-use Rattle.std.specs.Prelude.{slice_get}
-use Rattle.std.specs.Prelude.{slice_index}
+use Rattle.std.specs.Prelude.{◌≡◌, ◌∷◌, [], ◌≤◌, ◌<◌, ◌+◌, ◌-◌, ◌++◌, ℕ, Bool, true, false, List}
+use Rattle.std.specs.Prelude.{length, Option, Some, None, IfSome, drop, nat_lt, if◌then◌else◌}
+use Rattle.std.specs.Prelude.{option_map, slice_index}
 use Rattle.std.specs.Option.{option_or}
 use Rattle.regex_hir.specs.Re.{Re, Rest, Trace, accept, attempt}
-use Rattle.phone_automaton.specs.Digits.{AreDigits, HasRows, cell_at, end_by, ends_here, or_here}
-use Rattle.phone_automaton.specs.Digits.{place_of}
+use Rattle.phone_automaton.specs.Digits.{AreDigits, HasRows, end_by, or_here, place_of}
 
 -- at most a thousand rows, of which the first leads nowhere
 pub record AreRows (cells : List ℕ) : Type 0 where
@@ -43,26 +41,49 @@ IsEither cells place a b =
     (at : ℕ) (rest : List ℕ) → AreDigits rest →
     end_by cells place at rest ≡ option_or (end_by cells a at rest) (end_by cells b at rest)
 
--- a row stands for going on and for leaving, of which a greedy one prefers the first
-abbrev pub IsChoice : List ℕ → ℕ → ℕ → ℕ → Bool → Type 0
-IsChoice cells place more leave true = IsEither cells place more leave
-IsChoice cells place more leave false = IsEither cells place leave more
+-- the cells of a row stand for those of two
+abbrev pub AreEither : List ℕ → List ℕ → List ℕ → List ℕ → Type 0
+AreEither cells row a b =
+    (c : ℕ) → c < 11 →
+    IsEitherCell cells (slice_index row c) (slice_index a c) (slice_index b c)
 
--- from each position of a text the row tells where the match ends that goes on as k says
+-- they stand for going on and for leaving, of which a greedy row prefers the first
+abbrev pub AreChoice : List ℕ → List ℕ → List ℕ → List ℕ → Bool → Type 0
+AreChoice cells row more leave true = AreEither cells row more leave
+AreChoice cells row more leave false = AreEither cells row leave more
+
+-- where a match ends that goes on from a row with these cells, at a position, before these digits
+abbrev pub by_row : List ℕ → List ℕ → ℕ → List ℕ → Option ℕ
+by_row cells row at [] = by_cell cells (slice_index row 10) at None
+by_row cells row at (b ∷ bs) = by_cell cells (slice_index row (b - 48)) at (Some bs)
+
+-- from each position of a text the row at a place tells where the match ends that goes on as k says
 abbrev pub RowTells : List ℕ → ℕ → List ℕ → Rest → Type 0
 RowTells cells place hay k =
     (p : ℕ) → p ≤ length hay →
     end_by cells place p (drop p hay) ≡ option_map (λ (t : Trace). t.end) (k p)
 
--- over digits the row says that a match ends here
+-- a row with these cells tells it
+abbrev pub CellsTell : List ℕ → List ℕ → List ℕ → Rest → Type 0
+CellsTell cells row hay k =
+    (p : ℕ) → p ≤ length hay →
+    by_row cells row p (drop p hay) ≡ option_map (λ (t : Trace). t.end) (k p)
+
+-- over digits the row at a place says that a match ends here
 abbrev pub TellsAccept : List ℕ → ℕ → Type 0
 TellsAccept cells place = (hay : List ℕ) → AreDigits hay → RowTells cells place hay accept
 
--- over digits the row tells of the tree, and of what follows it by the next row
+-- over digits the row at a place tells of the tree, and of what follows it by the next row
 abbrev pub TellsBefore : List ℕ → ℕ → ℕ → Re → Type 0
 TellsBefore cells place next re =
     (hay : List ℕ) → AreDigits hay → (k : Rest) → RowTells cells next hay k →
     RowTells cells place hay (attempt hay re k)
+
+-- and so does a row with these cells, which lead to rows of the table
+pub record GivesBefore (cells row : List ℕ) (next : ℕ) (re : Re) : Type 0 where
+  pub lead : LeadInto cells row
+  pub tell : (hay : List ℕ) → AreDigits hay → (k : Rest) → RowTells cells next hay k →
+      CellsTell cells row hay (attempt hay re k)
 
 -- a row has this cell for the digits that pass, and leads nowhere otherwise
 abbrev pub IsStep : List ℕ → ℕ → (ℕ → Bool) → Type 0
@@ -70,15 +91,10 @@ IsStep row cell test =
     ((c : ℕ) → c < 10 → slice_index row c ≡ (if test (48 + c) then cell else 0)) ×
     (slice_index row 10 ≡ 0)
 
--- a cell is a copy of one of other rows, whose places are in the order of the copies
-abbrev pub IsCopy : List ℕ → ℕ → ℕ → Type 0
-IsCopy order own cell =
-    (row : ℕ) × (place_of cell ≡ row * 11) × (slice_get order row ≡ Some (place_of own)) ×
-    (ends_here cell ≡ ends_here own)
+-- the cells of the first row
+abbrev pub none : List ℕ
+none = 0 ∷ 0 ∷ 0 ∷ 0 ∷ 0 ∷ 0 ∷ 0 ∷ 0 ∷ 0 ∷ 0 ∷ 0 ∷ []
 
--- all cells are copies of the cells of the rows whose places are in that order
-abbrev pub AreCopies : List ℕ → List ℕ → List ℕ → Type 0
-AreCopies cells order copies =
-    (row column place : ℕ) → column < 11 → row * 11 + column < length copies →
-    slice_get order row ≡ Some place →
-    IsCopy order (cell_at cells place column) (cell_at copies (row * 11) column)
+-- a cell where its row is moved two rows on: what it leads to is moved too, but for the first row
+abbrev pub moved : ℕ → ℕ
+moved cell = if nat_lt cell 2 then cell else cell + 44

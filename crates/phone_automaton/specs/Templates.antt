@@ -1,5 +1,6 @@
 -- What a template writes in the place of a match, by the cells that a search has filled.
-use Rattle.std.specs.Prelude.{◌≡◌, ◌≤◌, ◌+◌, ◌*◌, ◌++◌, ℕ, List, Option, None, Some, drop, length, slice_set, take}
+use Rattle.std.specs.Prelude.{◌≡◌, ◌≤◌, ◌+◌, ◌*◌, ◌++◌, ℕ, List, Option, None, Some, drop, length}
+use Rattle.std.specs.Prelude.{slice_set, take}
 use Rattle.regex.specs.Replace.{bytes_of}
 use Rattle.regex.specs.Templates.{written_after}
 use Rattle.regex_hir.specs.Find.{Match}

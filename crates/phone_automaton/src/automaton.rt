@@ -114,9 +114,9 @@ impl Core {
     }
 }
 
-/// A pattern's automaton for texts of ASCII, and a place in which it keeps a machine from one search
-/// to the next. Threads may share it. Contracts see what it finds in each text, `finds`, and the
-/// number of the last group.
+/// A pattern's automaton for texts of ASCII, and a place in which it keeps a machine from one
+/// search to the next. Threads may share it. Contracts see what it finds in each text, `finds`, and
+/// the number of the last group.
 pub struct Automaton {
     core: Core,
     place: Place,

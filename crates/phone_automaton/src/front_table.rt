@@ -1,5 +1,5 @@
-//! A table of a pattern alone: what the pattern finds at the front of a text of digits, told without
-//! an automaton.
+//! A table of a pattern alone: what the pattern finds at the front of a text of digits, told
+//! without an automaton.
 ghost use Rattle.std.specs.Prelude.{◌≡◌, ◌≤◌, length, string_bytes, IfOk, IfSome, Some};
 ghost use Rattle.phone_automaton.specs.Digits.{AreDigits, end_of_digits};
 ghost use Rattle.phone_automaton.specs.Tables.{Tells};
@@ -44,9 +44,9 @@ impl Drop for FrontTable {
 
 impl FrontTable {
     /// The table of a tree. None where memory is refused, where the
-    /// table would have more than a thousand rows, where a loop has no bound, and where a step looks
-    /// at what stands around it otherwise than for the text's end. No later call asks for the memory
-    /// again.
+    /// table would have more than a thousand rows, where a loop has no bound, and where a step
+    /// looks at what stands around it otherwise than for the text's end. No later call asks for the
+    /// memory again.
     pub fn new(alloc: Global, hir: &Hir) -> Option<FrontTable>
         ensures { IfSome result (Tells (meaning hir.now)) }
     {

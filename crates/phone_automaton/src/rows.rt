@@ -1,14 +1,16 @@
-//! Rows of a table of the steps over digits while it is worked out: they only become more.
+//! Rows of a table of the steps over digits while it is worked out: they only become more. A row is
+//! put behind the others where something is to lead to it.
 ghost use Rattle.std.specs.Prelude.{◌≡◌, ◌≤◌, ◌<◌, ◌++◌, ℕ, length, slice_index, IfSome};
 ghost use Rattle.phone_automaton.specs.Digits.{cell_at, ends_here, place_of};
-ghost use Rattle.phone_automaton.specs.Rows.{AreRows, Grows, IsEither, IsEitherCell, IsPlace};
-ghost use Rattle.phone_automaton.specs.Rows.{LeadInto, TellsAccept};
+ghost use Rattle.phone_automaton.specs.Rows.{AreEither, AreRows, Grows, IsEither, IsEitherCell};
+ghost use Rattle.phone_automaton.specs.Rows.{IsPlace, LeadInto, TellsAccept};
 
 use std::alloc::Global;
 use std::marker::Model;
 
-/// A table has at most so many rows; a pattern that needs more has none.
-pub(crate) const MOST_ROWS: usize = 1000;
+/// At most there are so many rows, which with two more make a table; a pattern that needs more has
+/// none.
+const MOST_ROWS: usize = 998;
 
 /// A row has a cell for each digit, and one for the end of the text.
 pub(crate) const COLUMNS: usize = 11;
@@ -67,12 +69,13 @@ impl Rows {
         let _ = &self.cells;
     }
 
-    /// How many rows there are.
+    /// The cells, row by row.
     #[inline]
-    pub(crate) fn count(&self) -> usize
-        ensures { result ≤ 1000 }
+    pub(crate) fn cells(&self) -> &[u16]
+        ensures is { result.now ≡ self.now }
+        ensures known { AreRows self.now }
     {
-        self.cells.len() / COLUMNS
+        self.cells.as_slice()
     }
 
     /// The row at a place.
@@ -94,10 +97,10 @@ impl Rows {
         requires { IsPlace self.now place }
         ensures place { place_of result ≡ place }
         ensures ends { ends_here result ≡ matched }
-        ensures known { AreRows self.now }
     {
         let _ = &self.cells;
-        as_cell(place, matched)
+        let twice = place as u16 * 2;
+        if matched { twice + 1 } else { twice }
     }
 
     /// Appends a row, and returns its place. None where memory is refused, and where there are too
@@ -108,6 +111,7 @@ impl Rows {
         ensures place { IfSome result (λ place. place ≡ length self.old) }
         ensures inside { IfSome result (λ place. IsPlace self.new place) }
         ensures known { AreRows self.old }
+        ensures kept { AreRows self.new }
     {
         let place = self.cells.len();
         if place > (MOST_ROWS - 1) * COLUMNS {
@@ -120,17 +124,6 @@ impl Rows {
     }
 }
 
-/// A cell of these two.
-#[inline]
-pub(crate) fn as_cell(place: usize, matched: bool) -> u16
-    requires { place < 11000 }
-    ensures place { place_of result ≡ place }
-    ensures ends { ends_here result ≡ matched }
-{
-    let twice = place as u16 * 2;
-    if matched { twice + 1 } else { twice }
-}
-
 /// Two cells of a column, and the one that stands for both.
 #[derive(Clone, Copy)]
 struct Joined {
@@ -141,8 +134,8 @@ struct Joined {
 
 /// The row that finds what the first of two rows finds, or else what the second does. None where
 /// memory is refused, and where there are too many rows, or too many digits to go.
-#[cycle(either)]
-pub(crate) fn either(rows: &mut Rows, a: usize, b: usize, depth: usize) -> Option<usize>
+#[cycle(join)]
+fn either(rows: &mut Rows, a: usize, b: usize, depth: usize) -> Option<usize>
     requires first { IsPlace rows.old a }
     requires second { IsPlace rows.old b }
     ensures grows { IfSome result (λ place. Grows rows.old rows.new) }
@@ -158,22 +151,21 @@ pub(crate) fn either(rows: &mut Rows, a: usize, b: usize, depth: usize) -> Optio
     if depth == 0 {
         return None;
     }
-    let row = either_cells(rows, a, b, depth - 1)?;
+    let of_a = rows.row(a);
+    let of_b = rows.row(b);
+    let row = join(rows, &of_a, &of_b, depth - 1)?;
     rows.push(&row)
 }
 
-/// The cells of such a row. Most digits lead where the digit before does.
-#[cycle(either)]
-fn either_cells(rows: &mut Rows, a: usize, b: usize, depth: usize) -> Option<Row>
-    requires first { IsPlace rows.old a }
-    requires second { IsPlace rows.old b }
+/// The cells of such a row, of the cells of two. Most digits lead where the digit before does.
+#[cycle(join)]
+pub(crate) fn join(rows: &mut Rows, a: &Row, b: &Row, depth: usize) -> Option<Row>
+    requires first { LeadInto rows.old a.now }
+    requires second { LeadInto rows.old b.now }
     ensures grows { IfSome result (λ row. Grows rows.old rows.new) }
-    ensures lead { IfSome result (λ row. LeadInto rows.new row) }
-    ensures either { IfSome result (λ row. (c : ℕ) → c < 11 →
-        IsEitherCell rows.new (slice_index row c) (cell_at rows.new a c) (cell_at rows.new b c)) }
+    ensures lead { IfSome result (LeadInto rows.new) }
+    ensures either { IfSome result (λ row. AreEither rows.new row a.now b.now) }
 {
-    let of_a = rows.row(a);
-    let of_b = rows.row(b);
     let mut row = [0u16; 11];
     let mut last = Joined {
         first: 0,
@@ -181,8 +173,8 @@ fn either_cells(rows: &mut Rows, a: usize, b: usize, depth: usize) -> Option<Row
         cell: 0,
     };
     for column in 0..COLUMNS {
-        let first = of_a[column];
-        let second = of_b[column];
+        let first = a[column];
+        let second = b[column];
         rows.known();
         let cell = either_cell(rows, first, second, last, depth)?;
         row[column] = cell;
@@ -196,7 +188,7 @@ fn either_cells(rows: &mut Rows, a: usize, b: usize, depth: usize) -> Option<Row
 }
 
 /// The cell that stands for two, of which the first is preferred; these were joined already.
-#[cycle(either)]
+#[cycle(join)]
 fn either_cell(rows: &mut Rows, a: u16, b: u16, last: Joined, depth: usize) -> Option<u16>
     requires first { IsPlace rows.old (place_of a) }
     requires second { IsPlace rows.old (place_of b) }

@@ -1,39 +1,44 @@
-use Rattle.std.proofs.Common.{◌≡◌, sym, subst, arith, drop}
-use Rattle.std.proofs.Math.Seq.{drop-length}
+use Rattle.std.proofs.Common.{◌≡◌, ◌<◌, ◌≤◌, ◌+◌, ◌-◌, length, [], subst, sym, arith, rules}
 use Rattle.regex_hir.specs.Re.{literal}
-use Rattle.phone_automaton.specs.Rows.{TellsBefore}
+use Rattle.phone_automaton.specs.Rows.{GivesBefore}
 use Rattle.phone_automaton.proofs.Joining.{Grows-one, Grows-same, Grows-twice, IsPlace-grows}
-use Rattle.phone_automaton.proofs.Reading.{tells_byte, tells_nothing}
+use Rattle.phone_automaton.proofs.Reading.{gives_byte, gives_last_byte, gives_nothing, nothing_left}
 use Rattle.phone_automaton.proofs.tree.row_of_bytes.Goals as goal
 
+pub returns-then-is_empty-clause-gives : goal.returns-then-is_empty-clause-gives
+returns-then-is_empty-clause-gives c =
+    let zero : length c.args.bytes.now ≡ 0 = search rules in
+    let none : c.args.bytes.now ≡ [] = nothing_left c.args.bytes.now 0 (omega (arith, zero)) in
+    let row = c.row.ensures in
+    subst (λ bs. GivesBefore c.args.rows.now c.row.result c.args.next (literal bs)) (sym none)
+    (gives_nothing c.args.rows.now c.row.result c.args.next row.known row.cells row.leads)
+
 pub loop-i-init : goal.loop-i-init
-loop-i-init c = record {
-  grows = Grows-same c.args.rows.now;
-  place = c.requires;
-  next = c.requires;
-  tells = subst (λ bs. TellsBefore c.args.rows.now c.args.next c.args.next (literal bs))
-      (sym (drop-length c.args.bytes.now)) (tells_nothing c.args.rows.now c.args.next);
-}
+loop-i-init c =
+    let to = c.cell_to.ensures in
+    let some : 0 < length c.args.bytes.now = search rules in
+    let last : length c.args.bytes.now - 1 + 1 ≡ length c.args.bytes.now = omega (arith, some) in
+    record {
+      grows = Grows-same c.args.rows.now;
+      next = c.requires;
+      gives = gives_last_byte c.args.rows.now c.digit_cells-row.result c.args.bytes.now c.args.next
+          c.cell_to.result (length c.args.bytes.now - 1)
+          c.requires to.place to.ends last c.digit_cells-row.ensures;
+    }
 
 pub loop-i-preserved : goal.loop-i-preserved
 loop-i-preserved c =
     let i = c.loop-i.invariant in
     let old = c.loop-i.rows in
     let new = c.push.new.self in
-    let row = c.digit_cells-row.result in
     let push = c.in_ok-place.ensures in
-    let further = Grows-one old new row push.grows in record {
+    let to = c.cell_to-in-loop-i.ensures in
+    let inside : c.loop-i.i ≤ length c.args.bytes.now = omega (arith, c.loop-i.auto.i) in
+    let further = Grows-one old new c.loop-i.row push.grows in record {
       grows = Grows-twice c.args.rows.now old new i.grows further;
-      place = push.inside;
       next = IsPlace-grows old new c.args.next further i.next;
-      tells = tells_byte old row new c.args.bytes.now c.in_ok-place.place c.loop-i.place c.args.next
-          c.cell_to.result c.loop-i.i push.grows push.place push.known
-          i.place i.next c.cell_to.ensures.place c.cell_to.ensures.ends c.loop-i-test.true
-          c.loop-i.auto.i c.digit_cells-row.ensures i.tells;
+      gives = gives_byte old c.loop-i.row new c.digit_cells-row-in-loop-i.result c.args.bytes.now
+          c.in_ok-place.place c.args.next c.cell_to-in-loop-i.result c.loop-i.i
+          push.grows push.place push.known i.next push.inside to.place to.ends c.loop-i-test.true
+          inside c.digit_cells-row-in-loop-i.ensures i.gives;
     }
-
-pub returns-clause-tells : goal.returns-clause-tells
-returns-clause-tells c =
-    let done : c.loop-i.i ≡ 0 = omega (arith, c.loop-i-test.false) in
-    subst (λ n. TellsBefore c.loop-i.rows c.loop-i.place c.args.next
-    (literal (drop n c.args.bytes.now))) done c.loop-i.invariant.tells
