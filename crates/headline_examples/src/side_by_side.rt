@@ -1,7 +1,7 @@
 //! Why a text may be cut, and its parts be read side by side. These functions do nothing; their
 //! contracts are the statements.
 ghost use Rattle.std.specs.Prelude.{◌++◌, ℕ, List, Option};
-ghost use Rattle.phone_choice.specs.declared.rules.Rules.{Rules};
+ghost use Rattle.phone_values.specs.declared.rules.Rules.{Rules};
 ghost use Rattle.phone_records.specs.declared.loader.Metadata as loader;
 ghost use Rattle.phone_report.specs.Reports.{IsReportBy};
 ghost use Rattle.phone_values.specs.declared.country.Id.{Id};

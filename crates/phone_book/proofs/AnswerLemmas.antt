@@ -3,7 +3,7 @@ use Rattle.std.proofs.Common.{◌≡◌, true, false, List, [], ◌∷◌, ◌++
 use Rattle.std.proofs.lemmas.List.{append_assoc, append-nil}
 use Rattle.phone_records.specs.declared.loader.Metadata.{Metadata}
 use Rattle.phone_values.specs.declared.reading.Reading.{Reading}
-use Rattle.phone_choice.specs.declared.rules.Rules.{Rules}
+use Rattle.phone_values.specs.declared.rules.Rules.{Rules}
 use Rattle.phone_book.specs.Answers.{Answer, AreAnsweredBy, HasNumbersBy, HaveNumbersBy, IsAnsweredBy, Line}
 use Rattle.phone_book.specs.Firsts.{firsts, is_among}
 use Rattle.phone_book.specs.declared.answers.BookError.TheVariants.{Refused, Memory}

@@ -7,8 +7,8 @@ use Rattle.phone_values.specs.declared.error.ParseError.{ParseError}
 use Rattle.phone_values.specs.declared.error.ParseError.TheVariants as error
 use Rattle.phone_records.specs.declared.loader.Metadata.{Metadata}
 use Rattle.phone_choice.specs.Readings.{ReadsBy}
-use Rattle.phone_choice.specs.declared.rules.Rules.{Rules}
-use Rattle.phone_choice.specs.declared.rules.Rules.TheVariants.{Crate}
+use Rattle.phone_values.specs.declared.rules.Rules.{Rules}
+use Rattle.phone_values.specs.declared.rules.Rules.TheVariants.{Crate}
 use Rattle.phone_values.specs.declared.reading.Reading.{Reading}
 use Rattle.phone_book.specs.Firsts.{is_among, is_same_number}
 use Rattle.phone_book.specs.declared.answers.BookError.{BookError}

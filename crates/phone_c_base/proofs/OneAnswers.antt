@@ -15,8 +15,8 @@ use Rattle.phone_print.specs.Texts.{e164_text}
 use Rattle.phone_choice.proofs.OneReading.{reading_same}
 use Rattle.phone_choice.specs.Facts.{is_valid_by, kind_by, printed_as, region_by}
 use Rattle.phone_choice.specs.Readings.{ReadsBy}
-use Rattle.phone_choice.specs.declared.rules.Rules.{Rules}
-use Rattle.phone_choice.specs.declared.rules.Rules.TheVariants.{Library, Crate}
+use Rattle.phone_values.specs.declared.rules.Rules.{Rules}
+use Rattle.phone_values.specs.declared.rules.Rules.TheVariants.{Library, Crate}
 use Rattle.phone_records.specs.declared.loader.Metadata.{Metadata}
 use Rattle.phone_util.specs.Possibilities.{possibility_of}
 use Rattle.phone_report.proofs.OneLine as by_rules

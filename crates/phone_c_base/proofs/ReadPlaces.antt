@@ -6,7 +6,7 @@ use Rattle.phone_values.specs.declared.country.Id.{Id}
 use Rattle.phone_values.specs.declared.reading.Reading.{Reading}
 use Rattle.phone_records.specs.declared.loader.Metadata.{Metadata}
 use Rattle.phone_choice.specs.Readings.{ReadsBy}
-use Rattle.phone_choice.specs.declared.rules.Rules.{Rules}
+use Rattle.phone_values.specs.declared.rules.Rules.{Rules}
 use Rattle.phone_find.specs.Founds
 use Rattle.phone_find.specs.Founds.{AreFound}
 use Rattle.phone_find.specs.Numbers.{AreNumbers, IsNumberAt}

@@ -3,7 +3,7 @@ use Rattle.std.specs.Prelude.{◌≡◌, ℕ, List, Ok, Err, chars}
 use Rattle.phone_values.specs.Refusals.{refusal_number}
 use Rattle.phone_values.specs.declared.error.ParseError.{ParseError}
 use Rattle.phone_records.specs.declared.loader.Metadata.{Metadata}
-use Rattle.phone_choice.specs.declared.rules.Rules.{Rules}
+use Rattle.phone_values.specs.declared.rules.Rules.{Rules}
 use Rattle.phone_util.specs.Sameness.{IsAnswer}
 use Rattle.phone_util.specs.declared.sameness.Sameness.{Sameness}
 use Rattle.phone_util.specs.declared.sameness.Sameness.TheVariants.{Exact, Number, National, End}

@@ -4,8 +4,8 @@ use Rattle.phone_values.specs.Refusals.{refusal_number, refusal_words}
 use Rattle.phone_values.specs.declared.error.ParseError.{ParseError}
 use Rattle.phone_records.specs.declared.loader.Metadata.{Metadata}
 use Rattle.phone_choice.specs.Readings.{ReadsBy}
-use Rattle.phone_choice.specs.declared.rules.Rules.{Rules}
-use Rattle.phone_choice.specs.declared.rules.Rules.TheVariants.{Crate}
+use Rattle.phone_values.specs.declared.rules.Rules.{Rules}
+use Rattle.phone_values.specs.declared.rules.Rules.TheVariants.{Crate}
 use Rattle.phone_values.specs.declared.reading.Reading.{Reading}
 use Rattle.phone_c_base.specs.Buffers.{IsTooLong, IsWritten}
 use Rattle.phone_c_base.specs.Hints.{hint_of}

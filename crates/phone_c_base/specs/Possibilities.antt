@@ -4,7 +4,7 @@ use Rattle.phone_values.specs.Refusals.{refusal_number}
 use Rattle.phone_values.specs.declared.error.ParseError.{ParseError}
 use Rattle.phone_values.specs.declared.reading.Reading.{Reading}
 use Rattle.phone_records.specs.declared.loader.Metadata.{Metadata}
-use Rattle.phone_choice.specs.declared.rules.Rules.{Rules}
+use Rattle.phone_values.specs.declared.rules.Rules.{Rules}
 use Rattle.phone_util.specs.Possibilities.{possibility_of, possibility_read}
 use Rattle.phone_util.specs.declared.possibilities.Possibility.{Possibility}
 use Rattle.phone_util.specs.declared.possibilities.Possibility.TheVariants.{Possible}

@@ -1,7 +1,7 @@
 -- By whose rules an answer is, told by the number of the rules.
 use Rattle.std.specs.Prelude.{◌≡◌, ℕ}
-use Rattle.phone_choice.specs.declared.rules.Rules.{Rules}
-use Rattle.phone_choice.specs.declared.rules.Rules.TheVariants.{Library, Crate}
+use Rattle.phone_values.specs.declared.rules.Rules.{Rules}
+use Rattle.phone_values.specs.declared.rules.Rules.TheVariants.{Library, Crate}
 
 -- rules by their number
 abbrev pub rules_number : Rules → ℕ

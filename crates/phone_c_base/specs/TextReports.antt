@@ -1,6 +1,6 @@
 -- What the report says of a line, under a hint that is given by its bytes.
 use Rattle.std.specs.Prelude.{ℕ, List, IsSomeAnd}
-use Rattle.phone_choice.specs.declared.rules.Rules.{Rules}
+use Rattle.phone_values.specs.declared.rules.Rules.{Rules}
 use Rattle.phone_records.specs.declared.loader.Metadata.{Metadata}
 use Rattle.phone_report.specs.ReportLines.{IsReportLineBy}
 use Rattle.phonenumber.specs.Reports.{IsReportLine}

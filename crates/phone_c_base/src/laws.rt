@@ -11,7 +11,7 @@ ghost use Rattle.phone_values.specs.declared.kind.«Type».{«Type»};
 ghost use Rattle.phone_values.specs.declared.error.ParseError.{ParseError};
 ghost use Rattle.phone_values.specs.declared.reading.Reading.{Reading};
 ghost use Rattle.phone_records.specs.declared.loader.Metadata as loader;
-ghost use Rattle.phone_choice.specs.declared.rules.Rules.{Rules};
+ghost use Rattle.phone_values.specs.declared.rules.Rules.{Rules};
 ghost use Rattle.phone_c_base.specs.Answers.{IsKey, IsKind, IsPrinted, IsRegion, IsValidity};
 ghost use Rattle.phone_c_base.specs.Answers.{IsKindBy, IsPrintedBy, IsRegionBy, IsUnprinted};
 ghost use Rattle.phone_c_base.specs.Answers.{IsUnprintedBy, IsValidityBy, kind_number};

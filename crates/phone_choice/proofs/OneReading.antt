@@ -12,8 +12,8 @@ use Rattle.phone_read.proofs.ReadingOnes as first
 use Rattle.phone_records.specs.declared.loader.Metadata.{Metadata}
 use Rattle.phone_choice.proofs.ListedCodes.{library-listed}
 use Rattle.phone_choice.specs.Readings.{ReadsBy}
-use Rattle.phone_choice.specs.declared.rules.Rules.{Rules}
-use Rattle.phone_choice.specs.declared.rules.Rules.TheVariants.{Library, Crate}
+use Rattle.phone_values.specs.declared.rules.Rules.{Rules}
+use Rattle.phone_values.specs.declared.rules.Rules.TheVariants.{Library, Crate}
 
 pub reading_same : (rules : Rules) (db : List Metadata) (hint : Option Id) (t : List ℕ) (a b : Result Reading ParseError) → ReadsBy rules db hint t a →
     ReadsBy rules db hint t b → a ≡ b

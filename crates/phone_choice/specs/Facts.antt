@@ -5,8 +5,8 @@ use Rattle.phone_values.specs.declared.kind.«Type».{«Type»}
 use Rattle.phone_values.specs.declared.reading.Reading.{Reading}
 use Rattle.phone_library.specs.Facts as library
 use Rattle.phone_records.specs.declared.loader.Metadata.{Metadata}
-use Rattle.phone_choice.specs.declared.rules.Rules.{Rules}
-use Rattle.phone_choice.specs.declared.rules.Rules.TheVariants.{Library, Crate}
+use Rattle.phone_values.specs.declared.rules.Rules.{Rules}
+use Rattle.phone_values.specs.declared.rules.Rules.TheVariants.{Library, Crate}
 use Rattle.phonenumber.specs.Queries as original
 
 -- its region

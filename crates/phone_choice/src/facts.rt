@@ -2,9 +2,9 @@
 ghost use Rattle.std.specs.Prelude.{◌≡◌, IfOk};
 ghost use Rattle.phone_choice.specs.Facts.{is_valid_by, kind_by, region_by};
 
-use crate::rules::Rules;
 use phone_library::{NumberFacts, facts};
 use phone_plans::Plans;
+use phone_values::Rules;
 use phonenumber::{Facts, PhoneNumber};
 use std::alloc::AllocError;
 

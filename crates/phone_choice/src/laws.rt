@@ -7,7 +7,7 @@ ghost use Rattle.phone_values.specs.declared.reading.Reading.{Reading};
 ghost use Rattle.phone_plans.specs.CodeLookUps.{is_listed};
 ghost use Rattle.phone_records.specs.declared.loader.Metadata as loader;
 ghost use Rattle.phone_choice.specs.Readings.{ReadsBy};
-ghost use Rattle.phone_choice.specs.declared.rules.Rules.{Rules};
+ghost use Rattle.phone_values.specs.declared.rules.Rules.{Rules};
 
 use phone_library_laws::readings;
 use phone_read::laws;

@@ -6,9 +6,8 @@ mod facts;
 pub mod laws;
 mod printing;
 mod reading;
-mod rules;
 
 pub use facts::{facts_by, is_valid_by};
+pub use phone_values::Rules;
 pub use printing::texts_by;
 pub use reading::parse_by;
-pub use rules::Rules;

@@ -5,9 +5,9 @@ ghost use Rattle.phone_plans.specs.CodeLookUps.{first_of, territories};
 ghost use Rattle.phone_choice.specs.Facts.{printed_as};
 ghost use Rattle.phonenumber.specs.Printed.{printed};
 
-use crate::rules::Rules;
 use phone_library::without_carrier;
 use phone_plans::Plans;
+use phone_values::Rules;
 use phonenumber::{FormatError, PhoneNumber, Texts, format_with};
 use std::alloc::Global;
 

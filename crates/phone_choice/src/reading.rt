@@ -2,10 +2,9 @@
 ghost use Rattle.std.specs.Prelude.{◌≡◌, ◌⊎◌, Err, chars};
 ghost use Rattle.phone_choice.specs.Readings.{ReadsBy};
 
-use crate::rules::Rules;
 use phone_plans::Plans;
-use phone_values::ParseError;
 use phone_values::country::Id;
+use phone_values::{ParseError, Rules};
 use phonenumber::{PhoneNumber, parse_with};
 
 /// Reads a text as a phone number under a database and a hint: by the rules of libphonenumber as

@@ -18,10 +18,12 @@ word = option text
 abbrev pub DescriptorFields : Type 0
 DescriptorFields = Word × (List ℕ × (List ℕ × Word))
 
+-- they are its pattern, its two lists of lengths and its example
 abbrev pub descriptor_fields : Descriptor → DescriptorFields
 descriptor_fields d =
     (d.national_number, (d.possible_length, (d.possible_local_length, d.example)))
 
+-- a descriptor is written as its fields, in this order
 abbrev pub descriptor : Form Descriptor
 descriptor = seen_as descriptor_fields (word then items number then items number then word)
 
@@ -29,6 +31,7 @@ descriptor = seen_as descriptor_fields (word then items number then items number
 abbrev pub FormatFields : Type 0
 FormatFields = Word × (Word × (List (List ℕ) × (Word × (Bool × Word))))
 
+-- they are its pattern, its template, its leading digits and its three rules
 abbrev pub format_fields : Format → FormatFields
 format_fields f = (
   f.pattern,
@@ -44,6 +47,7 @@ format_fields f = (
   ),
 )
 
+-- a layout is written as its fields, in this order
 abbrev pub format : Form Format
 format = seen_as format_fields
     (word then word then items text then word then truth then word)
@@ -52,16 +56,19 @@ format = seen_as format_fields
 abbrev pub defaults : Form Defaults
 defaults = seen_as (λ d. (d.format, d.descriptor)) (format then descriptor)
 
--- four descriptors, of which each may be absent
+-- the descriptor of one kind of number, which may be absent
 abbrev pub Kind : Type 0
 Kind = Option Descriptor
 
+-- those of four kinds
 abbrev pub FourKinds : Type 0
 FourKinds = Kind × (Kind × (Kind × Kind))
 
+-- as it is written
 abbrev pub kind : Form Kind
 kind = option descriptor
 
+-- as they are written, one after the other
 abbrev pub four_kinds : Form FourKinds
 four_kinds = kind then kind then kind then kind
 
@@ -69,6 +76,7 @@ four_kinds = kind then kind then kind then kind
 abbrev pub Kinds : Type 0
 Kinds = FourKinds × (FourKinds × (FourKinds × FourKinds))
 
+-- they are the sixteen that a record has, in the order of their declaration
 abbrev pub kinds_of : Metadata → Kinds
 kinds_of m = (
   (m.general, (m.fixed_line, (m.mobile, m.toll_free))),
@@ -81,6 +89,7 @@ kinds_of m = (
   ),
 )
 
+-- as they are written
 abbrev pub kinds : Form Kinds
 kinds = four_kinds then four_kinds then four_kinds then four_kinds
 
@@ -88,6 +97,7 @@ kinds = four_kinds then four_kinds then four_kinds then four_kinds
 abbrev pub Prefixes : Type 0
 Prefixes = Word × (Option ℕ × (Word × (Word × (Word × (Word × (Word × Word))))))
 
+-- they are these fields of a record
 abbrev pub prefixes_of : Metadata → Prefixes
 prefixes_of m = (
   m.id,
@@ -109,6 +119,7 @@ prefixes_of m = (
   ),
 )
 
+-- as they are written
 abbrev pub prefixes : Form Prefixes
 prefixes = word then option number then word then word then word then word then word then word
 
@@ -116,6 +127,7 @@ prefixes = word then option number then word then word then word then word then 
 abbrev pub Layouts : Type 0
 Layouts = List Format × (List Format × (Bool × (Word × (Bool × Defaults))))
 
+-- they are these fields of a record
 abbrev pub layouts_of : Metadata → Layouts
 layouts_of m = (
   m.formats,
@@ -128,6 +140,7 @@ layouts_of m = (
   ),
 )
 
+-- as they are written
 abbrev pub layouts : Form Layouts
 layouts = items format then items format then truth then word then truth then defaults
 

@@ -110,12 +110,15 @@ pub record UniqueForm (A : Type 0) : Type 1 where
   pub form : Form A
   pub unique : IsUnique form
 
+-- a value that may be absent, in one way
 abbrev pub option_of : {A : Type 0} → UniqueForm A → UniqueForm (Option A)
 option_of f = record { form = option f.form; unique = option_unique f.form f.unique }
 
+-- a list, in one way
 abbrev pub items_of : {A : Type 0} → UniqueForm A → UniqueForm (List A)
 items_of f = record { form = items f.form; unique = items_unique f.form f.unique }
 
+-- two things, one before the other, in one way
 infixr 20 ◌before◌
 abbrev pub ◌before◌ : {A B : Type 0} → UniqueForm A → UniqueForm B → UniqueForm (A × B)
 f before g = record {
@@ -123,6 +126,7 @@ f before g = record {
   unique = then_unique f.form g.form f.unique g.unique;
 }
 
+-- a record as its fields, of which it can be made again, in one way
 abbrev pub fields_of : {A B : Type 0} (fields : A → B) → UniqueForm B → (made : B → A) →
     ((x : A) → made (fields x) ≡ x) → UniqueForm A
 fields_of fields f made same = record {

@@ -13,7 +13,7 @@ use Rattle.phone_parts.specs.Texts.{begins}
 use Rattle.phone_records.specs.declared.loader.Metadata.{Metadata}
 use Rattle.phone_choice.proofs.OneReading.{reading_same}
 use Rattle.phone_choice.specs.Readings.{ReadsBy}
-use Rattle.phone_choice.specs.declared.rules.Rules.{Rules}
+use Rattle.phone_values.specs.declared.rules.Rules.{Rules}
 use Rattle.phone_values.specs.declared.reading.Reading.{Reading}
 use Rattle.phone_find.proofs.Alone.{alone}
 use Rattle.phone_find.proofs.Begins.{candidate_begins, candidate_digit, candidate_opening}

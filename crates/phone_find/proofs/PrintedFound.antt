@@ -36,7 +36,7 @@ use Rattle.phonenumber.proofs.BackTexts.{low_digits}
 use Rattle.phonenumber.proofs.BackViable.{all_from_left}
 use Rattle.phonenumber.specs.RoundTrips.{IsReadAs, IsSame}
 use Rattle.phonenumber.specs.Plain.{IsPlainInternational, has_digits}
-use Rattle.phone_choice.specs.declared.rules.Rules.TheVariants.{Crate}
+use Rattle.phone_values.specs.declared.rules.Rules.TheVariants.{Crate}
 use Rattle.phone_find.proofs.FoundAlone.{found_alone}
 use Rattle.phone_find.proofs.Shapes.{ends_extended, ends_number, shaped_extended, shaped_number}
 use Rattle.phone_find.specs.Alone.{EndsInDigits, IsAmong, IsPlainEnough, IsShaped, placed}

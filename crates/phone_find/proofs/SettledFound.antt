@@ -4,7 +4,7 @@ use Rattle.std.specs.Fmt.{decimal}
 use Rattle.std.specs.Str.{chars}
 use Rattle.phone_chars.specs.Characters.{is_digit}
 use Rattle.phone_choice.specs.Readings.{ReadsBy}
-use Rattle.phone_choice.specs.declared.rules.Rules.TheVariants.{Library}
+use Rattle.phone_values.specs.declared.rules.Rules.TheVariants.{Library}
 use Rattle.phone_values.specs.Numbers.{text_of}
 use Rattle.phone_values.specs.declared.country.Id.{Id}
 use Rattle.phone_values.specs.declared.reading.Reading.{Reading}

@@ -14,7 +14,7 @@ use Rattle.phonenumber.specs.Plain.{IsBenign, IsIdle, IsPlainInternational}
 use Rattle.phone_find.specs.Candidates.{is_number_shaped, is_opening}
 use Rattle.phone_find.specs.Founds.{most_bytes}
 use Rattle.phone_find.specs.Leniencies.{suffices}
-use Rattle.phone_choice.specs.declared.rules.Rules.TheVariants.{Crate}
+use Rattle.phone_values.specs.declared.rules.Rules.TheVariants.{Crate}
 use Rattle.phone_find.specs.declared.leniency.Leniency.{Leniency}
 use Rattle.phone_find.specs.declared.search.Found.{Found}
 

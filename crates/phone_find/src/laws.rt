@@ -18,8 +18,8 @@ ghost use Rattle.phone_find.specs.Leniencies.{suffices};
 ghost use Rattle.phone_find.specs.Numbers.{AreNumbers, IsNumberAt, IsNumberBetween};
 ghost use Rattle.phone_find.specs.declared.leniency.Leniency.{Leniency};
 ghost use Rattle.phone_find.specs.declared.search.Found.{Found};
-ghost use Rattle.phone_choice.specs.declared.rules.Rules.{Rules};
-ghost use Rattle.phone_choice.specs.declared.rules.Rules.TheVariants as rules;
+ghost use Rattle.phone_values.specs.declared.rules.Rules.{Rules};
+ghost use Rattle.phone_values.specs.declared.rules.Rules.TheVariants as rules;
 
 use phone_choice::laws::some_reading;
 use phone_library_laws::again::e164_again;

@@ -1,6 +1,6 @@
 -- By the rules of the crate the report is that of the port.
 use Rattle.std.proofs.Common.{ℕ, List, Option}
-use Rattle.phone_choice.specs.declared.rules.Rules.TheVariants.{Crate}
+use Rattle.phone_values.specs.declared.rules.Rules.TheVariants.{Crate}
 use Rattle.phone_lines.specs.LineReports.{AreAnswers, Gives}
 use Rattle.phone_lines.specs.LineReports.AreAnswers.{none, next}
 use Rattle.phone_records.specs.declared.loader.Metadata.{Metadata}

@@ -3,7 +3,7 @@ use Rattle.std.proofs.Common.{◌≡◌, ℕ, List, ◌∷◌, ◌++◌, Option,
 use Rattle.std.proofs.Common.{option_map, refl, sym, ap, ◌∙◌}
 use Rattle.std.proofs.lemmas.Option.{none-some, same_Some}
 use Rattle.phone_choice.specs.Facts.{printed_as}
-use Rattle.phone_choice.specs.declared.rules.Rules.{Rules}
+use Rattle.phone_values.specs.declared.rules.Rules.{Rules}
 use Rattle.phone_print.specs.Tabbed.{texts_by}
 use Rattle.phone_print.specs.Texts.{text_by}
 use Rattle.phone_records.specs.declared.loader.Metadata.{Metadata}

@@ -1,7 +1,7 @@
 -- The end of a number's report line, by whose rules.
 use Rattle.std.specs.Prelude.{ℕ, List, [], ◌∷◌}
 use Rattle.phone_choice.specs.Facts.{is_valid_by, kind_by, region_by}
-use Rattle.phone_choice.specs.declared.rules.Rules.{Rules}
+use Rattle.phone_values.specs.declared.rules.Rules.{Rules}
 use Rattle.phone_print.specs.Tabbed.{tabbed}
 use Rattle.phone_records.specs.declared.loader.Metadata.{Metadata}
 use Rattle.phone_values.specs.declared.reading.Reading.{Reading}

@@ -1,6 +1,6 @@
 -- The report on bytes that are lines of phone numbers, by whose rules.
 use Rattle.std.specs.Prelude.{ℕ, List, Option}
-use Rattle.phone_choice.specs.declared.rules.Rules.{Rules}
+use Rattle.phone_values.specs.declared.rules.Rules.{Rules}
 use Rattle.phone_lines.specs.LineReports as on_lines
 use Rattle.phone_records.specs.declared.loader.Metadata.{Metadata}
 use Rattle.phone_values.specs.declared.country.Id.{Id}

@@ -1,8 +1,8 @@
 //! What holds of the report by either rules. These functions do nothing, but for two that read the
 //! lines to show that each has a report line; their contracts are the statements.
 ghost use Rattle.std.specs.Prelude.{◌≡◌, ◌↔◌, ℕ, List, Option};
-ghost use Rattle.phone_choice.specs.declared.rules.Rules.{Rules};
-ghost use Rattle.phone_choice.specs.declared.rules.Rules.TheVariants.{Crate};
+ghost use Rattle.phone_values.specs.declared.rules.Rules.{Rules};
+ghost use Rattle.phone_values.specs.declared.rules.Rules.TheVariants.{Crate};
 ghost use Rattle.phone_lines.specs.LineReports.{TakesA};
 ghost use Rattle.phone_records.specs.declared.loader.Metadata as loader;
 ghost use Rattle.phone_values.specs.declared.country.Id.{Id};

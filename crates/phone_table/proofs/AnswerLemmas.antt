@@ -7,8 +7,8 @@ use Rattle.phone_records.specs.declared.loader.Metadata.{Metadata}
 use Rattle.phone_print.specs.Texts.{e164_text, text_by}
 use Rattle.phone_maps.specs.Maps.{digits_of}
 use Rattle.phone_choice.specs.Facts.{printed_as}
-use Rattle.phone_choice.specs.declared.rules.Rules.{Rules}
-use Rattle.phone_choice.specs.declared.rules.Rules.TheVariants.{Library, Crate}
+use Rattle.phone_values.specs.declared.rules.Rules.{Rules}
+use Rattle.phone_values.specs.declared.rules.Rules.TheVariants.{Library, Crate}
 use Rattle.phone_table.specs.Answers.{is_valid_number}
 use Rattle.phone_table.specs.Spelled.{IsKnownIn, is_valid_in, number_in}
 use Rattle.phone_table.specs.declared.answer.Answer.{Answer}

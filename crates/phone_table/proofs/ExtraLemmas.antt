@@ -3,7 +3,7 @@ use Rattle.std.proofs.Common.{◌≡◌, ℕ, List, [], ◌∷◌, ◌++◌, Opt
 use Rattle.phone_values.specs.declared.reading.Reading.{Reading}
 use Rattle.phone_csv.specs.Formats.{Record}
 use Rattle.phone_records.specs.declared.loader.Metadata.{Metadata}
-use Rattle.phone_choice.specs.declared.rules.Rules.{Rules}
+use Rattle.phone_values.specs.declared.rules.Rules.{Rules}
 use Rattle.phone_table.specs.Extras.{AreTold, IsTold}
 use Rattle.phone_table.specs.Extras.AreTold.{next}
 use Rattle.phone_table.specs.declared.extra.Extra.{Extra}

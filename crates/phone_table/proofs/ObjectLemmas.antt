@@ -5,7 +5,7 @@ use Rattle.serde_json.specs.Read.{max_depth}
 use Rattle.serde_json.specs.Written.{has_float}
 use Rattle.phone_values.specs.declared.country.Id.{Id}
 use Rattle.phone_records.specs.declared.loader.Metadata.{Metadata}
-use Rattle.phone_choice.specs.declared.rules.Rules.{Rules}
+use Rattle.phone_values.specs.declared.rules.Rules.{Rules}
 use Rattle.phone_table.specs.Objects.{IsObject}
 use Rattle.phone_table.specs.Objects.IsObject.{no_text, of_text}
 

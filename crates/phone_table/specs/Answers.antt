@@ -16,7 +16,7 @@ use Rattle.phonenumber.specs.Reports.{kind_word, region_word, validity_word}
 use Rattle.phone_print.specs.Texts.{text_by}
 use Rattle.phone_choice.specs.Facts.{is_valid_by, kind_by, printed_as, region_by}
 use Rattle.phone_choice.specs.Readings.{ReadsBy}
-use Rattle.phone_choice.specs.declared.rules.Rules.{Rules}
+use Rattle.phone_values.specs.declared.rules.Rules.{Rules}
 use Rattle.phone_table.specs.Extras.{AreTold}
 use Rattle.phone_table.specs.Regions.{RecordNames, field_in, hint_under}
 use Rattle.phone_table.specs.Shorts.{short_answer, short_in}

@@ -13,7 +13,7 @@ use Rattle.phone_values.specs.declared.country.Id.{Id}
 use Rattle.phone_values.specs.declared.reading.Reading.{Reading}
 use Rattle.phone_csv.specs.Formats.{Record}
 use Rattle.phone_records.specs.declared.loader.Metadata.{Metadata}
-use Rattle.phone_choice.specs.declared.rules.Rules.{Rules}
+use Rattle.phone_values.specs.declared.rules.Rules.{Rules}
 use Rattle.phone_table.specs.Answers.{IsFieldAnswer}
 use Rattle.phone_table.specs.declared.objects.Fields.{Fields}
 

@@ -6,7 +6,7 @@ use Rattle.phone_csv.specs.Formats.{Record}
 use Rattle.phone_records.specs.declared.loader.Metadata.{Metadata}
 use Rattle.phone_maps.specs.Maps.{digits_of}
 use Rattle.phone_choice.specs.Facts.{is_valid_by, kind_by, region_by}
-use Rattle.phone_choice.specs.declared.rules.Rules.{Rules}
+use Rattle.phone_values.specs.declared.rules.Rules.{Rules}
 use Rattle.phonenumber.specs.Reports.{kind_word, region_word, validity_word}
 use Rattle.phone_table.specs.Answers.{refused_answer}
 use Rattle.phone_table.specs.Shorts.{short_answer}

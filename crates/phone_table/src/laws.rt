@@ -4,7 +4,7 @@ ghost use Rattle.std.specs.Str.{IsUtf8};
 ghost use Rattle.phone_values.specs.declared.country.Id.{Id};
 ghost use Rattle.phone_values.specs.declared.reading.Reading.{Reading};
 ghost use Rattle.phone_csv.specs.Formats.{Record};
-ghost use Rattle.phone_choice.specs.declared.rules.Rules.{Rules};
+ghost use Rattle.phone_values.specs.declared.rules.Rules.{Rules};
 ghost use Rattle.phone_records.specs.declared.loader.Metadata as loader;
 ghost use Rattle.phone_short.specs.Regions.{short_kind};
 ghost use Rattle.phone_short.specs.declared.kind.ShortKind.TheVariants as kind;

@@ -4,7 +4,7 @@ use Rattle.phone_records.specs.declared.loader.Metadata.{Metadata}
 use Rattle.phone_values.specs.declared.reading.Reading.{Reading}
 use Rattle.phonenumber.specs.RoundTrips.{IsReadAs}
 use Rattle.phonenumber.specs.Plain.{IsPlainE164, IsPlainInternational, IsPlainRfc3966}
-use Rattle.phone_choice.specs.declared.rules.Rules.TheVariants.{Crate}
+use Rattle.phone_values.specs.declared.rules.Rules.TheVariants.{Crate}
 use Rattle.phone_util.proofs.Taken.{read_alike}
 use Rattle.phone_util.specs.Sameness.{IsAnswer, is_one_extension}
 use Rattle.phone_util.specs.declared.sameness.Sameness.TheVariants.{Exact, Number}

@@ -8,8 +8,8 @@ use Rattle.phone_parts.proofs.OneParts.{parts_same}
 use Rattle.phone_library_text.proofs.WrittenOnes.{written_same}
 use Rattle.phone_choice.proofs.OneReading.{reading_same}
 use Rattle.phone_choice.specs.Readings.{ReadsBy}
-use Rattle.phone_choice.specs.declared.rules.Rules.{Rules}
-use Rattle.phone_choice.specs.declared.rules.Rules.TheVariants.{Library, Crate}
+use Rattle.phone_values.specs.declared.rules.Rules.{Rules}
+use Rattle.phone_values.specs.declared.rules.Rules.TheVariants.{Library, Crate}
 use Rattle.phone_values.specs.declared.reading.Reading.{Reading}
 use Rattle.phone_records.specs.declared.loader.Metadata.{Metadata}
 use Rattle.phone_util.proofs.Swaps.{sameness_of-one, sameness_of-swap}

@@ -17,8 +17,8 @@ use Rattle.phone_records.specs.declared.loader.Metadata.{Metadata}
 use Rattle.phone_read.specs.Regions.{home}
 use Rattle.phone_rules.specs.Kinds.{tried_kinds, type_of}
 use Rattle.phone_values.specs.declared.reading.Reading.{Reading}
-use Rattle.phone_choice.specs.declared.rules.Rules.{Rules}
-use Rattle.phone_choice.specs.declared.rules.Rules.TheVariants.{Library, Crate}
+use Rattle.phone_values.specs.declared.rules.Rules.{Rules}
+use Rattle.phone_values.specs.declared.rules.Rules.TheVariants.{Library, Crate}
 use Rattle.phone_util.specs.declared.possibilities.Possibility.{Possibility}
 use Rattle.phone_util.specs.declared.possibilities.Possibility.TheVariants.{Possible}
 use Rattle.phone_util.specs.declared.possibilities.Possibility.TheVariants.{PossibleLocally}

@@ -7,7 +7,7 @@ use Rattle.std.specs.List.{ends_with}
 use Rattle.std.specs.Str.{bytes_eq}
 use Rattle.phone_values.specs.declared.error.ParseError.{ParseError}
 use Rattle.phone_records.specs.declared.loader.Metadata.{Metadata}
-use Rattle.phone_choice.specs.declared.rules.Rules.{Rules}
+use Rattle.phone_values.specs.declared.rules.Rules.{Rules}
 use Rattle.phone_util.specs.Sides.{IsTaken}
 use Rattle.phone_util.specs.declared.sides.Side.{Side}
 use Rattle.phone_util.specs.declared.sameness.Sameness.{Sameness}

@@ -1,6 +1,6 @@
 //! The values that all other crates speak of: national numbers, calling codes with their source,
-//! region ids, extensions and carriers, kinds, verdicts, errors, and the constants of reading and
-//! printing.
+//! region ids, extensions and carriers, kinds, verdicts, errors, by whose rules a number is read, and
+//! the constants of reading and printing.
 #![tactic(auto)]
 
 mod carrier;
@@ -15,6 +15,7 @@ mod mode;
 mod named;
 mod national_number;
 mod reading;
+mod rules;
 pub mod validator;
 
 pub use carrier::Carrier;
@@ -25,4 +26,5 @@ pub use mode::Mode;
 pub use named::KINDS;
 pub use national_number::NationalNumber;
 pub use reading::Reading;
+pub use rules::Rules;
 pub use validator::Validation;

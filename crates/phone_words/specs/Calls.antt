@@ -2,7 +2,7 @@
 use Rattle.std.specs.Prelude.{◌≡◌, ℕ, ◌++◌, List, Option, Some, None, true}
 use Rattle.std.specs.Borrow.{Bor}
 use Rattle.std.specs.Str.Parse.{IsNumeral, digits_value, without_leading_plus}
-use Rattle.phone_choice.specs.declared.rules.Rules.TheVariants.{Crate}
+use Rattle.phone_values.specs.declared.rules.Rules.TheVariants.{Crate}
 use Rattle.phone_words.specs.Commands.{IsAsked, IsCommand, IsNoCommand, is_alone}
 use Rattle.phone_words.specs.Meant.{meant}
 use Rattle.phone_words.specs.Options.{Given, operands_in, options_in, text_in}

@@ -12,7 +12,7 @@ use crate::meant::meant;
 use crate::options::{Options, operands_of, options_of};
 use crate::parts::{Mode, Part, WordError, parts_of};
 use crate::rules::rules_named;
-use phone_choice::Rules;
+use phone_values::Rules;
 use std::alloc::Global;
 
 /// A call of the program.

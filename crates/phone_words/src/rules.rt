@@ -2,7 +2,7 @@
 ghost use Rattle.std.specs.Prelude.{◌≡◌};
 ghost use Rattle.phone_words.specs.RuleNames.{rules_named};
 
-use phone_choice::Rules;
+use phone_values::Rules;
 
 /// The rules of this name: `library` those of libphonenumber, `crate` those of the crate
 /// `phonenumber` of Rust.

@@ -1,4 +1,4 @@
-use Rattle.phone_choice.specs.declared.rules.Rules.TheVariants.{Crate}
+use Rattle.phone_values.specs.declared.rules.Rules.TheVariants.{Crate}
 use Rattle.phone_c_base.proofs.OneAnswers
 use Rattle.phone_c_base.proofs.laws.one_answer.Goals as goal
 

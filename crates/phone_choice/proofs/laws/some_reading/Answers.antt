@@ -6,8 +6,8 @@ use Rattle.phone_library.specs.Readings.{ReadsByLibrary}
 use Rattle.phone_read.specs.Readings.{Reads}
 use Rattle.phone_records.specs.declared.loader.Metadata.{Metadata}
 use Rattle.phone_choice.specs.Readings.{ReadsBy}
-use Rattle.phone_choice.specs.declared.rules.Rules.{Rules}
-use Rattle.phone_choice.specs.declared.rules.Rules.TheVariants.{Library, Crate}
+use Rattle.phone_values.specs.declared.rules.Rules.{Rules}
+use Rattle.phone_values.specs.declared.rules.Rules.TheVariants.{Library, Crate}
 use Rattle.phone_choice.proofs.laws.some_reading.Goals as goal
 
 either : (rules : Rules) (db : List Metadata) (hint : Option Id) (t : List ℕ) → (r : Result Reading ParseError) × Reads db hint t r →

@@ -3,7 +3,7 @@ use Rattle.phone_values.specs.declared.country.Id.{Id}
 use Rattle.phone_records.specs.declared.loader.Metadata.{Metadata}
 use Rattle.phone_find.specs.Founds.{IsDecided}
 use Rattle.phone_find.specs.Numbers.{IsNumberAt}
-use Rattle.phone_choice.specs.declared.rules.Rules.{Rules}
+use Rattle.phone_values.specs.declared.rules.Rules.{Rules}
 use Rattle.phone_find.specs.declared.leniency.Leniency.{Leniency}
 use Rattle.phone_find.proofs.laws.some_numbers.Given as goal
 

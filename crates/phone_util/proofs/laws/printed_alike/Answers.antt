@@ -1,7 +1,7 @@
 use Rattle.std.proofs.Common.{None, Ok, subst, if◌then◌else◌, Bool, chars}
 use Rattle.phone_util.proofs.Printed.{back_alike, e164_of_international, e164_of_rfc3966}
 use Rattle.phone_util.proofs.Swaps.{is_one_extension-itself}
-use Rattle.phone_choice.specs.declared.rules.Rules.TheVariants.{Crate}
+use Rattle.phone_values.specs.declared.rules.Rules.TheVariants.{Crate}
 use Rattle.phone_util.specs.Sameness.{IsAnswer}
 use Rattle.phone_util.specs.declared.sameness.Sameness.TheVariants.{Exact, Number}
 use Rattle.phone_util.proofs.laws.printed_alike.Goals as goal

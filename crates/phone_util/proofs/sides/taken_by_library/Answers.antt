@@ -1,6 +1,6 @@
 use Rattle.std.proofs.Common.{◌≡◌, chars, arith}
 use Rattle.phone_values.specs.declared.error.ParseError.TheVariants.{InvalidCountryCode}
-use Rattle.phone_choice.specs.declared.rules.Rules.TheVariants.{Library}
+use Rattle.phone_values.specs.declared.rules.Rules.TheVariants.{Library}
 use Rattle.phone_util.proofs.Taken.{number_so, refused_so, uncoded_so}
 use Rattle.phone_util.proofs.sides.taken_by_library.Goals as goal
 
