@@ -3,7 +3,7 @@
 ghost use Rattle.std.specs.Prelude.{◌++◌, ℕ, List, Option};
 ghost use Rattle.phone_values.specs.declared.rules.Rules.{Rules};
 ghost use Rattle.phone_records.specs.declared.loader.Metadata as loader;
-ghost use Rattle.phone_report.specs.Reports.{IsReportBy};
+ghost use Rattle.phone_engine.specs.Reports.{IsReport};
 ghost use Rattle.phone_values.specs.declared.country.Id.{Id};
 ghost use Rattle.headline_examples.specs.Parts.{EndsLine};
 
@@ -13,6 +13,6 @@ ghost use Rattle.headline_examples.specs.Parts.{EndsLine};
 pub fn report_of_two_parts()
     ensures { (rules : Rules) (db : List loader.Metadata) (hint : Option Id)
         (front rest of_front of_rest : List ℕ) → EndsLine front →
-        IsReportBy rules db hint front of_front → IsReportBy rules db hint rest of_rest →
-        IsReportBy rules db hint (front ++ rest) (of_front ++ of_rest) }
+        IsReport rules db hint front of_front → IsReport rules db hint rest of_rest →
+        IsReport rules db hint (front ++ rest) (of_front ++ of_rest) }
 {}

@@ -12,18 +12,18 @@ use Rattle.phone_values.specs.declared.mode.Mode.{Mode}
 use Rattle.phone_values.specs.declared.mode.Mode.TheVariants.{E164, International, National, Rfc3966}
 use Rattle.phone_values.specs.declared.reading.Reading.{Reading}
 use Rattle.phone_print.specs.Texts.{e164_text}
-use Rattle.phone_choice.proofs.OneReading.{reading_same}
-use Rattle.phone_choice.specs.Facts.{is_valid_by, kind_by, printed_as, region_by}
-use Rattle.phone_choice.specs.Readings.{ReadsBy}
+use Rattle.phone_engine.proofs.OneReading.{reading_same}
+use Rattle.phone_engine.specs.Facts.{is_valid_by, kind_by, printed_as, region_by}
+use Rattle.phone_engine.specs.Readings.{ReadsBy}
 use Rattle.phone_values.specs.declared.rules.Rules.{Rules}
 use Rattle.phone_values.specs.declared.rules.Rules.TheVariants.{Library, Crate}
 use Rattle.phone_records.specs.declared.loader.Metadata.{Metadata}
 use Rattle.phone_util.specs.Possibilities.{possibility_of}
-use Rattle.phone_report.proofs.OneLine as by_rules
-use Rattle.phone_report.specs.ReportLines.{IsReportLineBy}
+use Rattle.phone_engine.proofs.OneLine as by_rules
+use Rattle.phone_engine.specs.ReportLines.{IsReportLine}
 use Rattle.phonenumber.proofs.OneLine
 use Rattle.phonenumber.specs.Printed.{printed}
-use Rattle.phonenumber.specs.Reports.{IsReportLine}
+use Rattle.phone_engine.specs.Words.{IsReportLine}
 use Rattle.phone_c_base.specs.Answers.{IsKey, IsKindBy, IsPrintedBy, IsRegionBy, IsUnprintedBy}
 use Rattle.phone_c_base.specs.Answers.{IsValidityBy, kind_number, mode_number}
 use Rattle.phone_c_base.specs.Hints.{hint_of}
@@ -208,7 +208,7 @@ module _ (db : List Metadata) (hint text : List ℕ) where
 
   pub one_line_by : (rules : Rules) (a b : List ℕ) → IsReportOfBy rules db hint text a →
       IsReportOfBy rules db hint text b → a ≡ b
-  one_line_by rules = under_one (λ h a. IsReportLineBy rules db h text a)
+  one_line_by rules = under_one (λ h a. IsReportLine rules db h text a)
       (λ h a b. by_rules.one_report_line rules db h text a b) (hint_of hint)
 
 -- a number is of one of the rules at most

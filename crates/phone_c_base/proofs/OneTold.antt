@@ -7,8 +7,8 @@ use Rattle.phone_values.specs.declared.error.ParseError.{ParseError}
 use Rattle.phone_values.specs.declared.kind.«Type».{«Type»}
 use Rattle.phone_values.specs.declared.reading.Reading.{Reading}
 use Rattle.phone_records.specs.declared.loader.Metadata.{Metadata}
-use Rattle.phone_choice.proofs.OneReading.{reading_same}
-use Rattle.phone_choice.specs.Readings.{ReadsBy}
+use Rattle.phone_engine.proofs.OneReading.{reading_same}
+use Rattle.phone_engine.specs.Readings.{ReadsBy}
 use Rattle.phone_values.specs.declared.rules.Rules.{Rules}
 use Rattle.phone_find.proofs.Ones
 use Rattle.phone_find.specs.Numbers.{AreNumbers}

@@ -5,7 +5,7 @@ use Rattle.phone_values.specs.declared.error.ParseError.{ParseError}
 use Rattle.phone_values.specs.declared.error.ParseError.TheVariants.{Memory}
 use Rattle.phone_values.specs.declared.reading.Reading.{Reading}
 use Rattle.phone_records.specs.declared.loader.Metadata.{Metadata}
-use Rattle.phone_choice.specs.Readings.{ReadsBy}
+use Rattle.phone_engine.specs.Readings.{ReadsBy}
 use Rattle.phone_values.specs.declared.rules.Rules.{Rules}
 use Rattle.phone_util.specs.Possibilities.{possibility_read}
 use Rattle.phone_util.specs.declared.possibilities.Possibility.{Possibility}

@@ -15,7 +15,7 @@ use Rattle.phone_util.specs.declared.possibilities.Possibility.TheVariants as po
 use Rattle.phone_util.specs.declared.possibilities.Possibility.{Possibility}
 use Rattle.phone_util.specs.declared.sameness.Sameness.TheVariants as sameness
 use Rattle.phone_util.specs.declared.sameness.Sameness.{Sameness}
-use Rattle.phonenumber.specs.Reports.{source_word}
+use Rattle.phone_engine.specs.Words.{source_word}
 use Rattle.phone_c_base.specs.Answers.{kind_number}
 use Rattle.phone_c_base.specs.Comparisons.{sameness_number}
 use Rattle.phone_c_base.specs.Numbers.{source_number}

@@ -16,7 +16,7 @@ use Rattle.phone_values.specs.declared.mode.Mode.TheVariants.{E164, Internationa
 use Rattle.phone_values.specs.declared.mode.Mode.TheVariants.{Rfc3966}
 use Rattle.phone_records.specs.declared.loader.Metadata.{Metadata}
 use Rattle.phone_values.specs.declared.reading.Reading.{Reading}
-use Rattle.phone_choice.specs.Facts.{is_valid_by, kind_by, printed_as, region_by}
+use Rattle.phone_engine.specs.Facts.{is_valid_by, kind_by, printed_as, region_by}
 use Rattle.phone_values.specs.declared.rules.Rules.{Rules}
 use Rattle.phone_values.specs.declared.rules.Rules.TheVariants.{Crate}
 use Rattle.phone_print.specs.Texts.{e164_text}

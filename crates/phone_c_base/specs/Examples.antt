@@ -6,7 +6,7 @@ use Rattle.phone_values.specs.declared.country.Id.{Id}
 use Rattle.phone_values.specs.declared.error.ParseError.{ParseError}
 use Rattle.phone_values.specs.declared.reading.Reading.{Reading}
 use Rattle.phone_records.specs.declared.loader.Metadata.{Metadata}
-use Rattle.phone_choice.specs.Readings.{ReadsBy}
+use Rattle.phone_engine.specs.Readings.{ReadsBy}
 use Rattle.phone_values.specs.declared.rules.Rules.{Rules}
 use Rattle.phone_util.specs.Listed.{example_text}
 use Rattle.phone_c_base.specs.Buffers.{IsTooLong, IsWritten}

@@ -1,7 +1,7 @@
 //! What a database tells of a number that is given as plain numbers.
 ghost use Rattle.std.specs.Prelude.{◌≡◌, ◌↔◌, ◌==◌, IfOk, string_bytes};
 ghost use Rattle.std.specs.List.{find};
-ghost use Rattle.phone_choice.specs.Facts.{kind_by, region_by};
+ghost use Rattle.phone_engine.specs.Facts.{kind_by, region_by};
 ghost use Rattle.phone_print.specs.Texts.{e164_text};
 ghost use Rattle.phone_c_base.specs.Answers.{IsKey, IsKindBy, IsRegionBy, IsValidityBy};
 ghost use Rattle.phone_c_base.specs.Answers.{kind_number};

@@ -30,7 +30,7 @@ ghost use Rattle.phone_short.specs.Costs.{cost_word};
 ghost use Rattle.phone_short.specs.declared.rates.Cost.{Cost};
 ghost use Rattle.phone_util.specs.declared.possibilities.Possibility.{Possibility};
 ghost use Rattle.phone_util.specs.declared.sameness.Sameness.{Sameness};
-ghost use Rattle.phonenumber.specs.Reports.{source_word};
+ghost use Rattle.phone_engine.specs.Words.{source_word};
 ghost use Rattle.phone_c_base.specs.TextReports.{IsReportOf, IsReportOfBy};
 ghost use Rattle.phone_c_base.specs.Typing.{IsCaret, IsShown};
 ghost use Rattle.phone_c_base.specs.Words.{possibility_word, sameness_word, word_of};

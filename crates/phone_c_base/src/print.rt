@@ -2,7 +2,7 @@
 ghost use Rattle.std.specs.Prelude.{◌≡◌, ◌↔◌, ◌<◌, Some, None, Err, IfOk, IfSome, IfNone};
 ghost use Rattle.std.specs.Prelude.{string_bytes};
 ghost use Rattle.phonenumber.specs.Printed.{printed};
-ghost use Rattle.phone_choice.specs.Facts.{printed_as};
+ghost use Rattle.phone_engine.specs.Facts.{printed_as};
 ghost use Rattle.phone_c_base.specs.Answers.{IsPrintedBy, IsUnprintedBy, mode_number};
 ghost use Rattle.phone_c_base.specs.Buffers.{IsTooLongA, IsWrittenA};
 ghost use Rattle.phone_c_base.specs.Numbers.{AreNoNumber};

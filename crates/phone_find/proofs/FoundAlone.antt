@@ -11,8 +11,8 @@ use Rattle.phone_chars.specs.Characters.{is_digit}
 use Rattle.phone_values.specs.declared.country.Id.{Id}
 use Rattle.phone_parts.specs.Texts.{begins}
 use Rattle.phone_records.specs.declared.loader.Metadata.{Metadata}
-use Rattle.phone_choice.proofs.OneReading.{reading_same}
-use Rattle.phone_choice.specs.Readings.{ReadsBy}
+use Rattle.phone_engine.proofs.OneReading.{reading_same}
+use Rattle.phone_engine.specs.Readings.{ReadsBy}
 use Rattle.phone_values.specs.declared.rules.Rules.{Rules}
 use Rattle.phone_values.specs.declared.reading.Reading.{Reading}
 use Rattle.phone_find.proofs.Alone.{alone}

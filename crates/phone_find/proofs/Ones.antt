@@ -4,7 +4,7 @@ use Rattle.std.proofs.Common.{slice_range, arith}
 use Rattle.std.specs.Str.{chars}
 use Rattle.phone_values.specs.declared.country.Id.{Id}
 use Rattle.phone_records.specs.declared.loader.Metadata.{Metadata}
-use Rattle.phone_choice.proofs.OneReading.{reading_same}
+use Rattle.phone_engine.proofs.OneReading.{reading_same}
 use Rattle.phone_values.specs.declared.rules.Rules.{Rules}
 use Rattle.phone_values.specs.declared.reading.Reading.{Reading}
 use Rattle.phone_find.proofs.Alone.{same_found}

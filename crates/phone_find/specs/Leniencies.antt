@@ -5,7 +5,7 @@ use Rattle.phone_util.specs.declared.possibilities.Possibility.{Possibility}
 use Rattle.phone_util.specs.declared.possibilities.Possibility.TheVariants as possibility
 use Rattle.phone_values.specs.declared.reading.Reading.{Reading}
 use Rattle.phone_records.specs.declared.loader.Metadata.{Metadata}
-use Rattle.phone_choice.specs.Facts.{is_valid_by}
+use Rattle.phone_engine.specs.Facts.{is_valid_by}
 use Rattle.phone_values.specs.declared.rules.Rules.{Rules}
 use Rattle.phone_find.specs.declared.leniency.Leniency.{Leniency}
 use Rattle.phone_find.specs.declared.leniency.Leniency.TheVariants.{Possible, Valid}

@@ -12,10 +12,10 @@ use Rattle.phone_csv.specs.Formats.{Record}
 use Rattle.phone_plans.specs.CodeLookUps.{first_of, territories}
 use Rattle.phone_records.specs.declared.loader.Metadata.{Metadata}
 use Rattle.phone_short.specs.declared.kind.ShortKind.TheVariants.{Emergency, ShortNumber}
-use Rattle.phonenumber.specs.Reports.{kind_word, region_word, validity_word}
+use Rattle.phone_engine.specs.Words.{kind_word, region_word, validity_word}
 use Rattle.phone_print.specs.Texts.{text_by}
-use Rattle.phone_choice.specs.Facts.{is_valid_by, kind_by, printed_as, region_by}
-use Rattle.phone_choice.specs.Readings.{ReadsBy}
+use Rattle.phone_engine.specs.Facts.{is_valid_by, kind_by, printed_as, region_by}
+use Rattle.phone_engine.specs.Readings.{ReadsBy}
 use Rattle.phone_values.specs.declared.rules.Rules.{Rules}
 use Rattle.phone_table.specs.Extras.{AreTold}
 use Rattle.phone_table.specs.Regions.{RecordNames, field_in, hint_under}

@@ -12,7 +12,7 @@ use Rattle.phone_plans.specs.Records.{last_with}
 use Rattle.phone_records.specs.declared.loader.Metadata.{Metadata}
 use Rattle.phone_prefixes.specs.Tables.{Entry, IsLongest, NoneBegins}
 use Rattle.phone_maps.specs.Maps.{code_digits, digits_of, has_carrier, is_first, is_geographical}
-use Rattle.phone_choice.specs.Facts.{kind_by, region_by}
+use Rattle.phone_engine.specs.Facts.{kind_by, region_by}
 use Rattle.phone_values.specs.declared.rules.Rules.{Rules}
 use Rattle.phone_table.specs.Headers.{names}
 use Rattle.phone_table.specs.declared.extra.Extra.{Extra}

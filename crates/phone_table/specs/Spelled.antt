@@ -5,9 +5,9 @@ use Rattle.phone_values.specs.declared.reading.Reading.{Reading}
 use Rattle.phone_csv.specs.Formats.{Record}
 use Rattle.phone_records.specs.declared.loader.Metadata.{Metadata}
 use Rattle.phone_maps.specs.Maps.{digits_of}
-use Rattle.phone_choice.specs.Facts.{is_valid_by, kind_by, region_by}
+use Rattle.phone_engine.specs.Facts.{is_valid_by, kind_by, region_by}
 use Rattle.phone_values.specs.declared.rules.Rules.{Rules}
-use Rattle.phonenumber.specs.Reports.{kind_word, region_word, validity_word}
+use Rattle.phone_engine.specs.Words.{kind_word, region_word, validity_word}
 use Rattle.phone_table.specs.Answers.{refused_answer}
 use Rattle.phone_table.specs.Shorts.{short_answer}
 use Rattle.phone_table.specs.declared.answer.Answer.{Answer}

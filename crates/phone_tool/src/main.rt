@@ -4,7 +4,8 @@
 #![tactic(auto)]
 
 use phone_device::{Std, write_all};
-pub use phonenumber::report::{RunError, program, run};
+pub use phone_engine::RunError;
+pub use phone_engine::tool::{program, run};
 use std::env::{self, Args};
 use std::io::{ErrorKind, Lock};
 use std::process::ExitCode;

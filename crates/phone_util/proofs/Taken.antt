@@ -6,8 +6,8 @@ use Rattle.phone_values.specs.declared.error.ParseError.{ParseError}
 use Rattle.phone_values.specs.declared.error.ParseError.TheVariants as error
 use Rattle.phone_parts.proofs.OneParts.{parts_same}
 use Rattle.phone_library_text.proofs.WrittenOnes.{written_same}
-use Rattle.phone_choice.proofs.OneReading.{reading_same}
-use Rattle.phone_choice.specs.Readings.{ReadsBy}
+use Rattle.phone_engine.proofs.OneReading.{reading_same}
+use Rattle.phone_engine.specs.Readings.{ReadsBy}
 use Rattle.phone_values.specs.declared.rules.Rules.{Rules}
 use Rattle.phone_values.specs.declared.rules.Rules.TheVariants.{Library, Crate}
 use Rattle.phone_values.specs.declared.reading.Reading.{Reading}

@@ -15,7 +15,7 @@ use Rattle.phone_plans.specs.CodeLookUps.{is_listed}
 use Rattle.phone_plans.specs.Records.{last_with}
 use Rattle.phone_records.specs.declared.loader.Descriptor.{Descriptor}
 use Rattle.phone_records.specs.declared.loader.Metadata.{Metadata}
-use Rattle.phone_choice.specs.Readings.{ReadsBy}
+use Rattle.phone_engine.specs.Readings.{ReadsBy}
 use Rattle.phone_values.specs.declared.rules.Rules.{Rules}
 use Rattle.phone_values.specs.declared.reading.Reading.{Reading}
 

@@ -14,7 +14,7 @@ use Rattle.phone_parts.specs.Texts.{begins}
 use Rattle.phone_library.specs.Readings.{national_number}
 use Rattle.phone_library_text.specs.Written.{IsWritten}
 use Rattle.phone_library_text.specs.declared.written.WrittenNumber.{WrittenNumber}
-use Rattle.phone_choice.specs.Readings.{ReadsBy}
+use Rattle.phone_engine.specs.Readings.{ReadsBy}
 use Rattle.phone_values.specs.declared.rules.Rules.{Rules}
 use Rattle.phone_values.specs.declared.rules.Rules.TheVariants.{Library, Crate}
 use Rattle.phone_values.specs.declared.reading.Reading.{Reading}

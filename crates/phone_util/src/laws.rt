@@ -24,7 +24,7 @@ ghost use Rattle.phone_util.specs.declared.possibilities.Possibility.TheVariants
 ghost use Rattle.phone_util.specs.declared.sameness.Sameness.{Sameness};
 ghost use Rattle.phone_util.specs.declared.sameness.Sameness.TheVariants as sameness;
 ghost use Rattle.phone_util.specs.declared.sides.Side.{Side};
-ghost use Rattle.phone_choice.specs.Readings.{ReadsBy};
+ghost use Rattle.phone_engine.specs.Readings.{ReadsBy};
 ghost use Rattle.phone_values.specs.declared.rules.Rules.{Rules};
 ghost use Rattle.phone_values.specs.declared.rules.Rules.TheVariants as rules;
 

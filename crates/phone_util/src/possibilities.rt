@@ -14,7 +14,7 @@ ghost use Rattle.phone_util.specs.Possibilities.{local_lengths_of, possibility_b
 ghost use Rattle.phone_util.specs.Possibilities.{possibility_by_crate, possibility_by_library};
 ghost use Rattle.phone_util.specs.Possibilities.{possibility_of, possibility_read, verdict_said};
 ghost use Rattle.phone_util.specs.Possibilities.{possibility_under};
-ghost use Rattle.phone_choice.specs.Readings.{ReadsBy};
+ghost use Rattle.phone_engine.specs.Readings.{ReadsBy};
 
 use phone_choice::{Rules, parse_by};
 use phone_library::length_in;

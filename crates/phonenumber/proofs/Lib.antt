@@ -7,11 +7,7 @@ pub mod BackReads
 pub mod BackTexts
 pub mod BackViable
 pub mod Keys
-pub mod NumberLines
-pub mod OneLine
 pub mod Reaches
-pub mod ReportRows
 pub mod SameNumbers
-pub mod SomeReports
 pub mod ThinReadings
 pub mod ThinTexts

@@ -1,12 +1,8 @@
 pub mod RoundTrips
 pub mod Bounds
-pub mod Lines
 pub mod Plain
 pub mod Printed
 pub mod Printers
-pub mod Programs
 pub mod Queries
-pub mod Report
-pub mod Reports
 pub mod Sinks
 pub mod Thin

@@ -1,5 +1,4 @@
-//! Phone numbers: read from a text, printed, compared, reported on line by line, and what holds of
-//! them all.
+//! Phone numbers: read from a text, printed, compared, and what holds of them all.
 #![tactic(auto)]
 
 mod formatter;
@@ -8,9 +7,7 @@ pub mod metadata;
 mod parser;
 mod phone_number;
 mod queries;
-pub mod report;
 pub mod round_trip;
-mod rows;
 mod text_sink;
 
 pub use formatter::{FormatError, Formatter, format_with};

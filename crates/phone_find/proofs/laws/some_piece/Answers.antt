@@ -1,5 +1,5 @@
 use Rattle.std.proofs.Common.{chars, drop, slice_range, take, refl, subst, arith}
-use Rattle.phone_choice.specs.Readings.{ReadsBy}
+use Rattle.phone_engine.specs.Readings.{ReadsBy}
 use Rattle.phone_find.specs.Numbers.{IsNumberAt}
 use Rattle.phone_find.proofs.Somes.{decided}
 use Rattle.phone_find.proofs.Told.{some_told, some_told_piece}

@@ -1,8 +1,8 @@
 use Rattle.std.proofs.Common.{ap, sym, ◌∙◌}
 use Rattle.phone_values.specs.declared.country.Code.{Code}
 use Rattle.phone_plans.specs.CodeLookUps.{first_of, territories}
-use Rattle.phone_choice.specs.Facts.{printed_as}
-use Rattle.phonenumber.specs.Reports.{kind_word, region_word, validity_word}
+use Rattle.phone_engine.specs.Facts.{printed_as}
+use Rattle.phone_engine.specs.Words.{kind_word, region_word, validity_word}
 use Rattle.phone_table.proofs.AnswerLemmas.{printed_code, printed_digits, same_seven, three_texts}
 use Rattle.phone_table.proofs.answer.known_of.Goals as goal
 

@@ -1,6 +1,6 @@
 use Rattle.std.proofs.Common.{◌≡◌, ⊎_elim, Err, None, Some, chars, refl, sym, ◌∙◌, ap, subst, false, true≢false}
 use Rattle.std.proofs.lemmas.Result.{IfErr-at_err}
-use Rattle.phone_choice.proofs.OneReading.{has_territory, number_reads}
+use Rattle.phone_engine.proofs.OneReading.{has_territory, number_reads}
 use Rattle.phone_table.specs.Answers.{IsReply, is_blank, refused_answer}
 use Rattle.phone_table.specs.Answers.IsReply.{blank, read, refused}
 use Rattle.phone_table.proofs.answer.reply_to.Goals as goal

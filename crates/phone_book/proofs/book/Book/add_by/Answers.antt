@@ -1,5 +1,5 @@
 use Rattle.std.proofs.Common.{◌≡◌, inl, inr, Ok, chars, sym, subst}
-use Rattle.phone_choice.specs.Readings.{ReadsBy}
+use Rattle.phone_engine.specs.Readings.{ReadsBy}
 use Rattle.phone_values.specs.declared.reading.Reading.{Reading}
 use Rattle.phone_book.specs.Firsts.{firsts}
 use Rattle.phone_book.proofs.AnswerLemmas.{line-firsts}

@@ -1,3 +1,0 @@
-pub mod ListedCodes
-pub mod OneReading
-pub mod PrintedOwn

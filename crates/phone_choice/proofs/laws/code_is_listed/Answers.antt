@@ -1,5 +1,0 @@
-use Rattle.phone_choice.proofs.OneReading.{code-listed}
-use Rattle.phone_choice.proofs.laws.code_is_listed.Goals as goal
-
-pub returns : goal.returns
-returns c = code-listed

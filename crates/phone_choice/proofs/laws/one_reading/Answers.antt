@@ -1,5 +1,0 @@
-use Rattle.phone_choice.proofs.OneReading.{reading_same}
-use Rattle.phone_choice.proofs.laws.one_reading.Goals as goal
-
-pub returns : goal.returns
-returns c = reading_same

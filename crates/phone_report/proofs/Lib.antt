@@ -1,4 +1,0 @@
-pub mod CrateReports
-pub mod NumberLines
-pub mod OneLine
-pub mod SomeLines
