@@ -19,7 +19,8 @@ pub enum Leniency {
 
 /// Whether a number is possible, perhaps only inside its area. Refused only for memory.
 fn is_possible(engine: Engine<'_>, number: &PhoneNumber) -> Result<bool, AllocError>
-    ensures { IfOk result (λ b. b ≡ is_possible engine.rules engine.database.now number.now) }
+    ensures { IfOk result
+        (λ b. b ≡ is_possible engine.entry.rules engine.entry.database.now number.now) }
 {
     match possibility_of(engine, number)? {
         Possibility::Possible | Possibility::PossibleLocally => Ok(true),
@@ -34,7 +35,7 @@ pub(crate) fn suffices(
     number: &PhoneNumber,
 ) -> Result<bool, AllocError>
     ensures { IfOk result
-        (λ b. b ≡ suffices engine.rules engine.database.now leniency number.now) }
+        (λ b. b ≡ suffices engine.entry.rules engine.entry.database.now leniency number.now) }
 {
     match leniency {
         Leniency::Possible => is_possible(engine, number),

@@ -54,9 +54,11 @@ fn number_between(
     after: &str,
 ) -> Result<Option<PhoneNumber>, AllocError>
     ensures { IfOk result (λ told. MatchOption told
-        ((n : Reading) → ¬ (IsNumberBetween engine.rules engine.database.now engine.hint leniency
+        ((n : Reading) → ¬ (IsNumberBetween
+        engine.entry.rules engine.entry.database.now engine.entry.hint leniency
         before.now piece.now after.now n))
-        (λ n. IsNumberBetween engine.rules engine.database.now engine.hint leniency
+        (λ n. IsNumberBetween
+        engine.entry.rules engine.entry.database.now engine.entry.hint leniency
         before.now piece.now after.now n)) }
 {
     if !is_candidate(before, piece, after) {
@@ -73,9 +75,10 @@ fn number_in(
     text: &str,
 ) -> Result<Option<PhoneNumber>, AllocError>
     ensures { IfOk result (λ told. MatchOption told
-        ((n : Reading) →
-        ¬ (IsReadWell engine.rules engine.database.now engine.hint leniency text.now n))
-        (λ n. IsReadWell engine.rules engine.database.now engine.hint leniency text.now n)) }
+        ((n : Reading) → ¬ (IsReadWell
+        engine.entry.rules engine.entry.database.now engine.entry.hint leniency text.now n))
+        (λ n. IsReadWell
+        engine.entry.rules engine.entry.database.now engine.entry.hint leniency text.now n)) }
 {
     match engine.parse(text) {
         Ok(number) => where_sufficient(engine, leniency, number),
@@ -100,7 +103,7 @@ fn where_sufficient(
     number: PhoneNumber,
 ) -> Result<Option<PhoneNumber>, AllocError>
     ensures { IfOk result
-        (λ told. told ≡ (if suffices engine.rules engine.database.now leniency number
+        (λ told. told ≡ (if suffices engine.entry.rules engine.entry.database.now leniency number
         then Some number else None)) }
 {
     if suffices(engine, leniency, &number)? {
@@ -125,8 +128,9 @@ pub fn find_numbers_with(
     leniency: Leniency,
     text: &str,
 ) -> Result<Vec<Found<PhoneNumber>>, AllocError>
-    ensures { IfOk result (λ all. AreNumbers engine.rules engine.database.now engine.hint leniency
-        text.now all.items) }
+    ensures { IfOk result (λ all. AreNumbers
+        engine.entry.rules engine.entry.database.now engine.entry.hint
+        leniency text.now all.items) }
 {
     let judge = Sufficient { engine, leniency };
     all_accepted(engine.database.allocator(), &judge, text)
@@ -134,7 +138,8 @@ pub fn find_numbers_with(
 
 /// The valid numbers that stand in a running text: [`find_numbers_with`], [`Leniency::Valid`].
 pub fn find_numbers(engine: Engine<'_>, text: &str) -> Result<Vec<Found<PhoneNumber>>, AllocError>
-    ensures { IfOk result (λ all. AreNumbers engine.rules engine.database.now engine.hint
+    ensures { IfOk result (λ all. AreNumbers
+        engine.entry.rules engine.entry.database.now engine.entry.hint
         leniency.Valid text.now all.items) }
 {
     find_numbers_with(engine, Leniency::Valid, text)

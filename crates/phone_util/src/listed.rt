@@ -72,8 +72,8 @@ pub fn example(
     region: Id,
     kind: Type,
 ) -> Result<Option<PhoneNumber>, ParseError>
-    ensures { AnswersExample engine.rules engine.database.now region
-        (example_text engine.database.now region kind) result }
+    ensures { AnswersExample engine.entry.rules engine.entry.database.now region
+        (example_text engine.entry.database.now region kind) result }
 {
     let Some(territory) = engine.database.by_id(region.as_str()) else {
         return Ok(None);

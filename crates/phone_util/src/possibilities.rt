@@ -59,7 +59,8 @@ pub enum Possibility {
 ///
 /// Refused only for memory.
 pub fn possibility_of(engine: Engine<'_>, number: &PhoneNumber) -> Result<Possibility, AllocError>
-    ensures { IfOk result (λ p. p ≡ possibility_of engine.rules engine.database.now number.now) }
+    ensures { IfOk result
+        (λ p. p ≡ possibility_of engine.entry.rules engine.entry.database.now number.now) }
 {
     match engine.rules {
         Rules::Library => possible_by_library(engine.database, number),
@@ -110,8 +111,8 @@ fn possible_by_crate(database: &Plans, number: &PhoneNumber) -> Result<Possibili
 /// refuses it; `Memory` where memory was refused.
 pub fn possibility_of_text(engine: Engine<'_>, text: &str) -> Result<Possibility, ParseError>
     ensures { (result ≡ Err ParseError.Memory) ⊎ ((r : Result Reading Refusal) ×
-        ReadsBy engine.rules engine.database.now engine.hint (chars text.now) r ×
-        (result ≡ possibility_read engine.rules engine.database.now r)) }
+        ReadsBy engine.entry.rules engine.entry.database.now engine.entry.hint (chars text.now) r ×
+        (result ≡ possibility_read engine.entry.rules engine.entry.database.now r)) }
 {
     match engine.parse(text) {
         Ok(number) => match possibility_of(engine, &number) {

@@ -44,7 +44,7 @@ pub enum Sameness {
 /// each for a reason of its own: then the two refusals change places.
 pub fn compare_texts(engine: Engine<'_>, a: &str, b: &str) -> Result<Sameness, ParseError>
     ensures { (result ≡ Err ParseError.Memory) ⊎
-        IsAnswer engine.rules engine.database.now (chars a.now) (chars b.now) result }
+        IsAnswer engine.entry.rules engine.entry.database.now (chars a.now) (chars b.now) result }
 {
     let a = taken_as(engine, a)?;
     let b = taken_as(engine, b)?;

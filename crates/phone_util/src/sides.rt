@@ -40,7 +40,7 @@ pub struct Side {
 /// a code, those for a national number. `Memory` where memory was refused, and nowhere else.
 pub fn taken_as(engine: Engine<'_>, text: &str) -> Result<Side, ParseError>
     ensures { (result ≡ Err ParseError.Memory) ⊎
-        IsTaken engine.rules engine.database.now (chars text.now) result }
+        IsTaken engine.entry.rules engine.entry.database.now (chars text.now) result }
 {
     let unhinted = Engine {
         hint: None,
