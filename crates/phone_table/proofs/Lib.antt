@@ -10,3 +10,5 @@ pub mod RegionLemmas
 pub mod CountLemmas
 pub mod KeyLemmas
 pub mod ShortLemmas
+pub mod OneAnswers
+pub mod SomeAnswers
