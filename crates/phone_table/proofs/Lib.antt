@@ -12,3 +12,5 @@ pub mod KeyLemmas
 pub mod ShortLemmas
 pub mod OneAnswers
 pub mod SomeAnswers
+pub mod OneRows
+pub mod SomeRows

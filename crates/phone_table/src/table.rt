@@ -32,16 +32,6 @@ pub struct Table<'d> {
 }
 
 impl<'d> Table<'d> {
-    /// What a record names as its region.
-    fn region_of(&self, fields: &ByteRecord) -> Named
-        ensures { RecordNames self.now.columns.region (fields_of fields.now) result }
-    {
-        match self.columns.region {
-            Some(column) => region_named(field_in(fields, column)),
-            None => Named::Nothing,
-        }
-    }
-
     /// The answer to a record. Refused only for memory.
     fn answer_to_record(&self, fields: &ByteRecord) -> Result<Answer, AllocError>
         ensures answer { IfOk result (λ a. IsNumberAnswer self.now.engine.rules
@@ -50,7 +40,7 @@ impl<'d> Table<'d> {
         ensures known { IfOk result
             (λ a. IsKnownIn self.now.engine.rules self.now.engine.database.now a) }
     {
-        let named = self.region_of(fields);
+        let named = region_of(self.columns, fields);
         let Some(hint) = hint_under(self.asked.else_hint, self.engine.hint, named) else {
             return Ok(Answer::Refused("unknown region"));
         };
@@ -113,6 +103,16 @@ impl<'d> Table<'d> {
     {
         push_told(self.engine, fields, self.asked.extra, answer)?;
         push_answer(fields, answer)
+    }
+}
+
+/// What a record of a table with these columns names as its region.
+pub(crate) fn region_of(columns: Columns, fields: &ByteRecord) -> Named
+    ensures { RecordNames columns.region (fields_of fields.now) result }
+{
+    match columns.region {
+        Some(column) => region_named(field_in(fields, column)),
+        None => Named::Nothing,
     }
 }
 
