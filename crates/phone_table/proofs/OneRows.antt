@@ -1,5 +1,6 @@
 -- A record has one answer, and a column tells one text of a number.
-use Rattle.std.proofs.Common.{◌≡◌, ◌≢◌, ◌⊎◌, inl, inr, ℕ, ◌+◌, ◌<◌, ◌≤◌, List, [], ◌∷◌, ◌++◌, take, length, get_or}
+use Rattle.std.proofs.Common.{◌≡◌, ◌≢◌, ◌⊎◌, inl, inr, ℕ, ◌+◌, ◌<◌, ◌≤◌, List, [], ◌∷◌, ◌++◌, take}
+use Rattle.std.proofs.Common.{length, get_or}
 use Rattle.std.proofs.Common.{Option, None, Some, refl, sym, ap, ap₂, subst, subst₂, ◌∙◌, arith}
 use Rattle.std.proofs.Math.Seq.{take-append_seam}
 use Rattle.std.specs.List.{AllByRecursion, Contains}

@@ -1,11 +1,14 @@
 -- Each record has an answer, and in each table of prefixes a text is found, or none.
-use Rattle.std.proofs.Common.{◌≡◌, ◌≢◌, ◌⊎◌, ⊎_elim, inl, inr, ℕ, ◌≤◌, Bool, true, false, List, [], ◌∷◌, ◌++◌}
-use Rattle.std.proofs.Common.{take, drop, length, Option, None, Some, refl, sym, ap, subst, ◌∙◌, arith}
+use Rattle.std.proofs.Common.{◌≡◌, ◌≢◌, ◌⊎◌, ⊎_elim, inl, inr, ℕ, ◌≤◌, Bool, true, false, List, []}
+use Rattle.std.proofs.Common.{◌∷◌, ◌++◌}
+use Rattle.std.proofs.Common.{take, drop, length, Option, None, Some, refl, sym, ap, subst, ◌∙◌}
+use Rattle.std.proofs.Common.{arith}
 use Rattle.std.proofs.Math.Seq.{take-append_seam}
 use Rattle.std.proofs.lemmas.Bool.{cases_eq, cases_lt}
 use Rattle.std.proofs.lemmas.List.{take-append-drop}
 use Rattle.std.proofs.lemmas.List.Elements.{Contains-append_left, Contains-append_cases}
-use Rattle.std.proofs.lemmas.List.Elements.{Contains-append_right, Contains-push, Contains-push_cases}
+use Rattle.std.proofs.lemmas.List.Elements.{Contains-append_right, Contains-push}
+use Rattle.std.proofs.lemmas.List.Elements.{Contains-push_cases}
 use Rattle.std.specs.List.{Contains}
 use Rattle.phone_values.specs.declared.country.Id.{Id}
 use Rattle.phone_values.specs.declared.reading.Reading.{Reading}
@@ -32,7 +35,8 @@ begins_or_not : (prefix text : List ℕ) → Begins prefix text ⊎ (Begins pref
 begins_or_not prefix text = ⊎_elim
     (λ e. inl (
       drop (length prefix) text,
-      sym (take-append-drop (length prefix) text) ∙ ap (λ front. front ++ drop (length prefix) text) e,
+      sym (take-append-drop (length prefix) text)
+          ∙ ap (λ front. front ++ drop (length prefix) text) e,
     ))
     (λ other. inr (λ b. other (ap (take (length prefix)) b.1 ∙ take-append_seam prefix b.0)))
     (cases_text (take (length prefix) text) prefix)
@@ -119,7 +123,8 @@ has_longest : (entries : List Entry) (text : List ℕ) → HasLongest entries te
 has_longest [] text = inr (λ x is begins. nothing_in x is)
 has_longest (e ∷ es) text = by (begins_or_not e.prefix text) (has_longest es text)
   where
-    by : Begins e.prefix text ⊎ (Begins e.prefix text → ⊥) → HasLongest es text → HasLongest (e ∷ es) text
+    by : Begins e.prefix text ⊎ (Begins e.prefix text → ⊥) → HasLongest es text →
+        HasLongest (e ∷ es) text
     by (inl b) (inl (l, h)) = longer e es text b l h
     by (inl b) (inr none) = alone e es text b none
     by (inr other) h = passed e es text other h
@@ -140,24 +145,29 @@ entries_one _ _ no_entries a b h g e = absurd (nothing_in a h)
 entries_one _ all (next_entry lines entries all line are more) a b h g e =
     ⊎_elim (λ in_a. ⊎_elim (λ in_b. entries_one lines entries are a b in_a in_b e)
     (λ is_b. absurd (more.other (a, in_a, e ∙ sym (ap (λ (x : Entry). x.prefix) is_b)))) (last b g))
-    (λ is_a. ⊎_elim (λ in_b. absurd (more.other (b, in_b, sym e ∙ sym (ap (λ (x : Entry). x.prefix) is_a))))
-    (λ is_b. sym (ap (λ (x : Entry). x.text) is_a) ∙ ap (λ (x : Entry). x.text) is_b) (last b g)) (last a h)
+    (λ is_a. ⊎_elim
+    (λ in_b. absurd (more.other (b, in_b, sym e ∙ sym (ap (λ (x : Entry). x.prefix) is_a))))
+    (λ is_b. sym (ap (λ (x : Entry). x.text) is_a) ∙ ap (λ (x : Entry). x.text) is_b) (last b g))
+    (last a h)
   where
     last : (x : Entry) → Contains all x → Contains entries x ⊎ (more.entry ≡ x)
     last x is = Contains-push_cases entries more.entry x (subst (λ xs. Contains xs x) more.all is)
 
 -- so in each table that was loaded
-pub loaded_one : (bytes : List ℕ) (entries : List Entry) → IsTable bytes entries → HaveOneText entries
+pub loaded_one : (bytes : List ℕ) (entries : List Entry) → IsTable bytes entries →
+    HaveOneText entries
 loaded_one bytes entries (lines, cut, are) = entries_one lines entries are
 
 module _ (rules : Rules) (db : List Metadata) where
-  told_some : (column : Extra) (number : Option Reading) → (text : List ℕ) × IsTold rules db column number text
+  told_some : (column : Extra) (number : Option Reading) →
+      (text : List ℕ) × IsTold rules db column number text
   told_some column None = ([], refl)
   told_some column (Some n) = found_some column.table.now
       (looked_up db column.told (kind_by rules db n) (region_by rules db n) n)
 
   -- what columns tell of a number
-  all_told : (number : Option Reading) (columns : List Extra) → (told : Record) × AreTold rules db number columns told
+  all_told : (number : Option Reading) (columns : List Extra) →
+      (told : Record) × AreTold rules db number columns told
   all_told number [] = ([], none)
   all_told number (c ∷ cs) =
       let t = told_some c number in
@@ -170,12 +180,14 @@ module _ (rules : Rules) (db : List Metadata) where
     HasAnswers = (own : Option Id) → (number : Option Reading) × (answer : Record) ×
         IsFieldAnswer rules db (short_of asked) own (field_in fields columns.number) number answer
 
-    under_some : (o : Option (Option Id)) → HasAnswers → (number : Option Reading) × (answer : Record) ×
+    under_some : (o : Option (Option Id)) → HasAnswers →
+        (number : Option Reading) × (answer : Record) ×
         IsAnswerUnder rules db (short_of asked) o (field_in fields columns.number) number answer
     under_some None has = (None, _, (refl, refl))
     under_some (Some own) has = has own
 
-    with_told : (n : Option Reading) (seven : Record) → IsSevenAnswer rules db hint columns asked fields n seven →
+    with_told : (n : Option Reading) (seven : Record) →
+        IsSevenAnswer rules db hint columns asked fields n seven →
         (answer : Record) × IsAnswer rules db hint columns asked fields answer
     with_told n seven is =
         let t = all_told n asked.extra.now in
@@ -183,13 +195,15 @@ module _ (rules : Rules) (db : List Metadata) where
 
     -- a record of other width is marked, or isn't answered
     of_other_width : (length fields ≡ columns.width → ⊥) → (b : Bool) → asked.mark_bad ≡ b →
-        ((answer : Record) × IsAnswer rules db hint columns asked fields answer) ⊎ IsOfOtherWidth columns asked fields
+        ((answer : Record) × IsAnswer rules db hint columns asked fields answer) ⊎
+        IsOfOtherWidth columns asked fields
     of_other_width other true e = inl (with_told None _ (inr (refl, (e, other, refl))))
     of_other_width other false e = inr (e, other)
 
     -- each record is answered, but for such
     pub answer_some : (region : Named) → RecordNames columns.region fields region → HasAnswers →
-        ((answer : Record) × IsAnswer rules db hint columns asked fields answer) ⊎ IsOfOtherWidth columns asked fields
+        ((answer : Record) × IsAnswer rules db hint columns asked fields answer) ⊎
+        IsOfOtherWidth columns asked fields
     answer_some region named has = ⊎_elim
         (λ width. let a = under_some (hint_under asked.else_hint hint region) has in
         inl (with_told a.0 a.1 (inl (width, (region, named, a.2)))))
