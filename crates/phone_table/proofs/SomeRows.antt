@@ -59,7 +59,7 @@ first_or e es x h = ⊎_elim
     (Contains-append_cases (e ∷ []) es x h)
 
 -- the longest prefix that begins a text, or none
-HasLongest : List Entry → List ℕ → Type 0
+abbrev HasLongest : List Entry → List ℕ → Type 0
 HasLongest entries text = ((e : Entry) × IsLongest entries text e) ⊎ NoneBegins entries text
 
 -- the first entry begins the text, and of the others this one is the longest
@@ -142,7 +142,7 @@ found_some entries (Some digits) = by (has_longest entries digits)
 entries_one : (lines : List (List ℕ)) (entries : List Entry) → AreEntries lines entries →
     HaveOneText entries
 entries_one _ _ no_entries a b h g e = absurd (nothing_in a h)
-entries_one _ all (next_entry lines entries all line are more) a b h g e =
+entries_one _ _ (next_entry lines entries all line are more) a b h g e =
     ⊎_elim (λ in_a. ⊎_elim (λ in_b. entries_one lines entries are a b in_a in_b e)
     (λ is_b. absurd (more.other (a, in_a, e ∙ sym (ap (λ (x : Entry). x.prefix) is_b)))) (last b g))
     (λ is_a. ⊎_elim
