@@ -50,9 +50,10 @@ pub fn answer_to(
     short: Option<&Plans>,
     field: &[u8],
 ) -> Result<Answer, AllocError>
-    ensures answer { IfOk result (λ a. IsFieldAnswer engine.rules engine.database.now
-        (option_map (λ d. d.now) short.entry) engine.hint field.now (number_in a) (spelled a)) }
-    ensures known { IfOk result (λ a. IsKnownIn engine.rules engine.database.now a) }
+    ensures answer { IfOk result (λ a. IsFieldAnswer engine.entry.rules engine.entry.database.now
+        (option_map (λ d. d.now) short.entry) engine.entry.hint field.now (number_in a)
+        (spelled a)) }
+    ensures known { IfOk result (λ a. IsKnownIn engine.entry.rules engine.entry.database.now a) }
 {
     match std::str::from_utf8(field) {
         Ok(text) => answer_to_text(engine, short, text),
@@ -66,9 +67,10 @@ fn answer_to_text(
     short: Option<&Plans>,
     text: &str,
 ) -> Result<Answer, AllocError>
-    ensures answer { IfOk result (λ a. IsTextAnswer engine.rules engine.database.now
-        (option_map (λ d. d.now) short.entry) engine.hint text.now (number_in a) (spelled a)) }
-    ensures known { IfOk result (λ a. IsKnownIn engine.rules engine.database.now a) }
+    ensures answer { IfOk result (λ a. IsTextAnswer engine.entry.rules engine.entry.database.now
+        (option_map (λ d. d.now) short.entry) engine.entry.hint text.now (number_in a)
+        (spelled a)) }
+    ensures known { IfOk result (λ a. IsKnownIn engine.entry.rules engine.entry.database.now a) }
 {
     match short_in(short, engine.hint, text)? {
         Some((region, ShortKind::Emergency)) => Ok(Answer::Short(region, ShortKind::Emergency)),
@@ -115,9 +117,9 @@ fn is_valid(answer: &Answer) -> bool
 
 /// How a text is answered as a number. Refused only for memory.
 fn reply_to(engine: Engine<'_>, text: &str) -> Result<Answer, AllocError>
-    ensures reply { IfOk result (λ a. IsReply engine.rules engine.database.now engine.hint text.now
-        (number_in a) (spelled a)) }
-    ensures known { IfOk result (λ a. IsKnownIn engine.rules engine.database.now a) }
+    ensures reply { IfOk result (λ a. IsReply engine.entry.rules engine.entry.database.now
+        engine.entry.hint text.now (number_in a) (spelled a)) }
+    ensures known { IfOk result (λ a. IsKnownIn engine.entry.rules engine.entry.database.now a) }
 {
     if is_blank(text) {
         return Ok(Answer::Refused("empty"));
@@ -144,11 +146,13 @@ fn is_blank(text: &str) -> bool
 /// `Memory`.
 pub(crate) fn known_of(engine: Engine<'_>, number: &PhoneNumber) -> Result<Known, FormatError>
     ensures spelled { IfOk result (λ k. (m : loader.Metadata) ×
-        (first_of (territories number.now.code.value engine.database.now) ≡ Some m) ×
-        (spelled_known k ≡ number_answer engine.rules engine.database.now m number.now)) }
-    ensures known { IfOk result (λ k. IsKnown engine.rules engine.database.now number.now k) }
+        (first_of (territories number.now.code.value engine.entry.database.now) ≡ Some m) ×
+        (spelled_known k ≡ number_answer engine.entry.rules engine.entry.database.now m
+        number.now)) }
+    ensures known { IfOk result
+        (λ k. IsKnown engine.entry.rules engine.entry.database.now number.now k) }
     ensures unknown { result ≡ Err FormatError.UnknownCode →
-        first_of (territories number.now.code.value engine.database.now) ≡ None }
+        first_of (territories number.now.code.value engine.entry.database.now) ≡ None }
 {
     let texts = engine.texts(number)?;
     match engine.facts(number) {

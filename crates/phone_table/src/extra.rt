@@ -160,7 +160,8 @@ fn behind_plus(text: &str) -> &str
 /// What a column tells of an answer: nothing where no number was read.
 fn told_by<'a>(engine: Engine<'_>, column: &Extra<'a>, answer: &Answer) -> &'a str
     requires { IsKnownIn engine.rules engine.database.now answer.now }
-    ensures { IsTold engine.rules engine.database.now column.now (number_in answer.now) result.now }
+    ensures { IsTold engine.entry.rules engine.entry.database.now column.now (number_in answer.now)
+        result.now }
 {
     match answer {
         Answer::Number(number, known) => {
@@ -181,7 +182,7 @@ pub(crate) fn push_told(
     requires partial { partial_of fields.old ≡ [] }
     requires known { IsKnownIn engine.rules engine.database.now answer.now }
     ensures told { OnOk result ((told : Record) ×
-        AreTold engine.rules engine.database.now (number_in answer.now) extra.now told ×
+        AreTold engine.entry.rules engine.entry.database.now (number_in answer.now) extra.now told ×
         (fields_of fields.new ≡ fields_of fields.old ++ told)) }
     ensures partial { OnOk result (partial_of fields.new ≡ []) }
 {

@@ -41,10 +41,10 @@ pub fn found_object(
     spot: Spot<'_>,
     number: &PhoneNumber,
 ) -> Result<String, FormatError>
-    ensures object { IfOk result (λ s. IsFoundObject engine.rules engine.database.now spot.entry
-        number.now (string_bytes s)) }
+    ensures object { IfOk result (λ s. IsFoundObject engine.entry.rules engine.entry.database.now
+        spot.entry number.now (string_bytes s)) }
     ensures unknown { result ≡ Err FormatError.UnknownCode →
-        first_of (territories number.now.code.value engine.database.now) ≡ None }
+        first_of (territories number.now.code.value engine.entry.database.now) ≡ None }
 {
     let known = known_of(engine, number)?;
     let alloc = engine.database.allocator();
@@ -66,10 +66,10 @@ pub fn push_found(
 ) -> Result<(), FormatError>
     requires { records.partial_of row.old ≡ [] }
     ensures fields { OnOk result ((fields : Record) ×
-        IsFoundRecord engine.rules engine.database.now spot.entry number.now fields ×
+        IsFoundRecord engine.entry.rules engine.entry.database.now spot.entry number.now fields ×
         (records.fields_of row.new ≡ records.fields_of row.old ++ fields)) }
     ensures unknown { result ≡ Err FormatError.UnknownCode →
-        first_of (territories number.now.code.value engine.database.now) ≡ None }
+        first_of (territories number.now.code.value engine.entry.database.now) ≡ None }
     ensures kept { result ≡ Err FormatError.UnknownCode →
         records.fields_of row.new ≡ records.fields_of row.old }
 {

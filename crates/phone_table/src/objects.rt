@@ -40,8 +40,8 @@ pub fn object_line(
     place: u64,
     line: &[u8],
 ) -> Result<String, AllocError>
-    ensures { IfOk result (λ s. IsObjectLine engine.rules engine.database.now
-        (option_map (λ d. d.now) short.entry) engine.hint place line.now (string_bytes s)) }
+    ensures { IfOk result (λ s. IsObjectLine engine.entry.rules engine.entry.database.now
+        (option_map (λ d. d.now) short.entry) engine.entry.hint place line.now (string_bytes s)) }
 {
     let object = object(engine, short, place, line)?;
     object.to_string(engine.database.allocator())
@@ -54,8 +54,8 @@ fn object(
     place: u64,
     line: &[u8],
 ) -> Result<Value, AllocError>
-    ensures { IfOk result (λ v. IsObject engine.rules engine.database.now
-        (option_map (λ d. d.now) short.entry) engine.hint place line.now (view v)) }
+    ensures { IfOk result (λ v. IsObject engine.entry.rules engine.entry.database.now
+        (option_map (λ d. d.now) short.entry) engine.entry.hint place line.now (view v)) }
 {
     let answer = answer_to(engine, short, line)?;
     let fields = parts_of(&answer);

@@ -83,7 +83,8 @@ pub fn write_table<S: ByteSource, W: ByteSink>(
     source: &mut S,
     sink: &mut W,
 ) -> Result<Counts, TableError>
-    ensures ends { RunEnds engine.rules engine.database.now engine.hint asked.entry
+    ensures ends { RunEnds engine.entry.rules engine.entry.database.now engine.entry.hint
+        asked.entry
         (seen (S.to_come source.old) (S.faults source.old) (W.taken sink.old)
         (W.faults sink.old) (W.unflushed sink.old))
         (seen (S.to_come source.new) (S.faults source.new) (W.taken sink.new)
