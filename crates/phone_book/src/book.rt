@@ -14,12 +14,12 @@ ghost use Rattle.phone_book.specs.declared.answers.BookNewError.TheVariants as n
 use crate::answers::{BookError, BookNewError, Place};
 use crate::iter::Iter;
 use indexmap::IndexMap;
-use phone_choice::laws::code_is_listed;
-use phone_choice::{Rules, parse_by};
+use phone_engine::Engine;
+use phone_engine::laws::code_is_listed;
 use phone_meta::Database;
 use phone_plans::Plans;
-use phone_values::ParseError;
 use phone_values::country::Id;
+use phone_values::{ParseError, Rules};
 use phonenumber::{PhoneNumber, laws};
 use std::alloc::AllocError;
 use std::marker::Model;
@@ -158,7 +158,7 @@ impl Book {
         self.add_by(Rules::Crate, hint, line)
     }
 
-    /// The same, but that the line is read by these rules, as `parse_by` reads it.
+    /// The same, but that the line is read by these rules, as an engine reads it.
     pub fn add_by(&mut self, rules: Rules, hint: Option<Id>, line: &str) -> Result<Place, BookError>
         ensures entries { (ns : List Reading) ×
             (HasNumbersBy rules self.old.database (hint, line.now) result ns) ×
@@ -169,7 +169,12 @@ impl Book {
         ensures kept { OnErr result (self.new ≡ self.old) }
     {
         code_is_listed();
-        match parse_by(rules, &self.database, hint, line) {
+        let engine = Engine {
+            database: &self.database,
+            rules,
+            hint,
+        };
+        match engine.parse(line) {
             Ok(number) => match self.place(number) {
                 Ok(place) => Ok(place),
                 Err(_) => Err(BookError::Memory),
@@ -200,7 +205,7 @@ impl Book {
         self.add_all_by(Rules::Crate, lines)
     }
 
-    /// The same, but that the lines are read by these rules, as `parse_by` reads them.
+    /// The same, but that the lines are read by these rules, as engines read them.
     pub fn add_all_by(
         &mut self,
         rules: Rules,

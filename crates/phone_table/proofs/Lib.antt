@@ -10,3 +10,7 @@ pub mod RegionLemmas
 pub mod CountLemmas
 pub mod KeyLemmas
 pub mod ShortLemmas
+pub mod OneAnswers
+pub mod SomeAnswers
+pub mod OneRows
+pub mod SomeRows

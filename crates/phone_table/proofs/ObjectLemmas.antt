@@ -1,5 +1,5 @@
 -- An object of a line has no float, and nests once.
-use Rattle.std.proofs.Common.{◌≡◌, ◌≤◌, ℕ, List, Option, false, refl, arith}
+use Rattle.std.proofs.Common.{◌≡◌, ◌≤◌, ℕ, List, Option, false, Result, Ok, Err, IfOk, refl, arith}
 use Rattle.serde_json.specs.Data.{Data, depth}
 use Rattle.serde_json.specs.Read.{max_depth}
 use Rattle.serde_json.specs.Written.{has_float}
@@ -18,3 +18,8 @@ pub shallow : (rules : Rules) (db : List Metadata) (short : Option (List Metadat
     IsObject rules db short hint place line d → depth d ≤ max_depth
 shallow rules db short hint place line _ (no_text n fields h a) = omega arith
 shallow rules db short hint place line _ (of_text n fields h a) = omega arith
+
+-- what two clauses say of one answer
+pub ok_both : {T E : Type 0} (r : Result T E) (P Q R : T → Type 0) → ((x : T) → P x → Q x → R x) → IfOk r P → IfOk r Q → IfOk r R
+ok_both (Ok x) P Q R f p q = f x p q
+ok_both (Err e) P Q R f p q = tt

@@ -95,11 +95,11 @@ abbrev pub short_of : Asked → Option (List Metadata)
 short_of asked = option_map (λ d. d.now) asked.short
 
 -- what a record's number is answered, by the region that the record names
-abbrev pub IsNumberAnswer : List Metadata → Columns → Asked → Record → Option Reading → Record →
-    Type 0
-IsNumberAnswer db columns asked fields number answer = (region : Named) ×
+abbrev pub IsNumberAnswer : Rules → List Metadata → Option Id → Columns → Asked → Record →
+    Option Reading → Record → Type 0
+IsNumberAnswer rules db hint columns asked fields number answer = (region : Named) ×
     RecordNames columns.region fields region ×
-    IsAnswerUnder asked.rules db (short_of asked) (hint_under asked.else_hint asked.hint region)
+    IsAnswerUnder rules db (short_of asked) (hint_under asked.else_hint hint region)
     (field_in fields columns.number) number answer
 
 -- a record has as many fields as the header
@@ -113,18 +113,20 @@ IsMarked columns asked fields answer = (asked.mark_bad ≡ true) × ¬ (IsOfWidt
 
 -- the seven fields that a record is answered, and the number that was read: as its number is, or
 -- so marked
-abbrev pub IsSevenAnswer : List Metadata → Columns → Asked → Record → Option Reading → Record →
-    Type 0
-IsSevenAnswer db columns asked fields number answer =
-    (IsOfWidth columns fields × IsNumberAnswer db columns asked fields number answer) ⊎
+abbrev pub IsSevenAnswer : Rules → List Metadata → Option Id → Columns → Asked → Record →
+    Option Reading → Record → Type 0
+IsSevenAnswer rules db hint columns asked fields number answer =
+    (IsOfWidth columns fields × IsNumberAnswer rules db hint columns asked fields number answer) ⊎
     ((number ≡ None) × IsMarked columns asked fields answer)
 
 -- what a record is answered: what the columns that are asked for tell of the number that was read,
 -- and the seven fields
-abbrev pub IsAnswer : List Metadata → Columns → Asked → Record → Record → Type 0
-IsAnswer db columns asked fields answer = (number : Option Reading) × (told : Record) ×
-    (seven : Record) × IsSevenAnswer db columns asked fields number seven ×
-    AreTold asked.rules db number asked.extra.now told × (answer ≡ told ++ seven)
+abbrev pub IsAnswer : Rules → List Metadata → Option Id → Columns → Asked → Record → Record →
+    Type 0
+IsAnswer rules db hint columns asked fields answer = (number : Option Reading) ×
+    (told : Record) × (seven : Record) ×
+    IsSevenAnswer rules db hint columns asked fields number seven ×
+    AreTold rules db number asked.extra.now told × (answer ≡ told ++ seven)
 
 -- a record with another count of fields isn't answered, where such aren't marked
 abbrev pub IsOfOtherWidth : Columns → Asked → Record → Type 0

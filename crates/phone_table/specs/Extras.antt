@@ -1,6 +1,7 @@
 -- The columns that are asked for beside the seven, and what they tell of a number.
 use Rattle.std.specs.Prelude.{◌≡◌, ◌⊎◌, ◌&&◌, ◌||◌, not, Bool, true, false, ℕ, List, [], ◌∷◌}
 use Rattle.std.specs.Prelude.{◌++◌, map, if◌then◌else◌, Option, None, Some}
+use Rattle.std.specs.List.{AllByRecursion, Contains}
 use Rattle.std.specs.Option.{option_map_or}
 use Rattle.phone_values.specs.Ids.{name}
 use Rattle.phone_values.specs.declared.country.Id.{Id}
@@ -72,3 +73,12 @@ pub data AreTold (rules : Rules) (db : List Metadata) (number : Option Reading) 
   next : (column : Extra) (columns : List Extra) (text : List ℕ) (texts : Record) →
       IsTold rules db column number text → AreTold rules db number columns texts →
       AreTold rules db number (column ∷ columns) (text ∷ texts)
+
+-- entries of one prefix have one text
+abbrev pub HaveOneText : List Entry → Type 0
+HaveOneText entries = (a b : Entry) → Contains entries a → Contains entries b →
+    a.prefix ≡ b.prefix → a.text ≡ b.text
+
+-- so have those of each column's table
+abbrev pub EachHasOneText : List Extra → Type 0
+EachHasOneText extra = AllByRecursion (λ column. HaveOneText column.table.now) extra

@@ -1,5 +1,5 @@
 -- What a line is answered as a JSON object.
-use Rattle.std.specs.Prelude.{◌≡◌, ℕ, List, [], ◌∷◌, Option, Result, IfOk, codes, get_or}
+use Rattle.std.specs.Prelude.{◌≡◌, ℕ, List, [], ◌∷◌, Option, Some, Result, IfOk, codes, get_or}
 use Rattle.std.specs.Prelude.{String}
 use Rattle.std.specs.BTreeMap.{BTreeMap}
 use Rattle.std.specs.Str.{IsUtf8}
@@ -7,7 +7,9 @@ use Rattle.std.specs.declared.alloc.AllocError.{AllocError}
 use Rattle.std.specs.declared.alloc.Global.{Global}
 use Rattle.serde_json.specs.Data.{Data, Members, null, string, number, unsigned, object, member}
 use Rattle.serde_json.specs.Data.{no_members, put}
+use Rattle.serde_json.specs.Read.{read}
 use Rattle.serde_json.specs.View.{members_view}
+use Rattle.serde_json.specs.Written.{compact_text}
 use Rattle.serde_json.specs.declared.value.Value.{Value}
 use Rattle.phone_values.specs.declared.country.Id.{Id}
 use Rattle.phone_values.specs.declared.reading.Reading.{Reading}
@@ -63,3 +65,9 @@ pub data IsObject (rules : Rules) (db : List Metadata) (short : Option (List Met
   of_text : (number : Option Reading) (fields : Record) → IsUtf8 line →
       IsFieldAnswer rules db short hint line number fields →
       IsObject rules db short hint place line (object_of place (string line) fields)
+
+-- this text is that object, and what reads it reads that object
+abbrev pub IsObjectLine : Rules → List Metadata → Option (List Metadata) → Option Id → ℕ →
+    List ℕ → List ℕ → Type 0
+IsObjectLine rules db short hint place line text = (d : Data) ×
+    IsObject rules db short hint place line d × (text ≡ compact_text d) × (read text ≡ Some d)

@@ -13,6 +13,8 @@ use Rattle.phone_csv.specs.declared.first.FirstError.{FirstError}
 use Rattle.phone_csv.specs.declared.first.FirstError.TheVariants.{Absent, Input, Memory, Quote}
 use Rattle.phone_lines.specs.Ends.{Devices}
 use Rattle.phone_records.specs.declared.loader.Metadata.{Metadata}
+use Rattle.phone_values.specs.declared.country.Id.{Id}
+use Rattle.phone_values.specs.declared.rules.Rules.{Rules}
 use Rattle.phone_table.specs.Answers.{IsAnswer, IsOfOtherWidth}
 use Rattle.phone_table.specs.Counts.{TakesRows, counts_after, no_counts}
 use Rattle.phone_table.specs.Ends.{Ends, IsUntouched, SourceFails}
@@ -66,24 +68,27 @@ pub record LacksColumn (asked : Asked) (column : Column) (header : Record)
 -- a run over a table ends so, which its result tells: under a delimiter that is none nothing is
 -- read; without a header or a column that is asked for nothing is written; else as the run over
 -- its rows ends, each answered by the region that it names, and counted
-pub data RunEnds (db : List Metadata) (asked : Asked) (before after : Devices) :
-    Result Counts TableError → Type 0 where
+pub data RunEnds (rules : Rules) (db : List Metadata) (hint : Option Id) (asked : Asked)
+    (before after : Devices) : Result Counts TableError → Type 0 where
   no_delimiter : is_delimiter asked.delimiter ≡ false → after ≡ before →
-      RunEnds db asked before after (Err Delimiter)
+      RunEnds rules db hint asked before after (Err Delimiter)
   no_header : (e : FirstError) → is_delimiter asked.delimiter ≡ true →
       NoHeader asked.delimiter before after e → IsUntouched before after →
-      RunEnds db asked before after (Err (Header e))
+      RunEnds rules db hint asked before after (Err (Header e))
   no_column : (column : Column) (header : Row) → is_delimiter asked.delimiter ≡ true →
       LacksColumn asked column (fields_of header) before after →
-      IsUntouched before after → RunEnds db asked before after (Err (NoColumn column header))
+      IsUntouched before after →
+      RunEnds rules db hint asked before after (Err (NoColumn column header))
   whole : (header : Record) (columns : Columns) → is_delimiter asked.delimiter ≡ true →
       columns_in asked header ≡ Some columns →
-      Ends header (names_in asked) (IsAnswer db columns asked) (IsOfOtherWidth columns asked)
-      asked.delimiter before after (Ok tt) → (counts : Counts) → (after_header : State) →
-      (has_mark : Bool) → TakesRows counts_after (format_after asked.delimiter after_header)
-      has_mark (header ++ names_in asked) no_counts counts before.taken after.taken →
-      RunEnds db asked before after (Ok counts)
+      Ends header (names_in asked) (IsAnswer rules db hint columns asked)
+      (IsOfOtherWidth columns asked) asked.delimiter before after (Ok tt) →
+      (counts : Counts) → (after_header : State) → (has_mark : Bool) →
+      TakesRows counts_after (format_after asked.delimiter after_header) has_mark
+      (header ++ names_in asked) no_counts counts before.taken after.taken →
+      RunEnds rules db hint asked before after (Ok counts)
   broken_off : (header : Record) (columns : Columns) (e : RunError) →
       is_delimiter asked.delimiter ≡ true → columns_in asked header ≡ Some columns →
-      Ends header (names_in asked) (IsAnswer db columns asked) (IsOfOtherWidth columns asked)
-      asked.delimiter before after (Err e) → RunEnds db asked before after (Err (Rows e))
+      Ends header (names_in asked) (IsAnswer rules db hint columns asked)
+      (IsOfOtherWidth columns asked) asked.delimiter before after (Err e) →
+      RunEnds rules db hint asked before after (Err (Rows e))

@@ -14,12 +14,12 @@ use crate::names::push_three;
 use crate::objects::{Fields, parts_of};
 use crate::words::refusal_words;
 use csv::ByteRecord;
-use phone_choice::{Rules, facts_by, parse_by, texts_by};
+use phone_engine::Engine;
 use phone_plans::Plans;
 use phone_short::{ShortKind, short_kind};
 use phonenumber::country::Id;
 use phonenumber::{Facts, FormatError, PhoneNumber, Texts};
-use std::alloc::{AllocError, Global};
+use std::alloc::AllocError;
 
 /// What is known of a number that was read.
 #[derive(Drop)]
@@ -41,52 +41,48 @@ pub enum Answer {
     Refused(&'static str),
 }
 
-/// What a field is answered, its number read and described by these rules. A field that is empty,
-/// or white space alone, is refused as `empty`. Where there is a database of short numbers and a
-/// hint, an emergency number of the hint's region is always answered as one, and another short
-/// number of it as one where no valid number is read. Refused only for memory.
+/// What a field is answered, its number read and described by this engine. A field that is empty,
+/// or white space alone, is refused as `empty`. Where there is a database of short numbers and the
+/// engine has a hint, an emergency number of the hint's region is always answered as one, and
+/// another short number of it as one where no valid number is read. Refused only for memory.
 pub fn answer_to(
-    alloc: Global,
-    rules: Rules,
-    database: &Plans,
+    engine: Engine<'_>,
     short: Option<&Plans>,
-    hint: Option<Id>,
     field: &[u8],
 ) -> Result<Answer, AllocError>
-    ensures answer { IfOk result (λ a. IsFieldAnswer rules database.now
-        (option_map (λ d. d.now) short.entry) hint field.now (number_in a) (spelled a)) }
-    ensures known { IfOk result (λ a. IsKnownIn rules database.now a) }
+    ensures answer { IfOk result (λ a. IsFieldAnswer engine.entry.rules engine.entry.database.now
+        (option_map (λ d. d.now) short.entry) engine.entry.hint field.now (number_in a)
+        (spelled a)) }
+    ensures known { IfOk result (λ a. IsKnownIn engine.entry.rules engine.entry.database.now a) }
 {
     match std::str::from_utf8(field) {
-        Ok(text) => answer_to_text(alloc, rules, database, short, hint, text),
+        Ok(text) => answer_to_text(engine, short, text),
         Err(_) => Ok(Answer::Refused("not UTF-8")),
     }
 }
 
 /// What a text is answered. Refused only for memory.
 fn answer_to_text(
-    alloc: Global,
-    rules: Rules,
-    database: &Plans,
+    engine: Engine<'_>,
     short: Option<&Plans>,
-    hint: Option<Id>,
     text: &str,
 ) -> Result<Answer, AllocError>
-    ensures answer { IfOk result (λ a. IsTextAnswer rules database.now
-        (option_map (λ d. d.now) short.entry) hint text.now (number_in a) (spelled a)) }
-    ensures known { IfOk result (λ a. IsKnownIn rules database.now a) }
+    ensures answer { IfOk result (λ a. IsTextAnswer engine.entry.rules engine.entry.database.now
+        (option_map (λ d. d.now) short.entry) engine.entry.hint text.now (number_in a)
+        (spelled a)) }
+    ensures known { IfOk result (λ a. IsKnownIn engine.entry.rules engine.entry.database.now a) }
 {
-    match short_in(short, hint, text)? {
+    match short_in(short, engine.hint, text)? {
         Some((region, ShortKind::Emergency)) => Ok(Answer::Short(region, ShortKind::Emergency)),
         Some((region, ShortKind::ShortNumber)) => {
-            let reply = reply_to(alloc, rules, database, hint, text)?;
+            let reply = reply_to(engine, text)?;
             if is_valid(&reply) {
                 Ok(reply)
             } else {
                 Ok(Answer::Short(region, ShortKind::ShortNumber))
             }
         }
-        None => reply_to(alloc, rules, database, hint, text),
+        None => reply_to(engine, text),
     }
 }
 
@@ -120,25 +116,19 @@ fn is_valid(answer: &Answer) -> bool
 }
 
 /// How a text is answered as a number. Refused only for memory.
-fn reply_to(
-    alloc: Global,
-    rules: Rules,
-    database: &Plans,
-    hint: Option<Id>,
-    text: &str,
-) -> Result<Answer, AllocError>
-    ensures reply { IfOk result (λ a. IsReply rules database.now hint text.now (number_in a)
-        (spelled a)) }
-    ensures known { IfOk result (λ a. IsKnownIn rules database.now a) }
+fn reply_to(engine: Engine<'_>, text: &str) -> Result<Answer, AllocError>
+    ensures reply { IfOk result (λ a. IsReply engine.entry.rules engine.entry.database.now
+        engine.entry.hint text.now (number_in a) (spelled a)) }
+    ensures known { IfOk result (λ a. IsKnownIn engine.entry.rules engine.entry.database.now a) }
 {
     if is_blank(text) {
         return Ok(Answer::Refused("empty"));
     }
-    let number = match parse_by(rules, database, hint, text) {
+    let number = match engine.parse(text) {
         Ok(number) => number,
         Err(error) => return Ok(Answer::Refused(refusal_words(error)?)),
     };
-    match known_of(alloc, rules, database, &number) {
+    match known_of(engine, &number) {
         Ok(known) => Ok(Answer::Number(number, known)),
         Err(FormatError::Memory) => Err(AllocError),
         Err(FormatError::UnknownCode) => unreachable!(),
@@ -154,21 +144,18 @@ fn is_blank(text: &str) -> bool
 
 /// What is known of a number. Refused by `UnknownCode` where no territory has its code, and by
 /// `Memory`.
-pub(crate) fn known_of(
-    alloc: Global,
-    rules: Rules,
-    database: &Plans,
-    number: &PhoneNumber,
-) -> Result<Known, FormatError>
+pub(crate) fn known_of(engine: Engine<'_>, number: &PhoneNumber) -> Result<Known, FormatError>
     ensures spelled { IfOk result (λ k. (m : loader.Metadata) ×
-        (first_of (territories number.now.code.value database.now) ≡ Some m) ×
-        (spelled_known k ≡ number_answer rules database.now m number.now)) }
-    ensures known { IfOk result (λ k. IsKnown rules database.now number.now k) }
+        (first_of (territories number.now.code.value engine.entry.database.now) ≡ Some m) ×
+        (spelled_known k ≡ number_answer engine.entry.rules engine.entry.database.now m
+        number.now)) }
+    ensures known { IfOk result
+        (λ k. IsKnown engine.entry.rules engine.entry.database.now number.now k) }
     ensures unknown { result ≡ Err FormatError.UnknownCode →
-        first_of (territories number.now.code.value database.now) ≡ None }
+        first_of (territories number.now.code.value engine.entry.database.now) ≡ None }
 {
-    let texts = texts_by(alloc, rules, database, number)?;
-    match facts_by(rules, database, number) {
+    let texts = engine.texts(number)?;
+    match engine.facts(number) {
         Ok(facts) => Ok(Known { texts, facts }),
         Err(_) => Err(FormatError::Memory),
     }

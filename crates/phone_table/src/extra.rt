@@ -13,7 +13,7 @@ ghost use Rattle.phone_table.specs.Spelled.{IsKnownIn, number_in};
 use crate::answer::Answer;
 use csv::ByteRecord;
 use itoa::Buffer;
-use phone_choice::Rules;
+use phone_engine::Engine;
 use phone_maps::{Owner, has_carrier, is_geographical};
 use phone_plans::Plans;
 use phone_prefixes::Prefixes;
@@ -158,14 +158,15 @@ fn behind_plus(text: &str) -> &str
 }
 
 /// What a column tells of an answer: nothing where no number was read.
-fn told_by<'a>(rules: Rules, database: &Plans, column: &Extra<'a>, answer: &Answer) -> &'a str
-    requires { IsKnownIn rules database.now answer.now }
-    ensures { IsTold rules database.now column.now (number_in answer.now) result.now }
+fn told_by<'a>(engine: Engine<'_>, column: &Extra<'a>, answer: &Answer) -> &'a str
+    requires { IsKnownIn engine.rules engine.database.now answer.now }
+    ensures { IsTold engine.entry.rules engine.entry.database.now column.now (number_in answer.now)
+        result.now }
 {
     match answer {
         Answer::Number(number, known) => {
             let digits = behind_plus(known.texts.e164.as_str());
-            found(database, column, number, known.facts, digits)
+            found(engine.database, column, number, known.facts, digits)
         }
         Answer::Short(_, _) | Answer::Refused(_) => "",
     }
@@ -173,21 +174,20 @@ fn told_by<'a>(rules: Rules, database: &Plans, column: &Extra<'a>, answer: &Answ
 
 /// Puts what columns tell of an answer behind the fields of a record. Refused only for memory.
 pub(crate) fn push_told(
+    engine: Engine<'_>,
     fields: &mut ByteRecord,
-    rules: Rules,
-    database: &Plans,
     extra: &[Extra<'_>],
     answer: &Answer,
 ) -> Result<(), AllocError>
     requires partial { partial_of fields.old ≡ [] }
-    requires known { IsKnownIn rules database.now answer.now }
+    requires known { IsKnownIn engine.rules engine.database.now answer.now }
     ensures told { OnOk result ((told : Record) ×
-        AreTold rules database.now (number_in answer.now) extra.now told ×
+        AreTold engine.entry.rules engine.entry.database.now (number_in answer.now) extra.now told ×
         (fields_of fields.new ≡ fields_of fields.old ++ told)) }
     ensures partial { OnOk result (partial_of fields.new ≡ []) }
 {
     'columns: for column in extra {
-        let text = told_by(rules, database, column, answer);
+        let text = told_by(engine, column, answer);
         fields.push_field(text.as_bytes())?;
     }
     Ok(())

@@ -15,8 +15,7 @@ use crate::names::push_three;
 use crate::objects::{Fields, object_with, parts_of_known, with_answer, with_number, with_text};
 use csv::ByteRecord;
 use itoa::Buffer;
-use phone_choice::Rules;
-use phone_plans::Plans;
+use phone_engine::Engine;
 use phonenumber::{FormatError, PhoneNumber};
 use serde_json::{Map, Value};
 use std::alloc::{AllocError, Global};
@@ -33,23 +32,22 @@ pub struct Spot<'a> {
 }
 
 /// The JSON text of a number that was found in a text, on one line: an object of its line and
-/// column, the piece of the text, the fields that a table's answer has by these rules (`e164`,
+/// column, the piece of the text, the fields that a table's answer has by this engine (`e164`,
 /// `international`, `national`, `type`, `region`, `validity`), and its `extension`, which is empty
 /// where it has none. `UnknownCode` where the database lists no territory of the code; `Memory`
 /// where memory was refused.
 pub fn found_object(
-    alloc: Global,
-    rules: Rules,
-    database: &Plans,
+    engine: Engine<'_>,
     spot: Spot<'_>,
     number: &PhoneNumber,
 ) -> Result<String, FormatError>
-    ensures object { IfOk result (λ s.
-        IsFoundObject rules database.now spot.entry number.now (string_bytes s)) }
+    ensures object { IfOk result (λ s. IsFoundObject engine.entry.rules engine.entry.database.now
+        spot.entry number.now (string_bytes s)) }
     ensures unknown { result ≡ Err FormatError.UnknownCode →
-        first_of (territories number.now.code.value database.now) ≡ None }
+        first_of (territories number.now.code.value engine.entry.database.now) ≡ None }
 {
-    let known = known_of(alloc, rules, database, number)?;
+    let known = known_of(engine, number)?;
+    let alloc = engine.database.allocator();
     match text_of_found(alloc, spot, extension_of(number), parts_of_known(&known)) {
         Ok(text) => Ok(text),
         Err(_) => Err(FormatError::Memory),
@@ -61,23 +59,21 @@ pub fn found_object(
 /// none, and the piece of the text. `UnknownCode` where the database lists no territory of the
 /// code; `Memory` where memory was refused.
 pub fn push_found(
-    alloc: Global,
-    rules: Rules,
-    database: &Plans,
+    engine: Engine<'_>,
     spot: Spot<'_>,
     number: &PhoneNumber,
     row: &mut ByteRecord,
 ) -> Result<(), FormatError>
     requires { records.partial_of row.old ≡ [] }
     ensures fields { OnOk result ((fields : Record) ×
-        IsFoundRecord rules database.now spot.entry number.now fields ×
+        IsFoundRecord engine.entry.rules engine.entry.database.now spot.entry number.now fields ×
         (records.fields_of row.new ≡ records.fields_of row.old ++ fields)) }
     ensures unknown { result ≡ Err FormatError.UnknownCode →
-        first_of (territories number.now.code.value database.now) ≡ None }
+        first_of (territories number.now.code.value engine.entry.database.now) ≡ None }
     ensures kept { result ≡ Err FormatError.UnknownCode →
         records.fields_of row.new ≡ records.fields_of row.old }
 {
-    let known = known_of(alloc, rules, database, number)?;
+    let known = known_of(engine, number)?;
     match push_spot(row, spot, extension_of(number), parts_of_known(&known)) {
         Ok(()) => Ok(()),
         Err(_) => Err(FormatError::Memory),

@@ -1,6 +1,9 @@
-//! What holds of answers. These functions do nothing; their contracts are the statements.
-ghost use Rattle.std.specs.Prelude.{◌≡◌, ℕ, List, None, Option, Some, chars};
+//! What holds of answers. These functions do nothing, but for those that read a text to show that
+//! it has an answer; their contracts are the statements.
+ghost use Rattle.std.specs.Prelude.{◌≡◌, ◌⊎◌, ℕ, List, None, Option, Some, chars};
 ghost use Rattle.std.specs.Str.{IsUtf8};
+ghost use Rattle.csv.specs.Records.{fields_of};
+ghost use Rattle.serde_json.specs.Data.{Data};
 ghost use Rattle.phone_values.specs.declared.country.Id.{Id};
 ghost use Rattle.phone_values.specs.declared.reading.Reading.{Reading};
 ghost use Rattle.phone_csv.specs.Formats.{Record};
@@ -8,8 +11,20 @@ ghost use Rattle.phone_values.specs.declared.rules.Rules.{Rules};
 ghost use Rattle.phone_records.specs.declared.loader.Metadata as loader;
 ghost use Rattle.phone_short.specs.Regions.{short_kind};
 ghost use Rattle.phone_short.specs.declared.kind.ShortKind.TheVariants as kind;
-ghost use Rattle.phone_table.specs.Answers.{IsFieldAnswer};
+ghost use Rattle.phone_prefixes.specs.Tables.{Entry, IsTable};
+ghost use Rattle.phone_table.specs.Answers.{IsAnswer, IsFieldAnswer, IsOfOtherWidth};
+ghost use Rattle.phone_table.specs.Answers.{IsSevenAnswer};
+ghost use Rattle.phone_table.specs.Extras.{EachHasOneText, HaveOneText};
+ghost use Rattle.phone_table.specs.Objects.{IsObject, IsObjectLine};
 ghost use Rattle.phone_table.specs.Shorts.{short_answer};
+ghost use Rattle.phone_table.specs.declared.header.Columns as header;
+ghost use Rattle.phone_table.specs.declared.run.Asked as run;
+
+use crate::header::Columns;
+use crate::run::Asked;
+use crate::table::{field_in, region_of};
+use csv::ByteRecord;
+use phone_engine::laws::some_reading;
 
 /// A field that is an emergency number of the hint's region is answered as one, whatever number
 /// could be read in it.
@@ -20,3 +35,79 @@ pub fn emergency_alone()
         IsFieldAnswer rules db (Some short) (Some region) field number answer →
         (number ≡ None) × (answer ≡ short_answer region kind.Emergency) }
 {}
+
+/// By either rules a field has one answer at most, which is of one number or of none, under each
+/// database, database of short numbers and hint.
+pub fn one_answer()
+    ensures { (rules : Rules) (db : List loader.Metadata) (short : Option (List loader.Metadata))
+        (hint : Option Id) (field : List ℕ) (n k : Option Reading) (a b : Record) →
+        IsFieldAnswer rules db short hint field n a →
+        IsFieldAnswer rules db short hint field k b → (n ≡ k) × (a ≡ b) }
+{}
+
+/// By either rules a record has one answer at most: seven fields, which are of one number or of
+/// none, and, where in the table of each column that is asked for a prefix has one text, what these
+/// columns tell.
+pub fn one_row()
+    ensures seven { (rules : Rules) (db : List loader.Metadata) (hint : Option Id)
+        (columns : header.Columns) (asked : run.Asked) (fields : Record) (n k : Option Reading)
+        (a b : Record) → IsSevenAnswer rules db hint columns asked fields n a →
+        IsSevenAnswer rules db hint columns asked fields k b → (n ≡ k) × (a ≡ b) }
+    ensures whole { (rules : Rules) (db : List loader.Metadata) (hint : Option Id)
+        (columns : header.Columns) (asked : run.Asked) (fields a b : Record) →
+        EachHasOneText asked.extra.now → IsAnswer rules db hint columns asked fields a →
+        IsAnswer rules db hint columns asked fields b → a ≡ b }
+{}
+
+/// By either rules each field has an answer, under each database, database of short numbers and
+/// hint. The body reads the text, since the contract of reading shows that the text has a reading.
+pub fn some_answer(field: &[u8])
+    ensures { (rules : Rules) (db : List loader.Metadata) (short : Option (List loader.Metadata))
+        (hint : Option Id) → (number : Option Reading) × (answer : Record) ×
+        IsFieldAnswer rules db short hint field.now number answer }
+{
+    if let Ok(text) = std::str::from_utf8(field) {
+        some_reading(text);
+    }
+}
+
+/// By either rules each record has an answer, under each database and hint, but for one that has
+/// another count of fields than the table has columns, where such aren't marked.
+pub fn some_row(columns: Columns, asked: Asked<'_>, fields: &ByteRecord)
+    ensures { (rules : Rules) (db : List loader.Metadata) (hint : Option Id) →
+        ((answer : Record) ×
+        IsAnswer rules db hint columns asked.entry (fields_of fields.now) answer) ⊎
+        IsOfOtherWidth columns asked.entry (fields_of fields.now) }
+{
+    let _named = region_of(columns, fields);
+    some_answer(field_in(fields, columns.number));
+}
+
+/// In each table of prefixes that was loaded a prefix has one text.
+pub fn loaded_tables()
+    ensures { (bytes : List ℕ) (entries : List Entry) → IsTable bytes entries →
+        HaveOneText entries }
+{}
+
+/// By either rules a line has one object at most, and one text of it, under each database, database
+/// of short numbers and hint.
+pub fn one_object()
+    ensures object { (rules : Rules) (db : List loader.Metadata)
+        (short : Option (List loader.Metadata)) (hint : Option Id) (place : ℕ) (line : List ℕ)
+        (d e : Data) → IsObject rules db short hint place line d →
+        IsObject rules db short hint place line e → d ≡ e }
+    ensures text { (rules : Rules) (db : List loader.Metadata)
+        (short : Option (List loader.Metadata)) (hint : Option Id) (place : ℕ)
+        (line a b : List ℕ) → IsObjectLine rules db short hint place line a →
+        IsObjectLine rules db short hint place line b → a ≡ b }
+{}
+
+/// By either rules each line has an object, whatever its number, under each database, database of
+/// short numbers and hint.
+pub fn some_object(line: &[u8])
+    ensures { (rules : Rules) (db : List loader.Metadata) (short : Option (List loader.Metadata))
+        (hint : Option Id) (place : ℕ) →
+        (d : Data) × IsObject rules db short hint place line.now d }
+{
+    some_answer(line);
+}

@@ -1,20 +1,16 @@
 //! What a line is answered, as a JSON object.
-ghost use Rattle.std.specs.Prelude.{◌≡◌, ◌∷◌, ℕ, [], Some, IfOk, option_map, string_bytes};
-ghost use Rattle.std.specs.Str.{IsUtf8};
+ghost use Rattle.std.specs.Prelude.{◌≡◌, ◌∷◌, [], IfOk, option_map, string_bytes};
 ghost use Rattle.serde_json.specs.Data.{Data, null, put, string, unsigned};
 ghost use Rattle.serde_json.specs.Data as json;
-ghost use Rattle.serde_json.specs.Read.{read};
 ghost use Rattle.serde_json.specs.View.{view};
-ghost use Rattle.serde_json.specs.Written.{compact_text};
 ghost use Rattle.phone_table.specs.Spelled.{spelled, spelled_known};
-ghost use Rattle.phone_table.specs.Objects.{AreMade, IsObject, object_of, spelled_by};
-ghost use Rattle.phone_table.specs.Objects.{with_answer};
+ghost use Rattle.phone_table.specs.Objects.{AreMade, IsObject, IsObjectLine, object_of};
+ghost use Rattle.phone_table.specs.Objects.{spelled_by, with_answer};
 
 use crate::answer::{Answer, Known, answer_to};
-use phone_choice::Rules;
+use phone_engine::Engine;
+use phone_engine::words::{kind_word, region_word, validity_word};
 use phone_plans::Plans;
-use phonenumber::country::Id;
-use phonenumber::report::{kind_word, region_word, validity_word};
 use serde_json::{Map, Value};
 use std::alloc::{AllocError, Global};
 
@@ -30,7 +26,7 @@ pub(crate) struct Fields<'a> {
     pub refusal: &'a str,
 }
 
-/// The JSON text of a line's answer by these rules, on one line: an object of the line's number,
+/// The JSON text of a line's answer by this engine, on one line: an object of the line's number,
 /// which the caller counts, its text, and the fields that a table's answer has (`e164`,
 /// `international`, `national`, `type`, `region`, `validity`, `refusal`), each a text. A field that
 /// there is none for is empty, but a region that is none is a hyphen, as in a table. The text is
@@ -39,40 +35,31 @@ pub(crate) struct Fields<'a> {
 /// and another short number of it the type `ShortNumber` where no valid number is read; each has
 /// the hint's region, is `valid`, and has no other field. Refused only for memory.
 pub fn object_line(
-    alloc: Global,
-    rules: Rules,
-    database: &Plans,
+    engine: Engine<'_>,
     short: Option<&Plans>,
-    hint: Option<Id>,
     place: u64,
     line: &[u8],
 ) -> Result<String, AllocError>
-    ensures text { IfOk result (λ s. (d : Data) ×
-        IsObject rules database.now (option_map (λ d. d.now) short.entry) hint place line.now d ×
-        (string_bytes s ≡ compact_text d)) }
-    ensures read_back { IfOk result (λ s. (d : Data) ×
-        IsObject rules database.now (option_map (λ d. d.now) short.entry) hint place line.now d ×
-        (read (string_bytes s) ≡ Some d)) }
+    ensures { IfOk result (λ s. IsObjectLine engine.entry.rules engine.entry.database.now
+        (option_map (λ d. d.now) short.entry) engine.entry.hint place line.now (string_bytes s)) }
 {
-    let object = object(alloc, rules, database, short, hint, place, line)?;
-    object.to_string(alloc)
+    let object = object(engine, short, place, line)?;
+    object.to_string(engine.database.allocator())
 }
 
 /// The object of a line.
 fn object(
-    alloc: Global,
-    rules: Rules,
-    database: &Plans,
+    engine: Engine<'_>,
     short: Option<&Plans>,
-    hint: Option<Id>,
     place: u64,
     line: &[u8],
 ) -> Result<Value, AllocError>
-    ensures { IfOk result (λ v. IsObject rules database.now (option_map (λ d. d.now) short.entry)
-        hint place line.now (view v)) }
+    ensures { IfOk result (λ v. IsObject engine.entry.rules engine.entry.database.now
+        (option_map (λ d. d.now) short.entry) engine.entry.hint place line.now (view v)) }
 {
-    let answer = answer_to(alloc, rules, database, short, hint, line)?;
+    let answer = answer_to(engine, short, line)?;
     let fields = parts_of(&answer);
+    let alloc = engine.database.allocator();
     match std::str::from_utf8(line) {
         Ok(text) => object_of_text(alloc, place, text, fields),
         Err(_) => object_without_text(alloc, place, fields),

@@ -8,26 +8,21 @@ use crate::header::{Column, columns_of};
 use crate::rows::write_rows;
 use crate::table::Table;
 use csv::ByteRecord;
-use phone_choice::Rules;
 use phone_csv::{FirstError, RunError, first_record, is_delimiter};
 use phone_device::{ByteSink, ByteSource};
+use phone_engine::Engine;
 use phone_plans::Plans;
-use phonenumber::country::Id;
 
 /// What is asked of a table.
 #[derive(Clone, Copy)]
 pub struct Asked<'a> {
-    /// By whose rules the numbers are read and described.
-    pub rules: Rules,
     /// The name of the column of the numbers.
     pub number: &'a str,
     /// The name of the column of the regions, where there is one.
     pub region: Option<&'a str>,
     /// The byte between fields: any but a quote and a line end.
     pub delimiter: u8,
-    /// The region under which a record is read that names none.
-    pub hint: Option<Id>,
-    /// Whether a record is read so too that names no region that there is.
+    /// Whether a record is read under the engine's hint where it names no region that there is.
     pub else_hint: bool,
     /// Whether a record with another count of fields than the header is given back with a refusal,
     /// and doesn't end the run.
@@ -61,19 +56,19 @@ pub enum TableError {
 /// number of records. It gives how many records there were, and how many of them were answered
 /// otherwise than by a valid number.
 ///
-/// The answer to a number, which is read and described by the rules that are asked for: what each
-/// column that is asked for tells of it, empty where its table has nothing; its texts in three
-/// modes, its kind, the id of its region or `-`, `valid` or `invalid`, and an empty field. That to
-/// a refusal has its words in the last field alone: to bytes that aren't UTF-8 `not UTF-8`, to a
-/// field that is empty, or white space alone, `empty`. Where there is a database of short numbers,
-/// that to an emergency number of the region under which the record is read has `Emergency` for the
-/// kind, that region, `valid`, and nothing else; and that to another short number `ShortNumber`,
-/// where no valid number is read.
+/// The answer to a number, which is read and described by the engine: what each column that is
+/// asked for tells of it, empty where its table has nothing; its texts in three modes, its kind,
+/// the id of its region or `-`, `valid` or `invalid`, and an empty field. That to a refusal has its
+/// words in the last field alone: to bytes that aren't UTF-8 `not UTF-8`, to a field that is empty,
+/// or white space alone, `empty`. Where there is a database of short numbers, that to an emergency
+/// number of the region under which the record is read has `Emergency` for the kind, that region,
+/// `valid`, and nothing else; and that to another short number `ShortNumber`, where no valid number
+/// is read.
 ///
 /// A record is read under the region whose id stands in its column of regions, in capital or small
-/// letters, with or without white space around; under the hint where that field is empty. Where the
-/// field holds anything else, the number is refused with the words `unknown region`, and the run
-/// goes on; with `else_hint` the number is read under the hint.
+/// letters, with or without white space around; under the engine's hint where that field is empty.
+/// Where the field holds anything else, the number is refused with the words `unknown region`, and
+/// the run goes on; with `else_hint` the number is read under the engine's hint.
 ///
 /// Errors: `Delimiter`, before anything is read; `Header` where there is no header, and `NoColumn`
 /// where the header lacks a column, before anything is written; after the header was written `Rows`
@@ -83,12 +78,13 @@ pub enum TableError {
 /// `Rows` and `Header` have `Quote` where the table ends between quotes, with the line of the quote
 /// that is never closed, counted from 1.
 pub fn write_table<S: ByteSource, W: ByteSink>(
-    database: &Plans,
+    engine: Engine<'_>,
     asked: Asked<'_>,
     source: &mut S,
     sink: &mut W,
 ) -> Result<Counts, TableError>
-    ensures ends { RunEnds database.now asked.entry
+    ensures ends { RunEnds engine.entry.rules engine.entry.database.now engine.entry.hint
+        asked.entry
         (seen (S.to_come source.old) (S.faults source.old) (W.taken sink.old)
         (W.faults sink.old) (W.unflushed sink.old))
         (seen (S.to_come source.new) (S.faults source.new) (W.taken sink.new)
@@ -98,7 +94,7 @@ pub fn write_table<S: ByteSource, W: ByteSink>(
     if !is_delimiter(asked.delimiter) {
         return Err(TableError::Delimiter);
     }
-    let alloc = database.allocator();
+    let alloc = engine.database.allocator();
     let first = match first_record(alloc, asked.delimiter, source) {
         Ok(first) => first,
         Err(error) => return Err(TableError::Header(error)),
@@ -108,7 +104,7 @@ pub fn write_table<S: ByteSource, W: ByteSink>(
         Err(column) => return Err(TableError::NoColumn(column, first.fields)),
     };
     let table = Table {
-        database,
+        engine,
         asked,
         columns,
     };

@@ -16,15 +16,15 @@ use crate::region::{Named, hint_under, region_named};
 use crate::run::Asked;
 use csv::ByteRecord;
 use phone_csv::{Answers, Refusal};
-use phone_plans::Plans;
+use phone_engine::Engine;
 use std::alloc::{AllocError, Global};
 use std::marker::Model;
 
-/// What answers the records of a table under a database, by what is asked of it.
+/// What answers the records of a table: an engine, by what is asked of it.
 #[derive(Clone, Copy)]
 pub struct Table<'d> {
-    /// The database that reads, prints and tells.
-    pub database: &'d Plans,
+    /// What reads, prints and tells; its region is that of a record that names none.
+    pub engine: Engine<'d>,
     /// What is asked of the table.
     pub asked: Asked<'d>,
     /// Its columns.
@@ -32,49 +32,43 @@ pub struct Table<'d> {
 }
 
 impl<'d> Table<'d> {
-    /// What a record names as its region.
-    fn region_of(&self, fields: &ByteRecord) -> Named
-        ensures { RecordNames self.now.columns.region (fields_of fields.now) result }
-    {
-        match self.columns.region {
-            Some(column) => region_named(field_in(fields, column)),
-            None => Named::Nothing,
-        }
-    }
-
     /// The answer to a record. Refused only for memory.
-    fn answer_to_record(&self, alloc: Global, fields: &ByteRecord) -> Result<Answer, AllocError>
-        ensures answer { IfOk result (λ a. IsNumberAnswer self.now.database.now self.now.columns
-            self.now.asked (fields_of fields.now) (number_in a) (spelled a)) }
-        ensures known { IfOk result (λ a. IsKnownIn self.now.asked.rules self.now.database.now a) }
+    fn answer_to_record(&self, fields: &ByteRecord) -> Result<Answer, AllocError>
+        ensures answer { IfOk result (λ a. IsNumberAnswer self.now.engine.rules
+            self.now.engine.database.now self.now.engine.hint self.now.columns self.now.asked
+            (fields_of fields.now) (number_in a) (spelled a)) }
+        ensures known { IfOk result
+            (λ a. IsKnownIn self.now.engine.rules self.now.engine.database.now a) }
     {
-        let named = self.region_of(fields);
-        let Some(hint) = hint_under(self.asked.else_hint, self.asked.hint, named) else {
+        let named = region_of(self.columns, fields);
+        let Some(hint) = hint_under(self.asked.else_hint, self.engine.hint, named) else {
             return Ok(Answer::Refused("unknown region"));
         };
-        let field = field_in(fields, self.columns.number);
-        answer_to(
-            alloc,
-            self.asked.rules,
-            self.database,
-            self.asked.short,
+        let engine = Engine {
             hint,
-            field,
+            ..self.engine
+        };
+        answer_to(
+            engine,
+            self.asked.short,
+            field_in(fields, self.columns.number),
         )
     }
 
     /// The answer to a record, whatever the count of its fields; or why it isn't answered.
-    fn answer_or_refusal(&self, alloc: Global, fields: &ByteRecord) -> Result<Answer, Refusal>
-        ensures answer { IfOk result (λ a. IsSevenAnswer self.now.database.now self.now.columns
-            self.now.asked (fields_of fields.now) (number_in a) (spelled a)) }
-        ensures known { IfOk result (λ a. IsKnownIn self.now.asked.rules self.now.database.now a) }
+    fn answer_or_refusal(&self, fields: &ByteRecord) -> Result<Answer, Refusal>
+        ensures answer { IfOk result (λ a. IsSevenAnswer self.now.engine.rules
+            self.now.engine.database.now self.now.engine.hint self.now.columns self.now.asked
+            (fields_of fields.now) (number_in a) (spelled a)) }
+        ensures known { IfOk result
+            (λ a. IsKnownIn self.now.engine.rules self.now.engine.database.now a) }
         ensures refused { result ≡ Err Refusal.Record →
             IsOfOtherWidth self.now.columns self.now.asked (fields_of fields.now) }
     {
         if fields.len() != self.columns.width {
             return self.marked();
         }
-        match self.answer_to_record(alloc, fields) {
+        match self.answer_to_record(fields) {
             Ok(answer) => Ok(answer),
             Err(_) => Err(Refusal::Memory),
         }
@@ -85,7 +79,8 @@ impl<'d> Table<'d> {
         ensures marked { IfOk result (λ a. (self.now.asked.mark_bad ≡ true) ×
             (spelled a ≡ refused_answer (codes "wrong count of fields"))) }
         ensures no_number { IfOk result (λ a. number_in a ≡ None) }
-        ensures known { IfOk result (λ a. IsKnownIn self.now.asked.rules self.now.database.now a) }
+        ensures known { IfOk result
+            (λ a. IsKnownIn self.now.engine.rules self.now.engine.database.now a) }
         ensures refused { IfErr result (λ e. (self.now.asked.mark_bad ≡ false) ×
             (e ≡ Refusal.Record)) }
     {
@@ -100,14 +95,24 @@ impl<'d> Table<'d> {
     /// those of a record. Refused only for memory.
     fn push_row(&self, fields: &mut ByteRecord, answer: &Answer) -> Result<(), AllocError>
         requires partial { partial_of fields.old ≡ [] }
-        requires known { IsKnownIn self.now.asked.rules self.now.database.now answer.now }
-        ensures { OnOk result ((told : Record) × AreTold self.now.asked.rules self.now.database.now
-            (number_in answer.now) self.now.asked.extra.now told ×
+        requires known { IsKnownIn self.now.engine.rules self.now.engine.database.now answer.now }
+        ensures { OnOk result ((told : Record) ×
+            AreTold self.now.engine.rules self.now.engine.database.now (number_in answer.now)
+            self.now.asked.extra.now told ×
             (fields_of fields.new ≡ fields_of fields.old ++ (told ++ spelled answer.now))) }
     {
-        let Asked { rules, extra, .. } = self.asked;
-        push_told(fields, rules, self.database, extra, answer)?;
+        push_told(self.engine, fields, self.asked.extra, answer)?;
         push_answer(fields, answer)
+    }
+}
+
+/// What a record of a table with these columns names as its region.
+pub(crate) fn region_of(columns: Columns, fields: &ByteRecord) -> Named
+    ensures { RecordNames columns.region (fields_of fields.now) result }
+{
+    match columns.region {
+        Some(column) => region_named(field_in(fields, column)),
+        None => Named::Nothing,
     }
 }
 
@@ -124,16 +129,16 @@ pub(crate) fn field_in(fields: &ByteRecord, column: usize) -> &[u8]
 impl<'d> Answers for Table<'d> {
     ghost use Rattle.phone_table.specs.Answers.{IsAnswer, IsOfOtherWidth};
 
-    ghost gives = { λ t fields answer.
-        IsAnswer t.database.now t.columns t.asked fields answer };
+    ghost gives = { λ t fields answer. IsAnswer t.engine.rules t.engine.database.now t.engine.hint
+        t.columns t.asked fields answer };
 
     ghost refuses = { λ t fields. IsOfOtherWidth t.columns t.asked fields };
 
     /// Puts what the columns that are asked for tell, and the seven fields of the answer, behind
     /// those of a record. A record with another count of fields than the table has columns isn't
     /// answered, unless such are marked.
-    fn answer(&self, alloc: Global, fields: &mut ByteRecord) -> Result<(), Refusal> {
-        let answer = match self.answer_or_refusal(alloc, fields) {
+    fn answer(&self, _alloc: Global, fields: &mut ByteRecord) -> Result<(), Refusal> {
+        let answer = match self.answer_or_refusal(fields) {
             Ok(answer) => answer,
             Err(refusal) => return Err(refusal),
         };

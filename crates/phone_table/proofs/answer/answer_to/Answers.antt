@@ -7,10 +7,10 @@ use Rattle.phone_table.proofs.answer.answer_to.Goals as goal
 
 pub returns-in-Ok-clause-answer : goal.returns-in-Ok-clause-answer
 returns-in-Ok-clause-answer c =
-    let by = c.args.rules in
-    let db = c.args.database.now in
+    let by = c.args.engine.rules in
+    let db = c.args.engine.database.now in
     let short = option_map (λ d. d.now) c.args.short in
-    let hint = c.args.hint in
+    let hint = c.args.engine.hint in
     IfOk-weaker c.answer_to_text.result (λ a. IsTextAnswer by db short hint c.in-Ok.text.now (number_in a) (spelled a))
     (λ a. IsFieldAnswer by db short hint c.args.field.now (number_in a) (spelled a))
     (λ a is. of_text (number_in a) (spelled a) c.in-Ok.ensures.cases.1

@@ -8,21 +8,21 @@ use Rattle.phone_table.proofs.answer.known_of.Goals as goal
 
 pub returns-in-Ok-clause-spelled : goal.returns-in-Ok-clause-spelled
 returns-in-Ok-clause-spelled c =
-    let db = c.args.database.now in
+    let db = c.args.engine.database.now in
     let n = c.args.number.now in
-    let p = printed_as c.args.rules n in
+    let p = printed_as c.args.engine.rules n in
     let t = c.in_ok-texts.ensures in
     let q = c.in-Ok.ensures in
     let h = three_texts (first_of (territories p.code.value db)) p _ _ _ t.e164 t.international t.national in (
       h.m,
-      ap (λ (k : Code). first_of (territories k.value db)) (sym (printed_code c.args.rules n)) ∙ h.first,
+      ap (λ (k : Code). first_of (territories k.value db)) (sym (printed_code c.args.engine.rules n)) ∙ h.first,
       same_seven _ _ _ _ _ _ _ _ _ _ _ _ h.e164 h.international h.national (ap kind_word q.kind) (ap region_word q.region) (ap validity_word q.is_valid),
     )
 
 pub returns-in-Ok-clause-known : goal.returns-in-Ok-clause-known
 returns-in-Ok-clause-known c =
-    let p = printed_as c.args.rules c.args.number.now in
+    let p = printed_as c.args.engine.rules c.args.number.now in
     let t = c.in_ok-texts.ensures in
     let q = c.in-Ok.ensures in
-    let h = three_texts (first_of (territories p.code.value c.args.database.now)) p _ _ _ t.e164 t.international t.national in
-    record { e164 = h.e164 ∙ printed_digits c.args.rules c.args.number.now; kind = q.kind; region = q.region; is_valid = q.is_valid }
+    let h = three_texts (first_of (territories p.code.value c.args.engine.database.now)) p _ _ _ t.e164 t.international t.national in
+    record { e164 = h.e164 ∙ printed_digits c.args.engine.rules c.args.number.now; kind = q.kind; region = q.region; is_valid = q.is_valid }

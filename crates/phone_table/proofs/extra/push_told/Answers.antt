@@ -10,8 +10,8 @@ use Rattle.phone_table.proofs.extra.push_told.Goals as goal
 
 pub columns-preserved : goal.columns-preserved
 columns-preserved c =
-    let rules = c.args.rules in
-    let db = c.args.database.now in
+    let rules = c.args.engine.rules in
+    let db = c.args.engine.database.now in
     let number = number_in c.args.answer.now in
     let extra = c.args.extra.now in
     let old = fields_of c.args.fields.now in
@@ -33,5 +33,5 @@ returns-clause-told c =
     let extra = c.args.extra.now in
     let at : c.columns.column-index ≡ length extra = omega (arith, c.columns-test.false, c.columns.auto.column-index-end) in
     let left : drop c.columns.column-index extra ≡ [] = ap (λ n. drop n extra) at ∙ drop-length extra in
-    let x = c.columns.invariant.told [] (subst (λ l. AreTold c.args.rules c.args.database.now (number_in c.args.answer.now) l []) (sym left) none) in
+    let x = c.columns.invariant.told [] (subst (λ l. AreTold c.args.engine.rules c.args.engine.database.now (number_in c.args.answer.now) l []) (sym left) none) in
     (x.0, x.1, sym (append-nil (fields_of c.columns.fields)) ∙ x.2)

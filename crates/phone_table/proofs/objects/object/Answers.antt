@@ -10,7 +10,7 @@ use Rattle.phone_table.proofs.objects.object.Goals as goal
 pub returns-in-Ok : goal.returns-in-Ok
 returns-in-Ok c =
     let place = c.args.place in
-    let is = IsObject c.args.rules c.args.database.now (option_map (λ d. d.now) c.args.short) c.args.hint place c.args.line.now in
+    let is = IsObject c.args.engine.rules c.args.engine.database.now (option_map (λ d. d.now) c.args.short) c.args.engine.hint place c.args.line.now in
     IfOk-weaker c.object_of_text.result _ (λ v. is (view v))
     (λ v e. subst is
     (sym (e ∙ ap₂ (λ t f. object_of place (string t) f) c.in-Ok.ensures.cases.0 c.parts_of-fields.ensures))
@@ -20,7 +20,7 @@ returns-in-Ok c =
 pub returns : goal.returns
 returns c =
     let place = c.args.place in
-    let is = IsObject c.args.rules c.args.database.now (option_map (λ d. d.now) c.args.short) c.args.hint place c.args.line.now in
+    let is = IsObject c.args.engine.rules c.args.engine.database.now (option_map (λ d. d.now) c.args.short) c.args.engine.hint place c.args.line.now in
     IfOk-weaker c.object_without_text.result _ (λ v. is (view v))
     (λ v e. subst is (sym (e ∙ ap (object_of place null) c.parts_of-fields.ensures))
     (no_text (number_in c.in_ok-answer.answer) (spelled c.in_ok-answer.answer) c.in-Err.ensures.cases.0 c.in_ok-answer.ensures.answer))

@@ -1,0 +1,211 @@
+-- Each record has an answer, and in each table of prefixes a text is found, or none.
+use Rattle.std.proofs.Common.{◌≡◌, ◌≢◌, ◌⊎◌, ⊎_elim, inl, inr, ℕ, ◌≤◌, Bool, true, false, List, []}
+use Rattle.std.proofs.Common.{◌∷◌, ◌++◌}
+use Rattle.std.proofs.Common.{take, drop, length, Option, None, Some, refl, sym, ap, subst, ◌∙◌}
+use Rattle.std.proofs.Common.{arith}
+use Rattle.std.proofs.Math.Seq.{take-append_seam}
+use Rattle.std.proofs.lemmas.Bool.{cases_eq, cases_lt}
+use Rattle.std.proofs.lemmas.List.{take-append-drop}
+use Rattle.std.proofs.lemmas.List.Elements.{Contains-append_left, Contains-append_cases}
+use Rattle.std.proofs.lemmas.List.Elements.{Contains-append_right, Contains-push}
+use Rattle.std.proofs.lemmas.List.Elements.{Contains-push_cases}
+use Rattle.std.specs.List.{Contains}
+use Rattle.phone_values.specs.declared.country.Id.{Id}
+use Rattle.phone_values.specs.declared.reading.Reading.{Reading}
+use Rattle.phone_values.specs.declared.rules.Rules.{Rules}
+use Rattle.phone_csv.specs.Formats.{Record}
+use Rattle.phone_engine.specs.Facts.{kind_by, region_by}
+use Rattle.phone_prefixes.proofs.Entries.{cases_text}
+use Rattle.phone_prefixes.specs.Marks.{Begins}
+use Rattle.phone_prefixes.specs.Tables.{AreEntries, Entry, IsLongest, IsTable, NoneBegins}
+use Rattle.phone_prefixes.specs.Tables.AreEntries.{none as no_entries, next as next_entry}
+use Rattle.phone_records.specs.declared.loader.Metadata.{Metadata}
+use Rattle.phone_table.specs.Answers.{IsAnswer, IsAnswerUnder, IsFieldAnswer, IsOfOtherWidth}
+use Rattle.phone_table.specs.Answers.{IsSevenAnswer, refused_answer, short_of}
+use Rattle.phone_table.specs.Extras.{AreTold, HaveOneText, IsFound, IsTold, looked_up}
+use Rattle.phone_table.specs.Extras.AreTold.{none, next}
+use Rattle.phone_table.specs.declared.extra.Extra.{Extra}
+use Rattle.phone_table.specs.declared.header.Columns.{Columns}
+use Rattle.phone_table.specs.declared.run.Asked.{Asked}
+use Rattle.phone_table.specs.Regions.{RecordNames, field_in, hint_under}
+use Rattle.phone_table.specs.declared.region.Named.{Named}
+
+-- a prefix begins a text, or it doesn't
+begins_or_not : (prefix text : List ℕ) → Begins prefix text ⊎ (Begins prefix text → ⊥)
+begins_or_not prefix text = ⊎_elim
+    (λ e. inl (
+      drop (length prefix) text,
+      sym (take-append-drop (length prefix) text)
+          ∙ ap (λ front. front ++ drop (length prefix) text) e,
+    ))
+    (λ other. inr (λ b. other (ap (take (length prefix)) b.1 ∙ take-append_seam prefix b.0)))
+    (cases_text (take (length prefix) text) prefix)
+
+nothing_in : (x : Entry) → Contains [] x → ⊥
+nothing_in x h = absurd (omega (arith, h.1))
+
+first_in : (e : Entry) (es : List Entry) → Contains (e ∷ es) e
+first_in e es = Contains-append_left (e ∷ []) es e (Contains-push [] e)
+
+later_in : (e : Entry) (es : List Entry) (x : Entry) → Contains es x → Contains (e ∷ es) x
+later_in e es x h = Contains-append_right (e ∷ []) es x h
+
+-- an entry of a list is the first one, or one of the others
+first_or : (e : Entry) (es : List Entry) (x : Entry) → Contains (e ∷ es) x → (e ≡ x) ⊎ Contains es x
+first_or e es x h = ⊎_elim
+    (λ first. ⊎_elim (λ none. absurd (nothing_in x none)) (λ is. inl is)
+    (Contains-push_cases [] e x first))
+    (λ later. inr later)
+    (Contains-append_cases (e ∷ []) es x h)
+
+-- the longest prefix that begins a text, or none
+abbrev HasLongest : List Entry → List ℕ → Type 0
+HasLongest entries text = ((e : Entry) × IsLongest entries text e) ⊎ NoneBegins entries text
+
+-- the first entry begins the text, and of the others this one is the longest
+longer : (e : Entry) (es : List Entry) (text : List ℕ) → Begins e.prefix text →
+    (l : Entry) → IsLongest es text l → HasLongest (e ∷ es) text
+longer e es text b l h = ⊎_elim
+    (λ less. inl (
+      e,
+      record {
+        is = first_in e es;
+        begins = b;
+        longest = λ x is begins. ⊎_elim
+            (λ same. omega (arith, ap (λ (y : Entry). length y.prefix) same))
+            (λ later. omega (arith, less, h.longest x later begins)) (first_or e es x is);
+      },
+    ))
+    (λ more. inl (
+      l,
+      record {
+        is = later_in e es l h.is;
+        begins = h.begins;
+        longest = λ x is begins. ⊎_elim
+            (λ same. omega (arith, more, ap (λ (y : Entry). length y.prefix) same))
+            (λ later. h.longest x later begins) (first_or e es x is);
+      },
+    ))
+    (cases_lt (length l.prefix) (length e.prefix))
+
+-- it alone begins the text
+alone : (e : Entry) (es : List Entry) (text : List ℕ) → Begins e.prefix text →
+    NoneBegins es text → HasLongest (e ∷ es) text
+alone e es text b none = inl (
+  e,
+  record {
+    is = first_in e es;
+    begins = b;
+    longest = λ x is begins. ⊎_elim
+        (λ same. omega (arith, ap (λ (y : Entry). length y.prefix) same))
+        (λ later. absurd (none x later begins)) (first_or e es x is);
+  },
+)
+
+-- it doesn't begin the text
+passed : (e : Entry) (es : List Entry) (text : List ℕ) → (Begins e.prefix text → ⊥) →
+    HasLongest es text → HasLongest (e ∷ es) text
+passed e es text other (inl (l, h)) = inl (
+  l,
+  record {
+    is = later_in e es l h.is;
+    begins = h.begins;
+    longest = λ x is begins. ⊎_elim
+        (λ same. absurd (other (subst (λ (y : Entry). Begins y.prefix text) (sym same) begins)))
+        (λ later. h.longest x later begins) (first_or e es x is);
+  },
+)
+passed e es text other (inr none) = inr (λ x is begins. ⊎_elim
+    (λ same. other (subst (λ (y : Entry). Begins y.prefix text) (sym same) begins))
+    (λ later. none x later begins) (first_or e es x is))
+
+has_longest : (entries : List Entry) (text : List ℕ) → HasLongest entries text
+has_longest [] text = inr (λ x is begins. nothing_in x is)
+has_longest (e ∷ es) text = by (begins_or_not e.prefix text) (has_longest es text)
+  where
+    by : Begins e.prefix text ⊎ (Begins e.prefix text → ⊥) → HasLongest es text →
+        HasLongest (e ∷ es) text
+    by (inl b) (inl (l, h)) = longer e es text b l h
+    by (inl b) (inr none) = alone e es text b none
+    by (inr other) h = passed e es text other h
+
+-- what a table has for digits, or for none
+found_some : (entries : List Entry) (o : Option (List ℕ)) → (text : List ℕ) × IsFound entries o text
+found_some entries None = ([], refl)
+found_some entries (Some digits) = by (has_longest entries digits)
+  where
+    by : HasLongest entries digits → (text : List ℕ) × IsFound entries (Some digits) text
+    by (inl (e, h)) = (e.text, inl (e.prefix, h))
+    by (inr none) = ([], inr (none, refl))
+
+-- where entries come one after the other, each with another prefix, a prefix has one text
+entries_one : (lines : List (List ℕ)) (entries : List Entry) → AreEntries lines entries →
+    HaveOneText entries
+entries_one _ _ no_entries a b h g e = absurd (nothing_in a h)
+entries_one _ _ (next_entry lines entries all line are more) a b h g e =
+    ⊎_elim (λ in_a. ⊎_elim (λ in_b. entries_one lines entries are a b in_a in_b e)
+    (λ is_b. absurd (more.other (a, in_a, e ∙ sym (ap (λ (x : Entry). x.prefix) is_b)))) (last b g))
+    (λ is_a. ⊎_elim
+    (λ in_b. absurd (more.other (b, in_b, sym e ∙ sym (ap (λ (x : Entry). x.prefix) is_a))))
+    (λ is_b. sym (ap (λ (x : Entry). x.text) is_a) ∙ ap (λ (x : Entry). x.text) is_b) (last b g))
+    (last a h)
+  where
+    last : (x : Entry) → Contains all x → Contains entries x ⊎ (more.entry ≡ x)
+    last x is = Contains-push_cases entries more.entry x (subst (λ xs. Contains xs x) more.all is)
+
+-- so in each table that was loaded
+pub loaded_one : (bytes : List ℕ) (entries : List Entry) → IsTable bytes entries →
+    HaveOneText entries
+loaded_one bytes entries (lines, cut, are) = entries_one lines entries are
+
+module _ (rules : Rules) (db : List Metadata) where
+  told_some : (column : Extra) (number : Option Reading) →
+      (text : List ℕ) × IsTold rules db column number text
+  told_some column None = ([], refl)
+  told_some column (Some n) = found_some column.table.now
+      (looked_up db column.told (kind_by rules db n) (region_by rules db n) n)
+
+  -- what columns tell of a number
+  all_told : (number : Option Reading) (columns : List Extra) →
+      (told : Record) × AreTold rules db number columns told
+  all_told number [] = ([], none)
+  all_told number (c ∷ cs) =
+      let t = told_some c number in
+      let ts = all_told number cs in
+      (t.0 ∷ ts.0, next c cs t.0 ts.0 t.1 ts.1)
+
+  module _ (hint : Option Id) (columns : Columns) (asked : Asked) (fields : Record) where
+    -- under each hint the record's field has an answer
+    abbrev pub HasAnswers : Type 0
+    HasAnswers = (own : Option Id) → (number : Option Reading) × (answer : Record) ×
+        IsFieldAnswer rules db (short_of asked) own (field_in fields columns.number) number answer
+
+    under_some : (o : Option (Option Id)) → HasAnswers →
+        (number : Option Reading) × (answer : Record) ×
+        IsAnswerUnder rules db (short_of asked) o (field_in fields columns.number) number answer
+    under_some None has = (None, _, (refl, refl))
+    under_some (Some own) has = has own
+
+    with_told : (n : Option Reading) (seven : Record) →
+        IsSevenAnswer rules db hint columns asked fields n seven →
+        (answer : Record) × IsAnswer rules db hint columns asked fields answer
+    with_told n seven is =
+        let t = all_told n asked.extra.now in
+        (t.0 ++ seven, (n, t.0, seven, is, t.1, refl))
+
+    -- a record of other width is marked, or isn't answered
+    of_other_width : (length fields ≡ columns.width → ⊥) → (b : Bool) → asked.mark_bad ≡ b →
+        ((answer : Record) × IsAnswer rules db hint columns asked fields answer) ⊎
+        IsOfOtherWidth columns asked fields
+    of_other_width other true e = inl (with_told None _ (inr (refl, (e, other, refl))))
+    of_other_width other false e = inr (e, other)
+
+    -- each record is answered, but for such
+    pub answer_some : (region : Named) → RecordNames columns.region fields region → HasAnswers →
+        ((answer : Record) × IsAnswer rules db hint columns asked fields answer) ⊎
+        IsOfOtherWidth columns asked fields
+    answer_some region named has = ⊎_elim
+        (λ width. let a = under_some (hint_under asked.else_hint hint region) has in
+        inl (with_told a.0 a.1 (inl (width, (region, named, a.2)))))
+        (λ other. of_other_width other asked.mark_bad refl)
+        (cases_eq (length fields) columns.width)
