@@ -1,22 +1,23 @@
 //! The calls that report on a line, read a number, print it, or tell something of it, by the rules
 //! of one's choice.
 ghost use Rattle.std.specs.Prelude.{◌≡◌, ◌⊎◌, ◌↔◌, ◌<◌, None, IsUtf8};
-ghost use Rattle.phone_c_base.specs.Answers.{IsKindBy, IsPrintedBy, IsRegionBy, IsUnprintedBy};
-ghost use Rattle.phone_c_base.specs.Answers.{IsValidityBy};
+ghost use Rattle.phone_engine.specs.ReportLines.{IsReportLine};
+ghost use Rattle.phone_c_base.specs.Answers.{IsKind, IsPrinted, IsRegion, IsUnprinted};
+ghost use Rattle.phone_c_base.specs.Answers.{IsValidity};
 ghost use Rattle.phone_c_base.specs.Buffers.{IsTooLongA, IsWrittenA};
 ghost use Rattle.phone_c_base.specs.Handles.{IsClosed, IsKept};
-ghost use Rattle.phone_c_base.specs.Hints.{hint_of};
+ghost use Rattle.phone_c_base.specs.Hints.{UnderHint, hint_of};
 ghost use Rattle.phone_c_base.specs.Numbers.{AreNoNumber, AreNone};
-ghost use Rattle.phone_c_base.specs.Parses.{IsParsedBy, IsParsedTooLongBy, IsRefusedAsBy};
+ghost use Rattle.phone_c_base.specs.Parses.{IsParsed, IsParsedTooLong, IsRefusedAs};
 ghost use Rattle.phone_c_base.specs.Rules.{UnderRules};
-ghost use Rattle.phone_c_base.specs.TextReports.{IsReportOfBy};
 
 use phone_c_base::asked::{kind, region, validity};
+use phone_c_base::engines::{engine_of, engine_under};
 use phone_c_base::handle::{Handle, put, take};
 use phone_c_base::number::Number;
 use phone_c_base::parse::parse;
 use phone_c_base::print::print;
-use phone_c_base::report::report_by;
+use phone_c_base::report::report;
 use phone_c_base::rules::rules_of;
 use phone_c_base::status::{
     BAD_NUMBER, CLOSED, MEMORY, NO_MODE, NO_REGION, NO_RULES, NOT_UTF8, OK, TOO_SMALL, UNKNOWN_CODE,
@@ -38,10 +39,10 @@ pub extern "C" fn phone_report_by(
     out: &mut [u8],
     wrote: &mut usize,
 ) -> u32
-    ensures written { result ≡ OK → UnderRules rules (λ r. IsWrittenA
-        (IsReportOfBy r handle.old.records hint.now line.now) out.old out.new wrote.new) }
-    ensures too_small { result ≡ TOO_SMALL → UnderRules rules (λ r. IsTooLongA
-        (IsReportOfBy r handle.old.records hint.now line.now) out.old out.new wrote.new) }
+    ensures written { result ≡ OK → UnderRules rules (λ r. UnderHint hint.now (λ h. IsWrittenA
+        (IsReportLine r handle.old.records h line.now) out.old out.new wrote.new)) }
+    ensures too_small { result ≡ TOO_SMALL → UnderRules rules (λ r. UnderHint hint.now (λ h.
+        IsTooLongA (IsReportLine r handle.old.records h line.now) out.old out.new wrote.new)) }
     ensures no_rules { (result ≡ NO_RULES) ↔ (1 < rules) }
     ensures closed { (result ≡ CLOSED) ↔ (¬ (1 < rules) × IsClosed handle.old) }
     ensures no_region { (result ≡ NO_REGION) ↔
@@ -59,7 +60,10 @@ pub extern "C" fn phone_report_by(
     let Some(database) = take(alloc, handle) else {
         return CLOSED;
     };
-    let status = report_by(alloc, rules, &*database, hint, line, out, wrote);
+    let status = match engine_under(rules, &*database, hint) {
+        Some(engine) => report(engine, line, out, wrote),
+        None => NO_REGION,
+    };
     put(alloc, handle, database);
     status
 }
@@ -82,10 +86,10 @@ pub extern "C" fn phone_parse_by(
     out: &mut [u8],
     wrote: &mut usize,
 ) -> u32
-    ensures read { result ≡ OK → UnderRules rules (λ r. IsParsedBy r handle.old.records hint.now
-        text.now number.new out.old out.new wrote.new) }
-    ensures too_small { result ≡ TOO_SMALL → UnderRules rules (λ r. IsParsedTooLongBy r
-        handle.old.records hint.now text.now out.old out.new wrote.new) }
+    ensures read { result ≡ OK → UnderRules rules (λ r. UnderHint hint.now (λ h. IsParsed r
+        handle.old.records h text.now number.new out.old out.new wrote.new)) }
+    ensures too_small { result ≡ TOO_SMALL → UnderRules rules (λ r. UnderHint hint.now (λ h.
+        IsParsedTooLong r handle.old.records h text.now out.old out.new wrote.new)) }
     ensures no_rules { (result ≡ NO_RULES) ↔ (1 < rules) }
     ensures closed { (result ≡ CLOSED) ↔ (¬ (1 < rules) × IsClosed handle.old) }
     ensures no_region { (result ≡ NO_REGION) ↔
@@ -94,8 +98,8 @@ pub extern "C" fn phone_parse_by(
         ¬ (hint_of hint.now ≡ None) × ¬ (IsUtf8 text.now)) }
     ensures refused { ¬ (result ≡ OK) → ¬ (result ≡ TOO_SMALL) → ¬ (result ≡ NO_RULES) →
         ¬ (result ≡ CLOSED) → ¬ (result ≡ NO_REGION) → ¬ (result ≡ NOT_UTF8) →
-        (result ≡ MEMORY) ⊎ UnderRules rules (λ r. IsRefusedAsBy r handle.old.records hint.now
-        text.now result) }
+        (result ≡ MEMORY) ⊎ UnderRules rules (λ r. UnderHint hint.now (λ h. IsRefusedAs r
+        handle.old.records h text.now result)) }
     ensures untouched { ¬ (result ≡ OK) → (number.new ≡ number.old) × (out.new ≡ out.old) }
     ensures no_length { ¬ (result ≡ OK) → ¬ (result ≡ TOO_SMALL) → wrote.new ≡ 0 }
     ensures kept { IsKept handle.old handle.new }
@@ -107,7 +111,10 @@ pub extern "C" fn phone_parse_by(
     let Some(database) = take(alloc, handle) else {
         return CLOSED;
     };
-    let status = parse(rules, &*database, hint, text, number, out, wrote);
+    let status = match engine_under(rules, &*database, hint) {
+        Some(engine) => parse(engine, text, number, out, wrote),
+        None => NO_REGION,
+    };
     put(alloc, handle, database);
     status
 }
@@ -130,9 +137,9 @@ pub extern "C" fn phone_format_by(
     wrote: &mut usize,
 ) -> u32
     ensures written { result ≡ OK → UnderRules rules (λ r. IsWrittenA
-        (IsPrintedBy r handle.old.records number.now bytes.now mode) out.old out.new wrote.new) }
+        (IsPrinted r handle.old.records number.now bytes.now mode) out.old out.new wrote.new) }
     ensures too_small { result ≡ TOO_SMALL → UnderRules rules (λ r. IsTooLongA
-        (IsPrintedBy r handle.old.records number.now bytes.now mode) out.old out.new wrote.new) }
+        (IsPrinted r handle.old.records number.now bytes.now mode) out.old out.new wrote.new) }
     ensures no_rules { (result ≡ NO_RULES) ↔ (1 < rules) }
     ensures closed { (result ≡ CLOSED) ↔ (¬ (1 < rules) × IsClosed handle.old) }
     ensures no_mode { (result ≡ NO_MODE) ↔
@@ -140,7 +147,7 @@ pub extern "C" fn phone_format_by(
     ensures bad { (result ≡ BAD_NUMBER) ↔ (¬ (1 < rules) × ¬ (IsClosed handle.old) ×
         ¬ (3 < mode) × AreNoNumber number.now bytes.now) }
     ensures unknown { result ≡ UNKNOWN_CODE → UnderRules rules
-        (λ r. IsUnprintedBy r handle.old.records number.now bytes.now mode) }
+        (λ r. IsUnprinted r handle.old.records number.now bytes.now mode) }
     ensures other { ¬ (result ≡ OK) → ¬ (result ≡ TOO_SMALL) → ¬ (result ≡ NO_RULES) →
         ¬ (result ≡ CLOSED) → ¬ (result ≡ NO_MODE) → ¬ (result ≡ BAD_NUMBER) →
         ¬ (result ≡ UNKNOWN_CODE) → result ≡ MEMORY }
@@ -155,7 +162,8 @@ pub extern "C" fn phone_format_by(
     let Some(database) = take(alloc, handle) else {
         return CLOSED;
     };
-    let status = print(alloc, rules, &*database, number, bytes, mode, out, wrote);
+    let engine = engine_of(rules, &*database);
+    let status = print(engine, number, bytes, mode, out, wrote);
     put(alloc, handle, database);
     status
 }
@@ -174,7 +182,7 @@ pub extern "C" fn phone_kind_by(
     told: &mut u32,
 ) -> u32
     ensures told { result ≡ OK → UnderRules rules
-        (λ r. IsKindBy r handle.old.records number.now told.new) }
+        (λ r. IsKind r handle.old.records number.now told.new) }
     ensures no_rules { (result ≡ NO_RULES) ↔ (1 < rules) }
     ensures closed { (result ≡ CLOSED) ↔ (¬ (1 < rules) × IsClosed handle.old) }
     ensures bad { (result ≡ BAD_NUMBER) ↔
@@ -190,7 +198,7 @@ pub extern "C" fn phone_kind_by(
     let Some(database) = take(alloc, handle) else {
         return CLOSED;
     };
-    let status = kind(rules, &*database, number, told);
+    let status = kind(engine_of(rules, &*database), number, told);
     put(alloc, handle, database);
     status
 }
@@ -210,9 +218,9 @@ pub extern "C" fn phone_region_by(
     wrote: &mut usize,
 ) -> u32
     ensures written { result ≡ OK → UnderRules rules (λ r. IsWrittenA
-        (IsRegionBy r handle.old.records number.now) out.old out.new wrote.new) }
+        (IsRegion r handle.old.records number.now) out.old out.new wrote.new) }
     ensures too_small { result ≡ TOO_SMALL → UnderRules rules (λ r. IsTooLongA
-        (IsRegionBy r handle.old.records number.now) out.old out.new wrote.new) }
+        (IsRegion r handle.old.records number.now) out.old out.new wrote.new) }
     ensures no_rules { (result ≡ NO_RULES) ↔ (1 < rules) }
     ensures closed { (result ≡ CLOSED) ↔ (¬ (1 < rules) × IsClosed handle.old) }
     ensures bad { (result ≡ BAD_NUMBER) ↔
@@ -230,7 +238,7 @@ pub extern "C" fn phone_region_by(
     let Some(database) = take(alloc, handle) else {
         return CLOSED;
     };
-    let status = region(rules, &*database, number, out, wrote);
+    let status = region(engine_of(rules, &*database), number, out, wrote);
     put(alloc, handle, database);
     status
 }
@@ -247,7 +255,7 @@ pub extern "C" fn phone_is_valid_by(
     told: &mut u8,
 ) -> u32
     ensures told { result ≡ OK → UnderRules rules
-        (λ r. IsValidityBy r handle.old.records number.now told.new) }
+        (λ r. IsValidity r handle.old.records number.now told.new) }
     ensures no_rules { (result ≡ NO_RULES) ↔ (1 < rules) }
     ensures closed { (result ≡ CLOSED) ↔ (¬ (1 < rules) × IsClosed handle.old) }
     ensures bad { (result ≡ BAD_NUMBER) ↔
@@ -263,7 +271,7 @@ pub extern "C" fn phone_is_valid_by(
     let Some(database) = take(alloc, handle) else {
         return CLOSED;
     };
-    let status = validity(rules, &*database, number, told);
+    let status = validity(engine_of(rules, &*database), number, told);
     put(alloc, handle, database);
     status
 }

@@ -1,14 +1,16 @@
 //! The calls that read a number, print it, or tell something of it.
 ghost use Rattle.std.specs.Prelude.{◌≡◌, ◌⊎◌, ◌↔◌, ◌<◌, None, IsUtf8};
+ghost use Rattle.phone_values.specs.declared.rules.Rules.TheVariants.{Crate};
 ghost use Rattle.phone_c_base.specs.Answers.{IsKey, IsKind, IsPrinted, IsRegion, IsUnprinted};
 ghost use Rattle.phone_c_base.specs.Answers.{IsValidity};
 ghost use Rattle.phone_c_base.specs.Buffers.{IsTooLongA, IsWrittenA};
 ghost use Rattle.phone_c_base.specs.Handles.{IsClosed, IsKept};
-ghost use Rattle.phone_c_base.specs.Hints.{hint_of};
+ghost use Rattle.phone_c_base.specs.Hints.{UnderHint, hint_of};
 ghost use Rattle.phone_c_base.specs.Numbers.{AreNoNumber, AreNone};
 ghost use Rattle.phone_c_base.specs.Parses.{IsParsed, IsParsedTooLong, IsRefusedAs};
 
 use phone_c_base::asked::{key, kind, region, validity};
+use phone_c_base::engines::{engine_of, engine_under};
 use phone_c_base::handle::{Handle, put, take};
 use phone_c_base::number::Number;
 use phone_c_base::parse::parse;
@@ -16,7 +18,7 @@ use phone_c_base::print::print;
 use phone_c_base::status::{
     BAD_NUMBER, CLOSED, MEMORY, NO_MODE, NO_REGION, NOT_UTF8, OK, TOO_SMALL, UNKNOWN_CODE,
 };
-use phone_choice::Rules;
+use phone_engine::Rules;
 use std::alloc::Global;
 
 /// Reads a text as a phone number, under the hint that `phone_report` takes, as `parse_with` reads
@@ -37,10 +39,10 @@ pub extern "C" fn phone_parse(
     out: &mut [u8],
     wrote: &mut usize,
 ) -> u32
-    ensures read { result ≡ OK → IsParsed handle.old.records hint.now text.now number.new
-        out.old out.new wrote.new }
-    ensures too_small { result ≡ TOO_SMALL → IsParsedTooLong handle.old.records hint.now text.now
-        out.old out.new wrote.new }
+    ensures read { result ≡ OK → UnderHint hint.now (λ h. IsParsed Crate handle.old.records h
+        text.now number.new out.old out.new wrote.new) }
+    ensures too_small { result ≡ TOO_SMALL → UnderHint hint.now (λ h. IsParsedTooLong Crate
+        handle.old.records h text.now out.old out.new wrote.new) }
     ensures closed { (result ≡ CLOSED) ↔ IsClosed handle.old }
     ensures no_region { (result ≡ NO_REGION) ↔
         (¬ (IsClosed handle.old) × (hint_of hint.now ≡ None)) }
@@ -48,7 +50,8 @@ pub extern "C" fn phone_parse(
         (¬ (IsClosed handle.old) × ¬ (hint_of hint.now ≡ None) × ¬ (IsUtf8 text.now)) }
     ensures refused { ¬ (result ≡ OK) → ¬ (result ≡ TOO_SMALL) → ¬ (result ≡ CLOSED) →
         ¬ (result ≡ NO_REGION) → ¬ (result ≡ NOT_UTF8) →
-        (result ≡ MEMORY) ⊎ IsRefusedAs handle.old.records hint.now text.now result }
+        (result ≡ MEMORY) ⊎ UnderHint hint.now (λ h. IsRefusedAs Crate handle.old.records h
+        text.now result) }
     ensures untouched { ¬ (result ≡ OK) → (number.new ≡ number.old) × (out.new ≡ out.old) }
     ensures no_length { ¬ (result ≡ OK) → ¬ (result ≡ TOO_SMALL) → wrote.new ≡ 0 }
     ensures kept { IsKept handle.old handle.new }
@@ -57,7 +60,10 @@ pub extern "C" fn phone_parse(
     let Some(database) = take(alloc, handle) else {
         return CLOSED;
     };
-    let status = parse(Rules::Crate, &*database, hint, text, number, out, wrote);
+    let status = match engine_under(Rules::Crate, &*database, hint) {
+        Some(engine) => parse(engine, text, number, out, wrote),
+        None => NO_REGION,
+    };
     put(alloc, handle, database);
     status
 }
@@ -82,15 +88,15 @@ pub extern "C" fn phone_format(
     wrote: &mut usize,
 ) -> u32
     ensures written { result ≡ OK → IsWrittenA
-        (IsPrinted handle.old.records number.now bytes.now mode) out.old out.new wrote.new }
+        (IsPrinted Crate handle.old.records number.now bytes.now mode) out.old out.new wrote.new }
     ensures too_small { result ≡ TOO_SMALL → IsTooLongA
-        (IsPrinted handle.old.records number.now bytes.now mode) out.old out.new wrote.new }
+        (IsPrinted Crate handle.old.records number.now bytes.now mode) out.old out.new wrote.new }
     ensures closed { (result ≡ CLOSED) ↔ IsClosed handle.old }
     ensures no_mode { (result ≡ NO_MODE) ↔ (¬ (IsClosed handle.old) × (3 < mode)) }
     ensures bad { (result ≡ BAD_NUMBER) ↔
         (¬ (IsClosed handle.old) × ¬ (3 < mode) × AreNoNumber number.now bytes.now) }
     ensures unknown { result ≡ UNKNOWN_CODE →
-        IsUnprinted handle.old.records number.now bytes.now mode }
+        IsUnprinted Crate handle.old.records number.now bytes.now mode }
     ensures other { ¬ (result ≡ OK) → ¬ (result ≡ TOO_SMALL) → ¬ (result ≡ CLOSED) →
         ¬ (result ≡ NO_MODE) → ¬ (result ≡ BAD_NUMBER) → ¬ (result ≡ UNKNOWN_CODE) →
         result ≡ MEMORY }
@@ -102,16 +108,8 @@ pub extern "C" fn phone_format(
     let Some(database) = take(alloc, handle) else {
         return CLOSED;
     };
-    let status = print(
-        alloc,
-        Rules::Crate,
-        &*database,
-        number,
-        bytes,
-        mode,
-        out,
-        wrote,
-    );
+    let engine = engine_of(Rules::Crate, &*database);
+    let status = print(engine, number, bytes, mode, out, wrote);
     put(alloc, handle, database);
     status
 }
@@ -130,7 +128,7 @@ pub extern "C" fn phone_kind(
     number: &Number,
     told: &mut u32,
 ) -> u32
-    ensures told { result ≡ OK → IsKind handle.old.records number.now told.new }
+    ensures told { result ≡ OK → IsKind Crate handle.old.records number.now told.new }
     ensures closed { (result ≡ CLOSED) ↔ IsClosed handle.old }
     ensures bad { (result ≡ BAD_NUMBER) ↔ (¬ (IsClosed handle.old) × AreNone number.now) }
     ensures other { ¬ (result ≡ OK) → ¬ (result ≡ CLOSED) → ¬ (result ≡ BAD_NUMBER) →
@@ -141,7 +139,7 @@ pub extern "C" fn phone_kind(
     let Some(database) = take(alloc, handle) else {
         return CLOSED;
     };
-    let status = kind(Rules::Crate, &*database, number, told);
+    let status = kind(engine_of(Rules::Crate, &*database), number, told);
     put(alloc, handle, database);
     status
 }
@@ -159,10 +157,10 @@ pub extern "C" fn phone_region(
     out: &mut [u8],
     wrote: &mut usize,
 ) -> u32
-    ensures written { result ≡ OK → IsWrittenA (IsRegion handle.old.records number.now)
-        out.old out.new wrote.new }
-    ensures too_small { result ≡ TOO_SMALL → IsTooLongA (IsRegion handle.old.records number.now)
-        out.old out.new wrote.new }
+    ensures written { result ≡ OK → IsWrittenA
+        (IsRegion Crate handle.old.records number.now) out.old out.new wrote.new }
+    ensures too_small { result ≡ TOO_SMALL → IsTooLongA
+        (IsRegion Crate handle.old.records number.now) out.old out.new wrote.new }
     ensures closed { (result ≡ CLOSED) ↔ IsClosed handle.old }
     ensures bad { (result ≡ BAD_NUMBER) ↔ (¬ (IsClosed handle.old) × AreNone number.now) }
     ensures other { ¬ (result ≡ OK) → ¬ (result ≡ TOO_SMALL) → ¬ (result ≡ CLOSED) →
@@ -175,7 +173,8 @@ pub extern "C" fn phone_region(
     let Some(database) = take(alloc, handle) else {
         return CLOSED;
     };
-    let status = region(Rules::Crate, &*database, number, out, wrote);
+    let engine = engine_of(Rules::Crate, &*database);
+    let status = region(engine, number, out, wrote);
     put(alloc, handle, database);
     status
 }
@@ -189,7 +188,7 @@ pub extern "C" fn phone_is_valid(
     number: &Number,
     told: &mut u8,
 ) -> u32
-    ensures told { result ≡ OK → IsValidity handle.old.records number.now told.new }
+    ensures told { result ≡ OK → IsValidity Crate handle.old.records number.now told.new }
     ensures closed { (result ≡ CLOSED) ↔ IsClosed handle.old }
     ensures bad { (result ≡ BAD_NUMBER) ↔ (¬ (IsClosed handle.old) × AreNone number.now) }
     ensures other { ¬ (result ≡ OK) → ¬ (result ≡ CLOSED) → ¬ (result ≡ BAD_NUMBER) →
@@ -200,7 +199,7 @@ pub extern "C" fn phone_is_valid(
     let Some(database) = take(alloc, handle) else {
         return CLOSED;
     };
-    let status = validity(Rules::Crate, &*database, number, told);
+    let status = validity(engine_of(Rules::Crate, &*database), number, told);
     put(alloc, handle, database);
     status
 }

@@ -1,12 +1,13 @@
 //! The call that finds the numbers of a running text.
 ghost use Rattle.std.specs.Prelude.{◌≡◌, ◌↔◌, ◌<◌, None, IsUtf8};
 ghost use Rattle.phone_c_base.specs.Buffers.{IsTooLongA, IsWrittenA};
-ghost use Rattle.phone_c_base.specs.Found.{ArePlacesBy};
+ghost use Rattle.phone_c_base.specs.Found.{ArePlaces, UnderLeniency};
 ghost use Rattle.phone_c_base.specs.Handles.{IsClosed, IsKept};
-ghost use Rattle.phone_c_base.specs.Hints.{hint_of};
+ghost use Rattle.phone_c_base.specs.Hints.{UnderHint, hint_of};
 ghost use Rattle.phone_c_base.specs.Rules.{UnderRules};
 
-use phone_c_base::found::{Place, find};
+use phone_c_base::engines::engine_under;
+use phone_c_base::found::{Place, find, leniency_of};
 use phone_c_base::handle::{Handle, put, take};
 use phone_c_base::rules::rules_of;
 use phone_c_base::status::{
@@ -37,12 +38,12 @@ pub extern "C" fn phone_find_by(
     out: &mut [Place],
     wrote: &mut usize,
 ) -> u32
-    ensures written { result ≡ OK → UnderRules rules (λ r. IsWrittenA
-        (ArePlacesBy r handle.old.records hint.now leniency text.now)
-        out.old out.new wrote.new) }
-    ensures too_small { result ≡ TOO_SMALL → UnderRules rules (λ r. IsTooLongA
-        (ArePlacesBy r handle.old.records hint.now leniency text.now)
-        out.old out.new wrote.new) }
+    ensures written { result ≡ OK → UnderRules rules (λ r. UnderHint hint.now (λ h.
+        UnderLeniency leniency (λ l. IsWrittenA
+        (ArePlaces r handle.old.records h l text.now) out.old out.new wrote.new))) }
+    ensures too_small { result ≡ TOO_SMALL → UnderRules rules (λ r. UnderHint hint.now (λ h.
+        UnderLeniency leniency (λ l. IsTooLongA
+        (ArePlaces r handle.old.records h l text.now) out.old out.new wrote.new))) }
     ensures no_rules { (result ≡ NO_RULES) ↔ (1 < rules) }
     ensures closed { (result ≡ CLOSED) ↔ (¬ (1 < rules) × IsClosed handle.old) }
     ensures no_leniency { (result ≡ NO_LENIENCY) ↔
@@ -65,7 +66,13 @@ pub extern "C" fn phone_find_by(
     let Some(database) = take(alloc, handle) else {
         return CLOSED;
     };
-    let status = find(rules, &*database, hint, leniency, text, out, wrote);
+    let status = match leniency_of(leniency) {
+        Some(leniency) => match engine_under(rules, &*database, hint) {
+            Some(engine) => find(engine, leniency, text, out, wrote),
+            None => NO_REGION,
+        },
+        None => NO_LENIENCY,
+    };
     put(alloc, handle, database);
     status
 }

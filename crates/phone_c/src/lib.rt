@@ -9,12 +9,13 @@
 
 ghost use Rattle.std.specs.Prelude.{◌≡◌, ◌⊎◌, ◌↔◌, None, Some, IsUtf8, chars, codes};
 ghost use Rattle.phone_chars.specs.Viable.{IsViable};
+ghost use Rattle.phone_engine.specs.ReportLines.{IsReportLine};
+ghost use Rattle.phone_values.specs.declared.rules.Rules.TheVariants.{Crate};
 ghost use Rattle.phone_c_base.specs.Buffers.{IsTooLong, IsTooLongA, IsWritten, IsWrittenA};
 ghost use Rattle.phone_c_base.specs.Handles.{IsClosed, IsKept, IsOpen, IsOpenedBy};
-ghost use Rattle.phone_c_base.specs.Hints.{hint_of};
+ghost use Rattle.phone_c_base.specs.Hints.{UnderHint, hint_of};
 ghost use Rattle.phone_c_base.specs.Openings.{HasForm, IsRefusalOf};
 ghost use Rattle.phone_c_base.specs.Parses.{IsNoRefusal, IsWordsOf};
-ghost use Rattle.phone_c_base.specs.TextReports.{IsReportOf};
 ghost use Rattle.phone_c_base.specs.Words.{word_of};
 
 mod by_rules;
@@ -27,6 +28,7 @@ mod typing;
 mod util;
 
 use phone_c_base::buffer::give;
+use phone_c_base::engines::engine_under;
 use phone_c_base::handle::{Handle, put, take};
 use phone_c_base::opening::open_database;
 use phone_c_base::refusal::refusal_words;
@@ -36,6 +38,7 @@ use phone_c_base::status::{
     CLOSED, MEMORY, NO_REFUSAL, NO_REGION, NO_WORD, NOT_UTF8, OK, TOO_SMALL,
 };
 use phone_c_base::words::word;
+use phone_engine::Rules;
 use phonenumber::is_viable;
 use std::alloc::Global;
 
@@ -43,8 +46,8 @@ use std::alloc::Global;
 /// where they begin with that form's first line, else a JSON text. What the handle had open is
 /// closed first, whatever comes of them.
 ///
-/// `OK`: the database is open. `NOT_UTF8` exactly where the bytes don't begin so and aren't UTF-8. 1
-/// to 5: the number of the refusal, as `LoadMetadata::number` gives it. `MEMORY`: memory was
+/// `OK`: the database is open. `NOT_UTF8` exactly where the bytes don't begin so and aren't UTF-8.
+/// 1 to 5: the number of the refusal, as `LoadMetadata::number` gives it. `MEMORY`: memory was
 /// refused. For each but `OK` the handle is closed.
 #[unsafe(no_mangle)]
 pub extern "C" fn phone_open(alloc: Global, text: &[u8], handle: &mut Handle) -> u32
@@ -110,10 +113,10 @@ pub extern "C" fn phone_report(
     out: &mut [u8],
     wrote: &mut usize,
 ) -> u32
-    ensures written { result ≡ OK → IsWrittenA
-        (IsReportOf handle.old.records hint.now line.now) out.old out.new wrote.new }
-    ensures too_small { result ≡ TOO_SMALL → IsTooLongA
-        (IsReportOf handle.old.records hint.now line.now) out.old out.new wrote.new }
+    ensures written { result ≡ OK → UnderHint hint.now (λ h. IsWrittenA
+        (IsReportLine Crate handle.old.records h line.now) out.old out.new wrote.new) }
+    ensures too_small { result ≡ TOO_SMALL → UnderHint hint.now (λ h. IsTooLongA
+        (IsReportLine Crate handle.old.records h line.now) out.old out.new wrote.new) }
     ensures closed { (result ≡ CLOSED) ↔ IsClosed handle.old }
     ensures no_region { (result ≡ NO_REGION) ↔
         (¬ (IsClosed handle.old) × (hint_of hint.now ≡ None)) }
@@ -127,7 +130,10 @@ pub extern "C" fn phone_report(
     let Some(database) = take(alloc, handle) else {
         return CLOSED;
     };
-    let status = report(alloc, &*database, hint, line, out, wrote);
+    let status = match engine_under(Rules::Crate, &*database, hint) {
+        Some(engine) => report(engine, line, out, wrote),
+        None => NO_REGION,
+    };
     put(alloc, handle, database);
     status
 }

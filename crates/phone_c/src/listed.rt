@@ -37,7 +37,7 @@ pub extern "C" fn phone_regions(
     let Some(database) = take(alloc, handle) else {
         return CLOSED;
     };
-    let status = regions(alloc, &*database, out, wrote);
+    let status = regions(&*database, out, wrote);
     put(alloc, handle, database);
     status
 }

@@ -2,10 +2,11 @@
 ghost use Rattle.std.specs.Prelude.{◌≡◌, ◌↔◌, None, IsUtf8};
 ghost use Rattle.phone_c_base.specs.Buffers.{IsTooLongA, IsWrittenA};
 ghost use Rattle.phone_c_base.specs.Handles.{IsClosed, IsKept};
-ghost use Rattle.phone_c_base.specs.Hints.{hint_of};
+ghost use Rattle.phone_c_base.specs.Hints.{UnderHint, hint_of};
 ghost use Rattle.phone_c_base.specs.Typing.{IsCaret, IsShown};
 
 use phone_c_base::handle::{Handle, put, take};
+use phone_c_base::hint::hint_of;
 use phone_c_base::status::{CLOSED, MEMORY, NO_REGION, NOT_UTF8, OK, TOO_SMALL};
 use phone_c_base::typing::{caret, show};
 use std::alloc::Global;
@@ -26,10 +27,10 @@ pub extern "C" fn phone_typing_shown(
     out: &mut [u8],
     wrote: &mut usize,
 ) -> u32
-    ensures written { result ≡ OK → IsWrittenA
-        (IsShown handle.old.records hint.now keys.now) out.old out.new wrote.new }
-    ensures too_small { result ≡ TOO_SMALL → IsTooLongA
-        (IsShown handle.old.records hint.now keys.now) out.old out.new wrote.new }
+    ensures written { result ≡ OK → UnderHint hint.now (λ h. IsWrittenA
+        (IsShown handle.old.records h keys.now) out.old out.new wrote.new) }
+    ensures too_small { result ≡ TOO_SMALL → UnderHint hint.now (λ h. IsTooLongA
+        (IsShown handle.old.records h keys.now) out.old out.new wrote.new) }
     ensures closed { (result ≡ CLOSED) ↔ IsClosed handle.old }
     ensures no_region { (result ≡ NO_REGION) ↔
         (¬ (IsClosed handle.old) × (hint_of hint.now ≡ None)) }
@@ -45,7 +46,10 @@ pub extern "C" fn phone_typing_shown(
     let Some(database) = take(alloc, handle) else {
         return CLOSED;
     };
-    let status = show(&*database, hint, keys, out, wrote);
+    let status = match hint_of(hint) {
+        Some(hint) => show(&*database, hint, keys, out, wrote),
+        None => NO_REGION,
+    };
     put(alloc, handle, database);
     status
 }
@@ -65,7 +69,8 @@ pub extern "C" fn phone_typing_caret(
     n: usize,
     told: &mut usize,
 ) -> u32
-    ensures told { result ≡ OK → IsCaret handle.old.records hint.now keys.now n told.new }
+    ensures told { result ≡ OK → UnderHint hint.now (λ h.
+        IsCaret handle.old.records h keys.now n told.new) }
     ensures closed { (result ≡ CLOSED) ↔ IsClosed handle.old }
     ensures no_region { (result ≡ NO_REGION) ↔
         (¬ (IsClosed handle.old) × (hint_of hint.now ≡ None)) }
@@ -79,7 +84,10 @@ pub extern "C" fn phone_typing_caret(
     let Some(database) = take(alloc, handle) else {
         return CLOSED;
     };
-    let status = caret(&*database, hint, keys, n, told);
+    let status = match hint_of(hint) {
+        Some(hint) => caret(&*database, hint, keys, n, told),
+        None => NO_REGION,
+    };
     put(alloc, handle, database);
     status
 }

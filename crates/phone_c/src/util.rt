@@ -4,20 +4,21 @@ ghost use Rattle.std.specs.Prelude.{◌≡◌, ◌⊎◌, ◌↔◌, ◌<◌, No
 ghost use Rattle.phone_values.specs.Ids.{id_of};
 ghost use Rattle.phone_util.specs.declared.dialled.DialError.TheVariants as dial;
 ghost use Rattle.phone_c_base.specs.Buffers.{IsTooLongA, IsWrittenA};
-ghost use Rattle.phone_c_base.specs.Comparisons.{AreAlikeBy, AreRefusedAsBy};
+ghost use Rattle.phone_c_base.specs.Comparisons.{AreAlike, AreRefusedAs};
 ghost use Rattle.phone_c_base.specs.Dialled.{IsDialled, IsUndialled};
-ghost use Rattle.phone_c_base.specs.Examples.{HasNoExample, IsExampleBy, IsExampleRefusedBy};
-ghost use Rattle.phone_c_base.specs.Examples.{IsExampleTooLongBy};
+ghost use Rattle.phone_c_base.specs.Examples.{HasNoExample, IsExample, IsExampleRefused};
+ghost use Rattle.phone_c_base.specs.Examples.{IsExampleTooLong};
 ghost use Rattle.phone_c_base.specs.Handles.{IsClosed, IsKept};
-ghost use Rattle.phone_c_base.specs.Hints.{hint_of};
+ghost use Rattle.phone_c_base.specs.Hints.{UnderHint, hint_of};
 ghost use Rattle.phone_c_base.specs.Kinds.{kind_of};
 ghost use Rattle.phone_c_base.specs.Numbers.{AreNoNumber, AreNone};
-ghost use Rattle.phone_c_base.specs.Possibilities.{IsNoPossibilityBy, IsPossibilityBy};
-ghost use Rattle.phone_c_base.specs.Possibilities.{IsTextPossibilityBy};
+ghost use Rattle.phone_c_base.specs.Possibilities.{IsNoPossibility, IsPossibility};
+ghost use Rattle.phone_c_base.specs.Possibilities.{IsTextPossibility};
 ghost use Rattle.phone_c_base.specs.Rules.{UnderRules};
 
 use phone_c_base::comparison::comparison;
 use phone_c_base::dialling::dialled;
+use phone_c_base::engines::{engine_of, engine_under};
 use phone_c_base::example::example;
 use phone_c_base::handle::{Handle, put, take};
 use phone_c_base::number::Number;
@@ -45,7 +46,7 @@ pub extern "C" fn phone_possibility_by(
     told: &mut u32,
 ) -> u32
     ensures told { result ≡ OK → UnderRules rules
-        (λ r. IsPossibilityBy r handle.old.records number.now told.new) }
+        (λ r. IsPossibility r handle.old.records number.now told.new) }
     ensures no_rules { (result ≡ NO_RULES) ↔ (1 < rules) }
     ensures closed { (result ≡ CLOSED) ↔ (¬ (1 < rules) × IsClosed handle.old) }
     ensures bad { (result ≡ BAD_NUMBER) ↔
@@ -61,7 +62,7 @@ pub extern "C" fn phone_possibility_by(
     let Some(database) = take(alloc, handle) else {
         return CLOSED;
     };
-    let status = possibility(rules, &*database, number, told);
+    let status = possibility(engine_of(rules, &*database), number, told);
     put(alloc, handle, database);
     status
 }
@@ -84,7 +85,8 @@ pub extern "C" fn phone_text_possibility_by(
     told: &mut u32,
 ) -> u32
     ensures told { result ≡ OK → UnderRules rules
-        (λ r. IsTextPossibilityBy r handle.old.records hint.now text.now told.new) }
+        (λ r. UnderHint hint.now (λ h.
+        IsTextPossibility r handle.old.records h text.now told.new)) }
     ensures no_rules { (result ≡ NO_RULES) ↔ (1 < rules) }
     ensures closed { (result ≡ CLOSED) ↔ (¬ (1 < rules) × IsClosed handle.old) }
     ensures no_region { (result ≡ NO_REGION) ↔
@@ -93,8 +95,8 @@ pub extern "C" fn phone_text_possibility_by(
         ¬ (hint_of hint.now ≡ None) × ¬ (IsUtf8 text.now)) }
     ensures refused { ¬ (result ≡ OK) → ¬ (result ≡ NO_RULES) → ¬ (result ≡ CLOSED) →
         ¬ (result ≡ NO_REGION) → ¬ (result ≡ NOT_UTF8) →
-        (result ≡ MEMORY) ⊎ UnderRules rules (λ r. IsNoPossibilityBy r handle.old.records
-        hint.now text.now result) }
+        (result ≡ MEMORY) ⊎ UnderRules rules (λ r. UnderHint hint.now (λ h. IsNoPossibility r
+        handle.old.records h text.now result)) }
     ensures untouched { ¬ (result ≡ OK) → told.new ≡ told.old }
     ensures kept { IsKept handle.old handle.new }
 {
@@ -104,7 +106,10 @@ pub extern "C" fn phone_text_possibility_by(
     let Some(database) = take(alloc, handle) else {
         return CLOSED;
     };
-    let status = text_possibility(rules, &*database, hint, text, told);
+    let status = match engine_under(rules, &*database, hint) {
+        Some(engine) => text_possibility(engine, text, told),
+        None => NO_REGION,
+    };
     put(alloc, handle, database);
     status
 }
@@ -127,14 +132,14 @@ pub extern "C" fn phone_compare_by(
     told: &mut u32,
 ) -> u32
     ensures told { result ≡ OK → UnderRules rules
-        (λ r. AreAlikeBy r handle.old.records first.now second.now told.new) }
+        (λ r. AreAlike r handle.old.records first.now second.now told.new) }
     ensures no_rules { (result ≡ NO_RULES) ↔ (1 < rules) }
     ensures closed { (result ≡ CLOSED) ↔ (¬ (1 < rules) × IsClosed handle.old) }
     ensures not_utf8 { (result ≡ NOT_UTF8) ↔ (¬ (1 < rules) × ¬ (IsClosed handle.old) ×
         ¬ (IsUtf8 first.now × IsUtf8 second.now)) }
     ensures refused { ¬ (result ≡ OK) → ¬ (result ≡ NO_RULES) → ¬ (result ≡ CLOSED) →
         ¬ (result ≡ NOT_UTF8) → (result ≡ MEMORY) ⊎ UnderRules rules
-        (λ r. AreRefusedAsBy r handle.old.records first.now second.now result) }
+        (λ r. AreRefusedAs r handle.old.records first.now second.now result) }
     ensures untouched { ¬ (result ≡ OK) → told.new ≡ told.old }
     ensures kept { IsKept handle.old handle.new }
 {
@@ -144,7 +149,7 @@ pub extern "C" fn phone_compare_by(
     let Some(database) = take(alloc, handle) else {
         return CLOSED;
     };
-    let status = comparison(rules, &*database, first, second, told);
+    let status = comparison(engine_of(rules, &*database), first, second, told);
     put(alloc, handle, database);
     status
 }
@@ -194,7 +199,7 @@ pub extern "C" fn phone_dialled_from(
     let Some(database) = take(alloc, handle) else {
         return CLOSED;
     };
-    let status = dialled(alloc, &*database, region, number, bytes, out, wrote);
+    let status = dialled(&*database, region, number, bytes, out, wrote);
     put(alloc, handle, database);
     status
 }
@@ -222,9 +227,9 @@ pub extern "C" fn phone_example_by(
     out: &mut [u8],
     wrote: &mut usize,
 ) -> u32
-    ensures read { result ≡ OK → UnderRules rules (λ r. IsExampleBy r handle.old.records
+    ensures read { result ≡ OK → UnderRules rules (λ r. IsExample r handle.old.records
         region.now kind number.new out.old out.new wrote.new) }
-    ensures too_small { result ≡ TOO_SMALL → UnderRules rules (λ r. IsExampleTooLongBy r
+    ensures too_small { result ≡ TOO_SMALL → UnderRules rules (λ r. IsExampleTooLong r
         handle.old.records region.now kind out.old out.new wrote.new) }
     ensures no_rules { (result ≡ NO_RULES) ↔ (1 < rules) }
     ensures closed { (result ≡ CLOSED) ↔ (¬ (1 < rules) × IsClosed handle.old) }
@@ -237,7 +242,7 @@ pub extern "C" fn phone_example_by(
     ensures refused { ¬ (result ≡ OK) → ¬ (result ≡ TOO_SMALL) → ¬ (result ≡ NO_RULES) →
         ¬ (result ≡ CLOSED) → ¬ (result ≡ NO_REGION) → ¬ (result ≡ NO_KIND) →
         ¬ (result ≡ NO_EXAMPLE) → (result ≡ MEMORY) ⊎ UnderRules rules
-        (λ r. IsExampleRefusedBy r handle.old.records region.now kind result) }
+        (λ r. IsExampleRefused r handle.old.records region.now kind result) }
     ensures untouched { ¬ (result ≡ OK) → (number.new ≡ number.old) × (out.new ≡ out.old) }
     ensures no_length { ¬ (result ≡ OK) → ¬ (result ≡ TOO_SMALL) → wrote.new ≡ 0 }
     ensures kept { IsKept handle.old handle.new }
@@ -249,7 +254,8 @@ pub extern "C" fn phone_example_by(
     let Some(database) = take(alloc, handle) else {
         return CLOSED;
     };
-    let status = example(rules, &*database, region, kind, number, out, wrote);
+    let engine = engine_of(rules, &*database);
+    let status = example(engine, region, kind, number, out, wrote);
     put(alloc, handle, database);
     status
 }

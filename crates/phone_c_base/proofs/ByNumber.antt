@@ -1,4 +1,4 @@
--- Kinds by their numbers, and ids by their bytes.
+-- Rules, leniencies and kinds by their numbers, and ids by their bytes.
 use Rattle.std.proofs.Common.{◌≡◌, ℕ, zero, suc, ◌<◌, ◌==◌, nat_eq, nat_le, true, Option, None, Some}
 use Rattle.std.proofs.Common.{IfSome, length, refl, subst, arith, leb-true}
 use Rattle.std.proofs.lemmas.Bool.{eqb-true}
@@ -16,9 +16,27 @@ use Rattle.phone_values.specs.declared.kind.«Type».TheVariants.{PersonalNumber
 use Rattle.phone_values.specs.declared.kind.«Type».TheVariants.{Emergency, Voicemail, ShortCode}
 use Rattle.phone_values.specs.declared.kind.«Type».TheVariants.{StandardRate, Carrier}
 use Rattle.phone_values.specs.declared.kind.«Type».TheVariants.{NoInternational, Unknown}
+use Rattle.phone_values.specs.declared.rules.Rules.{Rules}
+use Rattle.phone_values.specs.declared.rules.Rules.TheVariants.{Library, Crate}
+use Rattle.phone_find.specs.declared.leniency.Leniency.{Leniency}
+use Rattle.phone_find.specs.declared.leniency.Leniency.TheVariants.{Possible, Valid}
 use Rattle.phone_c_base.specs.Answers.{kind_number}
+use Rattle.phone_c_base.specs.Found.{leniency_number}
 use Rattle.phone_c_base.specs.Kinds.{kind_of}
+use Rattle.phone_c_base.specs.Rules.{rules_number}
 use Rattle.phone_values.specs.declared.named.TheConstants.{KINDS}
+
+pub one_of_rules : (q r : Rules) → rules_number q ≡ rules_number r → q ≡ r
+one_of_rules Library Library e = refl
+one_of_rules Library Crate e = cc
+one_of_rules Crate Library e = cc
+one_of_rules Crate Crate e = refl
+
+pub one_leniency : (a b : Leniency) → leniency_number a ≡ leniency_number b → a ≡ b
+one_leniency Possible Possible e = refl
+one_leniency Possible Valid e = cc
+one_leniency Valid Possible e = cc
+one_leniency Valid Valid e = refl
 
 pub kind_back : (k : «Type») → kind_of (kind_number k) ≡ Some k
 unfolding kind_of

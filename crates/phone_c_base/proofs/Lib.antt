@@ -10,6 +10,5 @@ pub mod OneShown
 pub mod OneTold
 pub mod Places
 pub mod ReadPlaces
-pub mod SaidOfText
 pub mod Statuses
 pub mod TheirWords

@@ -1,37 +1,25 @@
 -- What is said of plain numbers is said of one number.
-use Rattle.std.proofs.Common.{◌≡◌, ℕ, ◌+◌, ◌==◌, if◌then◌else◌, List, [], Option, None, Some, IsSomeAnd}
-use Rattle.std.proofs.Common.{Result, chars, length, slice_range, refl, ap, sym, subst, ◌∙◌}
+use Rattle.std.proofs.Common.{◌≡◌, ℕ, ◌+◌, ◌==◌, if◌then◌else◌, List, [], Option, None, Some}
+use Rattle.std.proofs.Common.{length, slice_range, refl, ap, sym, ◌∙◌}
 use Rattle.std.proofs.Common.{arith}
 use Rattle.std.specs.Option.{option_map_or}
 use Rattle.phone_values.specs.Ids.{name}
-use Rattle.phone_values.specs.declared.country.Id.{Id}
 use Rattle.phone_values.specs.declared.country.Source.{Source}
 use Rattle.phone_values.specs.declared.country.Source.TheVariants.{Plus, Idd, Number, Default}
-use Rattle.phone_values.specs.declared.error.ParseError.{ParseError}
 use Rattle.phone_values.specs.declared.mode.Mode.{Mode}
 use Rattle.phone_values.specs.declared.mode.Mode.TheVariants.{E164, International, National, Rfc3966}
 use Rattle.phone_values.specs.declared.reading.Reading.{Reading}
 use Rattle.phone_print.specs.Texts.{e164_text}
-use Rattle.phone_engine.proofs.OneReading.{reading_same}
 use Rattle.phone_engine.specs.Facts.{is_valid_by, kind_by, printed_as, region_by}
-use Rattle.phone_engine.specs.Readings.{ReadsBy}
 use Rattle.phone_values.specs.declared.rules.Rules.{Rules}
 use Rattle.phone_values.specs.declared.rules.Rules.TheVariants.{Library, Crate}
 use Rattle.phone_records.specs.declared.loader.Metadata.{Metadata}
 use Rattle.phone_util.specs.Possibilities.{possibility_of}
-use Rattle.phone_engine.proofs.OneLine as by_rules
-use Rattle.phone_engine.specs.ReportLines.{IsReportLine}
-use Rattle.phonenumber.proofs.OneLine
 use Rattle.phonenumber.specs.Printed.{printed}
-use Rattle.phone_engine.specs.Words.{IsReportLine}
-use Rattle.phone_c_base.specs.Answers.{IsKey, IsKindBy, IsPrintedBy, IsRegionBy, IsUnprintedBy}
-use Rattle.phone_c_base.specs.Answers.{IsValidityBy, kind_number, mode_number}
-use Rattle.phone_c_base.specs.Hints.{hint_of}
+use Rattle.phone_c_base.specs.Answers.{IsKey, IsKind, IsPrinted, IsRegion, IsUnprinted, IsValidity}
+use Rattle.phone_c_base.specs.Answers.{kind_number, mode_number}
 use Rattle.phone_c_base.specs.Numbers.{HasNumbers, IsNumber, IsPart, source_number}
-use Rattle.phone_c_base.specs.Parses.{ReadsAsBy}
-use Rattle.phone_c_base.specs.Possibilities.{IsPossibilityBy, possibility_number}
-use Rattle.phone_c_base.specs.Rules.{UnderRules, rules_number}
-use Rattle.phone_c_base.specs.TextReports.{IsReportOf, IsReportOfBy}
+use Rattle.phone_c_base.specs.Possibilities.{IsPossibility, possibility_number}
 use Rattle.phone_c_base.specs.declared.number.Number as plain
 use Rattle.phone_c_base.specs.declared.number.Part.{Part}
 
@@ -125,26 +113,26 @@ module _ (x : plain.Number) where
         at Library = refl
         at Crate = refl
 
-    pub one_possibility : (j k : ℕ) → IsPossibilityBy rules db x j → IsPossibilityBy rules db x k →
+    pub one_possibility : (j k : ℕ) → IsPossibility rules db x j → IsPossibility rules db x k →
         j ≡ k
     one_possibility j k h g =
         h.2 ∙ ap possibility_number (bare_possibility h.0)
         ∙ ap (λ n. possibility_number (possibility_of rules db n)) (same_bare h.0 g.0 h.1 g.1)
         ∙ ap possibility_number (sym (bare_possibility g.0)) ∙ sym g.2
 
-    pub one_kind : (j k : ℕ) → IsKindBy rules db x j → IsKindBy rules db x k → j ≡ k
+    pub one_kind : (j k : ℕ) → IsKind rules db x j → IsKind rules db x k → j ≡ k
     one_kind j k h g =
         h.2 ∙ ap kind_number (bare_kind h.0)
         ∙ ap (λ n. kind_number (kind_by rules db n)) (same_bare h.0 g.0 h.1 g.1)
         ∙ ap kind_number (sym (bare_kind g.0)) ∙ sym g.2
 
-    pub one_validity : (u v : ℕ) → IsValidityBy rules db x u → IsValidityBy rules db x v → u ≡ v
+    pub one_validity : (u v : ℕ) → IsValidity rules db x u → IsValidity rules db x v → u ≡ v
     one_validity u v h g =
         h.2 ∙ ap (λ b. if b then 1 else 0) (bare_validity h.0)
         ∙ ap (λ n. if is_valid_by rules db n then 1 else 0) (same_bare h.0 g.0 h.1 g.1)
         ∙ ap (λ b. if b then 1 else 0) (sym (bare_validity g.0)) ∙ sym g.2
 
-    pub one_region : (a b : List ℕ) → IsRegionBy rules db x a → IsRegionBy rules db x b → a ≡ b
+    pub one_region : (a b : List ℕ) → IsRegion rules db x a → IsRegion rules db x b → a ≡ b
     one_region a b h g =
         h.2 ∙ ap (λ r. option_map_or name r []) (bare_region h.0)
         ∙ ap (λ n. option_map_or name (region_by rules db n) []) (same_bare h.0 g.0 h.1 g.1)
@@ -177,58 +165,14 @@ module _ (x : plain.Number) (bytes : List ℕ) where
         ap (λ (o : Mode). printed db o None (printed_as rules j)) same
         ∙ ap (λ r. printed db n None (printed_as rules r)) number
 
-    pub one_text : (a b : List ℕ) → IsPrintedBy rules db x bytes mode a →
-        IsPrintedBy rules db x bytes mode b → a ≡ b
+    pub one_text : (a b : List ℕ) → IsPrinted rules db x bytes mode a →
+        IsPrinted rules db x bytes mode b → a ≡ b
     one_text a b h g =
         let same : Some a ≡ Some b =
         sym h.4 ∙ one_printed h.1 g.1 h.0 g.0 h.2 g.2 h.3 g.3 ∙ g.4 in cc
 
-    pub no_other : (a : List ℕ) → IsPrintedBy rules db x bytes mode a →
-        ¬ (IsUnprintedBy rules db x bytes mode)
+    pub no_other : (a : List ℕ) → IsPrinted rules db x bytes mode a →
+        ¬ (IsUnprinted rules db x bytes mode)
     no_other a h g =
         let same : Some a ≡ None =
         sym h.4 ∙ one_printed h.1 g.1 h.0 g.0 h.2 g.2 h.3 g.3 ∙ g.4 in cc
-
--- what is said under a hint is said under one
-pub under_one : {A : Type 0} (P : Option Id → A → Type 0) → ((h : Option Id) (a b : A) → P h a →
-    P h b → a ≡ b) → (o : Option (Option Id)) (a b : A) → IsSomeAnd o (λ h. P h a) →
-    IsSomeAnd o (λ h. P h b) → a ≡ b
-under_one P one None a b h g = absurd h
-under_one P one (Some hint) a b h g = one hint a b h g
-
-module _ (db : List Metadata) (hint text : List ℕ) where
-  pub one_line : (a b : List ℕ) → IsReportOf db hint text a → IsReportOf db hint text b → a ≡ b
-  one_line = under_one (λ h a. IsReportLine db h text a) (λ h a b. OneLine.one_report_line db h
-      text a b) (hint_of hint)
-
-  pub one_reading : (rules : Rules) (r s : Result Reading ParseError) →
-      ReadsAsBy rules db hint text r → ReadsAsBy rules db hint text s → r ≡ s
-  one_reading rules = under_one (λ h r. ReadsBy rules db h (chars text) r)
-      (λ h r s. reading_same rules db h (chars text) r s) (hint_of hint)
-
-  pub one_line_by : (rules : Rules) (a b : List ℕ) → IsReportOfBy rules db hint text a →
-      IsReportOfBy rules db hint text b → a ≡ b
-  one_line_by rules = under_one (λ h a. IsReportLine rules db h text a)
-      (λ h a b. by_rules.one_report_line rules db h text a b) (hint_of hint)
-
--- a number is of one of the rules at most
-one_of_rules : (q r : Rules) → rules_number q ≡ rules_number r → q ≡ r
-one_of_rules Library Library e = refl
-one_of_rules Library Crate e = cc
-one_of_rules Crate Library e = cc
-one_of_rules Crate Crate e = refl
-
--- what is said under the rules of a number is said under one
-pub under_rules : {A : Type 0} (P : Rules → A → Type 0) → ((r : Rules) (a b : A) → P r a →
-    P r b → a ≡ b) → (number : ℕ) (a b : A) → UnderRules number (λ r. P r a) →
-    UnderRules number (λ r. P r b) → a ≡ b
-under_rules P one number a b h g =
-    let same : h.0 ≡ g.0 = one_of_rules h.0 g.0 (sym h.1 ∙ g.1) in
-    one g.0 a b (subst (λ r. P r a) same h.2) g.2
-
--- and nothing is said under one rules that another denies
-pub no_other_rules : (P Q : Rules → Type 0) → ((r : Rules) → P r → ¬ (Q r)) → (number : ℕ) →
-    UnderRules number P → ¬ (UnderRules number Q)
-no_other_rules P Q never number h g =
-    let same : h.0 ≡ g.0 = one_of_rules h.0 g.0 (sym h.1 ∙ g.1) in
-    never g.0 (subst P same h.2) g.2

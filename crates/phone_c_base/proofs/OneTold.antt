@@ -1,6 +1,6 @@
 -- What is told by rules of numbers and texts is one.
 use Rattle.std.proofs.Common.{◌≡◌, ℕ, List, Option, None, Some, IsSomeAnd}
-use Rattle.std.proofs.Common.{Result, Ok, Err, chars, refl, ap, sym, subst, ◌∙◌}
+use Rattle.std.proofs.Common.{Result, Ok, Err, chars, refl, ap, sym, ◌∙◌}
 use Rattle.phone_values.specs.Ids.{id_of}
 use Rattle.phone_values.specs.declared.country.Id.{Id}
 use Rattle.phone_values.specs.declared.error.ParseError.{ParseError}
@@ -11,23 +11,19 @@ use Rattle.phone_engine.proofs.OneReading.{reading_same}
 use Rattle.phone_engine.specs.Readings.{ReadsBy}
 use Rattle.phone_values.specs.declared.rules.Rules.{Rules}
 use Rattle.phone_find.proofs.Ones
-use Rattle.phone_find.specs.Numbers.{AreNumbers}
 use Rattle.phone_find.specs.declared.leniency.Leniency.{Leniency}
-use Rattle.phone_find.specs.declared.leniency.Leniency.TheVariants.{Possible, Valid}
-use Rattle.phone_find.specs.declared.search.Found as search
 use Rattle.phone_util.proofs.Taken.{answer_same}
 use Rattle.phone_util.specs.Dialled.{dialled_text}
 use Rattle.phone_util.specs.Listed.{example_text}
 use Rattle.phone_util.specs.Possibilities.{possibility_read}
-use Rattle.phone_c_base.proofs.OneAnswers.{one_number, one_reading}
-use Rattle.phone_c_base.specs.Comparisons.{AreAlikeBy, sameness_number}
+use Rattle.phone_c_base.proofs.OneAnswers.{one_number}
+use Rattle.phone_c_base.specs.Comparisons.{AreAlike, sameness_number}
 use Rattle.phone_c_base.specs.Dialled.{IsDialled}
-use Rattle.phone_c_base.specs.Examples.{ExampleReadsBy}
-use Rattle.phone_c_base.specs.Found.{ArePlacesBy, leniency_number, places_of}
-use Rattle.phone_c_base.specs.Hints.{hint_of}
+use Rattle.phone_c_base.specs.Examples.{ExampleReads}
+use Rattle.phone_c_base.specs.Found.{ArePlaces, places_of}
 use Rattle.phone_c_base.specs.Kinds.{kind_of}
 use Rattle.phone_c_base.specs.Numbers.{IsNumber}
-use Rattle.phone_c_base.specs.Possibilities.{IsTextPossibilityBy, possibility_number}
+use Rattle.phone_c_base.specs.Possibilities.{IsTextPossibility, possibility_number}
 use Rattle.phone_c_base.specs.declared.found.Place.{Place}
 use Rattle.phone_c_base.specs.declared.number.Number as plain
 
@@ -37,15 +33,15 @@ ok_same (Ok x) a b e f = cc
 ok_same (Err x) a b e f = cc
 
 module _ (db : List Metadata) (rules : Rules) where
-  pub one_text_possibility : (hint text : List ℕ) (j k : ℕ) → IsTextPossibilityBy rules db hint text j →
-      IsTextPossibilityBy rules db hint text k → j ≡ k
+  pub one_text_possibility : (hint : Option Id) (text : List ℕ) (j k : ℕ) →
+      IsTextPossibility rules db hint text j → IsTextPossibility rules db hint text k → j ≡ k
   one_text_possibility hint text j k h g =
-      let read = one_reading db hint text rules h.1.0 g.1.0 h.1.1 g.1.1 in
+      let read = reading_same rules db hint (chars text) h.1.0 g.1.0 h.1.1 g.1.1 in
       let same = ok_same (possibility_read rules db h.1.0) h.0 g.0 (sym h.1.2) (ap (λ r. possibility_read rules db r) read ∙ sym g.1.2) in
       h.2 ∙ ap possibility_number same ∙ sym g.2
 
-  pub one_alike : (first second : List ℕ) (j k : ℕ) → AreAlikeBy rules db first second j →
-      AreAlikeBy rules db first second k → j ≡ k
+  pub one_alike : (first second : List ℕ) (j k : ℕ) → AreAlike rules db first second j →
+      AreAlike rules db first second k → j ≡ k
   one_alike first second j k h g =
       let said = answer_same rules db (chars first) (chars second) (Ok h.0) (Ok g.0) h.1 g.1 in
       h.2 ∙ ap sameness_number (ok_same (Ok h.0) h.0 g.0 refl said) ∙ sym g.2
@@ -58,7 +54,7 @@ module _ (db : List Metadata) (rules : Rules) where
   one_read hint (Some t) r s h g = reading_same rules db hint (chars t) r s h g
 
   pub one_example : (region : List ℕ) (kind : ℕ) (r s : Result Reading ParseError) →
-      ExampleReadsBy rules db region kind r → ExampleReadsBy rules db region kind s → r ≡ s
+      ExampleReads rules db region kind r → ExampleReads rules db region kind s → r ≡ s
   one_example region kind r s = at (id_of region) (kind_of kind)
     where
       Reads : Option Id → Option «Type» → Result Reading ParseError → Type 0
@@ -69,24 +65,10 @@ module _ (db : List Metadata) (rules : Rules) where
       at (Some id) None h g = absurd h
       at (Some id) (Some k) h g = one_read (Some id) (example_text db id k) r s h g
 
-  one_leniency : (a b : Leniency) → leniency_number a ≡ leniency_number b → a ≡ b
-  one_leniency Possible Possible e = refl
-  one_leniency Possible Valid e = cc
-  one_leniency Valid Possible e = cc
-  one_leniency Valid Valid e = refl
-
-  pub one_places : (hint : List ℕ) (leniency : ℕ) (text : List ℕ) (p q : List Place) →
-      ArePlacesBy rules db hint leniency text p → ArePlacesBy rules db hint leniency text q → p ≡ q
+  pub one_places : (hint : Option Id) (leniency : Leniency) (text : List ℕ) (p q : List Place) →
+      ArePlaces rules db hint leniency text p → ArePlaces rules db hint leniency text q → p ≡ q
   one_places hint leniency text p q h g =
-      let how : h.how ≡ g.how = one_leniency h.how g.how (sym h.numbered ∙ g.numbered) in
-      let found = subst (λ (l : Leniency). IsSomeAnd (hint_of hint) (λ x. AreNumbers rules db x l text h.all)) how h.found in
-      h.stand ∙ ap places_of (at (hint_of hint) h.all g.all found g.found) ∙ sym g.stand
-    where
-      at : (o : Option (Option Id)) (a b : List (search.Found Reading)) →
-          IsSomeAnd o (λ x. AreNumbers rules db x g.how text a) →
-          IsSomeAnd o (λ x. AreNumbers rules db x g.how text b) → a ≡ b
-      at None a b h k = absurd h
-      at (Some x) a b h k = Ones.one_answer rules db x g.how text a b h k
+      h.2 ∙ ap places_of (Ones.one_answer rules db hint leniency text h.0 g.0 h.1 g.1) ∙ sym g.2
 
 pub one_dialled : (db : List Metadata) (region : List ℕ) (x : plain.Number) (bytes a b : List ℕ) →
     IsDialled db region x bytes a → IsDialled db region x bytes b → a ≡ b

@@ -18,7 +18,6 @@ use Rattle.phone_records.specs.declared.loader.Metadata.{Metadata}
 use Rattle.phone_values.specs.declared.reading.Reading.{Reading}
 use Rattle.phone_engine.specs.Facts.{is_valid_by, kind_by, printed_as, region_by}
 use Rattle.phone_values.specs.declared.rules.Rules.{Rules}
-use Rattle.phone_values.specs.declared.rules.Rules.TheVariants.{Crate}
 use Rattle.phone_print.specs.Texts.{e164_text}
 use Rattle.phonenumber.specs.Printed.{printed}
 use Rattle.phone_c_base.specs.Numbers.{HasNumbers, IsNumber}
@@ -45,31 +44,19 @@ kind_number NoInternational = 15
 kind_number Unknown = 16
 
 -- by rules, the kind of the number that has these plain numbers
-abbrev pub IsKindBy : Rules → List Metadata → plain.Number → ℕ → Type 0
-IsKindBy rules db x kind =
+abbrev pub IsKind : Rules → List Metadata → plain.Number → ℕ → Type 0
+IsKind rules db x kind =
     (n : Reading) × HasNumbers x n × (kind ≡ kind_number (kind_by rules db n))
 
 -- by rules, 1 where the number is valid, else 0
-abbrev pub IsValidityBy : Rules → List Metadata → plain.Number → ℕ → Type 0
-IsValidityBy rules db x valid = (n : Reading) × HasNumbers x n ×
+abbrev pub IsValidity : Rules → List Metadata → plain.Number → ℕ → Type 0
+IsValidity rules db x valid = (n : Reading) × HasNumbers x n ×
     (valid ≡ (if is_valid_by rules db n then 1 else 0))
 
 -- by rules, the id of its region; no byte where it has none
-abbrev pub IsRegionBy : Rules → List Metadata → plain.Number → List ℕ → Type 0
-IsRegionBy rules db x id = (n : Reading) × HasNumbers x n ×
+abbrev pub IsRegion : Rules → List Metadata → plain.Number → List ℕ → Type 0
+IsRegion rules db x id = (n : Reading) × HasNumbers x n ×
     (id ≡ option_map_or name (region_by rules db n) [])
-
--- these by the rules of the crate
-abbrev pub IsKind : List Metadata → plain.Number → ℕ → Type 0
-IsKind db x kind = IsKindBy Crate db x kind
-
--- and its validity
-abbrev pub IsValidity : List Metadata → plain.Number → ℕ → Type 0
-IsValidity db x valid = IsValidityBy Crate db x valid
-
--- and its region
-abbrev pub IsRegion : List Metadata → plain.Number → List ℕ → Type 0
-IsRegion db x id = IsRegionBy Crate db x id
 
 -- its E.164 text, by which tables are keyed
 abbrev pub IsKey : plain.Number → List ℕ → Type 0
@@ -83,20 +70,12 @@ mode_number National = 2
 mode_number Rfc3966 = 3
 
 -- by rules, the text of the number in the mode
-abbrev pub IsPrintedBy : Rules → List Metadata → plain.Number → (bytes : List ℕ) → ℕ → List ℕ →
+abbrev pub IsPrinted : Rules → List Metadata → plain.Number → (bytes : List ℕ) → ℕ → List ℕ →
     Type 0
-IsPrintedBy rules db x bytes mode text = (n : Reading) × (m : Mode) × IsNumber x bytes n ×
+IsPrinted rules db x bytes mode text = (n : Reading) × (m : Mode) × IsNumber x bytes n ×
     (mode ≡ mode_number m) × (printed db m None (printed_as rules n) ≡ Some text)
 
 -- by rules, it is a number and a mode, but no territory has its code
-abbrev pub IsUnprintedBy : Rules → List Metadata → plain.Number → (bytes : List ℕ) → ℕ → Type 0
-IsUnprintedBy rules db x bytes mode = (n : Reading) × (m : Mode) × IsNumber x bytes n ×
+abbrev pub IsUnprinted : Rules → List Metadata → plain.Number → (bytes : List ℕ) → ℕ → Type 0
+IsUnprinted rules db x bytes mode = (n : Reading) × (m : Mode) × IsNumber x bytes n ×
     (mode ≡ mode_number m) × (printed db m None (printed_as rules n) ≡ None)
-
--- the text by the rules of the crate
-abbrev pub IsPrinted : List Metadata → plain.Number → (bytes : List ℕ) → ℕ → List ℕ → Type 0
-IsPrinted db x bytes mode text = IsPrintedBy Crate db x bytes mode text
-
--- and that there is none
-abbrev pub IsUnprinted : List Metadata → plain.Number → (bytes : List ℕ) → ℕ → Type 0
-IsUnprinted db x bytes mode = IsUnprintedBy Crate db x bytes mode

@@ -18,11 +18,11 @@ sameness_number End = 3
 sameness_number Different = 4
 
 -- by rules the texts are so like one number
-abbrev pub AreAlikeBy : Rules → List Metadata → (first second : List ℕ) → ℕ → Type 0
-AreAlikeBy rules db first second told = (s : Sameness) ×
+abbrev pub AreAlike : Rules → List Metadata → (first second : List ℕ) → ℕ → Type 0
+AreAlike rules db first second told = (s : Sameness) ×
     IsAnswer rules db (chars first) (chars second) (Ok s) × (told ≡ sameness_number s)
 
 -- by rules one of them is refused, and the status is the number of the refusal
-abbrev pub AreRefusedAsBy : Rules → List Metadata → (first second : List ℕ) → ℕ → Type 0
-AreRefusedAsBy rules db first second status = (e : ParseError) ×
+abbrev pub AreRefusedAs : Rules → List Metadata → (first second : List ℕ) → ℕ → Type 0
+AreRefusedAs rules db first second status = (e : ParseError) ×
     IsAnswer rules db (chars first) (chars second) (Err e) × (status ≡ refusal_number e)

@@ -25,27 +25,27 @@ abbrev pub HasNoExample : List Metadata → (region : List ℕ) → ℕ → Type
 HasNoExample db region kind = HasExample db region kind (λ id text. text ≡ None)
 
 -- by rules the example is read so, with the region as hint
-abbrev pub ExampleReadsBy : Rules → List Metadata → (region : List ℕ) → ℕ →
+abbrev pub ExampleReads : Rules → List Metadata → (region : List ℕ) → ℕ →
     Result Reading ParseError → Type 0
-ExampleReadsBy rules db region kind r = HasExample db region kind
+ExampleReads rules db region kind r = HasExample db region kind
     (λ id text. IsSomeAnd text (λ t. ReadsBy rules db (Some id) (chars t) r))
 
 -- by rules it is read as a number, the plain numbers are that number, and its texts are written
-pub record IsExampleBy (rules : Rules) (db : List Metadata) (region : List ℕ) (kind : ℕ)
+pub record IsExample (rules : Rules) (db : List Metadata) (region : List ℕ) (kind : ℕ)
     (x : plain.Number) (before after : List ℕ) (wrote : ℕ) : Type 0 where
   pub number : Reading
-  pub reads : ExampleReadsBy rules db region kind (Ok number)
+  pub reads : ExampleReads rules db region kind (Ok number)
   pub plain : IsNumber x after number
   pub texts : IsWritten (texts_of number) before after wrote
 
 -- by rules it is read as a number whose texts are too long
-pub record IsExampleTooLongBy (rules : Rules) (db : List Metadata) (region : List ℕ) (kind : ℕ)
+pub record IsExampleTooLong (rules : Rules) (db : List Metadata) (region : List ℕ) (kind : ℕ)
     (before after : List ℕ) (wrote : ℕ) : Type 0 where
   pub number : Reading
-  pub reads : ExampleReadsBy rules db region kind (Ok number)
+  pub reads : ExampleReads rules db region kind (Ok number)
   pub texts : IsTooLong (texts_of number) before after wrote
 
 -- by rules it is refused, and the status is the number of the refusal
-abbrev pub IsExampleRefusedBy : Rules → List Metadata → (region : List ℕ) → ℕ → ℕ → Type 0
-IsExampleRefusedBy rules db region kind status = (e : ParseError) ×
-    ExampleReadsBy rules db region kind (Err e) × (status ≡ refusal_number e)
+abbrev pub IsExampleRefused : Rules → List Metadata → (region : List ℕ) → ℕ → ℕ → Type 0
+IsExampleRefused rules db region kind status = (e : ParseError) ×
+    ExampleReads rules db region kind (Err e) × (status ≡ refusal_number e)

@@ -1,6 +1,6 @@
 -- Which hint bytes are, and where an id stands among all ids.
 use Rattle.std.specs.Prelude.{ℕ, ◌+◌, ◌-◌, ◌==◌, List, [], ◌∷◌, Option, None, Some, get_or, map}
-use Rattle.std.specs.Prelude.{option_map}
+use Rattle.std.specs.Prelude.{option_map, IsSomeAnd}
 use Rattle.std.specs.List.{position}
 use Rattle.std.specs.Option.{option_map_or}
 use Rattle.phone_values.specs.Ids.{id_of}
@@ -11,6 +11,10 @@ use Rattle.phone_c_base.specs.declared.hint.TheConstants.{SECOND_LETTERS, STARTS
 abbrev pub hint_of : List ℕ → Option (Option Id)
 hint_of [] = Some None
 hint_of (b ∷ bs) = option_map (λ id. Some id) (id_of (b ∷ bs))
+
+-- the bytes are a hint, and it is so under it
+abbrev pub UnderHint : List ℕ → (Option Id → Type 0) → Type 0
+UnderHint bytes IsSoUnder = IsSomeAnd (hint_of bytes) IsSoUnder
 
 -- a place as far behind a start as a letter stands in a row of letters; the start where it doesn't
 abbrev pub place_behind : (start : ℕ) (letters : List ℕ) (letter : ℕ) → ℕ

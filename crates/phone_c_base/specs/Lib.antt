@@ -16,6 +16,5 @@ pub mod Possibilities
 pub mod PrefixTables
 pub mod Rules
 pub mod ShortNumbers
-pub mod TextReports
 pub mod Typing
 pub mod Words

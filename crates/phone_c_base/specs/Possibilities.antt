@@ -1,9 +1,11 @@
 -- Whether a number, or a text, is possible, told by a number.
-use Rattle.std.specs.Prelude.{◌≡◌, ℕ, List, Result, Ok, Err}
+use Rattle.std.specs.Prelude.{◌≡◌, ℕ, List, Option, Result, Ok, Err, chars}
 use Rattle.phone_values.specs.Refusals.{refusal_number}
+use Rattle.phone_values.specs.declared.country.Id.{Id}
 use Rattle.phone_values.specs.declared.error.ParseError.{ParseError}
 use Rattle.phone_values.specs.declared.reading.Reading.{Reading}
 use Rattle.phone_records.specs.declared.loader.Metadata.{Metadata}
+use Rattle.phone_engine.specs.Readings.{ReadsBy}
 use Rattle.phone_values.specs.declared.rules.Rules.{Rules}
 use Rattle.phone_util.specs.Possibilities.{possibility_of, possibility_read}
 use Rattle.phone_util.specs.declared.possibilities.Possibility.{Possibility}
@@ -13,7 +15,6 @@ use Rattle.phone_util.specs.declared.possibilities.Possibility.TheVariants.{TooS
 use Rattle.phone_util.specs.declared.possibilities.Possibility.TheVariants.{WrongLength}
 use Rattle.phone_util.specs.declared.possibilities.Possibility.TheVariants.{UnknownCode}
 use Rattle.phone_c_base.specs.Numbers.{HasNumbers}
-use Rattle.phone_c_base.specs.Parses.{ReadsAsBy}
 use Rattle.phone_c_base.specs.declared.number.Number as plain
 
 -- what a length says, by its number
@@ -26,22 +27,22 @@ possibility_number WrongLength = 4
 possibility_number UnknownCode = 5
 
 -- by rules, what the length of the number that has these plain numbers says
-abbrev pub IsPossibilityBy : Rules → List Metadata → plain.Number → ℕ → Type 0
-IsPossibilityBy rules db x told = (n : Reading) × HasNumbers x n ×
+abbrev pub IsPossibility : Rules → List Metadata → plain.Number → ℕ → Type 0
+IsPossibility rules db x told = (n : Reading) × HasNumbers x n ×
     (told ≡ possibility_number (possibility_of rules db n))
 
--- the bytes are a hint, and this is said of the text as it is read under it by rules
-abbrev pub IsSaidOfTextBy : Rules → List Metadata → (hint text : List ℕ) →
+-- this is said of the text as it is read by rules and under a hint
+abbrev pub IsSaidOfText : Rules → List Metadata → Option Id → (text : List ℕ) →
     Result Possibility ParseError → Type 0
-IsSaidOfTextBy rules db hint text said = (r : Result Reading ParseError) ×
-    ReadsAsBy rules db hint text r × (said ≡ possibility_read rules db r)
+IsSaidOfText rules db hint text said = (r : Result Reading ParseError) ×
+    ReadsBy rules db hint (chars text) r × (said ≡ possibility_read rules db r)
 
 -- by its number, where it is what a length says
-abbrev pub IsTextPossibilityBy : Rules → List Metadata → (hint text : List ℕ) → ℕ → Type 0
-IsTextPossibilityBy rules db hint text told = (p : Possibility) ×
-    IsSaidOfTextBy rules db hint text (Ok p) × (told ≡ possibility_number p)
+abbrev pub IsTextPossibility : Rules → List Metadata → Option Id → (text : List ℕ) → ℕ → Type 0
+IsTextPossibility rules db hint text told = (p : Possibility) ×
+    IsSaidOfText rules db hint text (Ok p) × (told ≡ possibility_number p)
 
 -- the status is the number of the refusal, where it is one
-abbrev pub IsNoPossibilityBy : Rules → List Metadata → (hint text : List ℕ) → ℕ → Type 0
-IsNoPossibilityBy rules db hint text status = (e : ParseError) ×
-    IsSaidOfTextBy rules db hint text (Err e) × (status ≡ refusal_number e)
+abbrev pub IsNoPossibility : Rules → List Metadata → Option Id → (text : List ℕ) → ℕ → Type 0
+IsNoPossibility rules db hint text status = (e : ParseError) ×
+    IsSaidOfText rules db hint text (Err e) × (status ≡ refusal_number e)

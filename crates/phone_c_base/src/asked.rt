@@ -1,10 +1,9 @@
 //! What a database tells of a number that is given as plain numbers.
 ghost use Rattle.std.specs.Prelude.{◌≡◌, ◌↔◌, ◌==◌, IfOk, string_bytes};
 ghost use Rattle.std.specs.List.{find};
-ghost use Rattle.phone_engine.specs.Facts.{kind_by, region_by};
+ghost use Rattle.phone_engine.specs.Facts.{region_by};
 ghost use Rattle.phone_print.specs.Texts.{e164_text};
-ghost use Rattle.phone_c_base.specs.Answers.{IsKey, IsKindBy, IsRegionBy, IsValidityBy};
-ghost use Rattle.phone_c_base.specs.Answers.{kind_number};
+ghost use Rattle.phone_c_base.specs.Answers.{IsKey, IsKind, IsRegion, IsValidity, kind_number};
 ghost use Rattle.phone_c_base.specs.Buffers.{IsTooLongA, IsWrittenA};
 ghost use Rattle.phone_c_base.specs.Kinds.{kind_of};
 ghost use Rattle.phone_c_base.specs.Numbers.{AreNone};
@@ -12,8 +11,7 @@ ghost use Rattle.phone_c_base.specs.Numbers.{AreNone};
 use crate::buffer::give;
 use crate::number::{Number, bare};
 use crate::status::{BAD_NUMBER, MEMORY, OK, TOO_SMALL};
-use phone_choice::{Rules, is_valid_by};
-use phone_plans::Plans;
+use phone_engine::{Engine, Rules};
 use phone_values::KINDS;
 use phone_values::country::Id;
 use phonenumber::{PhoneNumber, Type};
@@ -62,29 +60,21 @@ fn find_kind(kinds: &[Type], number: u32) -> Option<Type>
         .find(|kind| kind_number(*kind) == number)
 }
 
-/// The kind of a number by rules.
-fn kind_by(rules: Rules, database: &Plans, number: &PhoneNumber) -> Result<Type, AllocError>
-    ensures { IfOk result (λ kind. kind ≡ kind_by rules database.now number.now) }
+/// The region of a number by an engine's rules. Refused only for memory.
+fn region_by(engine: Engine<'_>, number: &PhoneNumber) -> Result<Option<Id>, AllocError>
+    ensures { IfOk result
+        (λ id. id ≡ region_by engine.entry.rules engine.entry.database.now number.now) }
 {
-    match rules {
-        Rules::Library => phone_library::number_type(database, number),
-        Rules::Crate => number.number_type(database),
+    match engine.rules {
+        Rules::Library => phone_library::region(engine.database, number),
+        Rules::Crate => number.country().id(engine.database),
     }
 }
 
-/// The region of a number by rules.
-fn region_by(rules: Rules, database: &Plans, number: &PhoneNumber) -> Result<Option<Id>, AllocError>
-    ensures { IfOk result (λ id. id ≡ region_by rules database.now number.now) }
-{
-    match rules {
-        Rules::Library => phone_library::region(database, number),
-        Rules::Crate => number.country().id(database),
-    }
-}
-
-/// The kind of a number by rules, by the kind's number.
-pub fn kind(rules: Rules, database: &Plans, number: &Number, kind: &mut u32) -> u32
-    ensures told { result ≡ OK → IsKindBy rules database.now number.now kind.new }
+/// The kind of a number by an engine's rules, by the kind's number.
+pub fn kind(engine: Engine<'_>, number: &Number, kind: &mut u32) -> u32
+    ensures told { result ≡ OK →
+        IsKind engine.entry.rules engine.entry.database.now number.now kind.new }
     ensures bad { (result ≡ BAD_NUMBER) ↔ AreNone number.now }
     ensures other { ¬ (result ≡ OK) → ¬ (result ≡ BAD_NUMBER) → result ≡ MEMORY }
     ensures untouched { ¬ (result ≡ OK) → kind.new ≡ kind.old }
@@ -92,18 +82,19 @@ pub fn kind(rules: Rules, database: &Plans, number: &Number, kind: &mut u32) -> 
     let Some(number) = bare(number) else {
         return BAD_NUMBER;
     };
-    match kind_by(rules, database, &number) {
-        Ok(told) => {
-            *kind = kind_number(told);
+    match engine.facts(&number) {
+        Ok(facts) => {
+            *kind = kind_number(facts.kind);
             OK
         }
         Err(_) => MEMORY,
     }
 }
 
-/// Whether a number is valid by rules: 1, else 0.
-pub fn validity(rules: Rules, database: &Plans, number: &Number, valid: &mut u8) -> u32
-    ensures told { result ≡ OK → IsValidityBy rules database.now number.now valid.new }
+/// Whether a number is valid by an engine's rules: 1, else 0.
+pub fn validity(engine: Engine<'_>, number: &Number, valid: &mut u8) -> u32
+    ensures told { result ≡ OK →
+        IsValidity engine.entry.rules engine.entry.database.now number.now valid.new }
     ensures bad { (result ≡ BAD_NUMBER) ↔ AreNone number.now }
     ensures other { ¬ (result ≡ OK) → ¬ (result ≡ BAD_NUMBER) → result ≡ MEMORY }
     ensures untouched { ¬ (result ≡ OK) → valid.new ≡ valid.old }
@@ -111,7 +102,7 @@ pub fn validity(rules: Rules, database: &Plans, number: &Number, valid: &mut u8)
     let Some(number) = bare(number) else {
         return BAD_NUMBER;
     };
-    match is_valid_by(rules, database, &number) {
+    match engine.is_valid(&number) {
         Ok(told) => {
             *valid = if told { 1 } else { 0 };
             OK
@@ -120,18 +111,14 @@ pub fn validity(rules: Rules, database: &Plans, number: &Number, valid: &mut u8)
     }
 }
 
-/// The id of a number's region by rules, in a buffer; no byte where it has none.
-pub fn region(
-    rules: Rules,
-    database: &Plans,
-    number: &Number,
-    out: &mut [u8],
-    wrote: &mut usize,
-) -> u32
+/// The id of a number's region by an engine's rules, in a buffer; no byte where it has none.
+pub fn region(engine: Engine<'_>, number: &Number, out: &mut [u8], wrote: &mut usize) -> u32
     ensures written { result ≡ OK →
-        IsWrittenA (IsRegionBy rules database.now number.now) out.old out.new wrote.new }
+        IsWrittenA (IsRegion engine.entry.rules engine.entry.database.now number.now)
+        out.old out.new wrote.new }
     ensures too_small { result ≡ TOO_SMALL →
-        IsTooLongA (IsRegionBy rules database.now number.now) out.old out.new wrote.new }
+        IsTooLongA (IsRegion engine.entry.rules engine.entry.database.now number.now)
+        out.old out.new wrote.new }
     ensures bad { (result ≡ BAD_NUMBER) ↔ AreNone number.now }
     ensures other { ¬ (result ≡ OK) → ¬ (result ≡ TOO_SMALL) → ¬ (result ≡ BAD_NUMBER) →
         result ≡ MEMORY }
@@ -142,7 +129,7 @@ pub fn region(
     let Some(number) = bare(number) else {
         return BAD_NUMBER;
     };
-    match region_by(rules, database, &number) {
+    match region_by(engine, &number) {
         Ok(Some(id)) => give(id.as_str().as_bytes(), out, wrote),
         Ok(None) => give(b"", out, wrote),
         Err(_) => MEMORY,

@@ -12,11 +12,9 @@ use crate::number::{Number, to_phone_number};
 use crate::status::{BAD_NUMBER, MEMORY, NO_REGION, NO_TERRITORY, OK, TOO_SMALL, UNKNOWN_CODE};
 use phone_plans::Plans;
 use phone_util::dialled::{DialError, dialled_from};
-use std::alloc::Global;
 
 /// How a number is dialled from a region, in a buffer.
 pub fn dialled(
-    alloc: Global,
     database: &Plans,
     region: &[u8],
     number: &Number,
@@ -47,7 +45,7 @@ pub fn dialled(
     let Some(region) = id_of(region) else {
         return NO_REGION;
     };
-    let number = match to_phone_number(alloc, number, bytes) {
+    let number = match to_phone_number(database.allocator(), number, bytes) {
         Ok(number) => number,
         Err(status) => return status,
     };

@@ -13,7 +13,7 @@ use phone_values::country::Id;
 use std::alloc::{AllocError, Global};
 
 /// The ids of a database's regions, one behind the other, in a buffer.
-pub fn regions(alloc: Global, database: &Plans, out: &mut [u8], wrote: &mut usize) -> u32
+pub fn regions(database: &Plans, out: &mut [u8], wrote: &mut usize) -> u32
     ensures written { result ≡ OK →
         IsWritten (region_names database.now) out.old out.new wrote.new }
     ensures too_small { result ≡ TOO_SMALL →
@@ -26,7 +26,7 @@ pub fn regions(alloc: Global, database: &Plans, out: &mut [u8], wrote: &mut usiz
     let Ok(ids) = phone_util::regions(database) else {
         return MEMORY;
     };
-    match names_of(alloc, ids.as_slice()) {
+    match names_of(database.allocator(), ids.as_slice()) {
         Ok(names) => give(names.as_slice(), out, wrote),
         Err(_) => MEMORY,
     }

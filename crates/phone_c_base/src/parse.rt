@@ -1,16 +1,13 @@
 //! The reading of a text as plain numbers, whose texts go into a buffer.
-ghost use Rattle.std.specs.Prelude.{◌≡◌, ◌⊎◌, ◌↔◌, None, IsUtf8};
+ghost use Rattle.std.specs.Prelude.{◌≡◌, ◌⊎◌, ◌↔◌, IsUtf8};
 ghost use Rattle.phone_c_base.specs.Buffers.{IsTooLong, IsWritten};
-ghost use Rattle.phone_c_base.specs.Hints.{hint_of};
 ghost use Rattle.phone_c_base.specs.Numbers.{IsNumber, texts_of};
-ghost use Rattle.phone_c_base.specs.Parses.{IsParsedBy, IsParsedTooLongBy, IsRefusedAsBy};
+ghost use Rattle.phone_c_base.specs.Parses.{IsParsed, IsParsedTooLong, IsRefusedAs};
 
 use crate::buffer::give_two;
-use crate::hint::hint_of;
 use crate::number::{Number, carrier_of, extension_of, number_of, or_empty, part_of};
-use crate::status::{MEMORY, NO_REGION, NOT_UTF8, OK, TOO_SMALL};
-use phone_choice::{Rules, parse_by};
-use phone_plans::Plans;
+use crate::status::{MEMORY, NOT_UTF8, OK, TOO_SMALL};
+use phone_engine::Engine;
 use phonenumber::PhoneNumber;
 
 /// The plain numbers of a number, its texts at the front of a buffer, and their length; only the
@@ -39,38 +36,31 @@ pub fn write_number(
     status
 }
 
-/// Reads a text by rules, under a database and a hint, into plain numbers and a buffer.
+/// Reads a text into plain numbers and a buffer.
 pub fn parse(
-    rules: Rules,
-    database: &Plans,
-    hint: &[u8],
+    engine: Engine<'_>,
     text: &[u8],
     number: &mut Number,
     out: &mut [u8],
     wrote: &mut usize,
 ) -> u32
-    ensures read { result ≡ OK →
-        IsParsedBy rules database.now hint.now text.now number.new out.old out.new wrote.new }
-    ensures too_small { result ≡ TOO_SMALL →
-        IsParsedTooLongBy rules database.now hint.now text.now out.old out.new wrote.new }
-    ensures no_region { (result ≡ NO_REGION) ↔ (hint_of hint.now ≡ None) }
-    ensures not_utf8 { (result ≡ NOT_UTF8) ↔
-        (¬ (hint_of hint.now ≡ None) × ¬ (IsUtf8 text.now)) }
-    ensures refused { ¬ (result ≡ OK) → ¬ (result ≡ TOO_SMALL) → ¬ (result ≡ NO_REGION) →
-        ¬ (result ≡ NOT_UTF8) →
-        (result ≡ MEMORY) ⊎ IsRefusedAsBy rules database.now hint.now text.now result }
+    ensures read { result ≡ OK → IsParsed engine.entry.rules engine.entry.database.now
+        engine.entry.hint text.now number.new out.old out.new wrote.new }
+    ensures too_small { result ≡ TOO_SMALL → IsParsedTooLong engine.entry.rules
+        engine.entry.database.now engine.entry.hint text.now out.old out.new wrote.new }
+    ensures not_utf8 { (result ≡ NOT_UTF8) ↔ ¬ (IsUtf8 text.now) }
+    ensures refused { ¬ (result ≡ OK) → ¬ (result ≡ TOO_SMALL) → ¬ (result ≡ NOT_UTF8) →
+        (result ≡ MEMORY) ⊎ IsRefusedAs engine.entry.rules engine.entry.database.now
+        engine.entry.hint text.now result }
     ensures untouched { ¬ (result ≡ OK) → out.new ≡ out.old }
     ensures kept { ¬ (result ≡ OK) → number.new ≡ number.old }
     ensures no_length { ¬ (result ≡ OK) → ¬ (result ≡ TOO_SMALL) → wrote.new ≡ 0 }
 {
     *wrote = 0;
-    let Some(hint) = hint_of(hint) else {
-        return NO_REGION;
-    };
     let Ok(text) = std::str::from_utf8(text) else {
         return NOT_UTF8;
     };
-    match parse_by(rules, database, hint, text) {
+    match engine.parse(text) {
         Ok(read) => write_number(&read, number, out, wrote),
         Err(error) => u32::from(error.number()),
     }

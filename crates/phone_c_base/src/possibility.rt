@@ -1,15 +1,12 @@
 //! Whether a number that is given as plain numbers, or a text, is possible.
-ghost use Rattle.std.specs.Prelude.{◌≡◌, ◌⊎◌, ◌↔◌, None, IsUtf8};
-ghost use Rattle.phone_c_base.specs.Hints.{hint_of};
+ghost use Rattle.std.specs.Prelude.{◌≡◌, ◌⊎◌, ◌↔◌, IsUtf8};
 ghost use Rattle.phone_c_base.specs.Numbers.{AreNone};
-ghost use Rattle.phone_c_base.specs.Possibilities.{IsNoPossibilityBy, IsPossibilityBy};
-ghost use Rattle.phone_c_base.specs.Possibilities.{IsTextPossibilityBy, possibility_number};
+ghost use Rattle.phone_c_base.specs.Possibilities.{IsNoPossibility, IsPossibility};
+ghost use Rattle.phone_c_base.specs.Possibilities.{IsTextPossibility, possibility_number};
 
-use crate::hint::hint_of;
 use crate::number::{Number, bare};
-use crate::status::{BAD_NUMBER, MEMORY, NO_REGION, NOT_UTF8, OK};
-use phone_choice::Rules;
-use phone_plans::Plans;
+use crate::status::{BAD_NUMBER, MEMORY, NOT_UTF8, OK};
+use phone_engine::Engine;
 use phone_util::{Possibility, possibility_of, possibility_of_text};
 
 /// What a length says, by its number.
@@ -26,9 +23,10 @@ fn possibility_number(possibility: Possibility) -> u32
     }
 }
 
-/// Whether a number is possible by rules.
-pub fn possibility(rules: Rules, database: &Plans, number: &Number, told: &mut u32) -> u32
-    ensures told { result ≡ OK → IsPossibilityBy rules database.now number.now told.new }
+/// Whether a number is possible by an engine's rules.
+pub fn possibility(engine: Engine<'_>, number: &Number, told: &mut u32) -> u32
+    ensures told { result ≡ OK →
+        IsPossibility engine.entry.rules engine.entry.database.now number.now told.new }
     ensures bad { (result ≡ BAD_NUMBER) ↔ AreNone number.now }
     ensures other { ¬ (result ≡ OK) → ¬ (result ≡ BAD_NUMBER) → result ≡ MEMORY }
     ensures untouched { ¬ (result ≡ OK) → told.new ≡ told.old }
@@ -36,7 +34,7 @@ pub fn possibility(rules: Rules, database: &Plans, number: &Number, told: &mut u
     let Some(number) = bare(number) else {
         return BAD_NUMBER;
     };
-    match possibility_of(rules, database, &number) {
+    match possibility_of(engine, &number) {
         Ok(possibility) => {
             *told = possibility_number(possibility);
             OK
@@ -45,30 +43,20 @@ pub fn possibility(rules: Rules, database: &Plans, number: &Number, told: &mut u
     }
 }
 
-/// Whether a text is a possible number by rules, under a database and a hint.
-pub fn text_possibility(
-    rules: Rules,
-    database: &Plans,
-    hint: &[u8],
-    text: &[u8],
-    told: &mut u32,
-) -> u32
-    ensures told { result ≡ OK →
-        IsTextPossibilityBy rules database.now hint.now text.now told.new }
-    ensures no_region { (result ≡ NO_REGION) ↔ (hint_of hint.now ≡ None) }
-    ensures not_utf8 { (result ≡ NOT_UTF8) ↔
-        (¬ (hint_of hint.now ≡ None) × ¬ (IsUtf8 text.now)) }
-    ensures refused { ¬ (result ≡ OK) → ¬ (result ≡ NO_REGION) → ¬ (result ≡ NOT_UTF8) →
-        (result ≡ MEMORY) ⊎ IsNoPossibilityBy rules database.now hint.now text.now result }
+/// Whether a text is a possible number.
+pub fn text_possibility(engine: Engine<'_>, text: &[u8], told: &mut u32) -> u32
+    ensures told { result ≡ OK → IsTextPossibility engine.entry.rules engine.entry.database.now
+        engine.entry.hint text.now told.new }
+    ensures not_utf8 { (result ≡ NOT_UTF8) ↔ ¬ (IsUtf8 text.now) }
+    ensures refused { ¬ (result ≡ OK) → ¬ (result ≡ NOT_UTF8) →
+        (result ≡ MEMORY) ⊎ IsNoPossibility engine.entry.rules engine.entry.database.now
+        engine.entry.hint text.now result }
     ensures untouched { ¬ (result ≡ OK) → told.new ≡ told.old }
 {
-    let Some(hint) = hint_of(hint) else {
-        return NO_REGION;
-    };
     let Ok(text) = std::str::from_utf8(text) else {
         return NOT_UTF8;
     };
-    match possibility_of_text(rules, database, hint, text) {
+    match possibility_of_text(engine, text) {
         Ok(possibility) => {
             *told = possibility_number(possibility);
             OK

@@ -3,18 +3,17 @@ ghost use Rattle.std.specs.Prelude.{◌≡◌, ◌↔◌, ◌<◌, Some, None, E
 ghost use Rattle.std.specs.Prelude.{string_bytes};
 ghost use Rattle.phonenumber.specs.Printed.{printed};
 ghost use Rattle.phone_engine.specs.Facts.{printed_as};
-ghost use Rattle.phone_c_base.specs.Answers.{IsPrintedBy, IsUnprintedBy, mode_number};
+ghost use Rattle.phone_c_base.specs.Answers.{IsPrinted, IsUnprinted, mode_number};
 ghost use Rattle.phone_c_base.specs.Buffers.{IsTooLongA, IsWrittenA};
 ghost use Rattle.phone_c_base.specs.Numbers.{AreNoNumber};
 
 use crate::buffer::give;
 use crate::number::{Number, to_phone_number};
 use crate::status::{BAD_NUMBER, MEMORY, NO_MODE, OK, TOO_SMALL, UNKNOWN_CODE};
-use phone_choice::Rules;
+use phone_engine::{Engine, Rules};
 use phone_library::without_carrier;
 use phone_plans::Plans;
 use phonenumber::{FormatError, Mode, PhoneNumber, format_with};
-use std::alloc::Global;
 
 /// A mode, of its number; none for others than these four.
 fn mode_of(number: u32) -> Option<Mode>
@@ -31,42 +30,33 @@ fn mode_of(number: u32) -> Option<Mode>
 }
 
 /// The text of a number in a mode.
-fn text_in(
-    alloc: Global,
-    database: &Plans,
-    number: &PhoneNumber,
-    mode: Mode,
-) -> Result<String, FormatError>
+fn text_in(database: &Plans, number: &PhoneNumber, mode: Mode) -> Result<String, FormatError>
     ensures text { IfOk result (λ t.
         printed database.now mode None number.now ≡ Some (string_bytes t)) }
     ensures unknown { (result ≡ Err FormatError.UnknownCode) ↔
         (printed database.now mode None number.now ≡ None) }
 {
-    format_with(database, number).mode(mode).to_text(alloc)
+    format_with(database, number)
+        .mode(mode)
+        .to_text(database.allocator())
 }
 
-/// The text of a number in a mode, by rules.
-fn text_by(
-    alloc: Global,
-    rules: Rules,
-    database: &Plans,
-    number: &PhoneNumber,
-    mode: Mode,
-) -> Result<String, FormatError>
-    ensures text { IfOk result (λ t.
-        printed database.now mode None (printed_as rules number.now) ≡ Some (string_bytes t)) }
+/// The text of a number in a mode, as an engine's rules print it.
+fn text_by(engine: Engine<'_>, number: &PhoneNumber, mode: Mode) -> Result<String, FormatError>
+    ensures text { IfOk result (λ t. printed engine.entry.database.now mode None
+        (printed_as engine.entry.rules number.now) ≡ Some (string_bytes t)) }
     ensures unknown { result ≡ Err FormatError.UnknownCode →
-        printed database.now mode None (printed_as rules number.now) ≡ None }
+        printed engine.entry.database.now mode None (printed_as engine.entry.rules number.now) ≡
+        None }
 {
-    match rules {
-        Rules::Library => text_without_carrier(alloc, database, number, mode),
-        Rules::Crate => text_in(alloc, database, number, mode),
+    match engine.rules {
+        Rules::Library => text_without_carrier(engine.database, number, mode),
+        Rules::Crate => text_in(engine.database, number, mode),
     }
 }
 
 /// The text of a number without its carrier, in a mode.
 fn text_without_carrier(
-    alloc: Global,
     database: &Plans,
     number: &PhoneNumber,
     mode: Mode,
@@ -77,16 +67,14 @@ fn text_without_carrier(
         printed database.now mode None (printed_as Rules.Library number.now) ≡ None }
 {
     match without_carrier(number) {
-        Ok(number) => text_in(alloc, database, &number, mode),
+        Ok(number) => text_in(database, &number, mode),
         Err(_) => Err(FormatError::Memory),
     }
 }
 
-/// The text of a number in a mode, by rules, in a buffer.
+/// The text of a number in a mode, as an engine's rules print it, in a buffer.
 pub fn print(
-    alloc: Global,
-    rules: Rules,
-    database: &Plans,
+    engine: Engine<'_>,
     number: &Number,
     bytes: &[u8],
     mode: u32,
@@ -94,16 +82,16 @@ pub fn print(
     wrote: &mut usize,
 ) -> u32
     ensures written { result ≡ OK →
-        IsWrittenA (IsPrintedBy rules database.now number.now bytes.now mode)
-        out.old out.new wrote.new }
+        IsWrittenA (IsPrinted engine.entry.rules engine.entry.database.now number.now bytes.now
+        mode) out.old out.new wrote.new }
     ensures too_small { result ≡ TOO_SMALL →
-        IsTooLongA (IsPrintedBy rules database.now number.now bytes.now mode)
-        out.old out.new wrote.new }
+        IsTooLongA (IsPrinted engine.entry.rules engine.entry.database.now number.now bytes.now
+        mode) out.old out.new wrote.new }
     ensures no_mode { (result ≡ NO_MODE) ↔ (3 < mode) }
     ensures bad { (result ≡ BAD_NUMBER) ↔
         (¬ (3 < mode) × AreNoNumber number.now bytes.now) }
     ensures unknown { result ≡ UNKNOWN_CODE →
-        IsUnprintedBy rules database.now number.now bytes.now mode }
+        IsUnprinted engine.entry.rules engine.entry.database.now number.now bytes.now mode }
     ensures other { ¬ (result ≡ OK) → ¬ (result ≡ TOO_SMALL) → ¬ (result ≡ NO_MODE) →
         ¬ (result ≡ BAD_NUMBER) → ¬ (result ≡ UNKNOWN_CODE) → result ≡ MEMORY }
     ensures untouched { ¬ (result ≡ OK) → out.new ≡ out.old }
@@ -113,11 +101,11 @@ pub fn print(
     let Some(mode) = mode_of(mode) else {
         return NO_MODE;
     };
-    let number = match to_phone_number(alloc, number, bytes) {
+    let number = match to_phone_number(engine.database.allocator(), number, bytes) {
         Ok(number) => number,
         Err(status) => return status,
     };
-    match text_by(alloc, rules, database, &number, mode) {
+    match text_by(engine, &number, mode) {
         Ok(text) => give(text.as_bytes(), out, wrote),
         Err(FormatError::UnknownCode) => UNKNOWN_CODE,
         Err(FormatError::Memory) => MEMORY,

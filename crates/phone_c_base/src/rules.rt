@@ -2,7 +2,7 @@
 ghost use Rattle.std.specs.Prelude.{◌≡◌, ◌<◌, IfNone, IfSome};
 ghost use Rattle.phone_c_base.specs.Rules.{rules_number};
 
-use phone_choice::Rules;
+use phone_engine::Rules;
 
 /// The rules that have this number; none for others than these two.
 pub fn rules_of(number: u32) -> Option<Rules>

@@ -1,37 +1,36 @@
 //! What is shown of a number while it is typed, in a buffer, and where the caret stands.
-ghost use Rattle.std.specs.Prelude.{◌≡◌, ◌↔◌, IfOk, None, IsUtf8, chars, length};
+ghost use Rattle.std.specs.Prelude.{◌≡◌, ◌↔◌, IfOk, IsUtf8, chars, length};
 ghost use Rattle.phone_c_base.specs.Buffers.{IsTooLongA, IsWrittenA};
-ghost use Rattle.phone_c_base.specs.Hints.{hint_of};
 ghost use Rattle.phone_c_base.specs.Typing.{IsCaret, IsPlaceOfKey, IsShown};
 ghost use Rattle.phone_typed.specs.Keys.{is_key, keys_in, up_to_key};
 ghost use Rattle.phone_typed.specs.Typed.{typed};
 
 use crate::buffer::give;
-use crate::hint::hint_of;
-use crate::status::{MEMORY, NO_REGION, NOT_UTF8, OK, TOO_SMALL};
+use crate::status::{MEMORY, NOT_UTF8, OK, TOO_SMALL};
 use phone_plans::Plans;
 use phone_typed::typed;
 use phone_values::country::Id;
 use std::alloc::AllocError;
 
-/// Shows the keys of a text in a buffer.
-pub fn show(database: &Plans, hint: &[u8], keys: &[u8], out: &mut [u8], wrote: &mut usize) -> u32
+/// Shows the keys of a text in a buffer, under a hint.
+pub fn show(
+    database: &Plans,
+    hint: Option<Id>,
+    keys: &[u8],
+    out: &mut [u8],
+    wrote: &mut usize,
+) -> u32
     ensures written { result ≡ OK →
-        IsWrittenA (IsShown database.now hint.now keys.now) out.old out.new wrote.new }
+        IsWrittenA (IsShown database.now hint keys.now) out.old out.new wrote.new }
     ensures too_small { result ≡ TOO_SMALL →
-        IsTooLongA (IsShown database.now hint.now keys.now) out.old out.new wrote.new }
-    ensures no_region { (result ≡ NO_REGION) ↔ (hint_of hint.now ≡ None) }
-    ensures not_utf8 { (result ≡ NOT_UTF8) ↔
-        (¬ (hint_of hint.now ≡ None) × ¬ (IsUtf8 keys.now)) }
-    ensures other { ¬ (result ≡ OK) → ¬ (result ≡ TOO_SMALL) → ¬ (result ≡ NO_REGION) →
-        ¬ (result ≡ NOT_UTF8) → result ≡ MEMORY }
+        IsTooLongA (IsShown database.now hint keys.now) out.old out.new wrote.new }
+    ensures not_utf8 { (result ≡ NOT_UTF8) ↔ ¬ (IsUtf8 keys.now) }
+    ensures other { ¬ (result ≡ OK) → ¬ (result ≡ TOO_SMALL) → ¬ (result ≡ NOT_UTF8) →
+        result ≡ MEMORY }
     ensures untouched { ¬ (result ≡ OK) → out.new ≡ out.old }
     ensures no_length { ¬ (result ≡ OK) → ¬ (result ≡ TOO_SMALL) → wrote.new ≡ 0 }
 {
     *wrote = 0;
-    let Some(hint) = hint_of(hint) else {
-        return NO_REGION;
-    };
     let Ok(keys) = std::str::from_utf8(keys) else {
         return NOT_UTF8;
     };
@@ -75,19 +74,13 @@ fn caret_of(database: &Plans, hint: Option<Id>, keys: &str, n: usize) -> Result<
     Ok(end_of_key(shown.as_bytes(), n))
 }
 
-/// Tells where the caret stands after the n-th of the keys of a text.
-pub fn caret(database: &Plans, hint: &[u8], keys: &[u8], n: usize, told: &mut usize) -> u32
-    ensures told { result ≡ OK → IsCaret database.now hint.now keys.now n told.new }
-    ensures no_region { (result ≡ NO_REGION) ↔ (hint_of hint.now ≡ None) }
-    ensures not_utf8 { (result ≡ NOT_UTF8) ↔
-        (¬ (hint_of hint.now ≡ None) × ¬ (IsUtf8 keys.now)) }
-    ensures other { ¬ (result ≡ OK) → ¬ (result ≡ NO_REGION) → ¬ (result ≡ NOT_UTF8) →
-        result ≡ MEMORY }
+/// Tells where the caret stands after the n-th of the keys of a text, under a hint.
+pub fn caret(database: &Plans, hint: Option<Id>, keys: &[u8], n: usize, told: &mut usize) -> u32
+    ensures told { result ≡ OK → IsCaret database.now hint keys.now n told.new }
+    ensures not_utf8 { (result ≡ NOT_UTF8) ↔ ¬ (IsUtf8 keys.now) }
+    ensures other { ¬ (result ≡ OK) → ¬ (result ≡ NOT_UTF8) → result ≡ MEMORY }
     ensures untouched { ¬ (result ≡ OK) → told.new ≡ told.old }
 {
-    let Some(hint) = hint_of(hint) else {
-        return NO_REGION;
-    };
     let Ok(keys) = std::str::from_utf8(keys) else {
         return NOT_UTF8;
     };
