@@ -1,3 +1,5 @@
-pub mod ModeLemmas
-pub mod NameLemmas
-pub mod PartLemmas
+pub mod CallLaws
+pub mod Fronts
+pub mod Marks
+pub mod Onward
+pub mod PartLaws

@@ -1,8 +1,6 @@
 pub mod Calls
-pub mod Commands
 pub mod Delimiters
-pub mod Meant
-pub mod Names
-pub mod Options
+pub mod Help
 pub mod Parts
+pub mod Rows
 pub mod RuleNames

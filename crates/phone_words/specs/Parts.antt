@@ -1,86 +1,132 @@
--- The parts of a call: options, values of options, and operands.
-use Rattle.std.specs.Prelude.{◌≡◌, ℕ, Bool, false, true, List, [], ◌∷◌, ◌++◌, codes, map}
-use Rattle.std.specs.Prelude.{Some, None}
-use Rattle.std.specs.List.{list_any}
-use Rattle.std.specs.Borrow.{Bor}
+-- The parts of a call: options with their values, and operands, which are a region and files.
+use Rattle.std.specs.Prelude.{◌≡◌, ℕ, ◌==◌, Bool, false, true, List, [], ◌∷◌, codes, map}
+use Rattle.std.specs.Prelude.{Option, Some, None, if◌then◌else◌}
 use Rattle.std.specs.Str.{bytes_eq}
-use Rattle.phone_words.specs.Names.{IsJoined, flag_named, is_dashed, key_named}
-use Rattle.phone_words.specs.declared.parts.Flag.{Flag}
-use Rattle.phone_words.specs.declared.parts.Key.{Key}
+use Rattle.phone_words.specs.Rows.{Entry, entry, is_empty, joined, named, takes}
+use Rattle.phone_words.specs.declared.parts.Kind.{Kind as ToldKind}
+use Rattle.phone_words.specs.declared.parts.Kind.TheVariants as told_kind
 use Rattle.phone_words.specs.declared.parts.Part.{Part}
 use Rattle.phone_words.specs.declared.parts.Part.TheVariants as part
+use Rattle.phone_words.specs.declared.parts.Why.{Why}
+use Rattle.phone_words.specs.declared.parts.Why.TheVariants as why
 use Rattle.phone_words.specs.declared.parts.WordError.{WordError}
-use Rattle.phone_words.specs.declared.parts.WordError.TheVariants as error
 
--- texts that are lent
-abbrev pub texts_of : List (Bor (List ℕ)) → List (List ℕ)
-texts_of words = map (λ (w : Bor (List ℕ)). w.now) words
-
--- what a part says: an option that stands alone, one with its value, or an operand
+-- a part of a call: an option with its value, which is empty where it takes none, or an operand
 pub data Said : Type 0 where
-  alone : Flag → Said
-  value : Key → List ℕ → Said
+  option : Entry → List ℕ → Said
   operand : List ℕ → Said
 
 -- what a part says
 abbrev pub said : Part → Said
-said (part.Flag f) = alone f
-said (part.Value k v) = value k v.now
-said (part.Operand text) = operand text.now
+said (part.Given row value) = option (entry row) value.now
+said (part.Operand word) = operand word.now
 
 -- what parts say, in their order
 abbrev pub all_said : List Part → List Said
 all_said ps = map said ps
 
--- a word is no option
-pub record IsNoOption (word : List ℕ) : Type 0 where
-  pub no_flag : flag_named word ≡ None
-  pub no_key : key_named word ≡ None
-  pub not_joined : (k : Key) (v : List ℕ) → ¬ (IsJoined word k v)
+-- why words are no call, by which word, and by which other name
+pub record Fault : Type 0 where
+  pub why : Why
+  pub word : List ℕ
+  pub other : List ℕ
 
--- these words are one part: an option that stands alone; an option and its value, in two words or
--- in one; or a word that is none and needn't be one
-pub data IsPart : List (List ℕ) → Said → Type 0 where
-  is_flag : (word : List ℕ) (f : Flag) → flag_named word ≡ Some f → IsPart (word ∷ []) (alone f)
-  apart : (word v : List ℕ) (k : Key) → key_named word ≡ Some k →
-      IsPart (word ∷ v ∷ []) (value k v)
-  joined : (word v : List ℕ) (k : Key) → IsJoined word k v → IsPart (word ∷ []) (value k v)
-  is_word : (word : List ℕ) → is_dashed word ≡ false → IsPart (word ∷ []) (operand word)
+-- what an error says
+abbrev pub fault : WordError → Fault
+fault e = record { why = e.why; word = e.word.now; other = e.other.now }
 
--- words begin with a part, and these stand after it
-pub record BeginsWith (words : List (List ℕ)) (p : Said) (after : List (List ℕ)) : Type 0 where
-  pub taken : List (List ℕ)
-  pub whole : words ≡ taken ++ after
-  pub is_part : IsPart taken p
+-- a fault of one word
+abbrev pub fault_at : Why → List ℕ → Fault
+fault_at why word = record { why = why; word = word; other = [] }
 
--- words are these parts, one after the other
-pub data AreParts : List (List ℕ) → List Said → Type 0 where
-  none : AreParts [] []
-  more : (words rest : List (List ℕ)) (p : Said) (ps : List Said) → IsPart words p →
-      AreParts rest ps → AreParts (words ++ rest) (p ∷ ps)
-
--- these words begin with a refused one: an option that there is none of, or one without its value
-pub data BeginsRefused : List (List ℕ) → WordError → Type 0 where
-  unknown : (word : Bor (List ℕ)) (after : List (List ℕ)) → IsNoOption word.now →
-      is_dashed word.now ≡ true → BeginsRefused (word.now ∷ after) (error.Unknown word)
-  no_value : (word : Bor (List ℕ)) (k : Key) → key_named word.now ≡ Some k →
-      BeginsRefused (word.now ∷ []) (error.NoValue word)
-
--- words are refused: some first ones are parts, and those after them begin with a refused one
-pub record AreRefused (words : List (List ℕ)) (e : WordError) : Type 0 where
-  pub first : List (List ℕ)
-  pub rest : List (List ℕ)
-  pub parts : List Said
-  pub whole : words ≡ first ++ rest
-  pub are_parts : AreParts first parts
-  pub refused : BeginsRefused rest e
-
--- the word `--`
+-- the word `--`, after which all words are operands
 abbrev pub is_mark : List ℕ → Bool
 is_mark word = bytes_eq word (codes "--")
 
--- words in front of the first word `--`, and words after it; all words where there is none
-pub data IsMarked : (words front after : List (List ℕ)) → Type 0 where
-  unmarked : (words : List (List ℕ)) → list_any is_mark words ≡ false → IsMarked words words []
-  marked : (front after : List (List ℕ)) → list_any is_mark front ≡ false →
-      IsMarked (front ++ codes "--" ∷ after) front after
+-- the words in front of the first mark; all of them where there is none
+abbrev pub in_front : List (List ℕ) → List (List ℕ)
+in_front [] = []
+in_front (w ∷ ws) = if is_mark w then [] else w ∷ in_front ws
+
+-- the words after the first mark
+abbrev pub after_mark : List (List ℕ) → List (List ℕ)
+after_mark [] = []
+after_mark (w ∷ ws) = if is_mark w then ws else after_mark ws
+
+-- a word is to be an option: it begins with a hyphen, and has more
+abbrev pub is_dashed : List ℕ → Bool
+is_dashed [] = false
+is_dashed (c ∷ []) = false
+is_dashed (c ∷ d ∷ cs) = c == 45
+
+-- what a word is: a part; an option whose value is the next word; one whose value is empty; or
+-- none, though it is to be one
+pub data Kind : Type 0 where
+  whole : Said → Kind
+  wants : Entry → Kind
+  lacks : Kind
+  unknown : Kind
+
+-- what a word is told to be
+abbrev pub kind_said : ToldKind → Kind
+kind_said (told_kind.Whole p) = whole (said p)
+kind_said (told_kind.Wants row) = wants (entry row)
+kind_said told_kind.Lacks = lacks
+kind_said told_kind.Unknown = unknown
+
+-- an option that is named by the whole word
+abbrev pub kind_named : Entry → Kind
+kind_named r = if takes r then wants r else whole (option r [])
+
+-- an option with its value in one word
+abbrev pub kind_joined : Entry × List ℕ → Kind
+kind_joined (r, v) = if is_empty v then lacks else whole (option r v)
+
+-- a word that has no option's name
+abbrev pub kind_other : List ℕ → Kind
+kind_other word = if is_dashed word then unknown else whole (operand word)
+
+-- what f makes of a value, or else another value
+abbrev pub either : {A B : Type 0} → (A → B) → Option A → B → B
+either f (Some x) y = f x
+either f None y = y
+
+-- what a word is, among the words in front of the mark
+abbrev pub kind : List (List ℕ) → List ℕ → Kind
+kind front word = either kind_named (named front word)
+    (either kind_joined (joined word) (kind_other word))
+
+-- the words that are left begin with a part, and these stand after it
+pub data Begins (front : List (List ℕ)) : List (List ℕ) → Said → List (List ℕ) → Type 0 where
+  in_one : (w : List ℕ) (ws : List (List ℕ)) (p : Said) → kind front w ≡ whole p →
+      Begins front (w ∷ ws) p ws
+  in_two : (w v : List ℕ) (ws : List (List ℕ)) (r : Entry) → kind front w ≡ wants r →
+      is_empty v ≡ false → Begins front (w ∷ v ∷ ws) (option r v) ws
+
+-- the words that are left are these parts, one after the other
+pub data AreParts (front : List (List ℕ)) : List (List ℕ) → List Said → Type 0 where
+  none : AreParts front [] []
+  more : (words rest : List (List ℕ)) (p : Said) (ps : List Said) → Begins front words p rest →
+      AreParts front rest ps → AreParts front words (p ∷ ps)
+
+-- no word is there, or an empty one
+abbrev pub has_no_word : List (List ℕ) → Bool
+has_no_word [] = true
+has_no_word (w ∷ ws) = is_empty w
+
+-- the words that are left begin with a refused one: an option that there is none of, or one
+-- without its value
+pub data BeginsRefused (front : List (List ℕ)) : List (List ℕ) → Fault → Type 0 where
+  no_option : (w : List ℕ) (ws : List (List ℕ)) → kind front w ≡ unknown →
+      BeginsRefused front (w ∷ ws) (fault_at why.Unknown w)
+  no_text : (w : List ℕ) (ws : List (List ℕ)) → kind front w ≡ lacks →
+      BeginsRefused front (w ∷ ws) (fault_at why.NoValue w)
+  no_word : (w : List ℕ) (ws : List (List ℕ)) (r : Entry) → kind front w ≡ wants r →
+      has_no_word ws ≡ true → BeginsRefused front (w ∷ ws) (fault_at why.NoValue w)
+
+-- the words that are left are refused: after some parts the rest begins with a refused one
+pub data AreRefused (front : List (List ℕ)) : List (List ℕ) → Fault → Type 0 where
+  now : (words : List (List ℕ)) (f : Fault) → BeginsRefused front words f →
+      AreRefused front words f
+  later : (words rest : List (List ℕ)) (p : Said) (f : Fault) → Begins front words p rest →
+      AreRefused front rest f → AreRefused front words f

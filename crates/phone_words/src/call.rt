@@ -1,17 +1,20 @@
-//! Words as a call: a command with what it needs.
-ghost use Rattle.std.specs.Prelude.{◌≡◌, ◌⊎◌, List, IfErr, IfOk, Some};
-ghost use Rattle.phone_words.specs.Calls.{IsCall, IsCallIn, IsCount, IsNoCall, IsNoCallIn};
-ghost use Rattle.phone_words.specs.Calls.{IsOfNoRules};
-ghost use Rattle.phone_words.specs.Options.{Given, options_in, options_said, text_in};
-ghost use Rattle.phone_words.specs.Parts.{IsMarked, Said, all_said, is_mark, texts_of};
+//! Words as a call: what is asked for, with what it needs.
+ghost use Rattle.std.specs.Prelude.{◌≡◌, ◌⊎◌, List, IfErr, IfOk, None, Some, codes};
+ghost use Rattle.phone_values.specs.Numbers.{number_in};
+ghost use Rattle.phone_words.specs.Calls.{IsCall, IsCallIn, IsFault, IsNoCall, count_in};
+ghost use Rattle.phone_words.specs.Calls.{delimiter_word, library_alone, value};
+ghost use Rattle.phone_words.specs.Delimiters.{delimiter_in};
+ghost use Rattle.phone_words.specs.Parts.{Said, all_said, fault};
+ghost use Rattle.phone_words.specs.Rows.{text_in, texts_of};
 ghost use Rattle.phone_words.specs.RuleNames.{rules_in};
-ghost use Rattle.phone_words.specs.declared.parts.WordError.TheVariants as error;
+ghost use Rattle.phone_words.specs.declared.parts.Why.TheVariants as why;
 
 use crate::command::{Command, command_of};
-use crate::meant::meant;
-use crate::options::{Options, operands_of, options_of};
-use crate::parts::{Mode, Part, WordError, parts_of};
+use crate::delimiter::delimiter_of;
+use crate::options::{has, is_run, misfit, operands_of, value};
+use crate::parts::{Part, Why, WordError, cut_at_mark, error_at, parts_of};
 use crate::rules::rules_named;
+use crate::table::{Table, table_of};
 use phone_values::Rules;
 use std::alloc::Global;
 
@@ -19,38 +22,41 @@ use std::alloc::Global;
 #[derive(Drop)]
 pub struct Call<'w> {
     /// What is asked for.
-    pub command: Command<'w>,
+    pub command: Command,
     /// By whose rules numbers are read and described.
     pub rules: Rules,
+    /// How many lines were left out before those that are read.
+    pub skipped: u64,
+    /// What is asked of a table.
+    pub table: Table<'w>,
     /// The file of the database.
     pub database: Option<&'w str>,
     /// The file of the database of short numbers.
     pub short_database: Option<&'w str>,
     /// The file to write.
     pub output: Option<&'w str>,
-    /// How many lines were left out before those that are read.
-    pub skipped: u64,
-    /// The words that are no options, in their order.
+    /// The words that are no options, in their order: a region, and files.
     pub operands: Vec<&'w str>,
 }
 
 /// The call that words are, which come after the program's own name.
 ///
-/// An option is a word of its name, or of its name, an equals sign and its value (`--csv=phone`,
-/// `-d;`); else its value is the next word. Where one of the words is `--find`, the word `--csv`
-/// takes no value. Options and operands may stand in any order; a later value of an option counts
-/// before an earlier one; after the word `--` all words are operands, and so is the word `-`.
-/// Numbers are read by libphonenumber's rules, unless others are named. Refused by the first word
-/// that is no option though it begins with a hyphen, or an option without its value; then by
-/// options that don't go together, or a value that is none; and by `Memory`.
+/// An option is a word of its name, or of its name, an equals sign and its value (`--csv=phone`),
+/// or of its name of one letter and its value (`-d;`); else its value is the next word, which isn't
+/// empty. Where one of the words is `--find`, the word `--csv` takes no value. Options and operands
+/// may stand in any order; a later value of an option counts before an earlier one; after the word
+/// `--` all words are operands, and so is the word `-`. Numbers are read by libphonenumber's rules,
+/// unless others are named. Refused by the first word that is no option though it begins with a
+/// hyphen, or an option without its value; then by options that don't go together, or a value that
+/// is none; and by `Memory`.
 pub fn call_of<'w>(alloc: Global, words: &[&'w str]) -> Result<Call<'w>, WordError<'w>>
     ensures call { IfOk result (λ c. IsCall (texts_of words.now) c) }
-    ensures refused { IfErr result (λ e. (e ≡ error.Memory) ⊎ IsNoCall (texts_of words.now) e) }
+    ensures refused { IfErr result (λ e. (e.why ≡ why.Memory) ⊎
+        IsNoCall (texts_of words.now) e) }
 {
-    let (front, back) = cut_at_mark(words);
-    let front = meant(alloc, front)?;
-    match parts_of(alloc, front.as_slice()) {
-        Ok(parts) => call_in(alloc, parts.as_slice(), back),
+    let (front, after) = cut_at_mark(words);
+    match parts_of(alloc, front) {
+        Ok(parts) => call_in(alloc, parts.as_slice(), after),
         Err(error) => Err(error),
     }
 }
@@ -62,96 +68,127 @@ fn call_in<'w>(
     after: &[&'w str],
 ) -> Result<Call<'w>, WordError<'w>>
     ensures call { IfOk result (λ c. IsCallIn (all_said parts.now) (texts_of after.now) c) }
-    ensures refused { IfErr result (λ e. (e ≡ error.Memory) ⊎ IsNoCallIn (all_said parts.now) e) }
+    ensures refused { IfErr result (λ e. (e.why ≡ why.Memory) ⊎
+        IsFault (all_said parts.now) (fault e)) }
 {
-    let options = options_of(parts);
-    let command = match command_of(&options) {
-        Ok(command) => command,
-        Err(error) => return Err(error),
-    };
-    let rules = match rules_of(&options) {
+    if let Some(error) = misfit(parts) {
+        return Err(error);
+    }
+    let rules = match rules_of(parts) {
         Ok(rules) => rules,
         Err(error) => return Err(error),
     };
-    let skipped = match skipped_of(options.skipped) {
+    let skipped = match skipped_of(parts) {
         Ok(count) => count,
         Err(error) => return Err(error),
     };
-    let mut operands = operands_of(alloc, parts)?;
-    operands.extend_from_slice(after)?;
+    let delimiter = match delimiter_in(parts) {
+        Ok(byte) => byte,
+        Err(error) => return Err(error),
+    };
+    let operands = operands_of(alloc, parts, after)?;
     Ok(Call {
-        command,
+        command: command_of(parts),
         rules,
-        database: options.database,
-        short_database: options.short_database,
-        output: options.output,
         skipped,
+        table: table_of(parts, delimiter),
+        database: value(parts, "--database"),
+        short_database: value(parts, "--short-database"),
+        output: value(parts, "--output"),
         operands,
     })
 }
 
-/// Whether a word is `--`.
-fn is_mark(word: &str) -> bool
-    ensures { result ≡ is_mark word.now }
+/// The first mode that is there and knows libphonenumber's rules alone, where others are named.
+fn library_alone(rules: Rules, parts: &[Part<'_>]) -> Option<&'static str>
+    ensures { text_in result ≡ library_alone rules (all_said parts.now) }
 {
-    word == "--"
-}
-
-/// The words in front of the first word `--`, and those after it; all words where there is none.
-fn cut_at_mark<'l, 'w>(words: &'l [&'w str]) -> (&'l [&'w str], &'l [&'w str])
-    ensures { IsMarked (texts_of words.now) (texts_of result.0.now) (texts_of result.1.now) }
-{
-    for at in 0..words.len() {
-        if is_mark(words[at]) {
-            return (&words[..at], &words[at + 1..]);
-        }
-    }
-    (words, &[])
-}
-
-/// The rules that options name.
-fn rules_of<'w>(options: &Options<'w>) -> Result<Rules, WordError<'w>>
-    ensures rules { IfOk result (λ r. rules_in (options_said options.now).rules ≡ Some r) }
-    ensures refused { IfErr result (λ e. IsOfNoRules (options_said options.now) e) }
-{
-    let rules = match rules_in(options.rules) {
-        Ok(rules) => rules,
-        Err(error) => return Err(error),
-    };
-    match (rules, options.typed, options.short) {
-        (Rules::Crate, true, _) => Err(WordError::LibraryAlone(Mode::Typed)),
-        (Rules::Crate, false, true) => Err(WordError::LibraryAlone(Mode::Short)),
-        (Rules::Crate, false, false) => Ok(Rules::Crate),
-        (Rules::Library, _, _) => Ok(Rules::Library),
+    match rules {
+        Rules::Library => None,
+        Rules::Crate if has(parts, "--typed") => Some("--typed"),
+        Rules::Crate if has(parts, "--short") => Some("--short"),
+        Rules::Crate => None,
     }
 }
 
 /// The rules that a word names; those of libphonenumber where there is no word.
 fn rules_in<'w>(word: Option<&'w str>) -> Result<Rules, WordError<'w>>
     ensures rules { IfOk result (λ r. rules_in (text_in word.entry) ≡ Some r) }
-    ensures refused { IfErr result (λ e. (o : Given) → o.rules ≡ text_in word.entry →
-        IsOfNoRules o e) }
+    ensures refused { IfErr result (λ e. (ps : List Said) →
+        value ps (codes "--rules") ≡ text_in word.entry → IsFault ps (fault e)) }
 {
     match word {
         None => Ok(Rules::Library),
         Some(word) => match rules_named(word) {
             Some(rules) => Ok(rules),
-            None => Err(WordError::Rules(word)),
+            None => Err(error_at(Why::Rules, word)),
         },
     }
 }
 
-/// The count that a word is; 0 where there is no word.
-fn skipped_of<'w>(word: Option<&'w str>) -> Result<u64, WordError<'w>>
-    ensures count { IfOk result (λ n. IsCount (text_in word.entry) n) }
-    ensures refused { IfErr result (λ e. (ps : List Said) →
-        (options_in ps).skipped ≡ text_in word.entry → IsNoCallIn ps e) }
+/// The rules that parts name.
+fn rules_of<'w>(parts: &[Part<'w>]) -> Result<Rules, WordError<'w>>
+    ensures rules { IfOk result (λ r.
+        rules_in (value (all_said parts.now) (codes "--rules")) ≡ Some r) }
+    ensures known { IfOk result (λ r. library_alone r (all_said parts.now) ≡ None) }
+    ensures refused { IfErr result (λ e. IsFault (all_said parts.now) (fault e)) }
 {
-    match word {
+    let rules = match rules_in(value(parts, "--rules")) {
+        Ok(rules) => rules,
+        Err(error) => return Err(error),
+    };
+    match library_alone(rules, parts) {
+        None => Ok(rules),
+        Some(name) => Err(error_at(Why::LibraryAlone, name)),
+    }
+}
+
+/// The count that a word is; none where it is no count.
+fn count_of(word: &str) -> Option<u64>
+    ensures { result ≡ number_in 64 word.now }
+{
+    match word.parse::<u64>() {
+        Ok(count) => Some(count),
+        Err(_) => None,
+    }
+}
+
+/// The count of lines that parts tell; 0 where they tell none.
+fn skipped_of<'w>(parts: &[Part<'w>]) -> Result<u64, WordError<'w>>
+    ensures count { IfOk result (λ n.
+        count_in (value (all_said parts.now) (codes "--skipped")) ≡ Some n) }
+    ensures refused { IfErr result (λ e. IsFault (all_said parts.now) (fault e)) }
+{
+    match value(parts, "--skipped") {
         None => Ok(0),
-        Some(word) => match word.parse::<u64>() {
-            Ok(count) => Ok(count),
-            Err(_) => Err(WordError::Skipped(word)),
+        Some(word) => match count_of(word) {
+            Some(count) => Ok(count),
+            None => Err(error_at(Why::Skipped, word)),
+        },
+    }
+}
+
+/// The word for the byte between fields, where numbers are to be read.
+fn delimiter_word<'w>(parts: &[Part<'w>]) -> Option<&'w str>
+    ensures { text_in result ≡ delimiter_word (all_said parts.now) }
+{
+    if is_run(parts) {
+        return value(parts, "--delimiter");
+    }
+    None
+}
+
+/// The byte between fields; a comma where parts name none.
+fn delimiter_in<'w>(parts: &[Part<'w>]) -> Result<u8, WordError<'w>>
+    ensures byte { IfOk result (λ b.
+        delimiter_in (delimiter_word (all_said parts.now)) ≡ Some b) }
+    ensures refused { IfErr result (λ e. IsFault (all_said parts.now) (fault e)) }
+{
+    match delimiter_word(parts) {
+        None => Ok(b','),
+        Some(word) => match delimiter_of(word) {
+            Some(byte) => Ok(byte),
+            None => Err(error_at(Why::Delimiter, word)),
         },
     }
 }

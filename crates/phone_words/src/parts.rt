@@ -1,228 +1,241 @@
-//! The words of a call as its parts: options, values of options, and operands.
-ghost use Rattle.std.specs.Prelude.{◌≡◌, ◌≤◌, ◌<◌, ◌+◌, ◌⊎◌, ◌∷◌, [], drop, length};
-ghost use Rattle.std.specs.Prelude.{IfErr, IfOk, IfSome, MatchOption};
-ghost use Rattle.phone_words.specs.Parts.{AreParts, AreRefused, BeginsRefused, BeginsWith};
-ghost use Rattle.phone_words.specs.Parts.{all_said, said, texts_of};
-ghost use Rattle.phone_words.specs.declared.parts.WordError.TheVariants as error;
+//! The words of a call as its parts: options with their values, and operands.
+ghost use Rattle.std.specs.Prelude.{◌≡◌, ◌≤◌, ◌+◌, ◌⊎◌, ◌∷◌, [], false, length, true};
+ghost use Rattle.std.specs.Prelude.{IfErr, IfOk, IfSome, IsNone, IsSome, MatchOption, drop};
+ghost use Rattle.phone_words.specs.Parts.{AreParts, AreRefused, Begins, BeginsRefused, all_said};
+ghost use Rattle.phone_words.specs.Parts.{after_mark, fault, fault_at, in_front, is_dashed, is_mark, kind};
+ghost use Rattle.phone_words.specs.Parts.{has_no_word, kind_joined, kind_named, kind_other};
+ghost use Rattle.phone_words.specs.Parts.{kind_said, said};
+ghost use Rattle.phone_words.specs.Rows.{entry, is_empty, texts_of};
+ghost use Rattle.phone_words.specs.declared.parts.Why.TheVariants as why;
 
-use crate::names::{flag_named, is_dashed, joined, key_named};
+use crate::rows::{Row, joined, named};
 use std::alloc::{AllocError, Global};
-
-/// An option that stands alone.
-#[derive(Clone, Copy, PartialEq, Eq, Debug)]
-pub enum Flag {
-    /// `--json`: an object a line.
-    Json,
-    /// `--find`: the numbers that stand in a text.
-    Find,
-    /// `--csv` beside `--find`: these as records of a table.
-    FindRecords,
-    /// `--unique`: the first line or record of each number.
-    Unique,
-    /// `--typed`: what is shown after each key of a number that is typed.
-    Typed,
-    /// `--short`: what is known of short numbers.
-    Short,
-    /// `--else-hint`: what is no region takes the region given.
-    ElseHint,
-    /// `--mark-bad-records`: a record with a wrong count of fields is given back as such.
-    MarkBad,
-    /// `--time-zone`: a column of a table with a number's time zones.
-    TimeZone,
-    /// `--carrier`: one with its carrier, where numbers can't move to another one.
-    Carrier,
-    /// `--first-carrier`: one with the carrier that it was first assigned to.
-    FirstCarrier,
-    /// `--area`: one with its area.
-    Area,
-    /// `--regions`: the ids that name a region.
-    Regions,
-    /// `--version`: of the program and of the table.
-    Version,
-    /// `--help`: how the program is called.
-    Help,
-}
-
-/// An option that takes a value.
-#[derive(Clone, Copy, PartialEq, Eq, Debug)]
-pub enum Key {
-    /// `--csv`: the column of the numbers of a table.
-    Csv,
-    /// `--region-column`: the column of its regions.
-    RegionColumn,
-    /// `--delimiter`: what stands between its fields.
-    Delimiter,
-    /// `--rules`: by whose rules numbers are read and described.
-    Rules,
-    /// `--database`: the file of the database.
-    Database,
-    /// `--short-database`: the file of the database of short numbers.
-    ShortDatabase,
-    /// `--prefixes`: the file of a table of prefixes, for a column of its texts.
-    Prefixes,
-    /// `--as`: the name of that column.
-    As,
-    /// `--time-zones`: the file of the time zones.
-    TimeZones,
-    /// `--carriers`: that of the carriers.
-    Carriers,
-    /// `--areas`: that of the areas.
-    Areas,
-    /// `--output`: the file to write.
-    Output,
-    /// `--skipped`: how many lines were left out before those that are read.
-    Skipped,
-}
 
 /// A part of a call.
 #[derive(Clone, Copy)]
 pub enum Part<'w> {
-    /// An option that stands alone.
-    Flag(Flag),
-    /// An option with its value.
-    Value(Key, &'w str),
+    /// An option, and its value, which is empty where it takes none.
+    Given(Row, &'w str),
     /// A word that is no option.
     Operand(&'w str),
 }
 
-/// What is written in place of the report. Two don't go together, but a table and the first record
-/// of each number, and the numbers in a text and objects or records.
-#[derive(Clone, Copy, PartialEq, Eq, Debug)]
-pub enum Mode {
-    /// `--csv`.
-    Csv,
-    /// `--json`.
-    Json,
-    /// `--find`.
-    Find,
-    /// `--unique`.
-    Unique,
-    /// `--typed`.
-    Typed,
-    /// `--short`.
-    Short,
-}
-
-/// An option that goes with a table alone.
-#[derive(Clone, Copy, PartialEq, Eq, Debug)]
-pub enum TableOption {
-    /// `--region-column`.
-    RegionColumn,
-    /// `--delimiter`.
-    Delimiter,
-    /// `--else-hint`.
-    ElseHint,
-    /// `--mark-bad-records`.
-    MarkBad,
-    /// `--prefixes`.
-    Prefixes,
-    /// `--as`.
-    As,
-    /// `--time-zone`.
-    TimeZone,
-    /// `--carrier`.
-    Carrier,
-    /// `--first-carrier`.
-    FirstCarrier,
-    /// `--area`.
-    Area,
-}
-
 /// Why words are no call.
-#[derive(Clone, Copy)]
-pub enum WordError<'w> {
-    /// There is no option of this name.
-    Unknown(&'w str),
-    /// This option takes a value, and no word follows it.
-    NoValue(&'w str),
-    /// These two don't go together.
-    Together(Mode, Mode),
-    /// This option goes with a table alone.
-    WithoutTable(TableOption),
-    /// `--else-hint` goes with a column of regions alone.
-    WithoutRegions,
-    /// The column of the numbers has no name.
-    NoColumn,
-    /// `--prefixes` is there without `--as`, so that its column has no name.
-    Unnamed,
-    /// `--as` is there without `--prefixes`.
-    WithoutPrefixes,
-    /// This column is asked for, and no file is named for it.
-    NoFile(TableOption),
-    /// This is no byte that may stand between fields.
-    Delimiter(&'w str),
-    /// This is no count of lines.
-    Skipped(&'w str),
-    /// There are no rules of this name.
-    Rules(&'w str),
-    /// This mode knows libphonenumber's rules alone.
-    LibraryAlone(Mode),
+#[derive(Clone, Copy, PartialEq, Eq, Debug)]
+pub enum Why {
+    /// There is no option of the word's name.
+    Unknown,
+    /// The word is an option that takes a value, and no word follows it, or an empty one.
+    NoValue,
+    /// The word's option doesn't go with the other.
+    Together,
+    /// The word's option goes with the other alone.
+    Without,
+    /// The word is no byte that may stand between fields.
+    Delimiter,
+    /// The word is no count of lines.
+    Skipped,
+    /// There are no rules of the word's name.
+    Rules,
+    /// The word's option knows libphonenumber's rules alone.
+    LibraryAlone,
     /// There was no memory for the words.
     Memory,
 }
 
-impl<'w> From<AllocError> for WordError<'w> {
-    ghost use Rattle.phone_words.specs.declared.parts.WordError.TheVariants as error;
+/// Why words are no call, and by which of them.
+#[derive(Clone, Copy)]
+pub struct WordError<'w> {
+    /// The reason.
+    pub why: Why,
+    /// The word, or the name of the option; empty for `Memory`.
+    pub word: &'w str,
+    /// The name of the other option; empty where the reason names none.
+    pub other: &'static str,
+}
 
-    ghost from_gives = { λ _ e. e ≡ error.Memory };
-
-    fn from(_refusal: AllocError) -> WordError<'w> {
-        WordError::Memory
+/// An error of one word.
+pub(crate) fn error_at<'w>(why: Why, word: &'w str) -> WordError<'w>
+    ensures why { result.why ≡ why }
+    ensures fault { fault result ≡ fault_at why word.now }
+{
+    WordError {
+        why,
+        word,
+        other: "",
     }
 }
 
-/// The part that a word and those after it begin with, and how many words that is.
-fn part_at<'w>(word: &'w str, after: &[&'w str]) -> Result<(Part<'w>, usize), WordError<'w>>
-    ensures part { IfOk result (λ p. BeginsWith (word.now ∷ texts_of after.now) (said p.0)
-        (drop p.1 (word.now ∷ texts_of after.now))) }
-    ensures some { IfOk result (λ p. 0 < p.1) }
-    ensures within { IfOk result (λ p. p.1 ≤ length after.now + 1) }
-    ensures refused { IfErr result (λ e. BeginsRefused (word.now ∷ texts_of after.now) e) }
+impl<'w> From<AllocError> for WordError<'w> {
+    ghost use Rattle.phone_words.specs.declared.parts.Why.TheVariants as why;
+
+    ghost from_gives = { λ _ e. e.why ≡ why.Memory };
+
+    fn from(_refusal: AllocError) -> WordError<'w> {
+        WordError {
+            why: Why::Memory,
+            word: "",
+            other: "",
+        }
+    }
+}
+
+/// Whether a word is `--`.
+fn is_mark(word: &str) -> bool
+    ensures { result ≡ is_mark word.now }
 {
-    if let Some(flag) = flag_named(word) {
-        return Ok((Part::Flag(flag), 1));
+    word == "--"
+}
+
+/// The words in front of the first word `--`, and those after it; all words where there is none.
+pub(crate) fn cut_at_mark<'l, 'w>(words: &'l [&'w str]) -> (&'l [&'w str], &'l [&'w str])
+    ensures front { texts_of result.0.now ≡ in_front (texts_of words.now) }
+    ensures after { texts_of result.1.now ≡ after_mark (texts_of words.now) }
+{
+    for at in 0..words.len() {
+        if is_mark(words[at]) {
+            return (&words[..at], &words[at + 1..]);
+        }
     }
-    if let Some(key) = key_named(word) {
-        return match after {
-            [value, ..] => Ok((Part::Value(key, *value), 2)),
-            [] => Err(WordError::NoValue(word)),
-        };
+    (words, &[])
+}
+
+/// Whether a word is to be an option: it begins with a hyphen, and has more.
+fn is_dashed(word: &str) -> bool
+    ensures { result ≡ is_dashed word.now }
+{
+    match word.as_bytes() {
+        [first, _, ..] => *first == b'-',
+        _ => false,
     }
-    if let Some((key, value)) = joined(word) {
-        return Ok((Part::Value(key, value), 1));
+}
+
+/// What a word in front of the mark is.
+#[derive(Clone, Copy)]
+pub(crate) enum Kind<'w> {
+    /// A part.
+    Whole(Part<'w>),
+    /// An option whose value is the next word.
+    Wants(Row),
+    /// An option whose value is empty.
+    Lacks,
+    /// To be an option, but there is none of this name.
+    Unknown,
+}
+
+/// An option that is named by the whole word.
+fn kind_named<'w>(row: Row) -> Kind<'w>
+    ensures { kind_said result ≡ kind_named (entry row) }
+{
+    if row.value.is_empty() {
+        return Kind::Whole(Part::Given(row, ""));
     }
+    Kind::Wants(row)
+}
+
+/// An option with its value in one word.
+fn kind_joined<'w>(row: Row, value: &'w str) -> Kind<'w>
+    ensures { kind_said result ≡ kind_joined (entry row, value.now) }
+{
+    if value.is_empty() {
+        return Kind::Lacks;
+    }
+    Kind::Whole(Part::Given(row, value))
+}
+
+/// A word that has no option's name.
+fn kind_other<'w>(word: &'w str) -> Kind<'w>
+    ensures { kind_said result ≡ kind_other word.now }
+{
     if is_dashed(word) {
-        return Err(WordError::Unknown(word));
+        return Kind::Unknown;
     }
-    Ok((Part::Operand(word), 1))
+    Kind::Whole(Part::Operand(word))
+}
+
+/// What a word is, among the words in front of the mark.
+fn kind_of<'w>(front: &[&str], word: &'w str) -> Kind<'w>
+    ensures { kind_said result ≡ kind (texts_of front.now) word.now }
+{
+    if let Some(row) = named(front, word) {
+        return kind_named(row);
+    }
+    match joined(word) {
+        Some((row, value)) => kind_joined(row, value),
+        None => kind_other(word),
+    }
+}
+
+/// The first of some words, where it isn't empty.
+fn value_in<'w>(words: &[&'w str]) -> Option<&'w str>
+    ensures none { IsNone result → has_no_word (texts_of words.now) ≡ true }
+    ensures first { IfSome result (λ v. texts_of words.now ≡ v.now ∷ drop 1 (texts_of words.now)) }
+    ensures some { IfSome result (λ v. is_empty v.now ≡ false) }
+    ensures within { IsSome result → 1 ≤ length words.now }
+{
+    match words {
+        [value, ..] if !value.is_empty() => Some(*value),
+        _ => None,
+    }
+}
+
+/// The part that a word and those after it begin with, and how many words that is. Refused by
+/// `Unknown` and `NoValue`.
+fn part_at<'w>(
+    front: &[&str],
+    word: &'w str,
+    after: &[&'w str],
+) -> Result<(Part<'w>, usize), WordError<'w>>
+    ensures part { IfOk result (λ p. Begins (texts_of front.now) (word.now ∷ texts_of after.now)
+        (said p.0) (drop p.1 (word.now ∷ texts_of after.now))) }
+    ensures some { IfOk result (λ p. 1 ≤ p.1) }
+    ensures within { IfOk result (λ p. p.1 ≤ length after.now + 1) }
+    ensures refused { IfErr result (λ e. BeginsRefused (texts_of front.now)
+        (word.now ∷ texts_of after.now) (fault e)) }
+{
+    match kind_of(front, word) {
+        Kind::Whole(part) => Ok((part, 1)),
+        Kind::Wants(row) => match value_in(after) {
+            Some(value) => Ok((Part::Given(row, value), 2)),
+            None => Err(error_at(Why::NoValue, word)),
+        },
+        Kind::Lacks => Err(error_at(Why::NoValue, word)),
+        Kind::Unknown => Err(error_at(Why::Unknown, word)),
+    }
 }
 
 /// The part that words begin with, and how many of them it is; none where there are no words.
-fn next_part<'w>(words: &[&'w str]) -> Result<Option<(Part<'w>, usize)>, WordError<'w>>
+fn next_part<'w>(
+    front: &[&str],
+    words: &[&'w str],
+) -> Result<Option<(Part<'w>, usize)>, WordError<'w>>
     ensures part { IfOk result (λ o. MatchOption o (texts_of words.now ≡ [])
-        (λ p. BeginsWith (texts_of words.now) (said p.0) (drop p.1 (texts_of words.now)))) }
-    ensures some { IfOk result (λ o. IfSome o (λ p. 0 < p.1)) }
+        (λ p. Begins (texts_of front.now) (texts_of words.now) (said p.0)
+        (drop p.1 (texts_of words.now)))) }
+    ensures some { IfOk result (λ o. IfSome o (λ p. 1 ≤ p.1)) }
     ensures within { IfOk result (λ o. IfSome o (λ p. p.1 ≤ length words.now)) }
-    ensures refused { IfErr result (λ e. BeginsRefused (texts_of words.now) e) }
+    ensures refused { IfErr result (λ e. BeginsRefused (texts_of front.now) (texts_of words.now)
+        (fault e)) }
 {
     match words {
         [] => Ok(None),
-        [word, after @ ..] => Ok(Some(part_at(*word, after)?)),
+        [word, after @ ..] => Ok(Some(part_at(front, *word, after)?)),
     }
 }
 
-/// The parts that words are. Refused by `Unknown` and `NoValue` at the first word that is no part,
-/// and by `Memory`.
-pub fn parts_of<'w>(alloc: Global, words: &[&'w str]) -> Result<Vec<Part<'w>>, WordError<'w>>
-    ensures parts { IfOk result (λ ps. AreParts (texts_of words.now) (all_said ps.items)) }
-    ensures refused { IfErr result (λ e. (e ≡ error.Memory) ⊎
-        AreRefused (texts_of words.now) e) }
+/// The parts that words in front of the mark are. Refused by `Unknown` and `NoValue` at the first
+/// word that is no part, and by `Memory`.
+pub(crate) fn parts_of<'w>(alloc: Global, front: &[&'w str]) -> Result<Vec<Part<'w>>, WordError<'w>>
+    ensures parts { IfOk result (λ ps.
+        AreParts (texts_of front.now) (texts_of front.now) (all_said ps.items)) }
+    ensures refused { IfErr result (λ e. (e.why ≡ why.Memory) ⊎
+        AreRefused (texts_of front.now) (texts_of front.now) (fault e)) }
 {
     let mut parts = Vec::new(alloc);
     let mut at = 0;
-    while let Some((part, count)) = next_part(&words[at..])? {
+    while let Some((part, count)) = next_part(front, &front[at..])? {
         let Ok(()) = parts.push(part) else {
-            return Err(WordError::Memory);
+            return Err(error_at(Why::Memory, ""));
         };
         at += count;
     }

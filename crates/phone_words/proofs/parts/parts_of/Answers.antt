@@ -1,19 +1,20 @@
-use Rattle.std.proofs.Common.{[], ◌+◌, drop, refl, subst, sym, arith}
-use Rattle.phone_words.specs.Parts.{AreParts, all_said, texts_of}
-use Rattle.phone_words.specs.Parts.AreParts.{none}
-use Rattle.phone_words.proofs.PartLemmas.{StandsAt, more_within, one_more}
+use Rattle.std.proofs.Common.{inr, subst, sym}
+use Rattle.phone_words.specs.Parts.{AreRefused, fault}
+use Rattle.phone_words.specs.Rows.{texts_of}
+use Rattle.phone_words.proofs.Onward.{err_from, more_within, parts_end, parts_onward, refused_at, refused_onward}
 use Rattle.phone_words.proofs.parts.parts_of.Goals as goal
-
-pub loop-parts-init : goal.loop-parts-init
-loop-parts-init c = record {
-  stands = ([], refl, subst (λ ps. AreParts [] (all_said ps)) (sym c.new-parts.ensures.items) none);
-  within = omega arith;
-}
 
 pub loop-parts-preserved : goal.loop-parts-preserved
 loop-parts-preserved c = record {
-  stands =
-      subst (λ ps. StandsAt (texts_of c.args.words.now) (all_said ps) (texts_of (drop (c.loop-parts.at + c.in-Some.count) c.args.words.now))) (sym c.in-Ok.ensures.items)
-      (one_more c.args.words.now c.loop-parts.parts.items c.loop-parts.at c.in-Some.count c.in-Some.part c.loop-parts.invariant.stands (rw c.in-Some.is at c.in_ok-part.ensures.part));
-  within = more_within c.args.words.now c.loop-parts.at c.in-Some.count c.loop-parts.invariant.within (rw c.in-Some.is at c.in_ok-part.ensures.within);
+  parts = rw c.in-Ok.ensures.items (parts_onward _ _ _ _ _ _ c.loop-parts.invariant.parts (rw c.in-Some.is at c.in_ok-part.ensures.part));
+  refused = refused_onward _ _ _ _ _ c.loop-parts.invariant.refused (rw c.in-Some.is at c.in_ok-part.ensures.part);
+  within = more_within _ _ _ c.loop-parts.invariant.within (rw c.in-Some.is at c.in_ok-part.ensures.within);
 }
+
+pub returns-in_err-part-clause-refused : goal.returns-in_err-part-clause-refused
+returns-in_err-part-clause-refused c =
+    let r = refused_at (texts_of c.args.front.now) c.args.front.now c.loop-parts.at _ c.loop-parts.invariant.refused c.in_err-part.ensures.refused in
+    err_from _ _ _ (λ e h. inr (subst (λ x. AreRefused (texts_of c.args.front.now) (texts_of c.args.front.now) (fault x)) (sym h) r)) c.from_residual.ensures.1
+
+pub returns-clause-parts : goal.returns-clause-parts
+returns-clause-parts c = parts_end _ _ _ _ c.loop-parts.invariant.parts (rw c.in_default.is at c.in_ok-part.ensures.part)
