@@ -48,7 +48,11 @@ pub(crate) fn say_word_error<E: ByteSink>(errors: &mut E, error: WordError<'_>) 
         Why::Unknown => say(errors, &["there is no option ", word, OPTIONS], 2),
         Why::NoValue => say(errors, &[word, " wants a word after it"], 2),
         Why::Together => say(errors, &[word, " and ", other, " don't go together"], 2),
-        Why::Without => say(errors, &[word, " goes with ", other, " ", value_word(other)], 2),
+        Why::Without => say(
+            errors,
+            &[word, " goes with ", other, " ", value_word(other)],
+            2,
+        ),
         Why::Delimiter => say(errors, &[word, DELIMITER], 2),
         Why::Skipped => say(errors, &[word, " is no count of lines"], 2),
         Why::Rules => say(errors, &[word, RULES], 2),

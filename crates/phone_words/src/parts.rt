@@ -2,7 +2,8 @@
 ghost use Rattle.std.specs.Prelude.{◌≡◌, ◌≤◌, ◌+◌, ◌⊎◌, ◌∷◌, [], false, length, true};
 ghost use Rattle.std.specs.Prelude.{IfErr, IfOk, IfSome, IsNone, IsSome, MatchOption, drop};
 ghost use Rattle.phone_words.specs.Parts.{AreParts, AreRefused, Begins, BeginsRefused, all_said};
-ghost use Rattle.phone_words.specs.Parts.{after_mark, fault, fault_at, in_front, is_dashed, is_mark, kind};
+ghost use Rattle.phone_words.specs.Parts.{after_mark, fault, fault_at, in_front, is_dashed};
+ghost use Rattle.phone_words.specs.Parts.{is_mark, kind};
 ghost use Rattle.phone_words.specs.Parts.{has_no_word, kind_joined, kind_named, kind_other};
 ghost use Rattle.phone_words.specs.Parts.{kind_said, said};
 ghost use Rattle.phone_words.specs.Rows.{entry, is_empty, texts_of};

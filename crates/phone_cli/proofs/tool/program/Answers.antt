@@ -10,9 +10,11 @@ returns-in-Ok g c = called _ _ c.in-Ok.ensures.call c.on_call.ensures
 pub returns-in-Err : goal.returns-in-Err
 returns-in-Err g c =
     let words = texts_of c.args.words.now in
-    let Idle : Type 0 = (c.args.input.now ≡ c.args.input.now) × (c.args.output.now ≡ c.args.output.now) in
+    let Idle : Type 0 = (c.args.input.now ≡ c.args.input.now) ×
+    (c.args.output.now ≡ c.args.output.now) in
     let idle : Idle = (refl, refl) in
-    let acts : Acts words Idle (status_of_words c.in-Err.error.why) = elim c.in-Err.ensures.refused [
+    let acts : Acts words Idle (status_of_words c.in-Err.error.why) =
+    elim c.in-Err.ensures.refused [
       | inl m ↦ subst (λ w. Acts words Idle (status_of_words w)) (sym m) (no_memory idle)
       | inr n ↦ no_call c.in-Err.error n idle
     ] in

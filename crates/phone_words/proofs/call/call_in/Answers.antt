@@ -5,7 +5,8 @@ use Rattle.phone_words.specs.Rows.{texts_of}
 use Rattle.phone_words.proofs.call.call_in.Goals as goal
 
 pub returns-in-Some-clause-refused : goal.returns-in-Some-clause-refused
-returns-in-Some-clause-refused c = inr (apart _ (sym c.misfit.ensures ∙ ap (option_map fault) c.in-Some.is))
+returns-in-Some-clause-refused c =
+    inr (apart _ (sym c.misfit.ensures ∙ ap (option_map fault) c.in-Some.is))
 
 pub returns-clause-call : goal.returns-clause-call
 returns-clause-call c = record {

@@ -4,4 +4,6 @@ use Rattle.phone_words.specs.Parts.{all_said}
 use Rattle.phone_words.proofs.options.first_misfit.Given as goal
 
 abbrev pub invariant-loop-part : goal.invariant-loop-part
-invariant-loop-part l = first_fault (misfit_of (all_said l.parts)) (all_said (drop l.part-index l.parts)) ≡ first_fault (misfit_of (all_said l.parts)) (all_said l.parts)
+invariant-loop-part l =
+    first_fault (misfit_of (all_said l.parts)) (all_said (drop l.part-index l.parts)) ≡
+    first_fault (misfit_of (all_said l.parts)) (all_said l.parts)

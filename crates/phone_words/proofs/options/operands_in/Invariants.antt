@@ -5,4 +5,6 @@ use Rattle.phone_words.specs.Rows.{texts_of}
 use Rattle.phone_words.proofs.options.operands_in.Given as goal
 
 abbrev pub invariant-loop-part : goal.invariant-loop-part
-invariant-loop-part l = texts_of l.operands.items ++ operands_in (all_said (drop l.part-index l.parts)) ≡ operands_in (all_said l.parts)
+invariant-loop-part l =
+    texts_of l.operands.items ++ operands_in (all_said (drop l.part-index l.parts)) ≡
+    operands_in (all_said l.parts)
