@@ -1,5 +1,3 @@
-pub mod CallLaws
 pub mod Fronts
-pub mod Marks
-pub mod Onward
-pub mod PartLaws
+pub mod Meanings
+pub mod Steps

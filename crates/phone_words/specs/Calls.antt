@@ -1,17 +1,16 @@
 -- The call that words are.
-use Rattle.std.specs.Prelude.{◌≡◌, ℕ, ◌++◌, Bool, not, ◌||◌, List, [], ◌∷◌, codes, fold}
+use Rattle.std.specs.Prelude.{◌≡◌, ℕ, Bool, not, ◌||◌, List, [], ◌∷◌, codes, fold}
 use Rattle.std.specs.Prelude.{Option, Some, None, is_some, option_map, if◌then◌else◌}
+use Rattle.std.specs.Prelude.{Result, Ok, Err}
 use Rattle.std.specs.List.{filter_map, find}
 use Rattle.std.specs.Option.{option_or}
 use Rattle.std.specs.Str.{bytes_eq}
-use Rattle.phone_values.specs.Numbers.{number_in}
 use Rattle.phone_values.specs.declared.rules.Rules.{Rules}
 use Rattle.phone_values.specs.declared.rules.Rules.TheVariants.{Crate, Library}
-use Rattle.phone_words.specs.Delimiters.{delimiter_in, delimiter_of}
-use Rattle.phone_words.specs.Parts.{AreParts, AreRefused, Fault, Said, after_mark, fault, fault_at}
-use Rattle.phone_words.specs.Parts.{in_front, operand, option}
+use Rattle.phone_words.specs.Parts.{Fault, Said, either, fault, fault_at, operand, option, parts_in}
+use Rattle.phone_words.specs.Parts.{and_then}
 use Rattle.phone_words.specs.Rows.{Entry, is_empty, text_in, texts_of}
-use Rattle.phone_words.specs.RuleNames.{rules_in, rules_named}
+use Rattle.phone_words.specs.Values.{count_named, delimiter_named, rules_named}
 use Rattle.phone_words.specs.declared.call.Call.{Call}
 use Rattle.phone_words.specs.declared.command.Command.{Command}
 use Rattle.phone_words.specs.declared.command.Command.TheVariants as command
@@ -97,19 +96,32 @@ command_of ps =
     if has ps (codes "--regions") then command.Regions else
     if lacks ps (codes "--csv") then line_command ps else command.Table
 
--- the first mode that knows libphonenumber's rules alone, where others are named
-abbrev pub library_alone : Rules → List Said → Option (List ℕ)
-library_alone Library ps = None
-library_alone Crate ps = find (has ps) (codes "--typed" ∷ codes "--short" ∷ [])
+-- the value that the word of an option names, or another one where the option isn't there; a fault
+-- where it names none
+abbrev pub named_or : {A : Type 0} → Why → (List ℕ → Option A) → A → Option (List ℕ) →
+    Result A Fault
+named_or w f other None = Ok other
+named_or w f other (Some word) = either Ok (f word) (Err (fault_at w word))
 
--- the count that a word is; 0 where there is no word
-abbrev pub count_in : Option (List ℕ) → Option ℕ
-count_in None = Some 0
-count_in (Some word) = number_in 64 word
+-- the first mode that knows libphonenumber's rules alone, where others are named, is a fault
+abbrev pub known : List Said → Rules → Result Rules Fault
+known ps Library = Ok Library
+known ps Crate = either (λ name. Err (fault_at why.LibraryAlone name))
+    (find (has ps) (codes "--typed" ∷ codes "--short" ∷ [])) (Ok Crate)
 
--- the word for the byte between fields, where numbers are to be read
-abbrev pub delimiter_word : List Said → Option (List ℕ)
-delimiter_word ps = if is_run ps then value ps (codes "--delimiter") else None
+-- by whose rules numbers are read: by libphonenumber's, unless others are named
+abbrev pub rules_of : List Said → Result Rules Fault
+rules_of ps =
+    and_then (named_or why.Rules rules_named Library (value ps (codes "--rules"))) (known ps)
+
+-- how many lines were left out before: none, unless a count is named
+abbrev pub skipped_of : List Said → Result ℕ Fault
+skipped_of ps = named_or why.Skipped count_named 0 (value ps (codes "--skipped"))
+
+-- the byte between fields, where numbers are to be read: a comma, unless another one is named
+abbrev pub delimiter_of : List Said → Result ℕ Fault
+delimiter_of ps = named_or why.Delimiter delimiter_named 44
+    (if is_run ps then value ps (codes "--delimiter") else None)
 
 -- the operand that a part is
 abbrev pub operand_in : Said → Option (List ℕ)
@@ -121,47 +133,39 @@ abbrev pub operands_in : List Said → List (List ℕ)
 operands_in ps = filter_map operand_in ps
 
 -- what a list of words means: what is asked for, by whose rules, how many lines were left out
--- before, the byte between fields, the options with their values, and the region and files
+-- before, the byte between fields, and the parts: options with their values, region and files
 pub record Meaning : Type 0 where
   pub command : Command
   pub rules : Rules
   pub skipped : ℕ
   pub delimiter : ℕ
   pub parts : List Said
-  pub operands : List (List ℕ)
 
--- the parts of this meaning, and the operands after the mark, mean this
-pub record IsMeant (after : List (List ℕ)) (m : Meaning) : Type 0 where
-  pub fits : misfit m.parts ≡ None
-  pub command : m.command ≡ command_of m.parts
-  pub rules : rules_in (value m.parts (codes "--rules")) ≡ Some m.rules
-  pub known : library_alone m.rules m.parts ≡ None
-  pub skipped : count_in (value m.parts (codes "--skipped")) ≡ Some m.skipped
-  pub delimiter : delimiter_in (delimiter_word m.parts) ≡ Some m.delimiter
-  pub operands : m.operands ≡ operands_in m.parts ++ after
+-- what parts mean with these rules, this count of lines and this byte
+abbrev pub with_byte : List Said → Rules → ℕ → ℕ → Result Meaning Fault
+with_byte ps rules skipped delimiter = Ok record {
+  command = command_of ps;
+  rules = rules;
+  skipped = skipped;
+  delimiter = delimiter;
+  parts = ps;
+}
 
--- words mean this: those in front of the mark are its parts
-pub record Means (words : List (List ℕ)) (m : Meaning) : Type 0 where
-  pub parts : AreParts (in_front words) (in_front words) m.parts
-  pub meant : IsMeant (after_mark words) m
+-- what they mean with these rules and this count
+abbrev pub with_count : List Said → Rules → ℕ → Result Meaning Fault
+with_count ps rules skipped = and_then (delimiter_of ps) (with_byte ps rules skipped)
 
--- parts are no call, for this reason
-pub data IsFault (ps : List Said) : Fault → Type 0 where
-  apart : (f : Fault) → misfit ps ≡ Some f → IsFault ps f
-  no_rules : (w : List ℕ) → value ps (codes "--rules") ≡ Some w → rules_named w ≡ None →
-      IsFault ps (fault_at why.Rules w)
-  by_library : (r : Rules) (name : List ℕ) → rules_in (value ps (codes "--rules")) ≡ Some r →
-      library_alone r ps ≡ Some name → IsFault ps (fault_at why.LibraryAlone name)
-  no_count : (w : List ℕ) → value ps (codes "--skipped") ≡ Some w → number_in 64 w ≡ None →
-      IsFault ps (fault_at why.Skipped w)
-  no_delimiter : (w : List ℕ) → delimiter_word ps ≡ Some w → delimiter_of w ≡ None →
-      IsFault ps (fault_at why.Delimiter w)
+-- what they mean with these rules
+abbrev pub with_rules : List Said → Rules → Result Meaning Fault
+with_rules ps rules = and_then (skipped_of ps) (with_count ps rules)
 
--- words are no call, for this reason: one in front of the mark is refused, or together they are
-pub data IsRefused (words : List (List ℕ)) (f : Fault) : Type 0 where
-  by_word : AreRefused (in_front words) (in_front words) f → IsRefused words f
-  by_parts : (ps : List Said) → AreParts (in_front words) (in_front words) ps → IsFault ps f →
-      IsRefused words f
+-- what parts mean, or why they are no call
+abbrev pub meaning_in : List Said → Result Meaning Fault
+meaning_in ps = either Err (misfit ps) (and_then (rules_of ps) (with_rules ps))
+
+-- what words mean, or why they are no call
+abbrev pub meaning : List (List ℕ) → Result Meaning Fault
+meaning words = and_then (parts_in words) meaning_in
 
 -- the file of a column, where that is asked for
 abbrev pub file_if : List Said → List ℕ → List ℕ → Option (List ℕ)
@@ -196,21 +200,20 @@ pub record Says (m : Meaning) (c : Call) : Type 0 where
   pub database : text_in c.database ≡ value m.parts (codes "--database")
   pub short_database : text_in c.short_database ≡ value m.parts (codes "--short-database")
   pub output : text_in c.output ≡ value m.parts (codes "--output")
-  pub operands : texts_of c.operands.items ≡ m.operands
+  pub operands : texts_of c.operands.items ≡ operands_in m.parts
 
--- parts, and the operands after them, are this call
-pub record IsCallIn (ps : List Said) (after : List (List ℕ)) (c : Call) : Type 0 where
-  pub meaning : Meaning
-  pub parts : meaning.parts ≡ ps
-  pub meant : IsMeant after meaning
-  pub says : Says meaning c
+-- parts are this call
+pub record IsCallIn (ps : List Said) (c : Call) : Type 0 where
+  pub meant : Meaning
+  pub means : meaning_in ps ≡ Ok meant
+  pub says : Says meant c
 
 -- words are this call
 pub record IsCall (words : List (List ℕ)) (c : Call) : Type 0 where
-  pub meaning : Meaning
-  pub means : Means words meaning
-  pub says : Says meaning c
+  pub meant : Meaning
+  pub means : meaning words ≡ Ok meant
+  pub says : Says meant c
 
 -- words are no call, for this reason
 abbrev pub IsNoCall : List (List ℕ) → WordError → Type 0
-IsNoCall words e = IsRefused words (fault e)
+IsNoCall words e = meaning words ≡ Err (fault e)

@@ -3,7 +3,7 @@ use Rattle.std.specs.Prelude.{ℕ, ◌==◌, Bool, false, true, not, ◌&&◌, �
 use Rattle.std.specs.Prelude.{codes}
 use Rattle.std.specs.Prelude.{Option, Some, None, option_map, option_and_then, if◌then◌else◌}
 use Rattle.std.specs.Borrow.{Bor}
-use Rattle.std.specs.List.{find, list_any}
+use Rattle.std.specs.List.{find}
 use Rattle.std.specs.Option.{option_or}
 use Rattle.std.specs.Str.{bytes_eq}
 use Rattle.phone_words.specs.declared.rows.Row.{Row}
@@ -76,9 +76,18 @@ rows = map (λ c. record {
 abbrev pub takes : Entry → Bool
 takes r = not (is_empty r.value)
 
+-- the word `--`, after which all words are operands
+abbrev pub is_mark : List ℕ → Bool
+is_mark word = bytes_eq word (codes "--")
+
+-- a text is one of some words, in front of the mark
+abbrev pub is_among : List ℕ → List (List ℕ) → Bool
+is_among text [] = false
+is_among text (w ∷ ws) = not (is_mark w) && (bytes_eq w text || is_among text ws)
+
 -- an option counts among words: always, or where the word is there that it counts beside
 abbrev pub counts : List (List ℕ) → Entry → Bool
-counts words r = is_empty r.beside || list_any (λ w. bytes_eq w r.beside) words
+counts words r = is_empty r.beside || is_among r.beside words
 
 -- a word is an option's name, or its name of one letter
 abbrev pub is_name : List ℕ → Entry → Bool

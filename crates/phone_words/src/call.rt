@@ -1,20 +1,16 @@
 //! Words as a call: what is asked for, with what it needs.
-ghost use Rattle.std.specs.Prelude.{◌≡◌, ◌⊎◌, List, IfErr, IfOk, None, Some, codes};
-ghost use Rattle.phone_values.specs.Numbers.{number_in};
-ghost use Rattle.phone_words.specs.Calls.{IsCall, IsCallIn, IsFault, IsNoCall, count_in};
-ghost use Rattle.phone_words.specs.Calls.{delimiter_word, library_alone, value};
-ghost use Rattle.phone_words.specs.Delimiters.{delimiter_in};
-ghost use Rattle.phone_words.specs.Parts.{Said, all_said, fault};
-ghost use Rattle.phone_words.specs.Rows.{text_in, texts_of};
-ghost use Rattle.phone_words.specs.RuleNames.{rules_in};
+ghost use Rattle.std.specs.Prelude.{◌≡◌, ◌⊎◌, IfErr, IfOk, Err};
+ghost use Rattle.phone_words.specs.Calls.{IsCall, IsCallIn, IsNoCall, delimiter_of, known};
+ghost use Rattle.phone_words.specs.Calls.{meaning_in, rules_of, skipped_of};
+ghost use Rattle.phone_words.specs.Parts.{all_said, fault, told};
+ghost use Rattle.phone_words.specs.Rows.{texts_of};
 ghost use Rattle.phone_words.specs.declared.parts.Why.TheVariants as why;
 
 use crate::command::{Command, command_of};
-use crate::delimiter::delimiter_of;
-use crate::options::{has, is_run, misfit, operands_of, value};
-use crate::parts::{Part, Why, WordError, cut_at_mark, error_at, parts_of};
-use crate::rules::rules_named;
+use crate::options::{has, is_run, misfit, operands_in, value};
+use crate::parts::{Part, Why, WordError, error_at, parts_of};
 use crate::table::{Table, table_of};
+use crate::values::{count_named, delimiter_named, rules_named};
 use phone_values::Rules;
 use std::alloc::Global;
 
@@ -54,22 +50,17 @@ pub fn call_of<'w>(alloc: Global, words: &[&'w str]) -> Result<Call<'w>, WordErr
     ensures refused { IfErr result (λ e. (e.why ≡ why.Memory) ⊎
         IsNoCall (texts_of words.now) e) }
 {
-    let (front, after) = cut_at_mark(words);
-    match parts_of(alloc, front) {
-        Ok(parts) => call_in(alloc, parts.as_slice(), after),
+    match parts_of(alloc, words) {
+        Ok(parts) => call_in(alloc, parts.as_slice()),
         Err(error) => Err(error),
     }
 }
 
-/// The call that parts and the operands after them are.
-fn call_in<'w>(
-    alloc: Global,
-    parts: &[Part<'w>],
-    after: &[&'w str],
-) -> Result<Call<'w>, WordError<'w>>
-    ensures call { IfOk result (λ c. IsCallIn (all_said parts.now) (texts_of after.now) c) }
+/// The call that parts are.
+fn call_in<'w>(alloc: Global, parts: &[Part<'w>]) -> Result<Call<'w>, WordError<'w>>
+    ensures call { IfOk result (λ c. IsCallIn (all_said parts.now) c) }
     ensures refused { IfErr result (λ e. (e.why ≡ why.Memory) ⊎
-        IsFault (all_said parts.now) (fault e)) }
+        (meaning_in (all_said parts.now) ≡ Err (fault e))) }
 {
     if let Some(error) = misfit(parts) {
         return Err(error);
@@ -82,11 +73,11 @@ fn call_in<'w>(
         Ok(count) => count,
         Err(error) => return Err(error),
     };
-    let delimiter = match delimiter_in(parts) {
+    let delimiter = match delimiter_of(parts) {
         Ok(byte) => byte,
         Err(error) => return Err(error),
     };
-    let operands = operands_of(alloc, parts, after)?;
+    let operands = operands_in(alloc, parts)?;
     Ok(Call {
         command: command_of(parts),
         rules,
@@ -99,96 +90,56 @@ fn call_in<'w>(
     })
 }
 
-/// The first mode that is there and knows libphonenumber's rules alone, where others are named.
-fn library_alone(rules: Rules, parts: &[Part<'_>]) -> Option<&'static str>
-    ensures { text_in result ≡ library_alone rules (all_said parts.now) }
+/// The rules, unless a mode is there that knows others alone.
+fn known<'w>(parts: &[Part<'w>], rules: Rules) -> Result<Rules, WordError<'w>>
+    ensures { told result ≡ known (all_said parts.now) rules }
 {
     match rules {
-        Rules::Library => None,
-        Rules::Crate if has(parts, "--typed") => Some("--typed"),
-        Rules::Crate if has(parts, "--short") => Some("--short"),
-        Rules::Crate => None,
+        Rules::Library => Ok(rules),
+        Rules::Crate if has(parts, "--typed") => Err(error_at(Why::LibraryAlone, "--typed")),
+        Rules::Crate if has(parts, "--short") => Err(error_at(Why::LibraryAlone, "--short")),
+        Rules::Crate => Ok(rules),
     }
 }
 
-/// The rules that a word names; those of libphonenumber where there is no word.
-fn rules_in<'w>(word: Option<&'w str>) -> Result<Rules, WordError<'w>>
-    ensures rules { IfOk result (λ r. rules_in (text_in word.entry) ≡ Some r) }
-    ensures refused { IfErr result (λ e. (ps : List Said) →
-        value ps (codes "--rules") ≡ text_in word.entry → IsFault ps (fault e)) }
-{
-    match word {
-        None => Ok(Rules::Library),
-        Some(word) => match rules_named(word) {
-            Some(rules) => Ok(rules),
-            None => Err(error_at(Why::Rules, word)),
-        },
-    }
-}
-
-/// The rules that parts name.
+/// By whose rules numbers are read: by libphonenumber's, unless others are named.
 fn rules_of<'w>(parts: &[Part<'w>]) -> Result<Rules, WordError<'w>>
-    ensures rules { IfOk result (λ r.
-        rules_in (value (all_said parts.now) (codes "--rules")) ≡ Some r) }
-    ensures known { IfOk result (λ r. library_alone r (all_said parts.now) ≡ None) }
-    ensures refused { IfErr result (λ e. IsFault (all_said parts.now) (fault e)) }
+    ensures { told result ≡ rules_of (all_said parts.now) }
 {
-    let rules = match rules_in(value(parts, "--rules")) {
-        Ok(rules) => rules,
-        Err(error) => return Err(error),
+    let Some(word) = value(parts, "--rules") else {
+        return known(parts, Rules::Library);
     };
-    match library_alone(rules, parts) {
-        None => Ok(rules),
-        Some(name) => Err(error_at(Why::LibraryAlone, name)),
+    match rules_named(word) {
+        Some(rules) => known(parts, rules),
+        None => Err(error_at(Why::Rules, word)),
     }
 }
 
-/// The count that a word is; none where it is no count.
-fn count_of(word: &str) -> Option<u64>
-    ensures { result ≡ number_in 64 word.now }
-{
-    match word.parse::<u64>() {
-        Ok(count) => Some(count),
-        Err(_) => None,
-    }
-}
-
-/// The count of lines that parts tell; 0 where they tell none.
+/// How many lines were left out before: none, unless a count is named.
 fn skipped_of<'w>(parts: &[Part<'w>]) -> Result<u64, WordError<'w>>
-    ensures count { IfOk result (λ n.
-        count_in (value (all_said parts.now) (codes "--skipped")) ≡ Some n) }
-    ensures refused { IfErr result (λ e. IsFault (all_said parts.now) (fault e)) }
+    ensures { told result ≡ skipped_of (all_said parts.now) }
 {
-    match value(parts, "--skipped") {
-        None => Ok(0),
-        Some(word) => match count_of(word) {
-            Some(count) => Ok(count),
-            None => Err(error_at(Why::Skipped, word)),
-        },
+    let Some(word) = value(parts, "--skipped") else {
+        return Ok(0);
+    };
+    match count_named(word) {
+        Some(count) => Ok(count),
+        None => Err(error_at(Why::Skipped, word)),
     }
 }
 
-/// The word for the byte between fields, where numbers are to be read.
-fn delimiter_word<'w>(parts: &[Part<'w>]) -> Option<&'w str>
-    ensures { text_in result ≡ delimiter_word (all_said parts.now) }
+/// The byte between fields, where numbers are to be read: a comma, unless another one is named.
+fn delimiter_of<'w>(parts: &[Part<'w>]) -> Result<u8, WordError<'w>>
+    ensures { told result ≡ delimiter_of (all_said parts.now) }
 {
-    if is_run(parts) {
-        return value(parts, "--delimiter");
+    if !is_run(parts) {
+        return Ok(b',');
     }
-    None
-}
-
-/// The byte between fields; a comma where parts name none.
-fn delimiter_in<'w>(parts: &[Part<'w>]) -> Result<u8, WordError<'w>>
-    ensures byte { IfOk result (λ b.
-        delimiter_in (delimiter_word (all_said parts.now)) ≡ Some b) }
-    ensures refused { IfErr result (λ e. IsFault (all_said parts.now) (fault e)) }
-{
-    match delimiter_word(parts) {
-        None => Ok(b','),
-        Some(word) => match delimiter_of(word) {
-            Some(byte) => Ok(byte),
-            None => Err(error_at(Why::Delimiter, word)),
-        },
+    let Some(word) = value(parts, "--delimiter") else {
+        return Ok(b',');
+    };
+    match delimiter_named(word) {
+        Some(byte) => Ok(byte),
+        None => Err(error_at(Why::Delimiter, word)),
     }
 }

@@ -3,14 +3,13 @@
 
 mod call;
 mod command;
-mod delimiter;
 pub mod laws;
 mod options;
 mod parts;
 mod rows;
-mod rules;
 mod table;
 mod usage;
+mod values;
 
 pub use call::{Call, call_of};
 pub use command::Command;

@@ -1,5 +1,5 @@
 //! The options among parts: their values by name, and whether they go together.
-ghost use Rattle.std.specs.Prelude.{◌≡◌, ◌++◌, [], IfOk, option_map};
+ghost use Rattle.std.specs.Prelude.{◌≡◌, [], IfOk, option_map};
 ghost use Rattle.std.specs.List.{find};
 ghost use Rattle.phone_words.specs.Calls.{fault_of, has, is_run, lacks, misfit, misfit_of};
 ghost use Rattle.phone_words.specs.Calls.{first_fault, operands_in, text, value, with_part};
@@ -145,7 +145,7 @@ pub(crate) fn misfit<'w>(parts: &[Part<'w>]) -> Option<WordError<'w>>
 }
 
 /// The operands among parts, in their order. Refused only for memory.
-fn operands_in<'w>(alloc: Global, parts: &[Part<'w>]) -> Result<Vec<&'w str>, AllocError>
+pub(crate) fn operands_in<'w>(alloc: Global, parts: &[Part<'w>]) -> Result<Vec<&'w str>, AllocError>
     ensures { IfOk result (λ v. texts_of v.items ≡ operands_in (all_said parts.now)) }
 {
     let mut operands = Vec::new(alloc);
@@ -154,19 +154,5 @@ fn operands_in<'w>(alloc: Global, parts: &[Part<'w>]) -> Result<Vec<&'w str>, Al
             operands.push(word)?;
         }
     }
-    Ok(operands)
-}
-
-/// The operands among parts, and then those after the mark. Refused only for memory.
-pub(crate) fn operands_of<'w>(
-    alloc: Global,
-    parts: &[Part<'w>],
-    after: &[&'w str],
-) -> Result<Vec<&'w str>, AllocError>
-    ensures { IfOk result (λ v.
-        texts_of v.items ≡ operands_in (all_said parts.now) ++ texts_of after.now) }
-{
-    let mut operands = operands_in(alloc, parts)?;
-    operands.extend_from_slice(after)?;
     Ok(operands)
 }

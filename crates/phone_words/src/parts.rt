@@ -1,15 +1,12 @@
 //! The words of a call as its parts: options with their values, and operands.
-ghost use Rattle.std.specs.Prelude.{◌≡◌, ◌≤◌, ◌+◌, ◌⊎◌, ◌∷◌, [], false, length, true};
-ghost use Rattle.std.specs.Prelude.{IfErr, IfOk, IfSome, IsNone, IsSome, MatchOption, drop};
-ghost use Rattle.phone_words.specs.Parts.{AreParts, AreRefused, Begins, BeginsRefused, all_said};
-ghost use Rattle.phone_words.specs.Parts.{after_mark, fault, fault_at, in_front, is_dashed};
-ghost use Rattle.phone_words.specs.Parts.{is_mark, kind};
-ghost use Rattle.phone_words.specs.Parts.{has_no_word, kind_joined, kind_named, kind_other};
-ghost use Rattle.phone_words.specs.Parts.{kind_said, said};
-ghost use Rattle.phone_words.specs.Rows.{entry, is_empty, texts_of};
+ghost use Rattle.std.specs.Prelude.{◌≡◌, ◌⊎◌, ℕ, List, [], IfErr, IfOk, Err, Ok};
+ghost use Rattle.phone_words.specs.Parts.{all_said, before_next, before_said, fault, fault_at};
+ghost use Rattle.phone_words.specs.Parts.{is_dashed, kind, kind_after, kind_joined, kind_named};
+ghost use Rattle.phone_words.specs.Parts.{kind_other, kind_said, parts_from, parts_in, with_kind};
+ghost use Rattle.phone_words.specs.Rows.{entry, texts_of};
 ghost use Rattle.phone_words.specs.declared.parts.Why.TheVariants as why;
 
-use crate::rows::{Row, joined, named};
+use crate::rows::{Row, is_mark, joined, named};
 use std::alloc::{AllocError, Global};
 
 /// A part of a call.
@@ -81,26 +78,6 @@ impl<'w> From<AllocError> for WordError<'w> {
     }
 }
 
-/// Whether a word is `--`.
-fn is_mark(word: &str) -> bool
-    ensures { result ≡ is_mark word.now }
-{
-    word == "--"
-}
-
-/// The words in front of the first word `--`, and those after it; all words where there is none.
-pub(crate) fn cut_at_mark<'l, 'w>(words: &'l [&'w str]) -> (&'l [&'w str], &'l [&'w str])
-    ensures front { texts_of result.0.now ≡ in_front (texts_of words.now) }
-    ensures after { texts_of result.1.now ≡ after_mark (texts_of words.now) }
-{
-    for at in 0..words.len() {
-        if is_mark(words[at]) {
-            return (&words[..at], &words[at + 1..]);
-        }
-    }
-    (words, &[])
-}
-
 /// Whether a word is to be an option: it begins with a hyphen, and has more.
 fn is_dashed(word: &str) -> bool
     ensures { result ≡ is_dashed word.now }
@@ -111,17 +88,28 @@ fn is_dashed(word: &str) -> bool
     }
 }
 
-/// What a word in front of the mark is.
+/// What a word is.
 #[derive(Clone, Copy)]
 pub(crate) enum Kind<'w> {
     /// A part.
     Whole(Part<'w>),
     /// An option whose value is the next word.
     Wants(Row),
-    /// An option whose value is empty.
-    Lacks,
-    /// To be an option, but there is none of this name.
-    Unknown,
+    /// The word `--`.
+    Mark,
+    /// None that there is.
+    Refused(WordError<'w>),
+}
+
+/// What came before a word.
+#[derive(Clone, Copy)]
+pub(crate) enum Before<'w> {
+    /// Nothing that matters.
+    Free,
+    /// An option that wants it as its value, and the word that named it.
+    Wanting(Row, &'w str),
+    /// The word `--`.
+    Marked,
 }
 
 /// An option that is named by the whole word.
@@ -135,11 +123,11 @@ fn kind_named<'w>(row: Row) -> Kind<'w>
 }
 
 /// An option with its value in one word.
-fn kind_joined<'w>(row: Row, value: &'w str) -> Kind<'w>
-    ensures { kind_said result ≡ kind_joined (entry row, value.now) }
+fn kind_joined<'w>(word: &'w str, row: Row, value: &'w str) -> Kind<'w>
+    ensures { kind_said result ≡ kind_joined word.now (entry row, value.now) }
 {
     if value.is_empty() {
-        return Kind::Lacks;
+        return Kind::Refused(error_at(Why::NoValue, word));
     }
     Kind::Whole(Part::Given(row, value))
 }
@@ -148,97 +136,104 @@ fn kind_joined<'w>(row: Row, value: &'w str) -> Kind<'w>
 fn kind_other<'w>(word: &'w str) -> Kind<'w>
     ensures { kind_said result ≡ kind_other word.now }
 {
+    if is_mark(word) {
+        return Kind::Mark;
+    }
     if is_dashed(word) {
-        return Kind::Unknown;
+        return Kind::Refused(error_at(Why::Unknown, word));
     }
     Kind::Whole(Part::Operand(word))
 }
 
-/// What a word is, among the words in front of the mark.
-fn kind_of<'w>(front: &[&str], word: &'w str) -> Kind<'w>
-    ensures { kind_said result ≡ kind (texts_of front.now) word.now }
+/// What a word is by itself, among all words.
+fn kind_of<'w>(words: &[&str], word: &'w str) -> Kind<'w>
+    ensures { kind_said result ≡ kind (texts_of words.now) word.now }
 {
-    if let Some(row) = named(front, word) {
+    if let Some(row) = named(words, word) {
         return kind_named(row);
     }
     match joined(word) {
-        Some((row, value)) => kind_joined(row, value),
+        Some((row, value)) => kind_joined(word, row, value),
         None => kind_other(word),
     }
 }
 
-/// The first of some words, where it isn't empty.
-fn value_in<'w>(words: &[&'w str]) -> Option<&'w str>
-    ensures none { IsNone result → has_no_word (texts_of words.now) ≡ true }
-    ensures first { IfSome result (λ v. texts_of words.now ≡ v.now ∷ drop 1 (texts_of words.now)) }
-    ensures some { IfSome result (λ v. is_empty v.now ≡ false) }
-    ensures within { IsSome result → 1 ≤ length words.now }
+/// What a word is after what came before it.
+fn kind_after<'w>(words: &[&str], before: Before<'w>, word: &'w str) -> Kind<'w>
+    ensures { kind_said result ≡
+        kind_after (texts_of words.now) (before_said before.entry) word.now }
 {
-    match words {
-        [value, ..] if !value.is_empty() => Some(*value),
-        _ => None,
+    match before {
+        Before::Free => kind_of(words, word),
+        Before::Wanting(_, name) if word.is_empty() || is_mark(word) => {
+            Kind::Refused(error_at(Why::NoValue, name))
+        }
+        Before::Wanting(row, _) => Kind::Whole(Part::Given(row, word)),
+        Before::Marked => Kind::Whole(Part::Operand(word)),
     }
 }
 
-/// The part that a word and those after it begin with, and how many words that is. Refused by
-/// `Unknown` and `NoValue`.
-fn part_at<'w>(
-    front: &[&str],
-    word: &'w str,
-    after: &[&'w str],
-) -> Result<(Part<'w>, usize), WordError<'w>>
-    ensures part { IfOk result (λ p. Begins (texts_of front.now) (word.now ∷ texts_of after.now)
-        (said p.0) (drop p.1 (word.now ∷ texts_of after.now))) }
-    ensures some { IfOk result (λ p. 1 ≤ p.1) }
-    ensures within { IfOk result (λ p. p.1 ≤ length after.now + 1) }
-    ensures refused { IfErr result (λ e. BeginsRefused (texts_of front.now)
-        (word.now ∷ texts_of after.now) (fault e)) }
+/// What came before the next word.
+fn before_next<'w>(before: Before<'w>, word: &'w str, kind: Kind<'w>) -> Before<'w>
+    ensures { before_said result ≡
+        before_next (before_said before.entry) word.now (kind_said kind.entry) }
 {
-    match kind_of(front, word) {
-        Kind::Whole(part) => Ok((part, 1)),
-        Kind::Wants(row) => match value_in(after) {
-            Some(value) => Ok((Part::Given(row, value), 2)),
-            None => Err(error_at(Why::NoValue, word)),
-        },
-        Kind::Lacks => Err(error_at(Why::NoValue, word)),
-        Kind::Unknown => Err(error_at(Why::Unknown, word)),
+    match (before, kind) {
+        (Before::Marked, _) | (_, Kind::Mark) => Before::Marked,
+        (_, Kind::Wants(row)) => Before::Wanting(row, word),
+        _ => Before::Free,
     }
 }
 
-/// The part that words begin with, and how many of them it is; none where there are no words.
-fn next_part<'w>(
-    front: &[&str],
-    words: &[&'w str],
-) -> Result<Option<(Part<'w>, usize)>, WordError<'w>>
-    ensures part { IfOk result (λ o. MatchOption o (texts_of words.now ≡ [])
-        (λ p. Begins (texts_of front.now) (texts_of words.now) (said p.0)
-        (drop p.1 (texts_of words.now)))) }
-    ensures some { IfOk result (λ o. IfSome o (λ p. 1 ≤ p.1)) }
-    ensures within { IfOk result (λ o. IfSome o (λ p. p.1 ≤ length words.now)) }
-    ensures refused { IfErr result (λ e. BeginsRefused (texts_of front.now) (texts_of words.now)
-        (fault e)) }
-{
-    match words {
-        [] => Ok(None),
-        [word, after @ ..] => Ok(Some(part_at(front, *word, after)?)),
-    }
-}
-
-/// The parts that words in front of the mark are. Refused by `Unknown` and `NoValue` at the first
-/// word that is no part, and by `Memory`.
-pub(crate) fn parts_of<'w>(alloc: Global, front: &[&'w str]) -> Result<Vec<Part<'w>>, WordError<'w>>
-    ensures parts { IfOk result (λ ps.
-        AreParts (texts_of front.now) (texts_of front.now) (all_said ps.items)) }
+/// Puts the part that a word is at the end of parts. Refused by the word's fault, and by `Memory`.
+fn push_kind<'w>(parts: &mut Vec<Part<'w>>, kind: Kind<'w>) -> Result<(), WordError<'w>>
+    ensures pushed { IfOk result (λ _.
+        with_kind (all_said parts.old.items) (kind_said kind.entry) ≡
+        Ok (all_said parts.new.items)) }
     ensures refused { IfErr result (λ e. (e.why ≡ why.Memory) ⊎
-        AreRefused (texts_of front.now) (texts_of front.now) (fault e)) }
+        (with_kind (all_said parts.old.items) (kind_said kind.entry) ≡ Err (fault e))) }
+{
+    match kind {
+        Kind::Whole(part) => match parts.push(part) {
+            Ok(()) => Ok(()),
+            Err(_) => Err(error_at(Why::Memory, "")),
+        },
+        Kind::Refused(error) => Err(error),
+        _ => Ok(()),
+    }
+}
+
+/// Parts, unless an option lacks its value.
+fn ended<'w>(parts: Vec<Part<'w>>, before: Before<'w>) -> Result<Vec<Part<'w>>, WordError<'w>>
+    ensures ended { IfOk result (λ ps. (words : List (List ℕ)) →
+        parts_from words [] (all_said parts.entry.items) (before_said before.entry) ≡
+        Ok (all_said ps.items)) }
+    ensures refused { IfErr result (λ e. (words : List (List ℕ)) →
+        parts_from words [] (all_said parts.entry.items) (before_said before.entry) ≡
+        Err (fault e)) }
+{
+    match before {
+        Before::Wanting(_, name) => Err(error_at(Why::NoValue, name)),
+        _ => Ok(parts),
+    }
+}
+
+/// The parts that words are. Refused by `Unknown` and `NoValue` at the first word that is no part,
+/// and by `Memory`.
+pub(crate) fn parts_of<'w>(alloc: Global, words: &[&'w str]) -> Result<Vec<Part<'w>>, WordError<'w>>
+    ensures parts { IfOk result (λ ps. parts_in (texts_of words.now) ≡ Ok (all_said ps.items)) }
+    ensures refused { IfErr result (λ e. (e.why ≡ why.Memory) ⊎
+        (parts_in (texts_of words.now) ≡ Err (fault e))) }
 {
     let mut parts = Vec::new(alloc);
-    let mut at = 0;
-    while let Some((part, count)) = next_part(front, &front[at..])? {
-        let Ok(()) = parts.push(part) else {
-            return Err(error_at(Why::Memory, ""));
-        };
-        at += count;
+    let mut before = Before::Free;
+    for word in words {
+        let kind = kind_after(words, before, *word);
+        match push_kind(&mut parts, kind) {
+            Ok(()) => {}
+            Err(error) => return Err(error),
+        }
+        before = before_next(before, *word, kind);
     }
-    Ok(parts)
+    ended(parts, before)
 }

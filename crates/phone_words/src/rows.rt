@@ -1,10 +1,9 @@
 //! The table of the options: from it words are read, the help is made, and refusals are told.
 ghost use Rattle.std.specs.Prelude.{◌≡◌, ◌++◌, ◌&&◌, ℕ, List, IfSome, IsNone, map, option_map};
-ghost use Rattle.std.specs.List.{find, list_any};
-ghost use Rattle.std.specs.Str.{bytes_eq};
+ghost use Rattle.std.specs.List.{find};
 ghost use Rattle.phone_words.specs.Rows.{after, after_name, after_short, counts, entry};
-ghost use Rattle.phone_words.specs.Rows.{entry_and_text, entry_of, is_name, joined, joined_in};
-ghost use Rattle.phone_words.specs.Rows.{named, text_in, texts_of, value_in};
+ghost use Rattle.phone_words.specs.Rows.{entry_and_text, entry_of, is_among, is_mark, is_name};
+ghost use Rattle.phone_words.specs.Rows.{joined, joined_in, named, text_in, texts_of, value_in};
 
 /// An option of the program.
 #[derive(Clone, Copy)]
@@ -142,20 +141,20 @@ pub(crate) fn row_of(cells: Cells) -> Row
     }
 }
 
-/// Whether a word is this.
-fn is_same(word: &str, text: &str) -> bool
-    ensures { result ≡ bytes_eq word.now text.now }
+/// Whether a word is `--`, after which all words are operands.
+pub(crate) fn is_mark(word: &str) -> bool
+    ensures { result ≡ is_mark word.now }
 {
-    word == text
+    word == "--"
 }
 
-/// Whether a text is one of these words.
+/// Whether a text is one of these words, in front of the mark.
 fn is_among(text: &str, words: &[&str]) -> bool
-    ensures { result ≡ list_any (λ w. bytes_eq w text.now) (texts_of words.now) }
+    ensures { result ≡ is_among text.now (texts_of words.now) }
 {
     for word in words {
-        if is_same(*word, text) {
-            return true;
+        if is_mark(*word) || *word == text {
+            return !is_mark(*word);
         }
     }
     false

@@ -1,42 +1,58 @@
 use Rattle.std.proofs.Common.{◌∙◌, ap, inr, option_map, refl, sym}
-use Rattle.phone_words.specs.Calls.IsFault.{apart}
-use Rattle.phone_words.specs.Parts.{all_said, fault}
-use Rattle.phone_words.specs.Rows.{texts_of}
+use Rattle.phone_words.specs.Parts.{all_said, fault, told}
+use Rattle.phone_words.proofs.Steps.{byte_is, count_is, misfit_is, no_byte, no_count, no_rules}
+use Rattle.phone_words.proofs.Steps.{rules_are}
 use Rattle.phone_words.proofs.call.call_in.Goals as goal
 
 pub returns-in-Some-clause-refused : goal.returns-in-Some-clause-refused
 returns-in-Some-clause-refused c =
-    inr (apart _ (sym c.misfit.ensures ∙ ap (option_map fault) c.in-Some.is))
+    inr (misfit_is (all_said c.args.parts.now) _
+    (sym c.misfit.ensures ∙ ap (option_map fault) c.in-Some.is))
+
+pub returns-in-Err-clause-refused : goal.returns-in-Err-clause-refused
+returns-in-Err-clause-refused c =
+    let m = sym c.misfit.ensures ∙ ap (option_map fault) c.in_default.is in
+    inr (no_rules (all_said c.args.parts.now) _ m (sym c.rules_of.ensures ∙ ap told c.in-Err.is))
+
+pub returns-in-Err-skipped_of-clause-refused : goal.returns-in-Err-skipped_of-clause-refused
+returns-in-Err-skipped_of-clause-refused c =
+    let m = sym c.misfit.ensures ∙ ap (option_map fault) c.in_default.is in
+    let r = rules_are (all_said c.args.parts.now) c.in-Ok.rules m
+    (sym c.rules_of.ensures ∙ ap told c.in-Ok.is) in
+    inr (no_count (all_said c.args.parts.now) c.in-Ok.rules _ r
+    (sym c.skipped_of.ensures ∙ ap told c.in-Err-skipped_of.is))
+
+pub returns-in-Err-delimiter_of-clause-refused : goal.returns-in-Err-delimiter_of-clause-refused
+returns-in-Err-delimiter_of-clause-refused c =
+    let m = sym c.misfit.ensures ∙ ap (option_map fault) c.in_default.is in
+    let r = rules_are (all_said c.args.parts.now) c.in-Ok.rules m
+    (sym c.rules_of.ensures ∙ ap told c.in-Ok.is) in
+    let s = count_is (all_said c.args.parts.now) c.in-Ok.rules c.in-Ok-skipped_of.count r
+    (sym c.skipped_of.ensures ∙ ap told c.in-Ok-skipped_of.is) in
+    inr (no_byte (all_said c.args.parts.now) c.in-Ok.rules c.in-Ok-skipped_of.count _ s
+    (sym c.delimiter_of.ensures ∙ ap told c.in-Err-delimiter_of.is))
 
 pub returns-clause-call : goal.returns-clause-call
-returns-clause-call c = record {
-  meaning = record {
-    command = c.command_of.result;
-    rules = c.in-Ok.rules;
-    skipped = c.in-Ok-skipped_of.count;
-    delimiter = c.in-Ok-delimiter_in.byte;
-    parts = all_said c.args.parts.now;
-    operands = texts_of c.in_ok-operands.operands.items;
-  };
-  parts = refl;
-  meant = record {
-    fits = sym c.misfit.ensures ∙ ap (option_map fault) c.in_default.is;
-    command = c.command_of.ensures;
-    rules = c.in-Ok.ensures.rules;
-    known = c.in-Ok.ensures.known;
-    skipped = c.in-Ok-skipped_of.ensures.count;
-    delimiter = c.in-Ok-delimiter_in.ensures.byte;
-    operands = c.in_ok-operands.ensures;
-  };
-  says = record {
-    command = refl;
-    rules = refl;
-    skipped = refl;
-    delimiter = c.table_of.ensures.delimiter;
-    table = c.table_of.ensures.table;
-    database = c.value.ensures;
-    short_database = c.value-2.ensures;
-    output = c.value-3.ensures;
-    operands = refl;
-  };
-}
+returns-clause-call c =
+    let ps = all_said c.args.parts.now in
+    let m = sym c.misfit.ensures ∙ ap (option_map fault) c.in_default.is in
+    let r = rules_are ps c.in-Ok.rules m (sym c.rules_of.ensures ∙ ap told c.in-Ok.is) in
+    let s = count_is ps c.in-Ok.rules c.in-Ok-skipped_of.count r
+    (sym c.skipped_of.ensures ∙ ap told c.in-Ok-skipped_of.is) in
+    let d = byte_is ps c.in-Ok.rules c.in-Ok-skipped_of.count c.in-Ok-delimiter_of.byte s
+    (sym c.delimiter_of.ensures ∙ ap told c.in-Ok-delimiter_of.is) in
+    record {
+      meant = _;
+      means = d;
+      says = record {
+        command = c.command_of.ensures;
+        rules = refl;
+        skipped = refl;
+        delimiter = c.table_of.ensures.delimiter;
+        table = c.table_of.ensures.table;
+        database = c.value.ensures;
+        short_database = c.value-2.ensures;
+        output = c.value-3.ensures;
+        operands = c.in_ok-operands.ensures;
+      };
+    }

@@ -1,8 +1,5 @@
-use Rattle.phone_words.proofs.CallLaws.{one_call, one_meaning}
+use Rattle.phone_words.proofs.Meanings.{at_most_one}
 use Rattle.phone_words.proofs.laws.at_most_one.Goals as goal
 
-pub returns-clause-one : goal.returns-clause-one
-returns-clause-one c = one_meaning
-
-pub returns-clause-call : goal.returns-clause-call
-returns-clause-call c = one_call
+pub returns : goal.returns
+returns c = at_most_one

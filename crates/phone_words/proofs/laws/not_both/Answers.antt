@@ -1,4 +1,4 @@
-use Rattle.phone_words.proofs.CallLaws.{not_both}
+use Rattle.phone_words.proofs.Meanings.{not_both}
 use Rattle.phone_words.proofs.laws.not_both.Goals as goal
 
 pub returns : goal.returns
