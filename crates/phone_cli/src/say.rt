@@ -39,26 +39,29 @@ const RULES: &str = " names no rules: there are library and crate";
 /// What is told behind a mode that goes with libphonenumber's rules alone.
 const LIBRARY: &str = " knows libphonenumber's rules alone";
 
-/// Tells why words are no call, and gives the status.
-pub(crate) fn say_word_error<E: ByteSink>(errors: &mut E, error: WordError<'_>) -> u8
-    ensures { result ≡ status_of_words error.entry.why }
+/// Tells why words are no call, by which of them, and gives the status.
+fn say_why<E: ByteSink>(errors: &mut E, why: Why, word: &str, other: &str, value: &str) -> u8
+    ensures { result ≡ status_of_words why }
 {
-    let WordError { why, word, other } = error;
     match why {
         Why::Unknown => say(errors, &["there is no option ", word, OPTIONS], 2),
         Why::NoValue => say(errors, &[word, " wants a word after it"], 2),
         Why::Together => say(errors, &[word, " and ", other, " don't go together"], 2),
-        Why::Without => say(
-            errors,
-            &[word, " goes with ", other, " ", value_word(other)],
-            2,
-        ),
+        Why::Without => say(errors, &[word, " goes with ", other, " ", value], 2),
         Why::Delimiter => say(errors, &[word, DELIMITER], 2),
         Why::Skipped => say(errors, &[word, " is no count of lines"], 2),
         Why::Rules => say(errors, &[word, RULES], 2),
         Why::LibraryAlone => say(errors, &[word, LIBRARY], 2),
         Why::Memory => say(errors, &["out of memory"], 1),
     }
+}
+
+/// Tells why words are no call, and gives the status.
+pub(crate) fn say_word_error<E: ByteSink>(errors: &mut E, error: WordError<'_>) -> u8
+    ensures { result ≡ status_of_words error.entry.why }
+{
+    let value = value_word(error.other);
+    say_why(errors, error.why, error.word, error.other, value)
 }
 
 /// Writes which columns a header has, where one that is asked for isn't there.
