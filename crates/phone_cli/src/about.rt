@@ -1,14 +1,16 @@
 //! What the program says of itself, and of what words it knows.
-use crate::usage::{HELP, NAME};
 use phone_choice::Rules;
 use phone_device::{ByteSink, Fault, write_all};
 use phone_values::country::{ALL, Id};
 use std::alloc::AllocGlobal;
 use std::fs::{self, Files};
 
-/// Writes how the program is called.
-pub(crate) fn write_help<W: ByteSink>(output: &mut W) -> Result<(), Fault> {
-    write_all(output, HELP.as_bytes())?;
+/// Which program this is.
+const NAME: &str = "phonenumber, a port of the Rust crate phonenumber 0.3.10 to Rattle\n";
+
+/// Writes a text that the program tells of itself.
+pub(crate) fn write_text<W: ByteSink>(output: &mut W, text: &str) -> Result<(), Fault> {
+    write_all(output, text.as_bytes())?;
     output.flush()
 }
 

@@ -7,7 +7,7 @@ use phone_device::ByteSink;
 use phone_jobs::{Failure, JobError, NoColumns, is_standard};
 use phone_prefixes::{LineFault, PrefixesError};
 use phone_table::{Column, FirstError, RunError, TableError};
-use phone_words::{Call, Command};
+use phone_words::Call;
 use phonenumber::metadata::LoadMetadata;
 use std::alloc::{AllocError, Global};
 
@@ -64,7 +64,7 @@ fn say_table<E: ByteSink>(call: &Call<'_>, error: &TableError, errors: &mut E) -
 {
     match error {
         TableError::NoColumn(column, header) => {
-            say_columns(errors, column_name(call.command, *column), header)
+            say_columns(errors, column_name(call, *column), header)
         }
         TableError::Rows(RunError::Record(feeds)) => {
             let line = feeds.saturating_add(call.skipped).saturating_add(1);
@@ -89,11 +89,10 @@ fn say_quote<E: ByteSink>(call: &Call<'_>, line: u64, errors: &mut E) -> u8
 }
 
 /// The name of a column that was asked for.
-fn column_name<'w>(command: Command<'w>, column: Column) -> &'w str {
-    match (command, column) {
-        (Command::Table(table), Column::Number) => table.column,
-        (Command::Table(table), Column::Region) => table.region_column.unwrap_or(""),
-        _ => "",
+fn column_name<'w>(call: &Call<'w>, column: Column) -> &'w str {
+    match column {
+        Column::Number => call.table.column,
+        Column::Region => call.table.region_column.unwrap_or(""),
     }
 }
 

@@ -8,7 +8,6 @@ mod operands;
 mod outlet;
 mod say;
 mod tool;
-mod usage;
 mod written;
 
 pub use outlet::{Input, Meter, Outlet, Output};

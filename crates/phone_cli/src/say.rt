@@ -6,7 +6,7 @@ use csv::ByteRecord;
 use itoa::Buffer;
 use phone_device::{ByteSink, Fault, write_all};
 use phone_jobs::{Customers, Firsts};
-use phone_words::{Mode, TableOption, WordError};
+use phone_words::{Why, WordError, value_word};
 
 /// Writes the program's name, these texts and a line feed.
 fn write_line<E: ByteSink>(errors: &mut E, texts: &[&str]) -> Result<(), Fault> {
@@ -26,48 +26,8 @@ pub(crate) fn say<E: ByteSink>(errors: &mut E, texts: &[&str], status: u8) -> u8
     status
 }
 
-/// The option of a mode.
-fn mode_name(mode: Mode) -> &'static str {
-    match mode {
-        Mode::Csv => "--csv",
-        Mode::Json => "--json",
-        Mode::Find => "--find",
-        Mode::Unique => "--unique",
-        Mode::Typed => "--typed",
-        Mode::Short => "--short",
-    }
-}
-
-/// An option of a table.
-fn table_option_name(option: TableOption) -> &'static str {
-    match option {
-        TableOption::RegionColumn => "--region-column",
-        TableOption::Delimiter => "--delimiter",
-        TableOption::ElseHint => "--else-hint",
-        TableOption::MarkBad => "--mark-bad-records",
-        TableOption::Prefixes => "--prefixes",
-        TableOption::As => "--as",
-        TableOption::TimeZone => "--time-zone",
-        TableOption::Carrier => "--carrier",
-        TableOption::FirstCarrier => "--first-carrier",
-        TableOption::Area => "--area",
-    }
-}
-
-/// The option that names the file of a column.
-fn file_option(option: TableOption) -> &'static str {
-    match option {
-        TableOption::TimeZone => "--time-zones FILE names it",
-        TableOption::Carrier | TableOption::FirstCarrier => "--carriers FILE names it",
-        _ => "--areas FILE names it",
-    }
-}
-
 /// What is told behind a word that is no option.
 const OPTIONS: &str = "; --help lists those that there are";
-
-/// What is told behind an option that goes with a table alone.
-const TABLE: &str = " goes with --csv COLUMN";
 
 /// What is told behind a byte that may not stand between fields.
 const DELIMITER: &str =
@@ -79,32 +39,29 @@ const RULES: &str = " names no rules: there are library and crate";
 /// What is told behind a mode that goes with libphonenumber's rules alone.
 const LIBRARY: &str = " knows libphonenumber's rules alone";
 
+/// Tells why words are no call, by which of them, and gives the status.
+fn say_why<E: ByteSink>(errors: &mut E, why: Why, word: &str, other: &str, value: &str) -> u8
+    ensures { result ≡ status_of_words why }
+{
+    match why {
+        Why::Unknown => say(errors, &["there is no option ", word, OPTIONS], 2),
+        Why::NoValue => say(errors, &[word, " wants a word after it"], 2),
+        Why::Together => say(errors, &[word, " and ", other, " don't go together"], 2),
+        Why::Without => say(errors, &[word, " goes with ", other, " ", value], 2),
+        Why::Delimiter => say(errors, &[word, DELIMITER], 2),
+        Why::Skipped => say(errors, &[word, " is no count of lines"], 2),
+        Why::Rules => say(errors, &[word, RULES], 2),
+        Why::LibraryAlone => say(errors, &[word, LIBRARY], 2),
+        Why::Memory => say(errors, &["out of memory"], 1),
+    }
+}
+
 /// Tells why words are no call, and gives the status.
 pub(crate) fn say_word_error<E: ByteSink>(errors: &mut E, error: WordError<'_>) -> u8
-    ensures { result ≡ status_of_words error.entry }
+    ensures { result ≡ status_of_words error.entry.why }
 {
-    match error {
-        WordError::Unknown(word) => say(errors, &["there is no option ", word, OPTIONS], 2),
-        WordError::NoValue(word) => say(errors, &[word, " wants a word after it"], 2),
-        WordError::Together(one, other) => {
-            let (one, other) = (mode_name(one), mode_name(other));
-            say(errors, &[one, " and ", other, " don't go together"], 2)
-        }
-        WordError::WithoutTable(option) => say(errors, &[table_option_name(option), TABLE], 2),
-        WordError::WithoutRegions => say(errors, &["--else-hint goes with --region-column"], 2),
-        WordError::NoColumn => say(errors, &["a column has a name"], 2),
-        WordError::Unnamed => say(errors, &["--prefixes goes with --as NAME"], 2),
-        WordError::WithoutPrefixes => say(errors, &["--as goes with --prefixes FILE"], 2),
-        WordError::NoFile(option) => {
-            let (name, file) = (table_option_name(option), file_option(option));
-            say(errors, &[name, " wants a file: ", file], 2)
-        }
-        WordError::Delimiter(word) => say(errors, &[word, DELIMITER], 2),
-        WordError::Skipped(word) => say(errors, &[word, " is no count of lines"], 2),
-        WordError::Rules(word) => say(errors, &[word, RULES], 2),
-        WordError::LibraryAlone(mode) => say(errors, &[mode_name(mode), LIBRARY], 2),
-        WordError::Memory => say(errors, &["out of memory"], 1),
-    }
+    let value = value_word(error.other);
+    say_why(errors, error.why, error.word, error.other, value)
 }
 
 /// Writes which columns a header has, where one that is asked for isn't there.

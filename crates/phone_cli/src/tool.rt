@@ -1,23 +1,23 @@
 //! The program over its words, files and devices.
 ghost use Rattle.std.specs.Prelude.{◌≡◌, ◌≤◌};
-ghost use Rattle.phone_words.specs.Parts.{texts_of};
+ghost use Rattle.phone_words.specs.Rows.{texts_of};
 ghost use Rattle.phone_cli.specs.Statuses.{Acts};
 
-use crate::about::{write_help, write_regions, write_version};
+use crate::about::{write_regions, write_text, write_version};
 use crate::failures::{say_failure, say_no_columns, say_refusal};
 use crate::operands::{hint_and_files, say_missing};
 use crate::outlet::Outlet;
 use crate::say::{say, say_firsts, say_records, say_word_error};
 use crate::written::is_read;
 use phone_choice::Rules;
-use phone_device::{ByteSink, ByteSource, Std};
+use phone_device::{ByteSink, ByteSource, Fault, Std};
 use phone_jobs::{
     ByLines, Customers, Finder, Firsts, FoundForm, Job, LineTaker, Loaded, Objects, Reader, Report,
     Shorts, Typist, on_inputs,
 };
 use phone_plans::Plans;
 use phone_table::{Asked, Counts, Extra};
-use phone_words::{Call, Command, Table, call_of};
+use phone_words::{Call, Command, Table, call_of, help};
 use phonenumber::country::Id;
 use std::alloc::AllocGlobal;
 use std::fs::{self, Files};
@@ -59,13 +59,36 @@ fn on_call<R: Files + AllocGlobal, S: ByteSource, W: Outlet, E: ByteSink>(
 ) -> u8
     ensures { result ≤ 3 }
 {
-    let about = match call.command {
-        Command::Help => write_help(output),
-        Command::Regions => write_regions(output),
-        Command::Version => write_version(rt, call.database, call.rules, output),
-        _ => return on_files(rt, call, input, output, errors),
+    match call.command {
+        Command::Help => on_help(rt, output, errors),
+        Command::Regions => {
+            let end = write_regions(output);
+            ended(end, output, errors)
+        }
+        Command::Version => {
+            let end = write_version(rt, call.database, call.rules, output);
+            ended(end, output, errors)
+        }
+        _ => on_files(rt, call, input, output, errors),
+    }
+}
+
+/// The program where help is asked for.
+fn on_help<R: AllocGlobal, W: Outlet, E: ByteSink>(rt: &R, output: &mut W, errors: &mut E) -> u8
+    ensures { result ≤ 3 }
+{
+    let Ok(text) = help(rt.alloc()) else {
+        return say(errors, &["out of memory"], 1);
     };
-    match about {
+    let end = write_text(output, text.as_str());
+    ended(end, output, errors)
+}
+
+/// The status after the program has told of itself.
+fn ended<W: Outlet, E: ByteSink>(end: Result<(), Fault>, output: &W, errors: &mut E) -> u8
+    ensures { result ≤ 3 }
+{
+    match end {
         Ok(()) => 0,
         Err(_) if output.is_closed() => 1,
         Err(_) => say(errors, &["output failed"], 1),
@@ -118,9 +141,9 @@ fn on_files<R: Files + AllocGlobal, S: ByteSource, W: Outlet, E: ByteSink>(
 }
 
 /// Why a command doesn't go with the region and the files that are named; none where it does.
-fn misfit(command: Command<'_>, hint: Option<Id>, files: &[&str]) -> Option<&'static str> {
+fn misfit(command: Command, hint: Option<Id>, files: &[&str]) -> Option<&'static str> {
     match (command, hint, files) {
-        (Command::Table(_), _, [_, _, ..]) => Some("--csv reads one file at a time"),
+        (Command::Table, _, [_, _, ..]) => Some("--csv reads one file at a time"),
         (Command::FoundObjects, _, [_, _, ..]) => {
             Some("--find with --json reads one file at a time")
         }
@@ -138,7 +161,7 @@ fn database_of<'w>(call: &Call<'w>) -> Option<&'w str> {
 }
 
 /// What is told where no database is named.
-fn no_database(command: Command<'_>) -> &'static str {
+fn no_database(command: Command) -> &'static str {
     match command {
         Command::Short => "no database of short numbers: --short-database FILE names one",
         _ => "no database: --database FILE names one",
@@ -207,7 +230,7 @@ fn on_database<R: Files + AllocGlobal, S: ByteSource, W: Outlet, E: ByteSink>(
 fn shorts_of<'w>(reading: Reading<'_, 'w>) -> Option<&'w str> {
     match reading.call.rules {
         Rules::Library => match reading.call.command {
-            Command::Objects | Command::Table(_) => reading.call.short_database,
+            Command::Objects | Command::Table => reading.call.short_database,
             _ => None,
         },
         Rules::Crate => None,
@@ -281,7 +304,7 @@ fn by_reader<R: Files + AllocGlobal, S: ByteSource, W: Outlet, E: ByteSink>(
             let mut taker = Typist::new(reader.database, reader.hint);
             run_lines(rt, reading, &mut taker, input, output, errors)
         }
-        Command::Table(table) => customers(rt, reading, table, reader, input, output, errors),
+        Command::Table => customers(rt, reading, reader, input, output, errors),
         _ => run(rt, reading, &mut Report { reader }, input, output, errors),
     }
 }
@@ -327,7 +350,7 @@ fn objects_of<'d>(reading: Reading<'_, '_>, reader: Reader<'d>) -> Objects<'d> {
 }
 
 /// How a command tells the numbers that it finds.
-fn found_form(command: Command<'_>) -> FoundForm {
+fn found_form(command: Command) -> FoundForm {
     match command {
         Command::FoundObjects => FoundForm::Object,
         Command::FoundRecords => FoundForm::Record,
@@ -373,7 +396,6 @@ fn firsts<R: Files + AllocGlobal, S: ByteSource, W: Outlet, E: ByteSink>(
 fn customers<R: Files + AllocGlobal, S: ByteSource, W: Outlet, E: ByteSink>(
     rt: &R,
     reading: Reading<'_, '_>,
-    table: Table<'_>,
     reader: Reader<'_>,
     input: &mut S,
     output: &mut W,
@@ -381,6 +403,7 @@ fn customers<R: Files + AllocGlobal, S: ByteSource, W: Outlet, E: ByteSink>(
 ) -> u8
     ensures { result ≤ 3 }
 {
+    let table = reading.call.table;
     let loaded = match Loaded::new(rt, table.further) {
         Ok(loaded) => loaded,
         Err(why) => return say_no_columns(rt.alloc(), why, errors),
@@ -427,7 +450,7 @@ fn asked<'t>(table: Table<'t>, reader: Reader<'t>, extra: &'t [Extra<'t>]) -> As
         region: table.region_column,
         delimiter: table.delimiter,
         hint: reader.hint,
-        else_hint: table.else_hint,
+        else_hint: table.fallback_region,
         mark_bad: table.mark_bad,
         extra,
         short: reader.short,

@@ -1,7 +1,7 @@
 //! The file that is written, and whether a call reads it too.
 use crate::tool::Reading;
 use phone_jobs::is_standard;
-use phone_words::{Command, Further};
+use phone_words::Further;
 use std::fs::{self, Files};
 use std::os::unix::fs::MetadataExt;
 
@@ -70,11 +70,8 @@ fn is_input<R: Files>(rt: &R, written: Written<'_>, files: &[&str]) -> bool {
 
 /// Whether further columns are told by the file that is to be written.
 fn is_of_columns<R: Files>(rt: &R, written: Written<'_>, further: Further<'_>) -> bool {
-    let own = match further.prefixes {
-        Some(column) => Some(column.file),
-        None => None,
-    };
     let Further {
+        prefixes,
         time_zones,
         carriers,
         first_carriers,
@@ -84,7 +81,7 @@ fn is_of_columns<R: Files>(rt: &R, written: Written<'_>, further: Further<'_>) -
     is_any_written(
         rt,
         written,
-        &[own, time_zones, carriers, first_carriers, areas],
+        &[prefixes, time_zones, carriers, first_carriers, areas],
     )
 }
 
@@ -96,11 +93,7 @@ pub(crate) fn is_read<R: Files>(rt: &R, reading: Reading<'_, '_>, name: &str) ->
         place: place_of(rt, name),
     };
     let databases = [Some(reading.path), reading.call.short_database];
-    if is_input(rt, written, reading.files) || is_any_written(rt, written, &databases) {
-        return true;
-    }
-    match reading.call.command {
-        Command::Table(table) => is_of_columns(rt, written, table.further),
-        _ => false,
-    }
+    is_input(rt, written, reading.files)
+        || is_any_written(rt, written, &databases)
+        || is_of_columns(rt, written, reading.call.table.further)
 }

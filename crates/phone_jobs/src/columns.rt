@@ -43,9 +43,7 @@ fn push_wanted<'w>(
 /// Puts the columns that are asked for at the end of others, in their order: that of one's own,
 /// `time_zone`, `carrier`, `first_carrier`, `area`. Refused only for memory.
 fn push_further<'w>(columns: &mut Vec<Wanted<'w>>, further: Further<'w>) -> Result<(), AllocError> {
-    if let Some(own) = further.prefixes {
-        push_wanted(columns, own.name, Told::Prefix, Some(own.file))?;
-    }
+    push_wanted(columns, further.name, Told::Prefix, further.prefixes)?;
     let (today, first) = (Told::Carrier(Owner::Today), Told::Carrier(Owner::First));
     push_wanted(columns, "time_zone", Told::TimeZones, further.time_zones)?;
     push_wanted(columns, "carrier", today, further.carriers)?;

@@ -1,3 +1,3 @@
-pub mod ModeLemmas
-pub mod NameLemmas
-pub mod PartLemmas
+pub mod Fronts
+pub mod Meanings
+pub mod Steps

@@ -1,61 +1,219 @@
 -- The call that words are.
-use Rattle.std.specs.Prelude.{◌≡◌, ℕ, ◌++◌, List, Option, Some, None, true}
-use Rattle.std.specs.Borrow.{Bor}
-use Rattle.std.specs.Str.Parse.{IsNumeral, digits_value, without_leading_plus}
-use Rattle.phone_values.specs.declared.rules.Rules.TheVariants.{Crate}
-use Rattle.phone_words.specs.Commands.{IsAsked, IsCommand, IsNoCommand, is_alone}
-use Rattle.phone_words.specs.Meant.{meant}
-use Rattle.phone_words.specs.Options.{Given, operands_in, options_in, text_in}
-use Rattle.phone_words.specs.Parts.{AreParts, AreRefused, IsMarked, Said, texts_of}
-use Rattle.phone_words.specs.RuleNames.{rules_in, rules_named}
+use Rattle.std.specs.Prelude.{◌≡◌, ℕ, Bool, not, ◌||◌, List, [], ◌∷◌, codes, fold}
+use Rattle.std.specs.Prelude.{Option, Some, None, is_some, option_map, if◌then◌else◌}
+use Rattle.std.specs.Prelude.{Result, Ok, Err}
+use Rattle.std.specs.List.{filter_map, find}
+use Rattle.std.specs.Option.{option_or}
+use Rattle.std.specs.Str.{bytes_eq}
+use Rattle.phone_values.specs.declared.rules.Rules.{Rules}
+use Rattle.phone_values.specs.declared.rules.Rules.TheVariants.{Crate, Library}
+use Rattle.phone_words.specs.Parts.{Fault, Said, either, fault, fault_at, operand, option, parts_in}
+use Rattle.phone_words.specs.Parts.{and_then}
+use Rattle.phone_words.specs.Rows.{Entry, is_empty, text_in, texts_of}
+use Rattle.phone_words.specs.Values.{count_named, delimiter_named, rules_named}
 use Rattle.phone_words.specs.declared.call.Call.{Call}
-use Rattle.phone_words.specs.declared.parts.Mode.{Mode}
+use Rattle.phone_words.specs.declared.command.Command.{Command}
+use Rattle.phone_words.specs.declared.command.Command.TheVariants as command
+use Rattle.phone_words.specs.declared.parts.Why.{Why}
+use Rattle.phone_words.specs.declared.parts.Why.TheVariants as why
 use Rattle.phone_words.specs.declared.parts.WordError.{WordError}
-use Rattle.phone_words.specs.declared.parts.WordError.TheVariants as error
+use Rattle.phone_words.specs.declared.table.Further.{Further}
+use Rattle.phone_words.specs.declared.table.Table.{Table}
 
--- this is the count that a word is; 0 where there is no word
-abbrev pub IsCount : Option (List ℕ) → ℕ → Type 0
-IsCount None n = n ≡ 0
-IsCount (Some word) n = IsNumeral 10 (without_leading_plus word) ×
-    (n ≡ digits_value 10 (without_leading_plus word))
+-- the value of the option of this name, after one more part
+abbrev pub with_part : List ℕ → Option (List ℕ) → Said → Option (List ℕ)
+with_part name before (option r v) = if bytes_eq r.name name then Some v else before
+with_part name before (operand word) = before
 
--- this is the call of these parts, and of the operands after them
-pub record IsCallIn (parts : List Said) (after : List (List ℕ)) (c : Call) : Type 0 where
-  pub command : IsCommand (options_in parts) c.command
-  pub rules : rules_in (options_in parts).rules ≡ Some c.rules
-  pub database : text_in c.database ≡ (options_in parts).database
-  pub short_database : text_in c.short_database ≡ (options_in parts).short_database
-  pub output : text_in c.output ≡ (options_in parts).output
-  pub skipped : IsCount (options_in parts).skipped c.skipped
-  pub operands : texts_of c.operands.items ≡ operands_in parts ++ after
+-- the last value that the option of this name has, where it is there
+abbrev pub value : List Said → List ℕ → Option (List ℕ)
+value ps name = fold (with_part name) None ps
 
--- these words are this call: those in front of the mark, as they are meant, are its parts
-pub record IsCall (words : List (List ℕ)) (c : Call) : Type 0 where
-  pub front : List (List ℕ)
-  pub after : List (List ℕ)
+-- the option of this name is there
+abbrev pub has : List Said → List ℕ → Bool
+has ps name = is_some (value ps name)
+
+-- a text, or the empty one
+abbrev pub text_or_none : Option (List ℕ) → List ℕ
+text_or_none None = []
+text_or_none (Some text) = text
+
+-- the value of the option of this name; empty where it takes none or isn't there
+abbrev pub text : List Said → List ℕ → List ℕ
+text ps name = text_or_none (value ps name)
+
+-- the option of this name has no value
+abbrev pub lacks : List Said → List ℕ → Bool
+lacks ps name = is_empty (text ps name)
+
+-- a fault of an option and another
+abbrev pub fault_of : Entry → Why → List ℕ → Fault
+fault_of r w other = record { why = w; word = r.name; other = other }
+
+-- why an option doesn't go with the others: it excludes one that is there, or it needs one that has
+-- no value
+abbrev pub misfit_of : List Said → Said → Option Fault
+misfit_of ps (operand word) = None
+misfit_of ps (option r v) = option_or
+    (option_map (fault_of r why.Together) (find (has ps) r.excludes))
+    (option_map (fault_of r why.Without) (find (lacks ps) r.needs))
+
+-- the first fault of some parts
+abbrev pub first_fault : (Said → Option Fault) → List Said → Option Fault
+first_fault f [] = None
+first_fault f (p ∷ ps) = option_or (f p) (first_fault f ps)
+
+-- numbers are to be read: neither help, nor the version, nor the regions are asked for
+abbrev pub is_run : List Said → Bool
+is_run ps = not (has ps (codes "--help") || (has ps (codes "--version") ||
+    has ps (codes "--regions")))
+
+-- why options don't go together, where numbers are to be read
+abbrev pub misfit : List Said → Option Fault
+misfit ps = if is_run ps then first_fault (misfit_of ps) ps else None
+
+-- what is asked for of the numbers in a text
+abbrev pub found_command : List Said → Command
+found_command ps =
+    if has ps (codes "--json") then command.FoundObjects else
+    if has ps (codes "--csv") then command.FoundRecords else command.Find
+
+-- what is asked for of lines
+abbrev pub line_command : List Said → Command
+line_command ps =
+    if has ps (codes "--typed") then command.Typed else
+    if has ps (codes "--short") then command.Short else
+    if has ps (codes "--find") then found_command ps else
+    if has ps (codes "--json") then command.Objects else
+    if has ps (codes "--unique") then command.Unique else command.Report
+
+-- what is asked for: help before the version, that before the regions, these before what reads
+-- numbers; of that a table, where its column is named, or else lines
+abbrev pub command_of : List Said → Command
+command_of ps =
+    if has ps (codes "--help") then command.Help else
+    if has ps (codes "--version") then command.Version else
+    if has ps (codes "--regions") then command.Regions else
+    if lacks ps (codes "--csv") then line_command ps else command.Table
+
+-- the value that the word of an option names, or another one where the option isn't there; a fault
+-- where it names none
+abbrev pub named_or : {A : Type 0} → Why → (List ℕ → Option A) → A → Option (List ℕ) →
+    Result A Fault
+named_or w f other None = Ok other
+named_or w f other (Some word) = either Ok (f word) (Err (fault_at w word))
+
+-- the first mode that knows libphonenumber's rules alone, where others are named, is a fault
+abbrev pub known : List Said → Rules → Result Rules Fault
+known ps Library = Ok Library
+known ps Crate = either (λ name. Err (fault_at why.LibraryAlone name))
+    (find (has ps) (codes "--typed" ∷ codes "--short" ∷ [])) (Ok Crate)
+
+-- by whose rules numbers are read: by libphonenumber's, unless others are named
+abbrev pub rules_of : List Said → Result Rules Fault
+rules_of ps =
+    and_then (named_or why.Rules rules_named Library (value ps (codes "--rules"))) (known ps)
+
+-- how many lines were left out before: none, unless a count is named
+abbrev pub skipped_of : List Said → Result ℕ Fault
+skipped_of ps = named_or why.Skipped count_named 0 (value ps (codes "--skipped"))
+
+-- the byte between fields, where numbers are to be read: a comma, unless another one is named
+abbrev pub delimiter_of : List Said → Result ℕ Fault
+delimiter_of ps = named_or why.Delimiter delimiter_named 44
+    (if is_run ps then value ps (codes "--delimiter") else None)
+
+-- the operand that a part is
+abbrev pub operand_in : Said → Option (List ℕ)
+operand_in (option r v) = None
+operand_in (operand word) = Some word
+
+-- the operands among parts
+abbrev pub operands_in : List Said → List (List ℕ)
+operands_in ps = filter_map operand_in ps
+
+-- what a list of words means: what is asked for, by whose rules, how many lines were left out
+-- before, the byte between fields, and the parts: options with their values, region and files
+pub record Meaning : Type 0 where
+  pub command : Command
+  pub rules : Rules
+  pub skipped : ℕ
+  pub delimiter : ℕ
   pub parts : List Said
-  pub marked : IsMarked words front after
-  pub are_parts : AreParts (meant front) parts
-  pub call : IsCallIn parts after c
 
--- options name no rules, or those of the crate where a mode knows libphonenumber's alone
-pub data IsOfNoRules (o : Given) : WordError → Type 0 where
-  unknown : (word : Bor (List ℕ)) → o.rules ≡ Some word.now → rules_named word.now ≡ None →
-      IsOfNoRules o (error.Rules word)
-  alone : (m : Mode) → is_alone m ≡ true → IsAsked o m → rules_in o.rules ≡ Some Crate →
-      IsOfNoRules o (error.LibraryAlone m)
+-- what parts mean with these rules, this count of lines and this byte
+abbrev pub with_byte : List Said → Rules → ℕ → ℕ → Result Meaning Fault
+with_byte ps rules skipped delimiter = Ok record {
+  command = command_of ps;
+  rules = rules;
+  skipped = skipped;
+  delimiter = delimiter;
+  parts = ps;
+}
 
--- parts are no call, for this reason
-pub data IsNoCallIn (parts : List Said) : WordError → Type 0 where
-  command : (e : WordError) → IsNoCommand (options_in parts) e → IsNoCallIn parts e
-  rules : (e : WordError) → IsOfNoRules (options_in parts) e → IsNoCallIn parts e
-  skipped : (word : Bor (List ℕ)) → (options_in parts).skipped ≡ Some word.now →
-      IsNoCallIn parts (error.Skipped word)
+-- what they mean with these rules and this count
+abbrev pub with_count : List Said → Rules → ℕ → Result Meaning Fault
+with_count ps rules skipped = and_then (delimiter_of ps) (with_byte ps rules skipped)
 
--- words are no call, for this reason: one of those in front of the mark is refused, or together
--- they ask for nothing that there is
-pub data IsNoCall (words : List (List ℕ)) (e : WordError) : Type 0 where
-  refused : (front after : List (List ℕ)) → IsMarked words front after →
-      AreRefused (meant front) e → IsNoCall words e
-  nothing : (front after : List (List ℕ)) (parts : List Said) → IsMarked words front after →
-      AreParts (meant front) parts → IsNoCallIn parts e → IsNoCall words e
+-- what they mean with these rules
+abbrev pub with_rules : List Said → Rules → Result Meaning Fault
+with_rules ps rules = and_then (skipped_of ps) (with_count ps rules)
+
+-- what parts mean, or why they are no call
+abbrev pub meaning_in : List Said → Result Meaning Fault
+meaning_in ps = either Err (misfit ps) (and_then (rules_of ps) (with_rules ps))
+
+-- what words mean, or why they are no call
+abbrev pub meaning : List (List ℕ) → Result Meaning Fault
+meaning words = and_then (parts_in words) meaning_in
+
+-- the file of a column, where that is asked for
+abbrev pub file_if : List Said → List ℕ → List ℕ → Option (List ℕ)
+file_if ps name file = if has ps name then value ps file else None
+
+-- these further columns are asked for
+pub record IsFurther (ps : List Said) (f : Further) : Type 0 where
+  pub prefixes : text_in f.prefixes ≡ value ps (codes "--prefixes")
+  pub name : f.name.now ≡ text ps (codes "--as")
+  pub time_zones : text_in f.time_zones ≡ file_if ps (codes "--time-zone") (codes "--time-zones")
+  pub carriers : text_in f.carriers ≡ file_if ps (codes "--carrier") (codes "--carriers")
+  pub first_carriers : text_in f.first_carriers ≡
+      file_if ps (codes "--first-carrier") (codes "--carriers")
+  pub areas : text_in f.areas ≡ file_if ps (codes "--area") (codes "--areas")
+
+-- this is asked of a table
+pub record IsTable (ps : List Said) (t : Table) : Type 0 where
+  pub column : t.column.now ≡ text ps (codes "--csv")
+  pub region_column : text_in t.region_column ≡ value ps (codes "--region-column")
+  pub fallback_region : t.fallback_region ≡ has ps (codes "--fallback-region")
+  pub is_unique : t.is_unique ≡ has ps (codes "--unique")
+  pub mark_bad : t.mark_bad ≡ has ps (codes "--mark-bad-records")
+  pub further : IsFurther ps t.further
+
+-- a call says what this meaning is
+pub record Says (m : Meaning) (c : Call) : Type 0 where
+  pub command : c.command ≡ m.command
+  pub rules : c.rules ≡ m.rules
+  pub skipped : c.skipped ≡ m.skipped
+  pub delimiter : c.table.delimiter ≡ m.delimiter
+  pub table : IsTable m.parts c.table
+  pub database : text_in c.database ≡ value m.parts (codes "--database")
+  pub short_database : text_in c.short_database ≡ value m.parts (codes "--short-database")
+  pub output : text_in c.output ≡ value m.parts (codes "--output")
+  pub operands : texts_of c.operands.items ≡ operands_in m.parts
+
+-- parts are this call
+pub record IsCallIn (ps : List Said) (c : Call) : Type 0 where
+  pub meant : Meaning
+  pub means : meaning_in ps ≡ Ok meant
+  pub says : Says meant c
+
+-- words are this call
+pub record IsCall (words : List (List ℕ)) (c : Call) : Type 0 where
+  pub meant : Meaning
+  pub means : meaning words ≡ Ok meant
+  pub says : Says meant c
+
+-- words are no call, for this reason
+abbrev pub IsNoCall : List (List ℕ) → WordError → Type 0
+IsNoCall words e = meaning words ≡ Err (fault e)

@@ -1,8 +1,5 @@
 pub mod Calls
-pub mod Commands
-pub mod Delimiters
-pub mod Meant
-pub mod Names
-pub mod Options
+pub mod Help
 pub mod Parts
-pub mod RuleNames
+pub mod Rows
+pub mod Values

@@ -1,86 +1,143 @@
--- The parts of a call: options, values of options, and operands.
-use Rattle.std.specs.Prelude.{◌≡◌, ℕ, Bool, false, true, List, [], ◌∷◌, ◌++◌, codes, map}
-use Rattle.std.specs.Prelude.{Some, None}
-use Rattle.std.specs.List.{list_any}
-use Rattle.std.specs.Borrow.{Bor}
-use Rattle.std.specs.Str.{bytes_eq}
-use Rattle.phone_words.specs.Names.{IsJoined, flag_named, is_dashed, key_named}
-use Rattle.phone_words.specs.declared.parts.Flag.{Flag}
-use Rattle.phone_words.specs.declared.parts.Key.{Key}
+-- The parts of a call: options with their values, and operands, which are a region and files.
+use Rattle.std.specs.Prelude.{ℕ, ◌==◌, ◌||◌, ◌++◌, Bool, false, List, [], ◌∷◌, map}
+use Rattle.std.specs.Prelude.{Option, Some, None, Result, Ok, Err, if◌then◌else◌}
+use Rattle.phone_words.specs.Rows.{Entry, entry, is_empty, is_mark, joined, named, takes}
+use Rattle.phone_words.specs.declared.parts.Before.{Before as ToldBefore}
+use Rattle.phone_words.specs.declared.parts.Before.TheVariants as told_before
+use Rattle.phone_words.specs.declared.parts.Kind.{Kind as ToldKind}
+use Rattle.phone_words.specs.declared.parts.Kind.TheVariants as told_kind
 use Rattle.phone_words.specs.declared.parts.Part.{Part}
 use Rattle.phone_words.specs.declared.parts.Part.TheVariants as part
+use Rattle.phone_words.specs.declared.parts.Why.{Why}
+use Rattle.phone_words.specs.declared.parts.Why.TheVariants as why
 use Rattle.phone_words.specs.declared.parts.WordError.{WordError}
-use Rattle.phone_words.specs.declared.parts.WordError.TheVariants as error
 
--- texts that are lent
-abbrev pub texts_of : List (Bor (List ℕ)) → List (List ℕ)
-texts_of words = map (λ (w : Bor (List ℕ)). w.now) words
-
--- what a part says: an option that stands alone, one with its value, or an operand
+-- a part of a call: an option with its value, which is empty where it takes none, or an operand
 pub data Said : Type 0 where
-  alone : Flag → Said
-  value : Key → List ℕ → Said
+  option : Entry → List ℕ → Said
   operand : List ℕ → Said
 
 -- what a part says
 abbrev pub said : Part → Said
-said (part.Flag f) = alone f
-said (part.Value k v) = value k v.now
-said (part.Operand text) = operand text.now
+said (part.Given row value) = option (entry row) value.now
+said (part.Operand word) = operand word.now
 
 -- what parts say, in their order
 abbrev pub all_said : List Part → List Said
 all_said ps = map said ps
 
--- a word is no option
-pub record IsNoOption (word : List ℕ) : Type 0 where
-  pub no_flag : flag_named word ≡ None
-  pub no_key : key_named word ≡ None
-  pub not_joined : (k : Key) (v : List ℕ) → ¬ (IsJoined word k v)
+-- why words are no call, by which word, and by which other name
+pub record Fault : Type 0 where
+  pub why : Why
+  pub word : List ℕ
+  pub other : List ℕ
 
--- these words are one part: an option that stands alone; an option and its value, in two words or
--- in one; or a word that is none and needn't be one
-pub data IsPart : List (List ℕ) → Said → Type 0 where
-  is_flag : (word : List ℕ) (f : Flag) → flag_named word ≡ Some f → IsPart (word ∷ []) (alone f)
-  apart : (word v : List ℕ) (k : Key) → key_named word ≡ Some k →
-      IsPart (word ∷ v ∷ []) (value k v)
-  joined : (word v : List ℕ) (k : Key) → IsJoined word k v → IsPart (word ∷ []) (value k v)
-  is_word : (word : List ℕ) → is_dashed word ≡ false → IsPart (word ∷ []) (operand word)
+-- what an error says
+abbrev pub fault : WordError → Fault
+fault e = record { why = e.why; word = e.word.now; other = e.other.now }
 
--- words begin with a part, and these stand after it
-pub record BeginsWith (words : List (List ℕ)) (p : Said) (after : List (List ℕ)) : Type 0 where
-  pub taken : List (List ℕ)
-  pub whole : words ≡ taken ++ after
-  pub is_part : IsPart taken p
+-- a fault of one word
+abbrev pub fault_at : Why → List ℕ → Fault
+fault_at why word = record { why = why; word = word; other = [] }
 
--- words are these parts, one after the other
-pub data AreParts : List (List ℕ) → List Said → Type 0 where
-  none : AreParts [] []
-  more : (words rest : List (List ℕ)) (p : Said) (ps : List Said) → IsPart words p →
-      AreParts rest ps → AreParts (words ++ rest) (p ∷ ps)
+-- what f makes of a value, or the fault in its place
+abbrev pub and_then : {A B : Type 0} → Result A Fault → (A → Result B Fault) → Result B Fault
+and_then (Ok x) f = f x
+and_then (Err e) f = Err e
 
--- these words begin with a refused one: an option that there is none of, or one without its value
-pub data BeginsRefused : List (List ℕ) → WordError → Type 0 where
-  unknown : (word : Bor (List ℕ)) (after : List (List ℕ)) → IsNoOption word.now →
-      is_dashed word.now ≡ true → BeginsRefused (word.now ∷ after) (error.Unknown word)
-  no_value : (word : Bor (List ℕ)) (k : Key) → key_named word.now ≡ Some k →
-      BeginsRefused (word.now ∷ []) (error.NoValue word)
+-- what is told of a value, or of an error
+abbrev pub told : {A : Type 0} → Result A WordError → Result A Fault
+told (Ok x) = Ok x
+told (Err e) = Err (fault e)
 
--- words are refused: some first ones are parts, and those after them begin with a refused one
-pub record AreRefused (words : List (List ℕ)) (e : WordError) : Type 0 where
-  pub first : List (List ℕ)
-  pub rest : List (List ℕ)
-  pub parts : List Said
-  pub whole : words ≡ first ++ rest
-  pub are_parts : AreParts first parts
-  pub refused : BeginsRefused rest e
+-- a word is to be an option: it begins with a hyphen, and has more
+abbrev pub is_dashed : List ℕ → Bool
+is_dashed [] = false
+is_dashed (c ∷ []) = false
+is_dashed (c ∷ d ∷ cs) = c == 45
 
--- the word `--`
-abbrev pub is_mark : List ℕ → Bool
-is_mark word = bytes_eq word (codes "--")
+-- what a word is: a part; an option whose value is the next word; the mark; or refused
+pub data Kind : Type 0 where
+  whole : Said → Kind
+  wants : Entry → Kind
+  mark : Kind
+  refused : Fault → Kind
 
--- words in front of the first word `--`, and words after it; all words where there is none
-pub data IsMarked : (words front after : List (List ℕ)) → Type 0 where
-  unmarked : (words : List (List ℕ)) → list_any is_mark words ≡ false → IsMarked words words []
-  marked : (front after : List (List ℕ)) → list_any is_mark front ≡ false →
-      IsMarked (front ++ codes "--" ∷ after) front after
+-- what a word is told to be
+abbrev pub kind_said : ToldKind → Kind
+kind_said (told_kind.Whole p) = whole (said p)
+kind_said (told_kind.Wants row) = wants (entry row)
+kind_said told_kind.Mark = mark
+kind_said (told_kind.Refused e) = refused (fault e)
+
+-- an option that is named by the whole word
+abbrev pub kind_named : Entry → Kind
+kind_named r = if takes r then wants r else whole (option r [])
+
+-- an option with its value in one word
+abbrev pub kind_joined : List ℕ → Entry × List ℕ → Kind
+kind_joined word (r, v) =
+    if is_empty v then refused (fault_at why.NoValue word) else whole (option r v)
+
+-- a word that has no option's name
+abbrev pub kind_other : List ℕ → Kind
+kind_other word =
+    if is_mark word then mark else
+    if is_dashed word then refused (fault_at why.Unknown word) else whole (operand word)
+
+-- what f makes of a value, or else another value
+abbrev pub either : {A B : Type 0} → (A → B) → Option A → B → B
+either f (Some x) y = f x
+either f None y = y
+
+-- what a word is by itself, among all words
+abbrev pub kind : List (List ℕ) → List ℕ → Kind
+kind words word = either kind_named (named words word)
+    (either (kind_joined word) (joined word) (kind_other word))
+
+-- what came before a word: nothing that matters; an option that wants it as its value, with the
+-- word that named it; or the mark
+pub data Before : Type 0 where
+  free : Before
+  wanting : Entry → List ℕ → Before
+  marked : Before
+
+-- what came before, as it is told
+abbrev pub before_said : ToldBefore → Before
+before_said told_before.Free = free
+before_said (told_before.Wanting row word) = wanting (entry row) word.now
+before_said told_before.Marked = marked
+
+-- what a word is after what came before it: a value isn't empty, and isn't the mark
+abbrev pub kind_after : List (List ℕ) → Before → List ℕ → Kind
+kind_after words free word = kind words word
+kind_after words (wanting r name) word =
+    if is_empty word || is_mark word then refused (fault_at why.NoValue name)
+    else whole (option r word)
+kind_after words marked word = whole (operand word)
+
+-- what came before the next word
+abbrev pub before_next : Before → List ℕ → Kind → Before
+before_next marked word k = marked
+before_next b word (wants r) = wanting r word
+before_next b word mark = marked
+before_next b word k = free
+
+-- parts, with what a word is
+abbrev pub with_kind : List Said → Kind → Result (List Said) Fault
+with_kind ps (whole p) = Ok (ps ++ p ∷ [])
+with_kind ps (wants r) = Ok ps
+with_kind ps mark = Ok ps
+with_kind ps (refused f) = Err f
+
+-- these parts, and those that the words are that are left
+abbrev pub parts_from : List (List ℕ) → List (List ℕ) → List Said → Before →
+    Result (List Said) Fault
+parts_from words [] ps (wanting r name) = Err (fault_at why.NoValue name)
+parts_from words [] ps b = Ok ps
+parts_from words (w ∷ ws) ps b = and_then (with_kind ps (kind_after words b w))
+    (λ qs. parts_from words ws qs (before_next b w (kind_after words b w)))
+
+-- the parts that words are, one after the other
+abbrev pub parts_in : List (List ℕ) → Result (List Said) Fault
+parts_in words = parts_from words words [] free

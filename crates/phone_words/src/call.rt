@@ -1,17 +1,16 @@
-//! Words as a call: a command with what it needs.
-ghost use Rattle.std.specs.Prelude.{◌≡◌, ◌⊎◌, List, IfErr, IfOk, Some};
-ghost use Rattle.phone_words.specs.Calls.{IsCall, IsCallIn, IsCount, IsNoCall, IsNoCallIn};
-ghost use Rattle.phone_words.specs.Calls.{IsOfNoRules};
-ghost use Rattle.phone_words.specs.Options.{Given, options_in, options_said, text_in};
-ghost use Rattle.phone_words.specs.Parts.{IsMarked, Said, all_said, is_mark, texts_of};
-ghost use Rattle.phone_words.specs.RuleNames.{rules_in};
-ghost use Rattle.phone_words.specs.declared.parts.WordError.TheVariants as error;
+//! Words as a call: what is asked for, with what it needs.
+ghost use Rattle.std.specs.Prelude.{◌≡◌, ◌⊎◌, IfErr, IfOk, Err};
+ghost use Rattle.phone_words.specs.Calls.{IsCall, IsCallIn, IsNoCall, delimiter_of, known};
+ghost use Rattle.phone_words.specs.Calls.{meaning_in, rules_of, skipped_of};
+ghost use Rattle.phone_words.specs.Parts.{all_said, fault, told};
+ghost use Rattle.phone_words.specs.Rows.{texts_of};
+ghost use Rattle.phone_words.specs.declared.parts.Why.TheVariants as why;
 
 use crate::command::{Command, command_of};
-use crate::meant::meant;
-use crate::options::{Options, operands_of, options_of};
-use crate::parts::{Mode, Part, WordError, parts_of};
-use crate::rules::rules_named;
+use crate::options::{has, is_run, misfit, operands_in, value};
+use crate::parts::{Part, Why, WordError, error_at, parts_of};
+use crate::table::{Table, table_of};
+use crate::values::{count_named, delimiter_named, rules_named};
 use phone_values::Rules;
 use std::alloc::Global;
 
@@ -19,139 +18,128 @@ use std::alloc::Global;
 #[derive(Drop)]
 pub struct Call<'w> {
     /// What is asked for.
-    pub command: Command<'w>,
+    pub command: Command,
     /// By whose rules numbers are read and described.
     pub rules: Rules,
+    /// How many lines were left out before those that are read.
+    pub skipped: u64,
+    /// What is asked of a table.
+    pub table: Table<'w>,
     /// The file of the database.
     pub database: Option<&'w str>,
     /// The file of the database of short numbers.
     pub short_database: Option<&'w str>,
     /// The file to write.
     pub output: Option<&'w str>,
-    /// How many lines were left out before those that are read.
-    pub skipped: u64,
-    /// The words that are no options, in their order.
+    /// The words that are no options, in their order: a region, and files.
     pub operands: Vec<&'w str>,
 }
 
 /// The call that words are, which come after the program's own name.
 ///
-/// An option is a word of its name, or of its name, an equals sign and its value (`--csv=phone`,
-/// `-d;`); else its value is the next word. Where one of the words is `--find`, the word `--csv`
-/// takes no value. Options and operands may stand in any order; a later value of an option counts
-/// before an earlier one; after the word `--` all words are operands, and so is the word `-`.
-/// Numbers are read by libphonenumber's rules, unless others are named. Refused by the first word
-/// that is no option though it begins with a hyphen, or an option without its value; then by
-/// options that don't go together, or a value that is none; and by `Memory`.
+/// An option is a word of its name, or of its name, an equals sign and its value (`--csv=phone`),
+/// or of its name of one letter and its value (`-d;`); else its value is the next word, which isn't
+/// empty. Where one of the words is `--find`, the word `--csv` takes no value. Options and operands
+/// may stand in any order; a later value of an option counts before an earlier one; after the word
+/// `--` all words are operands, and so is the word `-`. Numbers are read by libphonenumber's rules,
+/// unless others are named. Refused by the first word that is no option though it begins with a
+/// hyphen, or an option without its value; then by options that don't go together, or a value that
+/// is none; and by `Memory`.
 pub fn call_of<'w>(alloc: Global, words: &[&'w str]) -> Result<Call<'w>, WordError<'w>>
     ensures call { IfOk result (λ c. IsCall (texts_of words.now) c) }
-    ensures refused { IfErr result (λ e. (e ≡ error.Memory) ⊎ IsNoCall (texts_of words.now) e) }
+    ensures refused { IfErr result (λ e. (e.why ≡ why.Memory) ⊎
+        IsNoCall (texts_of words.now) e) }
 {
-    let (front, back) = cut_at_mark(words);
-    let front = meant(alloc, front)?;
-    match parts_of(alloc, front.as_slice()) {
-        Ok(parts) => call_in(alloc, parts.as_slice(), back),
+    match parts_of(alloc, words) {
+        Ok(parts) => call_in(alloc, parts.as_slice()),
         Err(error) => Err(error),
     }
 }
 
-/// The call that parts and the operands after them are.
-fn call_in<'w>(
-    alloc: Global,
-    parts: &[Part<'w>],
-    after: &[&'w str],
-) -> Result<Call<'w>, WordError<'w>>
-    ensures call { IfOk result (λ c. IsCallIn (all_said parts.now) (texts_of after.now) c) }
-    ensures refused { IfErr result (λ e. (e ≡ error.Memory) ⊎ IsNoCallIn (all_said parts.now) e) }
+/// The call that parts are.
+fn call_in<'w>(alloc: Global, parts: &[Part<'w>]) -> Result<Call<'w>, WordError<'w>>
+    ensures call { IfOk result (λ c. IsCallIn (all_said parts.now) c) }
+    ensures refused { IfErr result (λ e. (e.why ≡ why.Memory) ⊎
+        (meaning_in (all_said parts.now) ≡ Err (fault e))) }
 {
-    let options = options_of(parts);
-    let command = match command_of(&options) {
-        Ok(command) => command,
-        Err(error) => return Err(error),
-    };
-    let rules = match rules_of(&options) {
+    if let Some(error) = misfit(parts) {
+        return Err(error);
+    }
+    let rules = match rules_of(parts) {
         Ok(rules) => rules,
         Err(error) => return Err(error),
     };
-    let skipped = match skipped_of(options.skipped) {
+    let skipped = match skipped_of(parts) {
         Ok(count) => count,
         Err(error) => return Err(error),
     };
-    let mut operands = operands_of(alloc, parts)?;
-    operands.extend_from_slice(after)?;
+    let delimiter = match delimiter_of(parts) {
+        Ok(byte) => byte,
+        Err(error) => return Err(error),
+    };
+    let operands = operands_in(alloc, parts)?;
     Ok(Call {
-        command,
+        command: command_of(parts),
         rules,
-        database: options.database,
-        short_database: options.short_database,
-        output: options.output,
         skipped,
+        table: table_of(parts, delimiter),
+        database: value(parts, "--database"),
+        short_database: value(parts, "--short-database"),
+        output: value(parts, "--output"),
         operands,
     })
 }
 
-/// Whether a word is `--`.
-fn is_mark(word: &str) -> bool
-    ensures { result ≡ is_mark word.now }
+/// The rules, unless a mode is there that knows others alone.
+fn known<'w>(parts: &[Part<'w>], rules: Rules) -> Result<Rules, WordError<'w>>
+    ensures { told result ≡ known (all_said parts.now) rules }
 {
-    word == "--"
-}
-
-/// The words in front of the first word `--`, and those after it; all words where there is none.
-fn cut_at_mark<'l, 'w>(words: &'l [&'w str]) -> (&'l [&'w str], &'l [&'w str])
-    ensures { IsMarked (texts_of words.now) (texts_of result.0.now) (texts_of result.1.now) }
-{
-    for at in 0..words.len() {
-        if is_mark(words[at]) {
-            return (&words[..at], &words[at + 1..]);
-        }
+    match rules {
+        Rules::Library => Ok(rules),
+        Rules::Crate if has(parts, "--typed") => Err(error_at(Why::LibraryAlone, "--typed")),
+        Rules::Crate if has(parts, "--short") => Err(error_at(Why::LibraryAlone, "--short")),
+        Rules::Crate => Ok(rules),
     }
-    (words, &[])
 }
 
-/// The rules that options name.
-fn rules_of<'w>(options: &Options<'w>) -> Result<Rules, WordError<'w>>
-    ensures rules { IfOk result (λ r. rules_in (options_said options.now).rules ≡ Some r) }
-    ensures refused { IfErr result (λ e. IsOfNoRules (options_said options.now) e) }
+/// By whose rules numbers are read: by libphonenumber's, unless others are named.
+fn rules_of<'w>(parts: &[Part<'w>]) -> Result<Rules, WordError<'w>>
+    ensures { told result ≡ rules_of (all_said parts.now) }
 {
-    let rules = match rules_in(options.rules) {
-        Ok(rules) => rules,
-        Err(error) => return Err(error),
+    let Some(word) = value(parts, "--rules") else {
+        return known(parts, Rules::Library);
     };
-    match (rules, options.typed, options.short) {
-        (Rules::Crate, true, _) => Err(WordError::LibraryAlone(Mode::Typed)),
-        (Rules::Crate, false, true) => Err(WordError::LibraryAlone(Mode::Short)),
-        (Rules::Crate, false, false) => Ok(Rules::Crate),
-        (Rules::Library, _, _) => Ok(Rules::Library),
+    match rules_named(word) {
+        Some(rules) => known(parts, rules),
+        None => Err(error_at(Why::Rules, word)),
     }
 }
 
-/// The rules that a word names; those of libphonenumber where there is no word.
-fn rules_in<'w>(word: Option<&'w str>) -> Result<Rules, WordError<'w>>
-    ensures rules { IfOk result (λ r. rules_in (text_in word.entry) ≡ Some r) }
-    ensures refused { IfErr result (λ e. (o : Given) → o.rules ≡ text_in word.entry →
-        IsOfNoRules o e) }
+/// How many lines were left out before: none, unless a count is named.
+fn skipped_of<'w>(parts: &[Part<'w>]) -> Result<u64, WordError<'w>>
+    ensures { told result ≡ skipped_of (all_said parts.now) }
 {
-    match word {
-        None => Ok(Rules::Library),
-        Some(word) => match rules_named(word) {
-            Some(rules) => Ok(rules),
-            None => Err(WordError::Rules(word)),
-        },
+    let Some(word) = value(parts, "--skipped") else {
+        return Ok(0);
+    };
+    match count_named(word) {
+        Some(count) => Ok(count),
+        None => Err(error_at(Why::Skipped, word)),
     }
 }
 
-/// The count that a word is; 0 where there is no word.
-fn skipped_of<'w>(word: Option<&'w str>) -> Result<u64, WordError<'w>>
-    ensures count { IfOk result (λ n. IsCount (text_in word.entry) n) }
-    ensures refused { IfErr result (λ e. (ps : List Said) →
-        (options_in ps).skipped ≡ text_in word.entry → IsNoCallIn ps e) }
+/// The byte between fields, where numbers are to be read: a comma, unless another one is named.
+fn delimiter_of<'w>(parts: &[Part<'w>]) -> Result<u8, WordError<'w>>
+    ensures { told result ≡ delimiter_of (all_said parts.now) }
 {
-    match word {
-        None => Ok(0),
-        Some(word) => match word.parse::<u64>() {
-            Ok(count) => Ok(count),
-            Err(_) => Err(WordError::Skipped(word)),
-        },
+    if !is_run(parts) {
+        return Ok(b',');
+    }
+    let Some(word) = value(parts, "--delimiter") else {
+        return Ok(b',');
+    };
+    match delimiter_named(word) {
+        Some(byte) => Ok(byte),
+        None => Err(error_at(Why::Delimiter, word)),
     }
 }

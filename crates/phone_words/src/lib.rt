@@ -1,18 +1,19 @@
-//! The words of a call of `./phone`, read as what is asked for: a command, by whose rules, and on
-//! which files.
+//! The words of a call of `./phone`, read by the table of its options as what is asked for.
 #![tactic(auto)]
 
 mod call;
 mod command;
-mod delimiter;
-mod meant;
-mod names;
+pub mod laws;
 mod options;
 mod parts;
-mod rules;
+mod rows;
 mod table;
+mod usage;
+mod values;
 
 pub use call::{Call, call_of};
 pub use command::Command;
-pub use parts::{Mode, TableOption, WordError};
-pub use table::{Further, PrefixColumn, Table};
+pub use parts::{Why, WordError};
+pub use rows::value_word;
+pub use table::{Further, Table};
+pub use usage::help;

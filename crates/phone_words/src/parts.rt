@@ -1,230 +1,239 @@
-//! The words of a call as its parts: options, values of options, and operands.
-ghost use Rattle.std.specs.Prelude.{◌≡◌, ◌≤◌, ◌<◌, ◌+◌, ◌⊎◌, ◌∷◌, [], drop, length};
-ghost use Rattle.std.specs.Prelude.{IfErr, IfOk, IfSome, MatchOption};
-ghost use Rattle.phone_words.specs.Parts.{AreParts, AreRefused, BeginsRefused, BeginsWith};
-ghost use Rattle.phone_words.specs.Parts.{all_said, said, texts_of};
-ghost use Rattle.phone_words.specs.declared.parts.WordError.TheVariants as error;
+//! The words of a call as its parts: options with their values, and operands.
+ghost use Rattle.std.specs.Prelude.{◌≡◌, ◌⊎◌, ℕ, List, [], IfErr, IfOk, Err, Ok};
+ghost use Rattle.phone_words.specs.Parts.{all_said, before_next, before_said, fault, fault_at};
+ghost use Rattle.phone_words.specs.Parts.{is_dashed, kind, kind_after, kind_joined, kind_named};
+ghost use Rattle.phone_words.specs.Parts.{kind_other, kind_said, parts_from, parts_in, with_kind};
+ghost use Rattle.phone_words.specs.Rows.{entry, texts_of};
+ghost use Rattle.phone_words.specs.declared.parts.Why.TheVariants as why;
 
-use crate::names::{flag_named, is_dashed, joined, key_named};
+use crate::rows::{Row, is_mark, joined, named};
 use std::alloc::{AllocError, Global};
-
-/// An option that stands alone.
-#[derive(Clone, Copy, PartialEq, Eq, Debug)]
-pub enum Flag {
-    /// `--json`: an object a line.
-    Json,
-    /// `--find`: the numbers that stand in a text.
-    Find,
-    /// `--csv` beside `--find`: these as records of a table.
-    FindRecords,
-    /// `--unique`: the first line or record of each number.
-    Unique,
-    /// `--typed`: what is shown after each key of a number that is typed.
-    Typed,
-    /// `--short`: what is known of short numbers.
-    Short,
-    /// `--else-hint`: what is no region takes the region given.
-    ElseHint,
-    /// `--mark-bad-records`: a record with a wrong count of fields is given back as such.
-    MarkBad,
-    /// `--time-zone`: a column of a table with a number's time zones.
-    TimeZone,
-    /// `--carrier`: one with its carrier, where numbers can't move to another one.
-    Carrier,
-    /// `--first-carrier`: one with the carrier that it was first assigned to.
-    FirstCarrier,
-    /// `--area`: one with its area.
-    Area,
-    /// `--regions`: the ids that name a region.
-    Regions,
-    /// `--version`: of the program and of the table.
-    Version,
-    /// `--help`: how the program is called.
-    Help,
-}
-
-/// An option that takes a value.
-#[derive(Clone, Copy, PartialEq, Eq, Debug)]
-pub enum Key {
-    /// `--csv`: the column of the numbers of a table.
-    Csv,
-    /// `--region-column`: the column of its regions.
-    RegionColumn,
-    /// `--delimiter`: what stands between its fields.
-    Delimiter,
-    /// `--rules`: by whose rules numbers are read and described.
-    Rules,
-    /// `--database`: the file of the database.
-    Database,
-    /// `--short-database`: the file of the database of short numbers.
-    ShortDatabase,
-    /// `--prefixes`: the file of a table of prefixes, for a column of its texts.
-    Prefixes,
-    /// `--as`: the name of that column.
-    As,
-    /// `--time-zones`: the file of the time zones.
-    TimeZones,
-    /// `--carriers`: that of the carriers.
-    Carriers,
-    /// `--areas`: that of the areas.
-    Areas,
-    /// `--output`: the file to write.
-    Output,
-    /// `--skipped`: how many lines were left out before those that are read.
-    Skipped,
-}
 
 /// A part of a call.
 #[derive(Clone, Copy)]
 pub enum Part<'w> {
-    /// An option that stands alone.
-    Flag(Flag),
-    /// An option with its value.
-    Value(Key, &'w str),
+    /// An option, and its value, which is empty where it takes none.
+    Given(Row, &'w str),
     /// A word that is no option.
     Operand(&'w str),
 }
 
-/// What is written in place of the report. Two don't go together, but a table and the first record
-/// of each number, and the numbers in a text and objects or records.
-#[derive(Clone, Copy, PartialEq, Eq, Debug)]
-pub enum Mode {
-    /// `--csv`.
-    Csv,
-    /// `--json`.
-    Json,
-    /// `--find`.
-    Find,
-    /// `--unique`.
-    Unique,
-    /// `--typed`.
-    Typed,
-    /// `--short`.
-    Short,
-}
-
-/// An option that goes with a table alone.
-#[derive(Clone, Copy, PartialEq, Eq, Debug)]
-pub enum TableOption {
-    /// `--region-column`.
-    RegionColumn,
-    /// `--delimiter`.
-    Delimiter,
-    /// `--else-hint`.
-    ElseHint,
-    /// `--mark-bad-records`.
-    MarkBad,
-    /// `--prefixes`.
-    Prefixes,
-    /// `--as`.
-    As,
-    /// `--time-zone`.
-    TimeZone,
-    /// `--carrier`.
-    Carrier,
-    /// `--first-carrier`.
-    FirstCarrier,
-    /// `--area`.
-    Area,
-}
-
 /// Why words are no call.
-#[derive(Clone, Copy)]
-pub enum WordError<'w> {
-    /// There is no option of this name.
-    Unknown(&'w str),
-    /// This option takes a value, and no word follows it.
-    NoValue(&'w str),
-    /// These two don't go together.
-    Together(Mode, Mode),
-    /// This option goes with a table alone.
-    WithoutTable(TableOption),
-    /// `--else-hint` goes with a column of regions alone.
-    WithoutRegions,
-    /// The column of the numbers has no name.
-    NoColumn,
-    /// `--prefixes` is there without `--as`, so that its column has no name.
-    Unnamed,
-    /// `--as` is there without `--prefixes`.
-    WithoutPrefixes,
-    /// This column is asked for, and no file is named for it.
-    NoFile(TableOption),
-    /// This is no byte that may stand between fields.
-    Delimiter(&'w str),
-    /// This is no count of lines.
-    Skipped(&'w str),
-    /// There are no rules of this name.
-    Rules(&'w str),
-    /// This mode knows libphonenumber's rules alone.
-    LibraryAlone(Mode),
+#[derive(Clone, Copy, PartialEq, Eq, Debug)]
+pub enum Why {
+    /// There is no option of the word's name.
+    Unknown,
+    /// The word is an option that takes a value, and no word follows it, or an empty one.
+    NoValue,
+    /// The word's option doesn't go with the other.
+    Together,
+    /// The word's option goes with the other alone.
+    Without,
+    /// The word is no byte that may stand between fields.
+    Delimiter,
+    /// The word is no count of lines.
+    Skipped,
+    /// There are no rules of the word's name.
+    Rules,
+    /// The word's option knows libphonenumber's rules alone.
+    LibraryAlone,
     /// There was no memory for the words.
     Memory,
 }
 
-impl<'w> From<AllocError> for WordError<'w> {
-    ghost use Rattle.phone_words.specs.declared.parts.WordError.TheVariants as error;
+/// Why words are no call, and by which of them.
+#[derive(Clone, Copy)]
+pub struct WordError<'w> {
+    /// The reason.
+    pub why: Why,
+    /// The word, or the name of the option; empty for `Memory`.
+    pub word: &'w str,
+    /// The name of the other option; empty where the reason names none.
+    pub other: &'static str,
+}
 
-    ghost from_gives = { λ _ e. e ≡ error.Memory };
+/// An error of one word.
+pub(crate) fn error_at<'w>(why: Why, word: &'w str) -> WordError<'w>
+    ensures why { result.why ≡ why }
+    ensures fault { fault result ≡ fault_at why word.now }
+{
+    WordError {
+        why,
+        word,
+        other: "",
+    }
+}
+
+impl<'w> From<AllocError> for WordError<'w> {
+    ghost use Rattle.phone_words.specs.declared.parts.Why.TheVariants as why;
+
+    ghost from_gives = { λ _ e. e.why ≡ why.Memory };
 
     fn from(_refusal: AllocError) -> WordError<'w> {
-        WordError::Memory
+        WordError {
+            why: Why::Memory,
+            word: "",
+            other: "",
+        }
     }
 }
 
-/// The part that a word and those after it begin with, and how many words that is.
-fn part_at<'w>(word: &'w str, after: &[&'w str]) -> Result<(Part<'w>, usize), WordError<'w>>
-    ensures part { IfOk result (λ p. BeginsWith (word.now ∷ texts_of after.now) (said p.0)
-        (drop p.1 (word.now ∷ texts_of after.now))) }
-    ensures some { IfOk result (λ p. 0 < p.1) }
-    ensures within { IfOk result (λ p. p.1 ≤ length after.now + 1) }
-    ensures refused { IfErr result (λ e. BeginsRefused (word.now ∷ texts_of after.now) e) }
+/// Whether a word is to be an option: it begins with a hyphen, and has more.
+fn is_dashed(word: &str) -> bool
+    ensures { result ≡ is_dashed word.now }
 {
-    if let Some(flag) = flag_named(word) {
-        return Ok((Part::Flag(flag), 1));
+    match word.as_bytes() {
+        [first, _, ..] => *first == b'-',
+        _ => false,
     }
-    if let Some(key) = key_named(word) {
-        return match after {
-            [value, ..] => Ok((Part::Value(key, *value), 2)),
-            [] => Err(WordError::NoValue(word)),
-        };
+}
+
+/// What a word is.
+#[derive(Clone, Copy)]
+pub(crate) enum Kind<'w> {
+    /// A part.
+    Whole(Part<'w>),
+    /// An option whose value is the next word.
+    Wants(Row),
+    /// The word `--`.
+    Mark,
+    /// None that there is.
+    Refused(WordError<'w>),
+}
+
+/// What came before a word.
+#[derive(Clone, Copy)]
+pub(crate) enum Before<'w> {
+    /// Nothing that matters.
+    Free,
+    /// An option that wants it as its value, and the word that named it.
+    Wanting(Row, &'w str),
+    /// The word `--`.
+    Marked,
+}
+
+/// An option that is named by the whole word.
+fn kind_named<'w>(row: Row) -> Kind<'w>
+    ensures { kind_said result ≡ kind_named (entry row) }
+{
+    if row.value.is_empty() {
+        return Kind::Whole(Part::Given(row, ""));
     }
-    if let Some((key, value)) = joined(word) {
-        return Ok((Part::Value(key, value), 1));
+    Kind::Wants(row)
+}
+
+/// An option with its value in one word.
+fn kind_joined<'w>(word: &'w str, row: Row, value: &'w str) -> Kind<'w>
+    ensures { kind_said result ≡ kind_joined word.now (entry row, value.now) }
+{
+    if value.is_empty() {
+        return Kind::Refused(error_at(Why::NoValue, word));
+    }
+    Kind::Whole(Part::Given(row, value))
+}
+
+/// A word that has no option's name.
+fn kind_other<'w>(word: &'w str) -> Kind<'w>
+    ensures { kind_said result ≡ kind_other word.now }
+{
+    if is_mark(word) {
+        return Kind::Mark;
     }
     if is_dashed(word) {
-        return Err(WordError::Unknown(word));
+        return Kind::Refused(error_at(Why::Unknown, word));
     }
-    Ok((Part::Operand(word), 1))
+    Kind::Whole(Part::Operand(word))
 }
 
-/// The part that words begin with, and how many of them it is; none where there are no words.
-fn next_part<'w>(words: &[&'w str]) -> Result<Option<(Part<'w>, usize)>, WordError<'w>>
-    ensures part { IfOk result (λ o. MatchOption o (texts_of words.now ≡ [])
-        (λ p. BeginsWith (texts_of words.now) (said p.0) (drop p.1 (texts_of words.now)))) }
-    ensures some { IfOk result (λ o. IfSome o (λ p. 0 < p.1)) }
-    ensures within { IfOk result (λ o. IfSome o (λ p. p.1 ≤ length words.now)) }
-    ensures refused { IfErr result (λ e. BeginsRefused (texts_of words.now) e) }
+/// What a word is by itself, among all words.
+fn kind_of<'w>(words: &[&str], word: &'w str) -> Kind<'w>
+    ensures { kind_said result ≡ kind (texts_of words.now) word.now }
 {
-    match words {
-        [] => Ok(None),
-        [word, after @ ..] => Ok(Some(part_at(*word, after)?)),
+    if let Some(row) = named(words, word) {
+        return kind_named(row);
+    }
+    match joined(word) {
+        Some((row, value)) => kind_joined(word, row, value),
+        None => kind_other(word),
+    }
+}
+
+/// What a word is after what came before it.
+fn kind_after<'w>(words: &[&str], before: Before<'w>, word: &'w str) -> Kind<'w>
+    ensures { kind_said result ≡
+        kind_after (texts_of words.now) (before_said before.entry) word.now }
+{
+    match before {
+        Before::Free => kind_of(words, word),
+        Before::Wanting(_, name) if word.is_empty() || is_mark(word) => {
+            Kind::Refused(error_at(Why::NoValue, name))
+        }
+        Before::Wanting(row, _) => Kind::Whole(Part::Given(row, word)),
+        Before::Marked => Kind::Whole(Part::Operand(word)),
+    }
+}
+
+/// What came before the next word.
+fn before_next<'w>(before: Before<'w>, word: &'w str, kind: Kind<'w>) -> Before<'w>
+    ensures { before_said result ≡
+        before_next (before_said before.entry) word.now (kind_said kind.entry) }
+{
+    match (before, kind) {
+        (Before::Marked, _) | (_, Kind::Mark) => Before::Marked,
+        (_, Kind::Wants(row)) => Before::Wanting(row, word),
+        _ => Before::Free,
+    }
+}
+
+/// Puts the part that a word is at the end of parts. Refused by the word's fault, and by `Memory`.
+fn push_kind<'w>(parts: &mut Vec<Part<'w>>, kind: Kind<'w>) -> Result<(), WordError<'w>>
+    ensures pushed { IfOk result (λ _.
+        with_kind (all_said parts.old.items) (kind_said kind.entry) ≡
+        Ok (all_said parts.new.items)) }
+    ensures refused { IfErr result (λ e. (e.why ≡ why.Memory) ⊎
+        (with_kind (all_said parts.old.items) (kind_said kind.entry) ≡ Err (fault e))) }
+{
+    match kind {
+        Kind::Whole(part) => match parts.push(part) {
+            Ok(()) => Ok(()),
+            Err(_) => Err(error_at(Why::Memory, "")),
+        },
+        Kind::Refused(error) => Err(error),
+        _ => Ok(()),
+    }
+}
+
+/// Parts, unless an option lacks its value.
+fn ended<'w>(parts: Vec<Part<'w>>, before: Before<'w>) -> Result<Vec<Part<'w>>, WordError<'w>>
+    ensures ended { IfOk result (λ ps. (words : List (List ℕ)) →
+        parts_from words [] (all_said parts.entry.items) (before_said before.entry) ≡
+        Ok (all_said ps.items)) }
+    ensures refused { IfErr result (λ e. (words : List (List ℕ)) →
+        parts_from words [] (all_said parts.entry.items) (before_said before.entry) ≡
+        Err (fault e)) }
+{
+    match before {
+        Before::Wanting(_, name) => Err(error_at(Why::NoValue, name)),
+        _ => Ok(parts),
     }
 }
 
 /// The parts that words are. Refused by `Unknown` and `NoValue` at the first word that is no part,
 /// and by `Memory`.
-pub fn parts_of<'w>(alloc: Global, words: &[&'w str]) -> Result<Vec<Part<'w>>, WordError<'w>>
-    ensures parts { IfOk result (λ ps. AreParts (texts_of words.now) (all_said ps.items)) }
-    ensures refused { IfErr result (λ e. (e ≡ error.Memory) ⊎
-        AreRefused (texts_of words.now) e) }
+pub(crate) fn parts_of<'w>(alloc: Global, words: &[&'w str]) -> Result<Vec<Part<'w>>, WordError<'w>>
+    ensures parts { IfOk result (λ ps. parts_in (texts_of words.now) ≡ Ok (all_said ps.items)) }
+    ensures refused { IfErr result (λ e. (e.why ≡ why.Memory) ⊎
+        (parts_in (texts_of words.now) ≡ Err (fault e))) }
 {
     let mut parts = Vec::new(alloc);
-    let mut at = 0;
-    while let Some((part, count)) = next_part(&words[at..])? {
-        let Ok(()) = parts.push(part) else {
-            return Err(WordError::Memory);
-        };
-        at += count;
+    let mut before = Before::Free;
+    for word in words {
+        let kind = kind_after(words, before, *word);
+        match push_kind(&mut parts, kind) {
+            Ok(()) => {}
+            Err(error) => return Err(error),
+        }
+        before = before_next(before, *word, kind);
     }
-    Ok(parts)
+    ended(parts, before)
 }

@@ -1,13 +1,9 @@
-use Rattle.std.proofs.Common.{◌≤◌, ◌-◌, drop, length}
-use Rattle.phone_words.specs.Parts.{all_said, texts_of}
-use Rattle.phone_words.proofs.PartLemmas.{StandsAt}
+use Rattle.std.proofs.Common.{◌≡◌, drop}
+use Rattle.phone_words.specs.Parts.{all_said, before_said, parts_from, parts_in}
+use Rattle.phone_words.specs.Rows.{texts_of}
 use Rattle.phone_words.proofs.parts.parts_of.Given as goal
 
-abbrev pub invariant-loop-parts : goal.invariant-loop-parts
-invariant-loop-parts l = record {
-  stands : StandsAt (texts_of l.words) (all_said l.parts.items) (texts_of (drop l.at l.words));
-  within : l.at ≤ length l.words;
-}
-
-abbrev pub decreases-loop-parts : goal.decreases-loop-parts
-decreases-loop-parts l = length l.words - l.at
+abbrev pub invariant-loop-word : goal.invariant-loop-word
+invariant-loop-word l =
+    parts_from (texts_of l.words) (texts_of (drop l.word-index l.words)) (all_said l.parts.items)
+    (before_said l.before) ≡ parts_in (texts_of l.words)

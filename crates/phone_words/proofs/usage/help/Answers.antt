@@ -1,0 +1,7 @@
+use Rattle.phone_words.specs.Help.{help_text}
+use Rattle.phone_words.specs.Rows.{rows}
+use Rattle.phone_words.proofs.usage.help.Goals as goal
+
+pub returns : goal.returns
+unfolding help_text rows
+returns c = c.help_of.ensures

@@ -1,0 +1,278 @@
+//! The table of the options: from it words are read, the help is made, and refusals are told.
+ghost use Rattle.std.specs.Prelude.{◌≡◌, ◌++◌, ◌&&◌, ℕ, List, IfSome, IsNone, map, option_map};
+ghost use Rattle.std.specs.List.{find};
+ghost use Rattle.phone_words.specs.Rows.{after, after_name, after_short, counts, entry};
+ghost use Rattle.phone_words.specs.Rows.{entry_and_text, entry_of, is_among, is_mark, is_name};
+ghost use Rattle.phone_words.specs.Rows.{joined, joined_in, named, text_in, texts_of, value_in};
+
+/// An option of the program.
+#[derive(Clone, Copy)]
+pub struct Row {
+    /// Its name, by which its value is looked up.
+    pub name: &'static str,
+    /// Its name of one letter; empty where it has none.
+    pub short: &'static str,
+    /// What its value is; empty where it takes none.
+    pub value: &'static str,
+    /// The word beside which alone the row counts; empty where it always does.
+    pub beside: &'static str,
+    /// The options of which each has to have a value.
+    pub needs: &'static [&'static str],
+    /// The options that it doesn't go with.
+    pub excludes: &'static [&'static str],
+    /// What it asks for: lines that are indented, with a line feed before each.
+    pub help: &'static str,
+}
+
+/// The cells of a row, in the order of its fields.
+pub(crate) type Cells = (
+    &'static str,
+    &'static str,
+    &'static str,
+    &'static str,
+    &'static [&'static str],
+    &'static [&'static str],
+    &'static str,
+);
+
+macro_rules! rows {
+    ($($name:literal $short:literal $value:literal $beside:literal
+        [$($need:literal)*] [$($other:literal)*] $help:literal)*) => {
+        [$(($name, $short, $value, $beside, &[$($need),*], &[$($other),*], $help)),*]
+    };
+}
+
+/// The options, each by its name, its name of one letter, what its value is, the word beside which
+/// it counts, what it needs, what it doesn't go with, and its help.
+pub(crate) const ROWS: [Cells; 28] = rows! {
+    "--json" "" "" "" [] ["--unique" "--typed" "--short"] "
+      a JSON object a line: the line's number and text, and the fields that --csv gives; with
+      --find an object for each number: line, column, text, those fields but the refusal, and
+      extension"
+    "--find" "" "" "" [] ["--unique" "--typed" "--short"] "
+      finds the valid numbers in running text, and writes for each its line, its column, its E.164
+      text and the piece of the text, parted by tabs; the file's name before them where several are
+      named"
+    "--csv" "" "" "--find" [] ["--json"] "
+      writes a record for each, under a line of headings: line, column, e164, type, region,
+      extension, text; before them the file, where several are named"
+    "--csv" "" "COLUMN" "" [] ["--json" "--find" "--typed" "--short"] "
+      gives a CSV file back, its records as they are and in their order, each with seven fields
+      after its own: e164, international, national, type, region, validity, refusal. COLUMN is the
+      name of the column of the numbers, in the file's first record. A record with more or fewer
+      fields than the first ends the run. How many records there were, and how many had an unknown
+      region, no number or one that isn't valid, is told on standard error"
+    "--unique" "" "" "" [] ["--typed" "--short"] "
+      writes in place of the report the first line of each number: its E.164 text, a tab, the line
+      as it came. How many lines were new, repeated or refused is told on standard error. With --csv
+      it leaves out each record whose number was in a record before it; records without a number
+      stay"
+    "--typed" "" "" "" [] ["--short"] "
+      takes each line as the keys of a number that is typed, and writes what is shown after each
+      key, parted by |. In a terminal, without FILE, it shows the number in place, key by key"
+    "--short" "" "" "" [] [] "
+      takes each line as a number that is dialled within REGION, which has to be named, and writes
+      yes or no, parted by tabs: whether its count of digits is possible; whether it is a short
+      number; what it costs; whether only some carriers connect it; whether it is an emergency
+      number; whether it reaches emergency services"
+    "--region-column" "" "COLUMN" "" ["--csv"] [] "
+      a record is read under the region whose id stands in this column, or under REGION where
+      nothing does; where anything else does, its number is refused as of an unknown region"
+    "--fallback-region" "" "" "" ["--csv" "--region-column"] [] "
+      where anything else does, it is read under REGION too"
+    "--delimiter" "-d" "D" "" ["--csv"] [] "
+      what stands between fields, in place of a comma: one ASCII character, or the word tab"
+    "--mark-bad-records" "" "" "" ["--csv"] [] "
+      a record with more or fewer fields than the first is given back as it is, and refused"
+    "--prefixes" "" "FILE" "" ["--csv" "--as"] [] "
+      a column before the seven, told by the longest prefix of a table that begins the digits of
+      the E.164 text, as each of the four below: the text in this file. Each of its lines is a
+      prefix of 1 to 15 digits, a tab and a text, or both as CSV; where another line or a prefix
+      twice is there, the table is refused before anything is written. A field is empty where there
+      is no number or no such prefix"
+    "--as" "" "NAME" "" ["--csv" "--prefixes"] [] "
+      the name of that column"
+    "--time-zone" "" "" "" ["--csv" "--time-zones"] [] "
+      a column of the number's time zones"
+    "--carrier" "" "" "" ["--csv" "--carriers"] [] "
+      one of its carrier, where numbers can't be taken along to another one"
+    "--first-carrier" "" "" "" ["--csv" "--carriers"] [] "
+      one of the carrier that it was first assigned to"
+    "--area" "" "" "" ["--csv" "--areas"] [] "
+      one of its area"
+    "--areas" "" "FILE" "" [] [] "
+      the table of areas"
+    "--time-zones" "" "FILE" "" [] [] "
+      the table of time zones, in place of the one that comes with the program"
+    "--carriers" "" "FILE" "" [] [] "
+      that of carriers, so too"
+    "--rules" "" "RULES" "" [] [] "
+      library (the default): numbers are read and described as libphonenumber does; crate: as the
+      Rust crate phonenumber does, but not with --typed and --short"
+    "--database" "" "FILE" "" [] [] "
+      the database, a JSON text, in place of the table of the world"
+    "--short-database" "" "FILE" "" [] [] "
+      that of short numbers"
+    "--output" "-o" "FILE" "" [] [] "
+      what is written goes there"
+    "--skipped" "" "N" "" [] [] "
+      lines are counted as if N stood before them (of a table: after its header)"
+    "--regions" "" "" "" [] [] "
+      lists the ids of regions"
+    "--version" "-V" "" "" [] [] "
+      tells the version of the program and of the table of the world"
+    "--help" "-h" "" "" [] [] "
+      tells this"
+};
+
+/// The row of these cells.
+pub(crate) fn row_of(cells: Cells) -> Row
+    ensures { entry result ≡ entry_of cells.entry }
+{
+    let (name, short, value, beside, needs, excludes, help) = cells;
+    Row {
+        name,
+        short,
+        value,
+        beside,
+        needs,
+        excludes,
+        help,
+    }
+}
+
+/// Whether a word is `--`, after which all words are operands.
+pub(crate) fn is_mark(word: &str) -> bool
+    ensures { result ≡ is_mark word.now }
+{
+    word == "--"
+}
+
+/// Whether a text is one of these words, in front of the mark.
+fn is_among(text: &str, words: &[&str]) -> bool
+    ensures { result ≡ is_among text.now (texts_of words.now) }
+{
+    for word in words {
+        if is_mark(*word) || *word == text {
+            return !is_mark(*word);
+        }
+    }
+    false
+}
+
+/// Whether a row counts among these words.
+fn counts(row: Row, words: &[&str]) -> bool
+    ensures { result ≡ counts (texts_of words.now) (entry row) }
+{
+    row.beside.is_empty() || is_among(row.beside, words)
+}
+
+/// Whether a word is a row's name.
+fn is_name(row: Row, word: &str) -> bool
+    ensures { result ≡ is_name word.now (entry row) }
+{
+    word == row.name || !word.is_empty() && word == row.short
+}
+
+/// The first row of these cells that a word names, and that counts among these words.
+fn named_in(cells: &[Cells], words: &[&str], word: &str) -> Option<Row>
+    ensures { option_map entry result ≡
+        find (λ r. is_name word.now r && counts (texts_of words.now) r) (map entry_of cells.now) }
+{
+    for cells in cells {
+        let row = row_of(*cells);
+        if is_name(row, word) && counts(row, words) {
+            return Some(row);
+        }
+    }
+    None
+}
+
+/// The option that a word names, among these words.
+#[tactic(auto, unfolding(crate::specs::Rows::rows))]
+pub(crate) fn named(words: &[&str], word: &str) -> Option<Row>
+    ensures { option_map entry result ≡ named (texts_of words.now) word.now }
+{
+    named_in(&ROWS, words, word)
+}
+
+/// What stands after this front of a word.
+fn after_front<'w>(word: &'w str, front: &str) -> Option<&'w str>
+    ensures found { IfSome result (λ rest. word.now ≡ front.now ++ rest.now) }
+    ensures none { IsNone result → (rest : List ℕ) → ¬ (word.now ≡ front.now ++ rest) }
+{
+    word.strip_prefix(front)
+}
+
+/// The same, as the definition has it.
+fn after<'w>(front: &str, word: &'w str) -> Option<&'w str>
+    ensures { text_in result ≡ after front.now word.now }
+{
+    after_front(word, front)
+}
+
+/// The value that stands in a word after an option's name and an equals sign.
+fn after_name<'w>(row: Row, word: &'w str) -> Option<&'w str>
+    ensures { text_in result ≡ after_name (entry row) word.now }
+{
+    match after(row.name, word) {
+        Some(rest) => after("=", rest),
+        None => None,
+    }
+}
+
+/// The value that stands in a word after an option's name of one letter.
+fn after_short<'w>(row: Row, word: &'w str) -> Option<&'w str>
+    ensures { text_in result ≡ after_short (entry row) word.now }
+{
+    if row.short.is_empty() {
+        return None;
+    }
+    after(row.short, word)
+}
+
+/// The value of an option that stands in one word with its name.
+fn value_in<'w>(row: Row, word: &'w str) -> Option<&'w str>
+    ensures { text_in result ≡ value_in (entry row) word.now }
+{
+    if row.value.is_empty() {
+        return None;
+    }
+    match after_name(row, word) {
+        Some(value) => Some(value),
+        None => after_short(row, word),
+    }
+}
+
+/// The first row of these cells whose name stands in a word with its value, and that value.
+fn joined_in<'w>(cells: &[Cells], word: &'w str) -> Option<(Row, &'w str)>
+    ensures { option_map entry_and_text result ≡ joined_in (map entry_of cells.now) word.now }
+{
+    for cells in cells {
+        let row = row_of(*cells);
+        if let Some(value) = value_in(row, word) {
+            return Some((row, value));
+        }
+    }
+    None
+}
+
+/// The option and its value that are one word: `--csv=phone`, `-d;`.
+#[tactic(auto, unfolding(crate::specs::Rows::rows))]
+pub(crate) fn joined(word: &str) -> Option<(Row, &str)>
+    ensures { option_map entry_and_text result ≡ joined word.now }
+{
+    joined_in(&ROWS, word)
+}
+
+/// What the value of an option is, in one word; empty where there is no such option, or it takes
+/// none.
+pub fn value_word(name: &str) -> &'static str {
+    for cells in &ROWS {
+        let row = row_of(*cells);
+        if row.name == name && !row.value.is_empty() {
+            return row.value;
+        }
+    }
+    ""
+}
