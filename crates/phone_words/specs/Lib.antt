@@ -1,4 +1,5 @@
 pub mod Calls
+pub mod Examples
 pub mod Help
 pub mod Parts
 pub mod Rows

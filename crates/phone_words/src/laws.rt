@@ -1,12 +1,16 @@
 //! What holds of every list of words. These functions do nothing; their contracts are the
 //! statements.
-ghost use Rattle.std.specs.Prelude.{◌≡◌, ◌⊎◌, ℕ, List, Err, Ok, length, nat_le, true};
+ghost use Rattle.std.specs.Prelude.{◌≡◌, ◌⊎◌, ◌∷◌, [], ℕ, List, Err, Ok, Some, codes, length};
+ghost use Rattle.std.specs.Prelude.{nat_le, true};
 ghost use Rattle.std.specs.List.{list_all};
 ghost use Rattle.std.specs.Str.Lines.{lines};
 ghost use Rattle.phone_words.specs.Calls.{IsCall, IsNoCall, Meaning, Says, meaning};
+ghost use Rattle.phone_words.specs.Examples.{command_by, skipped_by, value_by, why_by};
 ghost use Rattle.phone_words.specs.Help.{help_text};
 ghost use Rattle.phone_words.specs.Parts.{Fault};
 ghost use Rattle.phone_words.specs.declared.call.Call as call;
+ghost use Rattle.phone_words.specs.declared.command.Command.TheVariants as command;
+ghost use Rattle.phone_words.specs.declared.parts.Why.TheVariants as why;
 ghost use Rattle.phone_words.specs.declared.parts.WordError as error;
 
 /// A list of words is at most one call: all calls that it is say one meaning.
@@ -25,6 +29,30 @@ pub fn not_both()
 pub fn one_or_other()
     ensures { (words : List (List ℕ)) → ((m : Meaning) × (meaning words ≡ Ok m)) ⊎
         ((f : Fault) × (meaning words ≡ Err f)) }
+{}
+
+/// What some lists of words mean.
+pub fn examples()
+    ensures report { command_by [] ≡ Some command.Report }
+    ensures output { value_by (codes "-o" ∷ codes "out" ∷ codes "in" ∷ []) (codes "--output") ≡
+        Some (codes "out") }
+    ensures delimiter { value_by (codes "--csv" ∷ codes "number" ∷ codes "-d" ∷ codes ";" ∷ [])
+        (codes "--delimiter") ≡ Some (codes ";") }
+    ensures joined { value_by (codes "--csv=number" ∷ codes "-d;" ∷ []) (codes "--delimiter") ≡
+        Some (codes ";") }
+    ensures table { command_by (codes "--csv=number" ∷ codes "-d;" ∷ []) ≡ Some command.Table }
+    ensures found { command_by (codes "--csv" ∷ codes "--find" ∷ []) ≡ Some command.FoundRecords }
+    ensures skipped { skipped_by (codes "--skipped" ∷ codes "5" ∷ []) ≡ Some 5 }
+    ensures later { skipped_by (codes "--skipped" ∷ codes "x" ∷ codes "--skipped=5" ∷ []) ≡ Some 5 }
+    ensures help { command_by (codes "--help" ∷ codes "--as" ∷ codes "x" ∷ []) ≡
+        Some command.Help }
+    ensures marked { command_by (codes "--" ∷ codes "--nz" ∷ []) ≡ Some command.Report }
+    ensures typed { why_by (codes "--typed" ∷ codes "--rules" ∷ codes "crate" ∷ []) ≡
+        Some why.LibraryAlone }
+    ensures unknown { why_by (codes "--nz" ∷ []) ≡ Some why.Unknown }
+    ensures no_value { why_by (codes "-o" ∷ codes "--" ∷ []) ≡ Some why.NoValue }
+    ensures apart { why_by (codes "--json" ∷ codes "--csv" ∷ codes "x" ∷ []) ≡ Some why.Together }
+    ensures lacking { why_by (codes "--as" ∷ codes "x" ∷ []) ≡ Some why.Without }
 {}
 
 /// No line of the help has more than 100 characters.
