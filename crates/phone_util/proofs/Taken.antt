@@ -134,12 +134,7 @@ IsReadOrWants rules db t r = (r ≡ Err error.Memory) ⊎ ReadsBy rules db None 
 abbrev pub IsAnswerOrWants : Rules → List Metadata → List ℕ → List ℕ → Result Answer ParseError → Type 0
 IsAnswerOrWants rules db s t r = (r ≡ Err error.Memory) ⊎ IsAnswer rules db s t r
 
--- a text that was read
-pub read_so : (rules : Rules) (db : List Metadata) (t : List ℕ) (n : Reading) (a : Side) → a ≡ side_of n → IsReadOrWants rules db t (Ok n) → IsTakenOrWants rules db t (Ok a)
-read_so rules db t n a e (inl f) = cc
-read_so rules db t n a e (inr f) = inr (subst (λ (x : Side). IsTaken rules db t (Ok x)) (sym e) (Sides.read n f))
-
--- the same of a number that is taken over, or wants memory
+-- a text that was read as a number, which is taken over, or wants memory
 pub number_so : (rules : Rules) (db : List Metadata) (t : List ℕ) (n : Reading) (s : Result Side ParseError) → (s ≡ Err error.Memory) ⊎ (s ≡ Ok (side_of n)) →
     IsReadOrWants rules db t (Ok n) → IsTakenOrWants rules db t s
 number_so rules db t n s (inl e) f = inl e

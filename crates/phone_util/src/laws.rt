@@ -71,9 +71,8 @@ pub fn one_with_itself()
 {}
 
 /// By either rules and under each database two texts have at most one answer, and in the other
-/// order the same. Only
-/// where both texts are refused, each for a reason of its own, the two orders are refused
-/// differently: the text that stands first is told of.
+/// order the same. Only where both texts are refused, each for a reason of its own, the two orders
+/// are refused differently: the text that stands first is told of.
 pub fn one_answer()
     ensures one { (by : Rules) (db : List loader.Metadata) (s t : List ℕ)
         (x y : Result Sameness ParseError) → IsAnswer by db s t x → IsAnswer by db s t y → x ≡ y }

@@ -3,7 +3,7 @@ ghost use Rattle.std.specs.Prelude.{◌≡◌, ◌≤◌, IfOk, filter};
 ghost use Rattle.phone_util.specs.Listed.{AnswersExample, example_text, has_region};
 ghost use Rattle.phone_util.specs.Listed.{codes_below, listed_codes, listed_regions};
 
-use phone_choice::{Rules, parse_by};
+use phone_engine::Engine;
 use phone_plans::Plans;
 use phone_values::country::{ALL, Id};
 use phone_values::{ParseError, Type};
@@ -63,27 +63,30 @@ fn codes_below(database: &Plans, end: u32) -> Result<Vec<u16>, AllocError>
     Ok(found)
 }
 
-/// The example number of a region and a kind, read with the region as hint by these rules; none
-/// where the database has no territory of the region, the territory no descriptor of the kind, or
-/// that no example. Refused as `parse_by` refuses the example's text; `Memory` where memory was
-/// refused.
+/// The example number of a region and a kind in an engine's database, read by its rules with the
+/// region as hint: the engine's doesn't count. None where the database has no territory of the
+/// region, the territory no descriptor of the kind, or that no example. Refused as
+/// [`Engine::parse`] refuses the example's text; `Memory` where memory was refused.
 pub fn example(
-    rules: Rules,
-    database: &Plans,
+    engine: Engine<'_>,
     region: Id,
     kind: Type,
 ) -> Result<Option<PhoneNumber>, ParseError>
-    ensures { AnswersExample rules database.now region
-        (example_text database.now region kind) result }
+    ensures { AnswersExample engine.entry.rules engine.entry.database.now region
+        (example_text engine.entry.database.now region kind) result }
 {
-    let Some(territory) = database.by_id(region.as_str()) else {
+    let Some(territory) = engine.database.by_id(region.as_str()) else {
         return Ok(None);
     };
     let Some(descriptor) = territory.descriptors().get(kind) else {
         return Ok(None);
     };
+    let hinted = Engine {
+        hint: Some(region),
+        ..engine
+    };
     match descriptor.example() {
-        Some(text) => Ok(Some(parse_by(rules, database, Some(region), text)?)),
+        Some(text) => Ok(Some(hinted.parse(text)?)),
         None => Ok(None),
     }
 }

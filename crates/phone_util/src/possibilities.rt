@@ -1,5 +1,5 @@
 //! Whether a number is possible: what its length alone says of it.
-ghost use Rattle.std.specs.Prelude.{◌≡◌, ◌⊎◌, ◌==◌, Err, Result, IfOk, chars, length, map, nat_lt};
+ghost use Rattle.std.specs.Prelude.{◌≡◌, ◌⊎◌, ◌==◌, Err, Result, IfOk, chars, map, nat_lt};
 ghost use Rattle.std.specs.Borrow.{Bor};
 ghost use Rattle.std.specs.List.{filter_map, flat_map, list_all};
 ghost use Rattle.phone_territory.specs.Kinds.{descriptor_for, kinds_of};
@@ -16,12 +16,11 @@ ghost use Rattle.phone_util.specs.Possibilities.{possibility_of, possibility_rea
 ghost use Rattle.phone_util.specs.Possibilities.{possibility_under};
 ghost use Rattle.phone_engine.specs.Readings.{ReadsBy};
 
-use phone_choice::{Rules, parse_by};
+use phone_engine::{Engine, Rules};
 use phone_library::length_in;
 use phone_plans::{Descriptor, Plans, Territory};
 use phone_read::validator::territory_of;
 use phone_rules::kinds::TRIED;
-use phone_values::country::Id;
 use phone_values::{ParseError, Type, Validation};
 use phonenumber::PhoneNumber;
 use std::alloc::{AllocError, Global};
@@ -48,7 +47,8 @@ pub enum Possibility {
     UnknownCode,
 }
 
-/// Whether a number is possible, by the count of its digits, leading zeros among them.
+/// Whether a number is possible by an engine's rules, by the count of its digits, leading zeros
+/// among them.
 ///
 /// By the rules of libphonenumber the lengths that count are those that the first territory of its
 /// calling code lists for numbers of any kind; where it lists none, each is possible.
@@ -58,16 +58,13 @@ pub enum Possibility {
 /// its digits belong to, or else the first of its calling code.
 ///
 /// Refused only for memory.
-pub fn possibility_of(
-    rules: Rules,
-    database: &Plans,
-    number: &PhoneNumber,
-) -> Result<Possibility, AllocError>
-    ensures { IfOk result (λ p. p ≡ possibility_of rules database.now number.now) }
+pub fn possibility_of(engine: Engine<'_>, number: &PhoneNumber) -> Result<Possibility, AllocError>
+    ensures { IfOk result
+        (λ p. p ≡ possibility_of engine.entry.rules engine.entry.database.now number.now) }
 {
-    match rules {
-        Rules::Library => possible_by_library(database, number),
-        Rules::Crate => possible_by_crate(database, number),
+    match engine.rules {
+        Rules::Library => possible_by_library(engine.database, number),
+        Rules::Crate => possible_by_crate(engine.database, number),
     }
 }
 
@@ -108,23 +105,17 @@ fn possible_by_crate(database: &Plans, number: &PhoneNumber) -> Result<Possibili
     }
 }
 
-/// Whether a text, perhaps not yet whole, is a possible number under a database and a hint, by
-/// these rules.
+/// Whether a text, perhaps not yet whole, is a possible number, as an engine reads it.
 /// `TooShort` and `TooLong` also where it is refused as too short or too long, and `UnknownCode`
-/// where it is refused for its calling code. `NoNumber` and `MalformedInteger` as `parse_by`
+/// where it is refused for its calling code. `NoNumber` and `MalformedInteger` as [`Engine::parse`]
 /// refuses it; `Memory` where memory was refused.
-pub fn possibility_of_text(
-    rules: Rules,
-    database: &Plans,
-    hint: Option<Id>,
-    text: &str,
-) -> Result<Possibility, ParseError>
+pub fn possibility_of_text(engine: Engine<'_>, text: &str) -> Result<Possibility, ParseError>
     ensures { (result ≡ Err ParseError.Memory) ⊎ ((r : Result Reading Refusal) ×
-        ReadsBy rules database.now hint (chars text.now) r ×
-        (result ≡ possibility_read rules database.now r)) }
+        ReadsBy engine.entry.rules engine.entry.database.now engine.entry.hint (chars text.now) r ×
+        (result ≡ possibility_read engine.entry.rules engine.entry.database.now r)) }
 {
-    match parse_by(rules, database, hint, text) {
-        Ok(number) => match possibility_of(rules, database, &number) {
+    match engine.parse(text) {
+        Ok(number) => match possibility_of(engine, &number) {
             Ok(possibility) => Ok(possibility),
             Err(_) => Err(ParseError::Memory),
         },

@@ -7,8 +7,7 @@ ghost use Rattle.phone_util.specs.Sameness.{sameness_by_end, sameness_under_code
 ghost use Rattle.phone_util.specs.Sameness.{sameness_without_code};
 
 use crate::sides::{Side, taken_as};
-use phone_choice::Rules;
-use phone_plans::Plans;
+use phone_engine::Engine;
 use phone_values::{Extension, ParseError};
 use std::alloc::{AllocError, Global};
 
@@ -36,24 +35,20 @@ pub enum Sameness {
     Different,
 }
 
-/// Whether two texts are one number by these rules, each perhaps without its calling code. Refused
-/// as [`taken_as`] refuses the first text, else as it refuses the second; `Memory` where memory was
+/// Whether two texts are one number by an engine's rules and database, each perhaps without its
+/// calling code. They are read without a hint: the engine's counts for neither. Refused as
+/// [`taken_as`] refuses the first text, else as it refuses the second; `Memory` where memory was
 /// refused.
 ///
 /// In the other order the answer is the same, and so is a refusal, unless both texts are refused,
 /// each for a reason of its own: then the two refusals change places.
-pub fn compare_texts(
-    rules: Rules,
-    database: &Plans,
-    a: &str,
-    b: &str,
-) -> Result<Sameness, ParseError>
+pub fn compare_texts(engine: Engine<'_>, a: &str, b: &str) -> Result<Sameness, ParseError>
     ensures { (result ≡ Err ParseError.Memory) ⊎
-        IsAnswer rules database.now (chars a.now) (chars b.now) result }
+        IsAnswer engine.entry.rules engine.entry.database.now (chars a.now) (chars b.now) result }
 {
-    let a = taken_as(rules, database, a)?;
-    let b = taken_as(rules, database, b)?;
-    Ok(sameness_of(database.allocator(), &a, &b)?)
+    let a = taken_as(engine, a)?;
+    let b = taken_as(engine, b)?;
+    Ok(sameness_of(engine.database.allocator(), &a, &b)?)
 }
 
 /// How like two sides are. Refused only for memory.

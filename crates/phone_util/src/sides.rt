@@ -1,23 +1,20 @@
 //! What a text is taken as where it is compared with another.
-ghost use Rattle.std.specs.Prelude.{◌≡◌, ◌⊎◌, Err, Ok, IfOk, IfErr, Result, Option, chars};
-ghost use Rattle.std.specs.Prelude.{Some, option_map};
+ghost use Rattle.std.specs.Prelude.{◌≡◌, ◌⊎◌, Err, Ok, IfOk, Some, chars, option_map};
 ghost use Rattle.std.specs.Cow.{cow_str_bytes};
 ghost use Rattle.phone_chars.specs.Characters.{is_plus};
 ghost use Rattle.phone_chars.specs.Norm.{norm};
 ghost use Rattle.phone_values.specs.Nsn.{nsn};
-ghost use Rattle.phone_parts.specs.Parts.{Parts, parts_of};
-ghost use Rattle.phone_parts.specs.Readers.{HasParts};
+ghost use Rattle.phone_parts.specs.Parts.{parts_of};
 ghost use Rattle.phone_parts.specs.Texts.{begins};
 ghost use Rattle.phone_util.specs.Sides.{IsDialled, IsTaken, says_code, side_of, uncoded_side};
 ghost use Rattle.phone_util.specs.Sides.{written_side};
 
 use phone_chars::chars::{is_plus, normalize};
-use phone_choice::Rules;
+use phone_engine::{Engine, Rules};
 use phone_library::national_number;
 use phone_library_text::{WrittenNumber, read_written};
 use phone_parts::{Number, parts};
-use phone_plans::Plans;
-use phone_read::{Reading, nsn, read};
+use phone_read::nsn;
 use phone_values::{Extension, NationalNumber, ParseError};
 use phonenumber::PhoneNumber;
 use std::alloc::{AllocError, Global};
@@ -34,32 +31,26 @@ pub struct Side {
     pub extension: Option<Extension>,
 }
 
-/// What a text is taken as where it is compared, by these rules. A text that is read without a hint
-/// is taken as that number. A text without a calling code is taken as its digits as they are
-/// dialled, 2 to 17 of them, with national prefixes and without a code.
+/// What a text is taken as where it is compared, by an engine's rules and database. It is read
+/// without a hint: the engine's doesn't count. A text that is read so is taken as that number. A
+/// text without a calling code is taken as its digits as they are dialled, 2 to 17 of them, with
+/// national prefixes and without a code.
 ///
-/// Errors: those of `parse_by` for the text without a hint; for the digits of a text without a
-/// code, those for a national number. `Memory` where memory was refused, and nowhere else.
-pub fn taken_as(rules: Rules, database: &Plans, text: &str) -> Result<Side, ParseError>
+/// Errors: those of [`Engine::parse`] for the text without a hint; for the digits of a text without
+/// a code, those for a national number. `Memory` where memory was refused, and nowhere else.
+pub fn taken_as(engine: Engine<'_>, text: &str) -> Result<Side, ParseError>
     ensures { (result ≡ Err ParseError.Memory) ⊎
-        IsTaken rules database.now (chars text.now) result }
+        IsTaken engine.entry.rules engine.entry.database.now (chars text.now) result }
 {
-    match rules {
-        Rules::Library => taken_by_library(database, text),
-        Rules::Crate => taken_by_crate(database, text),
-    }
-}
-
-/// The same by the rules of libphonenumber.
-fn taken_by_library(database: &Plans, text: &str) -> Result<Side, ParseError>
-    ensures { (result ≡ Err ParseError.Memory) ⊎
-        IsTaken Rules.Library database.now (chars text.now) result }
-{
-    match phone_library::parse(database, None, text) {
-        Ok(number) => side_of_number(&number),
+    let unhinted = Engine {
+        hint: None,
+        ..engine
+    };
+    match unhinted.parse(text) {
+        Ok(number) => side_of(&number),
         Err(error) => {
             if error == ParseError::InvalidCountryCode {
-                dialled_by_library(database.allocator(), text)
+                dialled_side(engine.rules, engine.database.allocator(), text)
             } else {
                 Err(error)
             }
@@ -68,7 +59,7 @@ fn taken_by_library(database: &Plans, text: &str) -> Result<Side, ParseError>
 }
 
 /// A number that was read, with its code. Refused only for memory.
-fn side_of_number(number: &PhoneNumber) -> Result<Side, ParseError>
+fn side_of(number: &PhoneNumber) -> Result<Side, ParseError>
     ensures { (result ≡ Err ParseError.Memory) ⊎ (result ≡ Ok (side_of number.now)) }
 {
     let extension = match number.extension() {
@@ -82,7 +73,17 @@ fn side_of_number(number: &PhoneNumber) -> Result<Side, ParseError>
     })
 }
 
-/// What a text that is refused for want of a calling code is taken as, by what is written in it.
+/// What a text that is refused for want of a calling code is taken as, by these rules.
+fn dialled_side(rules: Rules, alloc: Global, text: &str) -> Result<Side, ParseError>
+    ensures { (result ≡ Err ParseError.Memory) ⊎ IsDialled rules (chars text.now) result }
+{
+    match rules {
+        Rules::Library => dialled_by_library(alloc, text),
+        Rules::Crate => dialled_by_crate(alloc, text),
+    }
+}
+
+/// The same by what is written in the text.
 fn dialled_by_library(alloc: Global, text: &str) -> Result<Side, ParseError>
     ensures { (result ≡ Err ParseError.Memory) ⊎
         IsDialled Rules.Library (chars text.now) result }
@@ -115,44 +116,9 @@ fn written_side(number: WrittenNumber) -> Result<Side, ParseError>
     }
 }
 
-/// The same by the rules of the crate.
-fn taken_by_crate(database: &Plans, text: &str) -> Result<Side, ParseError>
-    ensures { (result ≡ Err ParseError.Memory) ⊎
-        IsTaken Rules.Crate database.now (chars text.now) result }
-{
-    match read(database, None, text) {
-        Ok(reading) => Ok(side_of(reading)),
-        Err(error) => {
-            if error == ParseError::InvalidCountryCode {
-                uncoded_side(database.allocator(), text)
-            } else {
-                Err(error)
-            }
-        }
-    }
-}
-
-/// A number that was read, with its code.
-fn side_of(reading: Reading) -> Side
-    ensures { result ≡ side_of reading }
-{
-    let Reading {
-        code,
-        national,
-        extension,
-        carrier: _carrier,
-    } = reading;
-    Side {
-        code: Some(code.value()),
-        national,
-        extension,
-    }
-}
-
-/// What a text that is refused for want of a calling code is taken as, by its parts.
-fn uncoded_side(alloc: Global, text: &str) -> Result<Side, ParseError>
-    ensures { (result ≡ Err ParseError.Memory) ⊎ ((p : Option Parts) ×
-        HasParts (chars text.now) p × (result ≡ uncoded_side p)) }
+/// The same by the text's parts.
+fn dialled_by_crate(alloc: Global, text: &str) -> Result<Side, ParseError>
+    ensures { (result ≡ Err ParseError.Memory) ⊎ IsDialled Rules.Crate (chars text.now) result }
 {
     match parts(text) {
         Some(parts) => side_of_parts(alloc, &parts),
