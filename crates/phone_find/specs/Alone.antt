@@ -38,9 +38,8 @@ pub record IsShaped (text : List ℕ) : Type 0 where
   pub ended : ends is_digit (chars text) ≡ true
 
 -- a number that suffices by the rules of the crate and is read back from its international text: it
--- is plain for that,
--- stripping leaves its digits alone, its extension, if any, is announced safely, its code has one
--- to three digits, and no listed code begins another
+-- is plain for that, stripping leaves its digits alone, its extension, if any, is announced safely,
+-- its code has one to three digits, and no listed code begins another
 pub record IsPlainEnough (db : List Metadata) (leniency : Leniency) (n : Reading) : Type 0 where
   pub plain : IsPlainInternational db n
   pub idle : IsIdle db n.code.value (text_of n.national)

@@ -21,7 +21,7 @@ ghost use Rattle.phone_find.specs.declared.search.Found.{Found};
 ghost use Rattle.phone_values.specs.declared.rules.Rules.{Rules};
 ghost use Rattle.phone_values.specs.declared.rules.Rules.TheVariants as rules;
 
-use phone_choice::laws::some_reading;
+use phone_engine::laws::some_reading;
 use phone_library_laws::again::e164_again;
 
 /// A text has one answer: what is found in it, rules, database, hint and leniency determine.
@@ -31,7 +31,7 @@ pub fn one_answer()
         AreNumbers rules db hint l text others → all ≡ others }
 {}
 
-/// For each text there is an answer that `found_with` may give, by either rules, under each
+/// For each text there is an answer that `find_numbers_with` may give, by either rules, under each
 /// database, hint and leniency. The pieces of the text are read, since that each of them has a
 /// reading is what the readers show; no memory is asked for.
 pub fn some_numbers(text: &str)

@@ -2,8 +2,7 @@
 ghost use Rattle.std.specs.Prelude.{◌≡◌, IfOk};
 ghost use Rattle.phone_find.specs.Leniencies.{is_possible, suffices};
 
-use phone_choice::{Rules, is_valid_by};
-use phone_plans::Plans;
+use phone_engine::Engine;
 use phone_util::{Possibility, possibility_of};
 use phonenumber::PhoneNumber;
 use std::alloc::AllocError;
@@ -19,10 +18,11 @@ pub enum Leniency {
 }
 
 /// Whether a number is possible, perhaps only inside its area. Refused only for memory.
-fn is_possible(rules: Rules, database: &Plans, number: &PhoneNumber) -> Result<bool, AllocError>
-    ensures { IfOk result (λ b. b ≡ is_possible rules database.now number.now) }
+fn is_possible(engine: Engine<'_>, number: &PhoneNumber) -> Result<bool, AllocError>
+    ensures { IfOk result
+        (λ b. b ≡ is_possible engine.entry.rules engine.entry.database.now number.now) }
 {
-    match possibility_of(rules, database, number)? {
+    match possibility_of(engine, number)? {
         Possibility::Possible | Possibility::PossibleLocally => Ok(true),
         _ => Ok(false),
     }
@@ -30,15 +30,15 @@ fn is_possible(rules: Rules, database: &Plans, number: &PhoneNumber) -> Result<b
 
 /// Whether a number suffices. Refused only for memory.
 pub(crate) fn suffices(
-    rules: Rules,
-    database: &Plans,
+    engine: Engine<'_>,
     leniency: Leniency,
     number: &PhoneNumber,
 ) -> Result<bool, AllocError>
-    ensures { IfOk result (λ b. b ≡ suffices rules database.now leniency number.now) }
+    ensures { IfOk result
+        (λ b. b ≡ suffices engine.entry.rules engine.entry.database.now leniency number.now) }
 {
     match leniency {
-        Leniency::Possible => is_possible(rules, database, number),
-        Leniency::Valid => is_valid_by(rules, database, number),
+        Leniency::Possible => is_possible(engine, number),
+        Leniency::Valid => engine.is_valid(number),
     }
 }

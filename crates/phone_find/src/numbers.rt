@@ -1,5 +1,5 @@
 //! The numbers of a running text.
-ghost use Rattle.std.specs.Prelude.{◌≡◌, ℕ, IfOk, MatchOption, None, Some, true, if◌then◌else◌};
+ghost use Rattle.std.specs.Prelude.{◌≡◌, IfOk, MatchOption, None, Some, if◌then◌else◌};
 ghost use Rattle.phone_values.specs.declared.reading.Reading.{Reading};
 ghost use Rattle.phone_find.specs.Leniencies.{suffices};
 ghost use Rattle.phone_find.specs.declared.leniency.Leniency.TheVariants as leniency;
@@ -8,27 +8,23 @@ ghost use Rattle.phone_find.specs.Numbers.{AreNumbers, IsNumberBetween, IsReadWe
 use crate::candidates::{is_candidate, may_begin};
 use crate::leniency::{Leniency, suffices};
 use crate::search::{Found, Judge, all_accepted};
-use phone_choice::{Rules, parse_by};
-use phone_plans::Plans;
+use phone_engine::Engine;
 use phone_values::ParseError;
-use phone_values::country::Id;
 use phonenumber::PhoneNumber;
 use std::alloc::{AllocError, Global};
 
-/// What accepts the numbers of a database that suffice, read by some rules under a hint.
+/// What accepts the numbers that an engine reads and that suffice.
 #[derive(Drop)]
-struct Sufficient<'a> {
-    rules: Rules,
-    database: &'a Plans,
-    hint: Option<Id>,
+struct Sufficient<'d> {
+    engine: Engine<'d>,
     leniency: Leniency,
 }
 
-impl<'a> Judge<PhoneNumber> for Sufficient<'a> {
+impl<'d> Judge<PhoneNumber> for Sufficient<'d> {
     ghost use Rattle.phone_find.specs.Numbers.{IsNumberAt};
 
     ghost accepts = { λ s t from to n.
-        IsNumberAt s.rules s.database.now s.hint s.leniency t from to n };
+        IsNumberAt s.engine.rules s.engine.database.now s.engine.hint s.leniency t from to n };
 
     fn may_begin(&self, text: &str, start: usize) -> bool {
         may_begin(&text[..start], &text[start..])
@@ -44,56 +40,48 @@ impl<'a> Judge<PhoneNumber> for Sufficient<'a> {
         let before = &text[..start];
         let piece = &text[start..end];
         let after = &text[end..];
-        number_between(
-            self.rules,
-            self.database,
-            self.hint,
-            self.leniency,
-            before,
-            piece,
-            after,
-        )
+        number_between(self.engine, self.leniency, before, piece, after)
     }
 }
 
 /// The number that suffices and that a piece of a text is read as, where it may be a number between
 /// what stands before it and after it. Refused only for memory.
 fn number_between(
-    rules: Rules,
-    database: &Plans,
-    hint: Option<Id>,
+    engine: Engine<'_>,
     leniency: Leniency,
     before: &str,
     piece: &str,
     after: &str,
 ) -> Result<Option<PhoneNumber>, AllocError>
     ensures { IfOk result (λ told. MatchOption told
-        ((n : Reading) →
-        ¬ (IsNumberBetween rules database.now hint leniency before.now piece.now after.now n))
-        (λ n.
-        IsNumberBetween rules database.now hint leniency before.now piece.now after.now n)) }
+        ((n : Reading) → ¬ (IsNumberBetween
+        engine.entry.rules engine.entry.database.now engine.entry.hint leniency
+        before.now piece.now after.now n))
+        (λ n. IsNumberBetween
+        engine.entry.rules engine.entry.database.now engine.entry.hint leniency
+        before.now piece.now after.now n)) }
 {
     if !is_candidate(before, piece, after) {
         return Ok(None);
     }
-    number_in(rules, database, hint, leniency, piece)
+    number_in(engine, leniency, piece)
 }
 
 /// The number that a text is read as, where it is read as one that suffices. Refused only for
 /// memory.
 fn number_in(
-    rules: Rules,
-    database: &Plans,
-    hint: Option<Id>,
+    engine: Engine<'_>,
     leniency: Leniency,
     text: &str,
 ) -> Result<Option<PhoneNumber>, AllocError>
     ensures { IfOk result (λ told. MatchOption told
-        ((n : Reading) → ¬ (IsReadWell rules database.now hint leniency text.now n))
-        (λ n. IsReadWell rules database.now hint leniency text.now n)) }
+        ((n : Reading) → ¬ (IsReadWell
+        engine.entry.rules engine.entry.database.now engine.entry.hint leniency text.now n))
+        (λ n. IsReadWell
+        engine.entry.rules engine.entry.database.now engine.entry.hint leniency text.now n)) }
 {
-    match parse_by(rules, database, hint, text) {
-        Ok(number) => where_sufficient(rules, database, leniency, number),
+    match engine.parse(text) {
+        Ok(number) => where_sufficient(engine, leniency, number),
         Err(error) => without_number(error),
     }
 }
@@ -110,16 +98,15 @@ fn without_number(error: ParseError) -> Result<Option<PhoneNumber>, AllocError>
 
 /// The number, where it suffices. Refused only for memory.
 fn where_sufficient(
-    rules: Rules,
-    database: &Plans,
+    engine: Engine<'_>,
     leniency: Leniency,
     number: PhoneNumber,
 ) -> Result<Option<PhoneNumber>, AllocError>
     ensures { IfOk result
-        (λ told. told ≡
-        (if suffices rules database.now leniency number then Some number else None)) }
+        (λ told. told ≡ (if suffices engine.entry.rules engine.entry.database.now leniency number
+        then Some number else None)) }
 {
-    if suffices(rules, database, leniency, &number)? {
+    if suffices(engine, leniency, &number)? {
         Ok(Some(number))
     } else {
         Ok(None)
@@ -130,39 +117,30 @@ fn where_sufficient(
 /// first byte and that behind its last, both between characters. A number is a piece of at most 250
 /// bytes that no letter or digit touches; that begins at a plus sign, an opening bracket or a
 /// digit, and ends in a digit; that is digits, plus signs, and punctuation, and behind them perhaps
-/// an announced extension, as in ` ext. 12`; and that `parse_by` reads, by itself, by these rules
-/// under the database and the hint, as a number that suffices by them.
+/// an announced extension, as in ` ext. 12`; and that the engine reads, by itself, as a number that
+/// suffices by its rules.
 ///
 /// The numbers come in their order and don't overlap: the piece that begins first counts, and of
 /// those that begin there the longest. The time is linear in the text: at each place at most 250
 /// pieces are looked at. Refused only for memory.
 pub fn find_numbers_with(
-    rules: Rules,
-    database: &Plans,
-    hint: Option<Id>,
+    engine: Engine<'_>,
     leniency: Leniency,
     text: &str,
 ) -> Result<Vec<Found<PhoneNumber>>, AllocError>
-    ensures { IfOk result (λ all. AreNumbers rules database.now hint leniency text.now all.items) }
+    ensures { IfOk result (λ all. AreNumbers
+        engine.entry.rules engine.entry.database.now engine.entry.hint
+        leniency text.now all.items) }
 {
-    let judge = Sufficient {
-        rules,
-        database,
-        hint,
-        leniency,
-    };
-    all_accepted(database.allocator(), &judge, text)
+    let judge = Sufficient { engine, leniency };
+    all_accepted(engine.database.allocator(), &judge, text)
 }
 
 /// The valid numbers that stand in a running text: [`find_numbers_with`], [`Leniency::Valid`].
-pub fn find_numbers(
-    rules: Rules,
-    database: &Plans,
-    hint: Option<Id>,
-    text: &str,
-) -> Result<Vec<Found<PhoneNumber>>, AllocError>
-    ensures { IfOk result
-        (λ all. AreNumbers rules database.now hint leniency.Valid text.now all.items) }
+pub fn find_numbers(engine: Engine<'_>, text: &str) -> Result<Vec<Found<PhoneNumber>>, AllocError>
+    ensures { IfOk result (λ all. AreNumbers
+        engine.entry.rules engine.entry.database.now engine.entry.hint
+        leniency.Valid text.now all.items) }
 {
-    find_numbers_with(rules, database, hint, Leniency::Valid, text)
+    find_numbers_with(engine, Leniency::Valid, text)
 }
