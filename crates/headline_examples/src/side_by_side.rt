@@ -9,7 +9,7 @@ ghost use Rattle.headline_examples.specs.Parts.{EndsLine};
 
 /// By either rules, under each database and hint: the report on a text that is cut behind a line
 /// feed is the report on its front followed by that on its rest. So it is for any number of parts,
-/// and there is no other report on the text (`phone_report::laws::one_report`).
+/// and there is no other report on the text (`phone_engine::laws::one_report`).
 pub fn report_of_two_parts()
     ensures { (rules : Rules) (db : List loader.Metadata) (hint : Option Id)
         (front rest of_front of_rest : List ℕ) → EndsLine front →

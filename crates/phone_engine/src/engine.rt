@@ -39,7 +39,8 @@ impl<'d> Engine<'d> {
     /// by `Memory` where memory was refused, and nowhere else.
     pub fn parse(self, text: &str) -> Result<PhoneNumber, ParseError>
         ensures { (result ≡ Err ParseError.Memory) ⊎
-            ReadsBy self.rules self.database.now self.hint (chars text.now) result }
+            ReadsBy self.entry.rules self.entry.database.now self.entry.hint (chars text.now)
+            result }
     {
         match self.rules {
             Rules::Library => phone_library::parse(self.database, self.hint, text),
@@ -52,10 +53,11 @@ impl<'d> Engine<'d> {
     /// only for memory.
     pub fn facts(self, number: &PhoneNumber) -> Result<Facts, AllocError>
         ensures region { IfOk result
-            (λ q. q.region ≡ region_by self.rules self.database.now number.now) }
-        ensures kind { IfOk result (λ q. q.kind ≡ kind_by self.rules self.database.now number.now) }
+            (λ q. q.region ≡ region_by self.entry.rules self.entry.database.now number.now) }
+        ensures kind { IfOk result
+            (λ q. q.kind ≡ kind_by self.entry.rules self.entry.database.now number.now) }
         ensures is_valid { IfOk result
-            (λ q. q.is_valid ≡ is_valid_by self.rules self.database.now number.now) }
+            (λ q. q.is_valid ≡ is_valid_by self.entry.rules self.entry.database.now number.now) }
     {
         match self.rules {
             Rules::Library => library_facts(self.database, number),
@@ -67,7 +69,7 @@ impl<'d> Engine<'d> {
     /// answers. Refused only for memory.
     pub fn is_valid(self, number: &PhoneNumber) -> Result<bool, AllocError>
         ensures { IfOk result
-            (λ valid. valid ≡ is_valid_by self.rules self.database.now number.now) }
+            (λ valid. valid ≡ is_valid_by self.entry.rules self.entry.database.now number.now) }
     {
         match self.rules {
             Rules::Library => phone_library::is_valid(self.database, number),
@@ -80,16 +82,17 @@ impl<'d> Engine<'d> {
     /// those of the crate those of the number as it is. `UnknownCode` exactly where the database
     /// lists no territory of the code, `Memory` where memory was refused.
     pub fn texts(self, number: &PhoneNumber) -> Result<Texts, FormatError>
-        ensures e164 { IfOk result (λ t. printed self.database.now mode.E164 None
-            (printed_as self.rules number.now) ≡ Some (string_bytes t.e164)) }
-        ensures international { IfOk result (λ t. printed self.database.now mode.International None
-            (printed_as self.rules number.now) ≡ Some (string_bytes t.international)) }
-        ensures national { IfOk result (λ t. printed self.database.now mode.National None
-            (printed_as self.rules number.now) ≡ Some (string_bytes t.national)) }
-        ensures rfc3966 { IfOk result (λ t. printed self.database.now mode.Rfc3966 None
-            (printed_as self.rules number.now) ≡ Some (string_bytes t.rfc3966)) }
+        ensures e164 { IfOk result (λ t. printed self.entry.database.now mode.E164 None
+            (printed_as self.entry.rules number.now) ≡ Some (string_bytes t.e164)) }
+        ensures international { IfOk result (λ t.
+            printed self.entry.database.now mode.International None
+            (printed_as self.entry.rules number.now) ≡ Some (string_bytes t.international)) }
+        ensures national { IfOk result (λ t. printed self.entry.database.now mode.National None
+            (printed_as self.entry.rules number.now) ≡ Some (string_bytes t.national)) }
+        ensures rfc3966 { IfOk result (λ t. printed self.entry.database.now mode.Rfc3966 None
+            (printed_as self.entry.rules number.now) ≡ Some (string_bytes t.rfc3966)) }
         ensures unknown { (result ≡ Err FormatError.UnknownCode) ↔
-            (first_of (territories number.now.code.value self.database.now) ≡ None) }
+            (first_of (territories number.now.code.value self.entry.database.now) ≡ None) }
     {
         match self.rules {
             Rules::Library => texts_without_carrier(self.database, number),
@@ -105,8 +108,8 @@ impl<'d> Engine<'d> {
     /// `valid` or `invalid`. A refusal: `error`, its number and its words. A line that isn't UTF-8:
     /// `error`, `0`, `not UTF-8`. Refused only for memory.
     pub fn report_line(self, line: &[u8]) -> Result<String, AllocError>
-        ensures { IfOk result (λ text. IsReportLine self.rules self.database.now self.hint line.now
-            (string_bytes text)) }
+        ensures { IfOk result (λ text. IsReportLine self.entry.rules self.entry.database.now
+            self.entry.hint line.now (string_bytes text)) }
     {
         line_of(self, line)
     }
@@ -132,7 +135,7 @@ impl<'d> Engine<'d> {
         source: &mut S,
         sink: &mut W,
     ) -> Result<(), RunError>
-        ensures ends { Ends (IsReportLine self.rules self.database.now self.hint)
+        ensures ends { Ends (IsReportLine self.entry.rules self.entry.database.now self.entry.hint)
             (seen (S.to_come source.old) (S.faults source.old) (W.taken sink.old)
             (W.faults sink.old) (W.unflushed sink.old))
             (seen (S.to_come source.new) (S.faults source.new) (W.taken sink.new)

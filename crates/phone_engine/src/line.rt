@@ -10,8 +10,8 @@ use std::alloc::AllocError;
 
 /// The report line of a line of bytes. Refused only for memory.
 pub(crate) fn line_of(engine: Engine<'_>, line: &[u8]) -> Result<String, AllocError>
-    ensures { IfOk result (λ text. IsReportLine engine.rules engine.database.now engine.hint line.now
-        (string_bytes text)) }
+    ensures { IfOk result (λ text. IsReportLine engine.entry.rules engine.entry.database.now
+        engine.entry.hint line.now (string_bytes text)) }
 {
     let alloc = engine.database.allocator();
     let Ok(text) = std::str::from_utf8(line) else {

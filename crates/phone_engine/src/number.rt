@@ -22,10 +22,11 @@ const ROOM: usize = 160;
 /// `Memory`.
 pub(crate) fn number_line(engine: Engine<'_>, number: &PhoneNumber) -> Result<String, FormatError>
     ensures line { IfOk result (λ line. (m : Metadata) ×
-        (first_of (territories number.now.code.value engine.database.now) ≡ Some m) ×
-        (string_bytes line ≡ number_line engine.rules engine.database.now m number.now)) }
+        (first_of (territories number.now.code.value engine.entry.database.now) ≡ Some m) ×
+        (string_bytes line ≡
+        number_line engine.entry.rules engine.entry.database.now m number.now)) }
     ensures unknown { result ≡ Err FormatError.UnknownCode →
-        first_of (territories number.now.code.value engine.database.now) ≡ None }
+        first_of (territories number.now.code.value engine.entry.database.now) ≡ None }
 {
     let Ok(mut line) = first_field(engine.database.allocator()) else {
         return Err(FormatError::Memory);
@@ -51,12 +52,12 @@ fn push_number(
     number: &PhoneNumber,
 ) -> Result<(), FormatError>
     ensures fields { OnOk result ((m : Metadata) ×
-        (first_of (territories number.now.code.value engine.database.now) ≡ Some m) ×
+        (first_of (territories number.now.code.value engine.entry.database.now) ≡ Some m) ×
         (string_bytes line.new ≡ (string_bytes line.old ++
-        9 ∷ texts_by m None (printed_as engine.rules number.now)) ++
-        9 ∷ known_words engine.rules engine.database.now number.now)) }
+        9 ∷ texts_by m None (printed_as engine.entry.rules number.now)) ++
+        9 ∷ known_words engine.entry.rules engine.entry.database.now number.now)) }
     ensures unknown { result ≡ Err FormatError.UnknownCode →
-        first_of (territories number.now.code.value engine.database.now) ≡ None }
+        first_of (territories number.now.code.value engine.entry.database.now) ≡ None }
 {
     push_printed(line, engine, number)?;
     match push_known(line, engine, number) {
@@ -73,11 +74,11 @@ fn push_printed(
     number: &PhoneNumber,
 ) -> Result<(), FormatError>
     ensures texts { OnOk result ((m : Metadata) ×
-        (first_of (territories number.now.code.value engine.database.now) ≡ Some m) ×
+        (first_of (territories number.now.code.value engine.entry.database.now) ≡ Some m) ×
         (string_bytes line.new ≡ string_bytes line.old ++
-        9 ∷ texts_by m None (printed_as engine.rules number.now))) }
+        9 ∷ texts_by m None (printed_as engine.entry.rules number.now))) }
     ensures unknown { result ≡ Err FormatError.UnknownCode →
-        first_of (territories number.now.code.value engine.database.now) ≡ None }
+        first_of (territories number.now.code.value engine.entry.database.now) ≡ None }
 {
     match engine.rules {
         Rules::Library => push_without_carrier(line, engine.database, number),
@@ -122,7 +123,7 @@ fn push_texts(line: &mut String, database: &Plans, number: &PhoneNumber) -> Resu
 /// Puts what is known of a number behind a line, each word after one tab. Refused only for memory.
 fn push_known(line: &mut String, engine: Engine<'_>, number: &PhoneNumber) -> Result<(), AllocError>
     ensures { OnOk result (string_bytes line.new ≡ string_bytes line.old ++
-        9 ∷ known_words engine.rules engine.database.now number.now) }
+        9 ∷ known_words engine.entry.rules engine.entry.database.now number.now) }
 {
     let facts = engine.facts(number)?;
     let source = source_word(number.code().source());

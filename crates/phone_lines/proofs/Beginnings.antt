@@ -1,10 +1,9 @@
 -- A beginning of the answers to lines: some of them whole, and a part of the next one.
 use Rattle.std.proofs.Common.{◌≡◌, ◌⊎◌, inl, inr, ⊎_elim, ℕ, List, [], ◌∷◌, ◌++◌, Option, refl, sym, ap, ap₂, ◌∙◌, append_assoc, subst}
 use Rattle.std.proofs.lemmas.List.{append-nil}
-use Rattle.phone_device.specs.Passing.{IsAtEnd}
 use Rattle.phone_lines.specs.Lines.{AreLines, last_line}
 use Rattle.phone_lines.specs.LineReports.{AreAnswers, AreLinesSoFar, BeginsAnswer, Gives, HasOneAnswer}
-use Rattle.phone_lines.specs.LineReports.{IsBeginning, IsReport, IsReportOnFirst, TakesA, TakesBeginning}
+use Rattle.phone_lines.specs.LineReports.{IsBeginning, TakesA, TakesBeginning}
 use Rattle.phone_lines.specs.LineReports.AreAnswers.{none, next}
 use Rattle.phone_lines.specs.LineReports.BeginsAnswer.{nothing, some}
 use Rattle.phone_lines.proofs.AnswerLemmas.{AreAnswers-then, answers_after}
@@ -20,15 +19,6 @@ seam (c ∷ x) y (d ∷ u) v e = ⊎_elim (λ h. inl (h.0, let i = h.1 in cc)) (
 abbrev pub IsReportSoFar : Gives → Option (List ℕ) → List ℕ → List ℕ → Type 0
 IsReportSoFar gives to_come bytes text =
     (lines : List (List ℕ)) × (more : List (List ℕ)) × AreLinesSoFar to_come bytes (lines ++ more) × AreAnswers gives lines text
-
-pub IsReportOnFirst-so_far : (gives : Gives) (to_come : Option (List ℕ)) (bytes text : List ℕ) → IsReportOnFirst gives bytes text →
-    IsReportSoFar gives to_come bytes text
-IsReportOnFirst-so_far gives to_come bytes text (first, others, last, cut, are) = (first, others, (first ++ others, last, cut, inl refl), are)
-
-pub IsReport-so_far : (gives : Gives) (to_come : Option (List ℕ)) (bytes text : List ℕ) → IsAtEnd to_come → IsReport gives bytes text →
-    IsReportSoFar gives to_come bytes text
-IsReport-so_far gives to_come bytes text end (lines, (front, last, cut, all), are) =
-    (lines, [], (front, last, cut, inr (end, append-nil lines ∙ all)), are)
 
 module _ (gives : Gives) (to_come : Option (List ℕ)) (bytes : List ℕ) where
   begun_here : (past lines : List (List ℕ)) (told front : List ℕ) → AreLinesSoFar to_come bytes (past ++ lines) → AreAnswers gives past told →

@@ -1,6 +1,9 @@
 pub mod AnswerLemmas
 pub mod Beginnings
+pub mod ByItself
 pub mod CutLemmas
 pub mod Ends
 pub mod LineLemmas
 pub mod Progress
+pub mod TakenLemmas
+pub mod TakenProgress

@@ -3,3 +3,5 @@ pub mod Faults
 pub mod Lines
 pub mod LineReports
 pub mod Runs
+pub mod Taken
+pub mod TakenEnds

@@ -1,5 +1,5 @@
 //! What answers lines.
-ghost use Rattle.std.specs.Prelude.{◌≡◌, List, [], ◌∷◌, ◌++◌, ℕ, IfOk, OnOk, OnErr, string_bytes};
+ghost use Rattle.std.specs.Prelude.{◌≡◌, List, ℕ, IfOk, string_bytes};
 ghost use Rattle.phone_lines.specs.Lines.{without_return};
 
 use std::alloc::{AllocError, Global};
@@ -22,22 +22,4 @@ pub fn without_return(line: &[u8]) -> &[u8]
         return line;
     };
     if *last == b'\r' { front } else { line }
-}
-
-/// The answer to a line, and a line feed, at the end of a text. Refused only for memory; then the
-/// text is as it was.
-pub(crate) fn add_answer<A: Answers>(
-    alloc: Global,
-    answers: &A,
-    line: &[u8],
-    text: &mut Vec<u8>,
-) -> Result<(), AllocError>
-    ensures added { OnOk result ((answer : List ℕ) ×
-        A.gives answers.now (without_return line.now) answer ×
-        (text.new.items ≡ text.old.items ++ (answer ++ 10 ∷ []))) }
-    ensures kept { OnErr result (text.new.items ≡ text.old.items) }
-{
-    let mut answer = answers.answer(alloc, without_return(line))?;
-    answer.push('\n')?;
-    text.extend_from_slice(answer.as_bytes())
 }

@@ -1,11 +1,13 @@
 //! What holds of the definitions of this crate. These functions do nothing; their contracts are the
 //! statements.
 ghost use Rattle.std.specs.Prelude.{◌≡◌, ℕ, List, Option};
+ghost use Rattle.phone_lines.specs.Taken as InTurn;
+ghost use Rattle.phone_lines.specs.Taken.{BeginsInOneWay, GivesInOneWay};
 ghost use Rattle.phone_lines.specs.Lines.{AreLines};
 ghost use Rattle.phone_lines.specs.LineReports.{HasAnAnswer, HasOneAnswer};
 ghost use Rattle.phone_lines.specs.LineReports.{IsBeginning, IsReport, TakesA, TakesBeginning};
 
-use crate::Answers;
+use crate::{Answers, LineTaker};
 
 /// Bytes have lines, and in one way alone.
 pub fn lines()
@@ -33,4 +35,12 @@ pub fn begins_each_report<A: Answers>(answers: &A)
         (to_come : Option (List ℕ)) (bytes : List ℕ) (before after : Option (List ℕ)) →
         TakesA (IsBeginning (A.gives answers.now) to_come bytes) before after →
         TakesBeginning (A.gives answers.now) bytes before after }
+{}
+
+/// Bytes have at most one report by a taker of lines, and leave it in one way, where what it keeps
+/// and a line have at most one answer, and leave it in one way.
+pub fn one_report_in_turn<T: LineTaker>(taker: &T)
+    ensures { BeginsInOneWay T.begins → GivesInOneWay T.gives → (bytes a b : List ℕ) (p q : T) →
+        InTurn.IsReport T.begins T.gives taker.now bytes p a →
+        InTurn.IsReport T.begins T.gives taker.now bytes q b → (a ≡ b) × (p ≡ q) }
 {}

@@ -2,7 +2,7 @@
 use crate::by_rules::by_rules;
 use anyhow::{Result, anyhow};
 use phone_book::{Book, BookError, Place};
-use phone_choice::Rules;
+use phone_engine::Rules;
 use phone_values::ParseError;
 use phone_values::country::Id;
 use phonenumber::PhoneNumber;

@@ -1,28 +1,27 @@
 //! The call that asks which numbers stand in a text.
-use crate::by_rules::by_rules;
+use crate::by_rules::{by_rules, hinted};
 use anyhow::{Result, anyhow};
-use phone_choice::Rules;
+use phone_engine::Engine;
 use phone_find::{Found, find_numbers};
 use phone_meta::Database;
 use phonenumber::PhoneNumber;
 use replay_base::marks::{around, begin};
 use replay_base::table::Row;
-use replay_base::words::hint;
 use std::alloc::{AllocError, Global};
 
 /// The numbers in a line's text, as the table writes them; none for any other call. An error where
 /// memory is refused.
 pub fn answer(alloc: Global, row: &Row, db: &Database) -> Result<Option<String>> {
     match by_rules(row) {
-        (rules, "found") => Ok(Some(of_text(alloc, rules, row, db)?)),
+        (rules, "found") => Ok(Some(of_text(alloc, row, hinted(rules, db, row.argument(1))?)?)),
         _ => Ok(None),
     }
 }
 
 /// A line's text with each piece that is a number in braces, and the numbers, each behind a tab.
-fn of_text(alloc: Global, rules: Rules, row: &Row, db: &Database) -> Result<String> {
-    let (hint, text) = (hint(row.argument(1))?, row.argument(2));
-    let all = around(alloc, begin(alloc), find_numbers(rules, db, hint, text))?;
+fn of_text(alloc: Global, row: &Row, engine: Engine<'_>) -> Result<String> {
+    let text = row.argument(2);
+    let all = around(alloc, begin(alloc), find_numbers(engine, text))?;
     found_words(alloc, text, all.as_slice())
 }
 

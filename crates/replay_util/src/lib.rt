@@ -15,7 +15,6 @@ pub mod possibilities;
 pub mod prefixes;
 mod premises;
 pub mod programs;
-pub mod report_rows;
 pub mod reports;
 pub mod sameness;
 pub mod tables;
@@ -53,9 +52,6 @@ pub fn answer(alloc: Global, row: &Row, db: &Database) -> Result<Option<String>>
         return Ok(Some(found));
     }
     if let Some(found) = reports::answer(alloc, row, db)? {
-        return Ok(Some(found));
-    }
-    if let Some(found) = report_rows::answer(alloc, row, db)? {
         return Ok(Some(found));
     }
     if let Some(found) = objects::answer(alloc, row, db)? {

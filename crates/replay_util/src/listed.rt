@@ -1,7 +1,7 @@
 //! The calls that ask what a database lists: its regions, its calling codes, and example numbers.
-use crate::by_rules::by_rules;
+use crate::by_rules::{by_rules, without_hint};
 use anyhow::Result;
-use phone_choice::Rules;
+use phone_engine::{Engine, Rules};
 use phone_meta::Database;
 use phone_util::{codes, example, regions};
 use phone_values::country::Id;
@@ -19,7 +19,7 @@ pub fn answer(alloc: Global, row: &Row, db: &Database) -> Result<Option<String>>
     let answer = match by_rules(row) {
         (Rules::Crate, "regions") => all_regions(alloc, db),
         (Rules::Crate, "codes") => all_codes(alloc, db),
-        (rules, "example") => example_of(alloc, rules, row, db),
+        (rules, "example") => example_of(alloc, row, without_hint(rules, db)),
         _ => return Ok(None),
     };
     Ok(Some(answer?))
@@ -55,9 +55,9 @@ fn push_value<T: Display>(out: &mut String, value: &T) -> Result<(), AllocError>
 
 /// The parts of the example number of a line's region and kind, a hyphen where there is none, or
 /// the refusal of its text.
-fn example_of(alloc: Global, rules: Rules, row: &Row, db: &Database) -> Result<String> {
+fn example_of(alloc: Global, row: &Row, engine: Engine<'_>) -> Result<String> {
     let (region, kind) = (row.argument(1).parse::<Id>()?, kind(row.argument(2))?);
-    match around(alloc, begin(alloc), example(rules, db, region, kind)) {
+    match around(alloc, begin(alloc), example(engine, region, kind)) {
         Ok(Some(number)) => part_words(alloc, &number),
         Ok(None) => said(alloc, "-"),
         Err(error) => refusal(alloc, &error),

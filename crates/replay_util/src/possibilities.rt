@@ -1,14 +1,14 @@
 //! The calls that ask whether a number is possible: `possible` of one that a line gives by its
 //! parts, `possible-text` of a text under a hint.
-use crate::by_rules::by_rules;
+use crate::by_rules::{by_rules, hinted, without_hint};
 use anyhow::Result;
-use phone_choice::Rules;
+use phone_engine::Engine;
 use phone_meta::Database;
 use phone_util::{possibility_of, possibility_of_text};
 use phonenumber::PhoneNumber;
 use replay_base::marks::{around, begin};
 use replay_base::table::Row;
-use replay_base::words::{hint, refusal};
+use replay_base::words::refusal;
 use replay_numbers::given::number;
 use std::alloc::Global;
 
@@ -16,38 +16,29 @@ use std::alloc::Global;
 /// where a line gives a number that is none, and where memory is refused.
 pub fn answer(alloc: Global, row: &Row, db: &Database) -> Result<Option<String>> {
     let answer = match by_rules(row) {
-        (rules, "possible") => of_number(alloc, rules, row, db),
-        (rules, "possible-text") => of_text(alloc, rules, row, db),
+        (rules, "possible") => of_number(alloc, row, without_hint(rules, db)),
+        (rules, "possible-text") => of_text(alloc, row, hinted(rules, db, row.argument(1))?),
         _ => return Ok(None),
     };
     Ok(Some(answer?))
 }
 
 /// What is said of a line's number.
-fn of_number(alloc: Global, rules: Rules, row: &Row, db: &Database) -> Result<String> {
+fn of_number(alloc: Global, row: &Row, engine: Engine<'_>) -> Result<String> {
     let number = number(row, 1, None, None)?;
-    possibility_words(alloc, rules, db, &number)
+    possibility_words(alloc, engine, &number)
 }
 
 /// What is said of a number.
-fn possibility_words(
-    alloc: Global,
-    rules: Rules,
-    db: &Database,
-    number: &PhoneNumber,
-) -> Result<String> {
-    let found = around(alloc, begin(alloc), possibility_of(rules, db, number))?;
+fn possibility_words(alloc: Global, engine: Engine<'_>, number: &PhoneNumber) -> Result<String> {
+    let found = around(alloc, begin(alloc), possibility_of(engine, number))?;
     Ok(format!(in alloc; "{found:?}")?)
 }
 
 /// What is said of a line's text, or the refusal.
-fn of_text(alloc: Global, rules: Rules, row: &Row, db: &Database) -> Result<String> {
-    let (hint, text) = (hint(row.argument(1))?, row.argument(2));
-    match around(
-        alloc,
-        begin(alloc),
-        possibility_of_text(rules, db, hint, text),
-    ) {
+fn of_text(alloc: Global, row: &Row, engine: Engine<'_>) -> Result<String> {
+    let text = row.argument(2);
+    match around(alloc, begin(alloc), possibility_of_text(engine, text)) {
         Ok(found) => Ok(format!(in alloc; "{found:?}")?),
         Err(error) => refusal(alloc, &error),
     }

@@ -1,5 +1,5 @@
 //! The calls of programs over their words, what they read, and devices in memory: `phone` of
-//! `phone_cli`, `phone-tool` of `phonenumber::report`.
+//! `phone_cli`, `phone-tool` of `phone_engine::tool`.
 use anyhow::{Result, anyhow};
 use phone_device::{Limit, Script, Then};
 use replay_base::devices::{fault, sink};
@@ -81,7 +81,7 @@ fn program<R: Files + AllocGlobal>(
 ) -> u8 {
     match row.call() {
         "phone" => phone_cli::program(rt, words, source, written, told),
-        _ => phonenumber::report::program(rt, words, source, written, told),
+        _ => phone_engine::tool::program(rt, words, source, written, told),
     }
 }
 

@@ -1,36 +1,55 @@
-//! The calls of `phonenumber::report` over devices in memory: what a run writes, and how it ends
-//! where a device fails.
+//! The calls of reports, by either rules: the report line of a line; over devices in memory what a
+//! run writes, and how it ends where a device fails.
+use crate::by_rules::{by_rules, hinted};
 use anyhow::{Result, anyhow};
 use phone_device::{Limit, MemorySource, Script, Then};
+use phone_engine::{Engine, RunError};
 use phone_meta::Database;
-use phonenumber::report::{RunError, run};
 use replay_base::devices::{fault, then};
 use replay_base::marks::{around, begin};
 use replay_base::table::Row;
-use replay_base::words::{hint, said};
+use replay_base::words::said;
 use std::alloc::Global;
 
 /// How many bytes the sink of a run takes that isn't to fail.
 const ROOM: usize = 4096;
 
-/// What a run writes, as the table writes it; none for any other call. An error where a line names
-/// no place or no end of a device, and where memory is refused.
+/// A report, as the table writes it; none for any other call. An error where a line names no place
+/// or no end of a device, and where memory is refused.
 pub fn answer(alloc: Global, row: &Row, db: &Database) -> Result<Option<String>> {
-    let answer = match row.call() {
-        "run" => of_row(alloc, row, db),
-        "run-source" => from_source(alloc, row, db),
-        "run-sink" => to_sink(alloc, row, db),
-        "run-each-sink" => to_each_sink(alloc, row, db),
-        _ => return Ok(None),
-    };
-    Ok(Some(answer?))
+    let (rules, call) = by_rules(row);
+    match call {
+        "report-line" | "run" | "run-source" | "run-sink" | "run-each-sink" => {
+            let engine = hinted(rules, db, row.argument(1))?;
+            Ok(Some(of_call(alloc, call, row, engine)?))
+        }
+        _ => Ok(None),
+    }
+}
+
+/// The report that this call gives.
+fn of_call(alloc: Global, call: &str, row: &Row, engine: Engine<'_>) -> Result<String> {
+    match call {
+        "report-line" => of_line(alloc, row, engine),
+        "run" => of_row(alloc, row, engine),
+        "run-source" => from_source(alloc, row, engine),
+        "run-sink" => to_sink(alloc, row, engine),
+        _ => to_each_sink(alloc, row, engine),
+    }
+}
+
+/// The report line of a line.
+fn of_line(alloc: Global, row: &Row, engine: Engine<'_>) -> Result<String> {
+    let begun = begin(alloc);
+    let line = engine.report_line(row.argument_bytes(2));
+    Ok(around(alloc, begun, line)?)
 }
 
 /// The report on a line's input. An error where memory is refused behind whole first lines of the
 /// report that is wanted.
-fn of_row(alloc: Global, row: &Row, db: &Database) -> Result<String> {
+fn of_row(alloc: Global, row: &Row, engine: Engine<'_>) -> Result<String> {
     let mut sink = Limit::new(alloc, ROOM, Then::Fail)?;
-    let end = run_to(alloc, row, db, &mut sink)?;
+    let end = run_to(alloc, row, engine, &mut sink);
     if end == Err(RunError::Memory) && !are_first_lines(sink.bytes(), row.answer()) {
         return said(alloc, "another end");
     }
@@ -38,15 +57,9 @@ fn of_row(alloc: Global, row: &Row, db: &Database) -> Result<String> {
 }
 
 /// How a run over a line's input ends that writes to a sink.
-fn run_to(
-    alloc: Global,
-    row: &Row,
-    db: &Database,
-    sink: &mut Limit,
-) -> Result<Result<(), RunError>> {
-    let hint = hint(row.argument(1))?;
+fn run_to(alloc: Global, row: &Row, engine: Engine<'_>, sink: &mut Limit) -> Result<(), RunError> {
     let mut source = MemorySource::new(row.argument_bytes(2));
-    Ok(around(alloc, begin(alloc), run(db, hint, &mut source, sink)))
+    around(alloc, begin(alloc), engine.report(&mut source, sink))
 }
 
 /// What a run wrote that came to its end. An error where memory was refused.
@@ -82,21 +95,23 @@ fn status_after(alloc: Global, end: Result<(), RunError>, written: &[u8]) -> Res
 }
 
 /// A run over a line's input by a source that fails where the line says.
-fn from_source(alloc: Global, row: &Row, db: &Database) -> Result<String> {
-    let (hint, at) = (hint(row.argument(1))?, fault(row.argument(3))?);
+fn from_source(alloc: Global, row: &Row, engine: Engine<'_>) -> Result<String> {
+    let at = fault(row.argument(3))?;
     let bytes = Vec::from_slice(alloc, row.argument_bytes(2))?;
     let mut source = Script::new(bytes, at);
     let mut sink = Limit::new(alloc, ROOM, Then::Fail)?;
-    let end = around(alloc, begin(alloc), run(db, hint, &mut source, &mut sink));
+    let begun = begin(alloc);
+    let end = engine.report(&mut source, &mut sink);
+    let end = around(alloc, begun, end);
     status_after(alloc, end, sink.bytes())
 }
 
 /// A run over a line's input to a sink that takes so many bytes, and then does what the line says.
 /// An error where memory is refused, also where the sink fails over what was written before.
-fn to_sink(alloc: Global, row: &Row, db: &Database) -> Result<String> {
+fn to_sink(alloc: Global, row: &Row, engine: Engine<'_>) -> Result<String> {
     let room = row.argument(3).parse::<usize>()?;
     let mut sink = Limit::new(alloc, room, then(row.argument(4)))?;
-    let end = run_to(alloc, row, db, &mut sink)?;
+    let end = run_to(alloc, row, engine, &mut sink);
     if end == Err(RunError::Output) && is_cut_short(sink.bytes(), row.answer()) {
         return Err(anyhow!("out of memory"));
     }
@@ -113,15 +128,15 @@ fn is_cut_short(written: &[u8], answer: &[u8]) -> bool {
 
 /// Of the sinks that take less than the report on a line's input, how many end the run by `Output`
 /// and hold what they take.
-fn to_each_sink(alloc: Global, row: &Row, db: &Database) -> Result<String> {
+fn to_each_sink(alloc: Global, row: &Row, engine: Engine<'_>) -> Result<String> {
     let then = then(row.argument(3));
     let mut sink = Limit::new(alloc, ROOM, Then::Fail)?;
-    let end = run_to(alloc, row, db, &mut sink)?;
+    let end = run_to(alloc, row, engine, &mut sink);
     let report = report(alloc, end, sink.bytes())?;
     let all = report.len();
     let mut held = 0u64;
     for room in 0..all {
-        if is_held(alloc, row, db, report.as_str().as_bytes(), room, then)? {
+        if is_held(alloc, row, engine, report.as_str().as_bytes(), room, then)? {
             held = held.saturating_add(1);
         }
     }
@@ -133,15 +148,14 @@ fn to_each_sink(alloc: Global, row: &Row, db: &Database) -> Result<String> {
 fn is_held(
     alloc: Global,
     row: &Row,
-    db: &Database,
+    engine: Engine<'_>,
     report: &[u8],
     room: usize,
     then: Then,
 ) -> Result<bool> {
-    let hint = hint(row.argument(1))?;
     let mut source = MemorySource::new(row.argument_bytes(2));
     let mut sink = Limit::new(alloc, room, then)?;
-    let end = run(db, hint, &mut source, &mut sink);
+    let end = engine.report(&mut source, &mut sink);
     if end == Err(RunError::Memory) {
         return Err(anyhow!("out of memory"));
     }

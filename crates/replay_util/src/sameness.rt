@@ -1,7 +1,7 @@
 //! The call that asks whether two texts are one number.
-use crate::by_rules::by_rules;
+use crate::by_rules::{by_rules, without_hint};
 use anyhow::Result;
-use phone_choice::Rules;
+use phone_engine::Engine;
 use phone_meta::Database;
 use phone_util::compare_texts;
 use replay_base::marks::{around, begin};
@@ -13,15 +13,15 @@ use std::alloc::Global;
 /// An error where memory is refused.
 pub fn answer(alloc: Global, row: &Row, db: &Database) -> Result<Option<String>> {
     match by_rules(row) {
-        (rules, "same") => Ok(Some(likeness(alloc, rules, row, db)?)),
+        (rules, "same") => Ok(Some(likeness(alloc, row, without_hint(rules, db))?)),
         _ => Ok(None),
     }
 }
 
 /// How like the numbers of a line's two texts are, or the refusal of one.
-fn likeness(alloc: Global, rules: Rules, row: &Row, db: &Database) -> Result<String> {
+fn likeness(alloc: Global, row: &Row, engine: Engine<'_>) -> Result<String> {
     let (a, b) = (row.argument(1), row.argument(2));
-    match around(alloc, begin(alloc), compare_texts(rules, db, a, b)) {
+    match around(alloc, begin(alloc), compare_texts(engine, a, b)) {
         Ok(found) => Ok(format!(in alloc; "{found:?}")?),
         Err(error) => refusal(alloc, &error),
     }

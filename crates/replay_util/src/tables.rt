@@ -1,15 +1,13 @@
 //! The call that gives a table of customers back: `given-table`, by either rules.
-use crate::by_rules::by_rules;
+use crate::by_rules::{by_rules, hinted};
 use anyhow::{Result, anyhow};
-use phone_choice::Rules;
 use phone_csv::RunError;
 use phone_device::{Limit, MemorySource, Then};
+use phone_engine::Engine;
 use phone_meta::Database;
 use phone_table::{Asked, Counts, TableError, write_table};
-use phone_values::country::Id;
 use replay_base::marks::{around, begin};
 use replay_base::table::Row;
-use replay_base::words::hint;
 use std::alloc::{AllocError, Global};
 
 /// How many bytes are taken of the table.
@@ -20,29 +18,26 @@ const ROOM: usize = 4096;
 /// records are marked, and the table. An error where memory is refused.
 pub fn answer(alloc: Global, row: &Row, db: &Database) -> Result<Option<String>> {
     match by_rules(row) {
-        (rules, "given-table") => Ok(Some(given(alloc, rules, row, db)?)),
+        (rules, "given-table") => Ok(Some(given(alloc, row, hinted(rules, db, row.argument(3))?)?)),
         _ => Ok(None),
     }
 }
 
 /// How a line's table is given back, and what was written.
-fn given(alloc: Global, rules: Rules, row: &Row, db: &Database) -> Result<String> {
-    let asked = asked(rules, row, hint(row.argument(3))?);
+fn given(alloc: Global, row: &Row, engine: Engine<'_>) -> Result<String> {
     let mut source = MemorySource::new(row.argument_bytes(5));
     let mut sink = Limit::new(alloc, ROOM, Then::Fail)?;
     let begun = begin(alloc);
-    let end = write_table(db, asked, &mut source, &mut sink);
+    let end = write_table(engine, asked(row), &mut source, &mut sink);
     end_words(alloc, around(alloc, begun, end), sink.bytes())
 }
 
 /// What a row asks for of its table, without further columns and short numbers.
-fn asked<'r>(rules: Rules, row: &'r Row, hint: Option<Id>) -> Asked<'r> {
+fn asked(row: &Row) -> Asked<'_> {
     Asked {
-        rules,
         number: row.argument(1),
         region: region(row.argument(2)),
         delimiter: b',',
-        hint,
         else_hint: false,
         mark_bad: row.argument(4) == "mark",
         extra: &[],

@@ -1,14 +1,14 @@
 use Rattle.std.proofs.Common.{◌≡◌, ◌<◌, ◌++◌, ℕ, List, Option, length, vec_len}
 use Rattle.phone_lines.specs.Runs.{Stands}
-use Rattle.phone_lines.proofs.pending_output.PendingOutput.take_block.Given as goal
+use Rattle.phone_lines.proofs.pending_output.PendingOutput.take_pieces.Given as goal
 
 abbrev pub invariant-loop-line : goal.invariant-loop-line
 invariant-loop-line g l = record {
   taken : List ℕ;
   whole : l.block ≡ taken ++ l.rest;
-  on : (bytes : List ℕ) (before : Option (List ℕ)) →
-      Stands (g.A.Answers.gives l.answers) bytes l.initial.self.line.items l.initial.self.answers.items before (g.W.ByteSink.taken l.initial.sink) →
-      Stands (g.A.Answers.gives l.answers) (bytes ++ taken) l.self.line.items l.self.answers.items before (g.W.ByteSink.taken l.sink);
+  on : (first : g.row.T.Denot) (bytes : List ℕ) (before : Option (List ℕ)) →
+      Stands g.T.LineTaker.begins g.T.LineTaker.gives first bytes l.initial.self.line.items l.initial.taker l.initial.self.answers.items before (g.W.ByteSink.taken l.initial.sink) →
+      Stands g.T.LineTaker.begins g.T.LineTaker.gives first (bytes ++ taken) l.self.line.items l.taker l.self.answers.items before (g.W.ByteSink.taken l.sink);
   short : vec_len l.self.answers < 8192;
   same_faults : g.W.ByteSink.faults l.sink ≡ g.W.ByteSink.faults l.initial.sink;
 }

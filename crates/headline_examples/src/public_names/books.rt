@@ -1,2 +1,0 @@
-//! The names of `phone_book`.
-pub use phone_book::{Book, BookError, BookNewError, Place};
