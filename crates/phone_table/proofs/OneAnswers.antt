@@ -51,7 +51,7 @@ same_number rules db n k m l e f g = (
 )
 
 -- which short number was found, as a number
-kind_found : Option (Id × ShortKind) → ℕ
+abbrev kind_found : Option (Id × ShortKind) → ℕ
 kind_found None = 0
 kind_found (Some (region, Emergency)) = 1
 kind_found (Some (region, ShortNumber)) = 2
@@ -163,4 +163,5 @@ module _ (rules : Rules) (db : List Metadata) (short : Option (List Metadata)) (
   -- and one text of it
   pub one_object_line : (a b : List ℕ) → IsObjectLine rules db short hint place line a →
       IsObjectLine rules db short hint place line b → a ≡ b
-  one_object_line a b h g = h.2.0 ∙ ap compact_text (one_line_object h.0 g.0 h.1 g.1) ∙ sym g.2.0
+  one_object_line a b h g =
+      h.2 ∙ ap compact_text (one_line_object h.0 g.0 h.1 g.1) ∙ sym g.2
