@@ -1,5 +1,5 @@
 -- Each record has an answer, and in each table of prefixes a text is found, or none.
-use Rattle.std.proofs.Common.{◌≡◌, ◌≢◌, ◌⊎◌, ⊎_elim, inl, inr, ℕ, ◌≤◌, Bool, true, false, List, []}
+use Rattle.std.proofs.Common.{◌≡◌, ◌⊎◌, ⊎_elim, inl, inr, ℕ, Bool, true, false, List, []}
 use Rattle.std.proofs.Common.{◌∷◌, ◌++◌}
 use Rattle.std.proofs.Common.{take, drop, length, Option, None, Some, refl, sym, ap, subst, ◌∙◌}
 use Rattle.std.proofs.Common.{arith}
@@ -21,7 +21,7 @@ use Rattle.phone_prefixes.specs.Tables.{AreEntries, Entry, IsLongest, IsTable, N
 use Rattle.phone_prefixes.specs.Tables.AreEntries.{none as no_entries, next as next_entry}
 use Rattle.phone_records.specs.declared.loader.Metadata.{Metadata}
 use Rattle.phone_table.specs.Answers.{IsAnswer, IsAnswerUnder, IsFieldAnswer, IsOfOtherWidth}
-use Rattle.phone_table.specs.Answers.{IsSevenAnswer, refused_answer, short_of}
+use Rattle.phone_table.specs.Answers.{IsSevenAnswer, short_of}
 use Rattle.phone_table.specs.Extras.{AreTold, HaveOneText, IsFound, IsTold, looked_up}
 use Rattle.phone_table.specs.Extras.AreTold.{none as told_none, next as told_next}
 use Rattle.phone_table.specs.declared.extra.Extra.{Extra}

@@ -1,7 +1,6 @@
-use Rattle.std.proofs.Common.{subst}
 use Rattle.csv.specs.Records.{fields_of}
 use Rattle.phone_table.specs.Answers.{short_of}
-use Rattle.phone_table.proofs.SomeRows.{HasAnswers, answer_some}
+use Rattle.phone_table.proofs.SomeRows.{answer_some}
 use Rattle.phone_table.proofs.laws.some_row.Goals as goal
 
 pub returns : goal.returns
