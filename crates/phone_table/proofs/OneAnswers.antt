@@ -1,9 +1,8 @@
 -- A field has one answer, and a line one object.
-use Rattle.std.proofs.Common.{◌≡◌, ◌==◌, ℕ, List, Option, None, Some, Bool, true, false, Result, Ok}
+use Rattle.std.proofs.Common.{◌≡◌, ◌==◌, ℕ, List, Option, None, Some, true, false, Result, Ok}
 use Rattle.std.proofs.Common.{Err}
 use Rattle.std.proofs.Common.{chars, refl, sym, ap, ap₂, subst, ◌∙◌, true≢false}
 use Rattle.std.specs.Prelude.{⊤}
-use Rattle.std.specs.Str.{IsUtf8}
 use Rattle.std.proofs.lemmas.Bool.{false≢true}
 use Rattle.std.proofs.lemmas.Option.{same_Some}
 use Rattle.std.proofs.lemmas.Result.{IfErr-at_err, IfOk-at_ok, MatchResult-at_err}
@@ -11,7 +10,6 @@ use Rattle.serde_json.specs.Data.{Data, null, string}
 use Rattle.serde_json.specs.Written.{compact_text}
 use Rattle.phone_values.specs.Refusals.{report_words}
 use Rattle.phone_values.specs.declared.country.Id.{Id}
-use Rattle.phone_values.specs.declared.error.ParseError.{ParseError}
 use Rattle.phone_values.specs.declared.reading.Reading.{Reading}
 use Rattle.phone_values.specs.declared.rules.Rules.{Rules}
 use Rattle.phone_csv.specs.Formats.{Record}
@@ -19,7 +17,6 @@ use Rattle.phone_plans.specs.CodeLookUps.{first_of, territories}
 use Rattle.phone_records.specs.declared.loader.Metadata.{Metadata}
 use Rattle.phone_short.specs.declared.kind.ShortKind.{ShortKind}
 use Rattle.phone_short.specs.declared.kind.ShortKind.TheVariants.{Emergency, ShortNumber}
-use Rattle.phone_engine.specs.Readings.{ReadsBy}
 use Rattle.phone_engine.proofs.OneReading.{reading_same}
 use Rattle.phone_table.specs.Answers.{IsFieldAnswer, IsReply, IsTextAnswer, is_valid_number}
 use Rattle.phone_table.specs.Answers.{number_answer, refused_answer}
@@ -51,7 +48,7 @@ same_number rules db n k m l e f g = (
 )
 
 -- which short number was found, as a number
-kind_found : Option (Id × ShortKind) → ℕ
+abbrev kind_found : Option (Id × ShortKind) → ℕ
 kind_found None = 0
 kind_found (Some (region, Emergency)) = 1
 kind_found (Some (region, ShortNumber)) = 2
@@ -163,4 +160,5 @@ module _ (rules : Rules) (db : List Metadata) (short : Option (List Metadata)) (
   -- and one text of it
   pub one_object_line : (a b : List ℕ) → IsObjectLine rules db short hint place line a →
       IsObjectLine rules db short hint place line b → a ≡ b
-  one_object_line a b h g = h.2.0 ∙ ap compact_text (one_line_object h.0 g.0 h.1 g.1) ∙ sym g.2.0
+  one_object_line a b h g =
+      h.2 ∙ ap compact_text (one_line_object h.0 g.0 h.1 g.1) ∙ sym g.2

@@ -1,9 +1,8 @@
 -- A record has one answer, and a column tells one text of a number.
-use Rattle.std.proofs.Common.{◌≡◌, ◌≢◌, ◌⊎◌, inl, inr, ℕ, ◌+◌, ◌<◌, ◌≤◌, List, [], ◌∷◌, ◌++◌, take}
-use Rattle.std.proofs.Common.{length, get_or}
-use Rattle.std.proofs.Common.{Option, None, Some, refl, sym, ap, ap₂, subst, subst₂, ◌∙◌, arith}
+use Rattle.std.proofs.Common.{◌≡◌, inl, inr, ℕ, List, ◌∷◌, ◌++◌, take}
+use Rattle.std.proofs.Common.{length}
+use Rattle.std.proofs.Common.{Option, None, Some, refl, sym, ap₂, subst, ◌∙◌, arith}
 use Rattle.std.proofs.Math.Seq.{take-append_seam}
-use Rattle.std.specs.List.{AllByRecursion, Contains}
 use Rattle.phone_values.specs.declared.country.Id.{Id}
 use Rattle.phone_values.specs.declared.reading.Reading.{Reading}
 use Rattle.phone_values.specs.declared.rules.Rules.{Rules}
@@ -15,7 +14,7 @@ use Rattle.phone_table.specs.Answers.{IsAnswer, IsAnswerUnder, IsNumberAnswer, I
 use Rattle.phone_table.specs.Answers.{short_of}
 use Rattle.phone_table.specs.Extras.{AreTold, EachHasOneText, HaveOneText, IsFound, IsTold}
 use Rattle.phone_table.specs.Extras.{looked_up}
-use Rattle.phone_table.specs.Extras.AreTold.{none, next}
+use Rattle.phone_table.specs.Extras.AreTold.{none as told_none, next as told_next}
 use Rattle.phone_table.specs.Regions.{Names, RecordNames, field_in, hint_under}
 use Rattle.phone_table.specs.Regions.Names.{no_text, of_text}
 use Rattle.phone_table.specs.declared.extra.Extra.{Extra}
@@ -57,8 +56,8 @@ module _ (rules : Rules) (db : List Metadata) where
   all_told_same : (number : Option Reading) (columns : List Extra) (a b : Record) →
       EachHasOneText columns → AreTold rules db number columns a →
       AreTold rules db number columns b → a ≡ b
-  all_told_same number _ _ _ one none none = refl
-  all_told_same number _ _ _ one (next c cs t ts h hs) (next c cs u us g gs) =
+  all_told_same number _ _ _ one told_none told_none = refl
+  all_told_same number _ _ _ one (told_next c cs t ts h hs) (told_next _ _ u us g gs) =
       ap₂ (λ x xs. x ∷ xs) (told_same c one.0 number t u h g)
       (all_told_same number cs ts us one.1 hs gs)
 

@@ -1,6 +1,6 @@
 -- A text that has a reading has an answer, and so has each field, and each line an object.
 use Rattle.std.proofs.Common.{◌≡◌, ℕ, List, Option, None, Some, Bool, true, false, Result, Ok, Err}
-use Rattle.std.proofs.Common.{chars, refl}
+use Rattle.std.proofs.Common.{chars, codes, refl}
 use Rattle.std.specs.Str.{IsUtf8}
 use Rattle.serde_json.specs.Data.{Data, null, string}
 use Rattle.phone_values.specs.Refusals.{report_words}
@@ -83,6 +83,7 @@ pub object_of_answer : (rules : Rules) (db : List Metadata) (short : Option (Lis
     IsFieldAnswer rules db short hint line n a →
     (d : Data) × IsObject rules db short hint place line d
 object_of_answer rules db short hint place line _ _ (no_text x) =
-    (object_of place null _, no_text_object _ _ x (no_text x))
+    let words = refused_answer (codes "not UTF-8") in
+    (object_of place null words, no_text_object None words x (no_text x))
 object_of_answer rules db short hint place line _ _ (of_text n a u h) =
     (object_of place (string line) a, object_of_text n a u (of_text n a u h))

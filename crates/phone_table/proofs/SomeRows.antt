@@ -1,5 +1,5 @@
 -- Each record has an answer, and in each table of prefixes a text is found, or none.
-use Rattle.std.proofs.Common.{◌≡◌, ◌≢◌, ◌⊎◌, ⊎_elim, inl, inr, ℕ, ◌≤◌, Bool, true, false, List, []}
+use Rattle.std.proofs.Common.{◌≡◌, ◌⊎◌, ⊎_elim, inl, inr, ℕ, Bool, true, false, List, []}
 use Rattle.std.proofs.Common.{◌∷◌, ◌++◌}
 use Rattle.std.proofs.Common.{take, drop, length, Option, None, Some, refl, sym, ap, subst, ◌∙◌}
 use Rattle.std.proofs.Common.{arith}
@@ -21,9 +21,9 @@ use Rattle.phone_prefixes.specs.Tables.{AreEntries, Entry, IsLongest, IsTable, N
 use Rattle.phone_prefixes.specs.Tables.AreEntries.{none as no_entries, next as next_entry}
 use Rattle.phone_records.specs.declared.loader.Metadata.{Metadata}
 use Rattle.phone_table.specs.Answers.{IsAnswer, IsAnswerUnder, IsFieldAnswer, IsOfOtherWidth}
-use Rattle.phone_table.specs.Answers.{IsSevenAnswer, refused_answer, short_of}
+use Rattle.phone_table.specs.Answers.{IsSevenAnswer, short_of}
 use Rattle.phone_table.specs.Extras.{AreTold, HaveOneText, IsFound, IsTold, looked_up}
-use Rattle.phone_table.specs.Extras.AreTold.{none, next}
+use Rattle.phone_table.specs.Extras.AreTold.{none as told_none, next as told_next}
 use Rattle.phone_table.specs.declared.extra.Extra.{Extra}
 use Rattle.phone_table.specs.declared.header.Columns.{Columns}
 use Rattle.phone_table.specs.declared.run.Asked.{Asked}
@@ -168,11 +168,11 @@ module _ (rules : Rules) (db : List Metadata) where
   -- what columns tell of a number
   all_told : (number : Option Reading) (columns : List Extra) →
       (told : Record) × AreTold rules db number columns told
-  all_told number [] = ([], none)
+  all_told number [] = ([], told_none)
   all_told number (c ∷ cs) =
       let t = told_some c number in
       let ts = all_told number cs in
-      (t.0 ∷ ts.0, next c cs t.0 ts.0 t.1 ts.1)
+      (t.0 ∷ ts.0, told_next c cs t.0 ts.0 t.1 ts.1)
 
   module _ (hint : Option Id) (columns : Columns) (asked : Asked) (fields : Record) where
     -- under each hint the record's field has an answer

@@ -18,4 +18,4 @@ returns-clause-answer c =
     let fields = fields_of c.args.fields.now in
     let some : hint_under t.asked.else_hint t.engine.hint c.region_of-named.result ≡ Some c.in-Some.hint = search rules in
     IfOk-weaker c.answer_to.result _ (λ a. IsNumberAnswer t.engine.rules t.engine.database.now t.engine.hint t.columns t.asked fields (number_in a) (spelled a))
-    (λ a given. (c.region_of-named.result, c.region_of-named.ensures, rw (some, ← c.field_in-field.ensures) given)) c.answer_to.ensures.answer
+    (λ a given. (c.region_of-named.result, c.region_of-named.ensures, rw (some, ← c.field_in.ensures) given)) c.answer_to.ensures.answer
