@@ -15,11 +15,12 @@ returns-in_err-b c =
     let engine = c.args.engine in
     let e = c.in_err-b.field-0.0 in
     let same : c.from_residual-in_err-b.result ≡ Err e = search rules in
-    second_so engine.rules engine.database.now (chars c.args.a.now) (chars c.args.b.now) c.in_ok-a.a e
-    c.from_residual-in_err-b.result same c.in_ok-a.ensures c.in_err-b.ensures
+    second_so engine.rules engine.database.now (chars c.args.a.now) (chars c.args.b.now)
+    c.in_ok-a.a e c.from_residual-in_err-b.result same c.in_ok-a.ensures c.in_err-b.ensures
 
 pub returns : goal.returns
 returns c =
     let engine = c.args.engine in
-    both_so engine.rules engine.database.now (chars c.args.a.now) (chars c.args.b.now) c.in_ok-a.a c.in_ok-b.b
-    c.in_ok-sameness_of.field-0 c.in_ok-sameness_of.ensures c.in_ok-a.ensures c.in_ok-b.ensures
+    both_so engine.rules engine.database.now (chars c.args.a.now) (chars c.args.b.now)
+    c.in_ok-a.a c.in_ok-b.b c.in_ok-sameness_of.field-0 c.in_ok-sameness_of.ensures
+    c.in_ok-a.ensures c.in_ok-b.ensures
