@@ -1,5 +1,5 @@
 //! What the program says of itself, and of what words it knows.
-use phone_choice::Rules;
+use phone_engine::Rules;
 use phone_device::{ByteSink, Fault, write_all};
 use phone_values::country::{ALL, Id};
 use std::alloc::AllocGlobal;

@@ -9,8 +9,8 @@ use crate::operands::{hint_and_files, say_missing};
 use crate::outlet::Outlet;
 use crate::say::{say, say_firsts, say_records, say_word_error};
 use crate::written::is_read;
-use phone_choice::Rules;
 use phone_device::{ByteSink, ByteSource, Fault, Std};
+use phone_engine::{Engine, Rules};
 use phone_jobs::{
     ByLines, Customers, Finder, Firsts, FoundForm, Job, LineTaker, Loaded, Objects, Reader, Report,
     Shorts, Typist, on_inputs,
@@ -267,17 +267,17 @@ fn reader_of<'d>(
     database: &'d Plans,
     short: Option<&'d Plans>,
 ) -> Reader<'d>
-    ensures rules { result.rules ≡ reading.entry.call.now.rules }
-    ensures hint { result.hint ≡ reading.entry.hint }
-    ensures database { result.database.now ≡ database.now }
+    ensures rules { result.engine.rules ≡ reading.entry.call.now.rules }
+    ensures hint { result.engine.hint ≡ reading.entry.hint }
+    ensures database { result.engine.database.now ≡ database.now }
 {
     let Reading { call, hint, .. } = reading;
-    Reader {
+    let engine = Engine {
         database,
         rules: call.rules,
         hint,
-        short,
-    }
+    };
+    Reader { engine, short }
 }
 
 /// The program where a reader reads the numbers.
@@ -301,7 +301,7 @@ fn by_reader<R: Files + AllocGlobal, S: ByteSource, W: Outlet, E: ByteSink>(
             run_lines(rt, reading, &mut taker, input, output, errors)
         }
         Command::Typed => {
-            let mut taker = Typist::new(reader.database, reader.hint);
+            let mut taker = Typist::new(reader.engine.database, reader.engine.hint);
             run_lines(rt, reading, &mut taker, input, output, errors)
         }
         Command::Table => customers(rt, reading, reader, input, output, errors),
@@ -412,7 +412,7 @@ fn customers<R: Files + AllocGlobal, S: ByteSource, W: Outlet, E: ByteSink>(
         return say(errors, &["out of memory"], 1);
     };
     let mut job = Customers {
-        database: reader.database,
+        engine: reader.engine,
         asked: asked(table, reader, extra.as_slice()),
         is_unique: table.is_unique,
         left_out: 0,
@@ -440,16 +440,12 @@ fn run_table<R: Files + AllocGlobal, S: ByteSource, W: Outlet, E: ByteSink>(
 
 /// What is asked of a table that this reads, with these further columns.
 fn asked<'t>(table: Table<'t>, reader: Reader<'t>, extra: &'t [Extra<'t>]) -> Asked<'t>
-    ensures rules { result.rules ≡ reader.entry.rules }
-    ensures hint { result.hint ≡ reader.entry.hint }
     ensures mark_bad { result.mark_bad ≡ table.entry.mark_bad }
 {
     Asked {
-        rules: reader.rules,
         number: table.column,
         region: table.region_column,
         delimiter: table.delimiter,
-        hint: reader.hint,
         else_hint: table.fallback_region,
         mark_bad: table.mark_bad,
         extra,

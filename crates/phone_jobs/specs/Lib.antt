@@ -1,2 +1,9 @@
-pub mod Runs
+pub mod FirstLines
+pub mod FoundLines
+pub mod Inputs
+pub mod Jobs
+pub mod ObjectLines
+pub mod Pairs
 pub mod ShortLines
+pub mod TableJobs
+pub mod TypedLines

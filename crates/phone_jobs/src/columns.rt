@@ -1,11 +1,12 @@
 //! The further columns of a table, and the tables of prefixes by which they tell.
+ghost use Rattle.std.specs.Prelude.{◌≡◌, IfOk, Ok};
+ghost use Rattle.phone_csv.specs.Runs.{OfRead};
+ghost use Rattle.phone_jobs.specs.Pairs.{IsWithTab};
+ghost use Rattle.phone_lines.specs.LineReports.{IsReport};
 
-use crate::lines::{LineTaker, take_lines};
-use crate::text::push_text;
-use csv::ByteRecord;
-use phone_csv::{First, FirstError, first_record};
-use phone_device::{ByteSource, MemorySink, MemorySource, Std};
-use phone_lines::RunError;
+use crate::pairs::Tabs;
+use phone_device::{ByteSource, MemorySink, Std};
+use phone_lines::{RunError, take_lines};
 use phone_prefixes::{Prefixes, PrefixesError};
 use phone_table::{Extra, Owner, Told};
 use phone_words::Further;
@@ -69,68 +70,11 @@ pub enum NoColumns<'w> {
     Memory,
 }
 
-/// What gives each line of a table of prefixes a tab: a line without one that is a CSV record of
-/// two fields is given back as these, with a tab between. Other lines stay as they are.
-#[derive(Drop)]
-struct Tabs {}
-
-/// The first record of a text, where it has two fields.
-fn pair_in(first: First) -> Option<ByteRecord> {
-    let First { fields, .. } = first;
-    if fields.len() == 2 {
-        return Some(fields);
-    }
-    None
-}
-
-/// The record of two fields that a line without a tab is; none where it is none, or has a tab.
-/// Refused only for memory.
-fn pair_of(alloc: Global, line: &[u8]) -> Result<Option<ByteRecord>, AllocError> {
-    if line.iter().any(|byte| *byte == b'\t') {
-        return Ok(None);
-    }
-    match first_record(alloc, b',', &mut MemorySource::new(line)) {
-        Ok(first) => Ok(pair_in(first)),
-        Err(FirstError::Memory) => Err(AllocError),
-        Err(_) => Ok(None),
-    }
-}
-
-/// Puts two fields at the end of bytes, with a tab between. Refused only for memory.
-fn push_pair(bytes: &mut Vec<u8>, pair: &ByteRecord) -> Result<(), AllocError> {
-    bytes.extend_from_slice(pair.get(0).unwrap_or(&[]))?;
-    push_text(bytes, "\t")?;
-    bytes.extend_from_slice(pair.get(1).unwrap_or(&[]))
-}
-
-/// Puts two fields at the end of bytes, with a tab between, or else the line. Refused only for
-/// memory.
-fn push_with_tab(
-    bytes: &mut Vec<u8>,
-    pair: Option<&ByteRecord>,
-    line: &[u8],
-) -> Result<(), AllocError> {
-    match pair {
-        Some(pair) => push_pair(bytes, pair),
-        None => bytes.extend_from_slice(line),
-    }
-}
-
-impl LineTaker for Tabs {
-    fn take(
-        &mut self,
-        alloc: Global,
-        line: &[u8],
-        answers: &mut Vec<u8>,
-    ) -> Result<(), AllocError> {
-        let pair = pair_of(alloc, line)?;
-        push_with_tab(answers, pair.as_ref(), line)?;
-        push_text(answers, "\n")
-    }
-}
-
 /// The bytes of a source, each of its lines with a tab.
-fn bytes_with_tabs<S: ByteSource>(alloc: Global, source: &mut S) -> Result<Vec<u8>, PrefixesError> {
+fn bytes_with_tabs<S: ByteSource>(alloc: Global, source: &mut S) -> Result<Vec<u8>, PrefixesError>
+    ensures { IfOk result (λ v. OfRead (S.to_come source.old) (S.to_come source.new)
+        (λ bytes. IsReport IsWithTab bytes v.items)) }
+{
     let mut text = MemorySink::new(alloc);
     let end = take_lines(alloc, &mut Tabs {}, source, &mut text);
     copy_after(alloc, end, text.bytes())
@@ -141,7 +85,9 @@ fn copy_after(
     alloc: Global,
     end: Result<(), RunError>,
     bytes: &[u8],
-) -> Result<Vec<u8>, PrefixesError> {
+) -> Result<Vec<u8>, PrefixesError>
+    ensures { IfOk result (λ v. (end ≡ Ok tt) × (v.items ≡ bytes.now)) }
+{
     match end {
         Ok(()) => Ok(bytes.to_vec(alloc)?),
         Err(RunError::Input) => Err(PrefixesError::Source),

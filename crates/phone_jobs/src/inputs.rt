@@ -1,12 +1,18 @@
 //! The inputs of a call: files, one after the other, or standard input.
 
+ghost use Rattle.std.specs.Prelude.{◌≡◌, ◌↔◌, IsTrue, List, Option, [], codes, ℕ};
+ghost use Rattle.phone_jobs.specs.Inputs.{InputsEnd, IsAnswered, IsStandard, Name, failed_in};
+ghost use Rattle.phone_lines.specs.Ends.{seen};
+
 use crate::jobs::{Job, JobError};
 use phone_device::{ByteSink, ByteSource, Std};
 use std::alloc::AllocGlobal;
 use std::fs::{self, Files};
 
 /// Whether a name is standard input's.
-pub fn is_standard(name: &str) -> bool {
+pub fn is_standard(name: &str) -> bool
+    ensures { IsTrue result ↔ (name.now ≡ codes "-") }
+{
     name == "-"
 }
 
@@ -19,6 +25,35 @@ pub enum Failure<'f> {
     In(&'f str, JobError),
 }
 
+/// An input's end, with its name where it failed.
+fn failed_in<'f>(name: &'f str, end: Result<(), JobError>) -> Result<(), Failure<'f>>
+    ensures { result ≡ failed_in name.entry end }
+{
+    match end {
+        Ok(()) => Ok(()),
+        Err(error) => Err(Failure::In(name, error)),
+    }
+}
+
+/// Answers the file of a name.
+fn on_file<'f, R: Files + AllocGlobal, W: ByteSink, J: Job>(
+    rt: &R,
+    name: &'f str,
+    sink: &mut W,
+    job: &mut J,
+) -> Result<(), Failure<'f>>
+    ensures { ¬ (IsStandard name.entry) → (to_come : Option (List ℕ)) (faults : ℕ) →
+        IsAnswered J.acts name.entry job.old
+        (seen to_come faults (W.taken sink.old) (W.faults sink.old) (W.unflushed sink.old))
+        (seen to_come faults (W.taken sink.new) (W.faults sink.new) (W.unflushed sink.new))
+        job.new result }
+{
+    match fs::open(rt, name) {
+        Ok(file) => failed_in(name, job.answer(rt.alloc(), &mut Std::new(file), sink)),
+        Err(_) => Err(Failure::Unopened(name)),
+    }
+}
+
 /// Answers the file of a name, or standard input.
 fn on_input<'f, R: Files + AllocGlobal, S: ByteSource, W: ByteSink, J: Job>(
     rt: &R,
@@ -26,19 +61,18 @@ fn on_input<'f, R: Files + AllocGlobal, S: ByteSource, W: ByteSink, J: Job>(
     input: &mut S,
     sink: &mut W,
     job: &mut J,
-) -> Result<(), Failure<'f>> {
-    let end = if is_standard(name) {
-        job.answer(rt.alloc(), input, sink)
-    } else {
-        match fs::open(rt, name) {
-            Ok(file) => job.answer(rt.alloc(), &mut Std::new(file), sink),
-            Err(_) => return Err(Failure::Unopened(name)),
-        }
-    };
-    match end {
-        Ok(()) => Ok(()),
-        Err(error) => Err(Failure::In(name, error)),
+) -> Result<(), Failure<'f>>
+    ensures { IsAnswered J.acts name.entry job.old
+        (seen (S.to_come input.old) (S.faults input.old) (W.taken sink.old)
+        (W.faults sink.old) (W.unflushed sink.old))
+        (seen (S.to_come input.new) (S.faults input.new) (W.taken sink.new)
+        (W.faults sink.new) (W.unflushed sink.new))
+        job.new result }
+{
+    if is_standard(name) {
+        return failed_in(name, job.answer(rt.alloc(), input, sink));
     }
+    on_file(rt, name, sink, job)
 }
 
 /// Has a job answer each file in its turn, where `-` is standard input; standard input where there
@@ -49,12 +83,29 @@ pub fn on_inputs<'f, R: Files + AllocGlobal, S: ByteSource, W: ByteSink, J: Job>
     input: &mut S,
     sink: &mut W,
     job: &mut J,
-) -> Result<(), Failure<'f>> {
+) -> Result<(), Failure<'f>>
+    ensures standard { files.now ≡ [] → (name : Name) × IsStandard name ×
+        IsAnswered J.acts name job.old
+        (seen (S.to_come input.old) (S.faults input.old) (W.taken sink.old)
+        (W.faults sink.old) (W.unflushed sink.old))
+        (seen (S.to_come input.new) (S.faults input.new) (W.taken sink.new)
+        (W.faults sink.new) (W.unflushed sink.new))
+        job.new result }
+    ensures files { ¬ (files.now ≡ []) → InputsEnd J.acts files.now job.old
+        (seen (S.to_come input.old) (S.faults input.old) (W.taken sink.old)
+        (W.faults sink.old) (W.unflushed sink.old))
+        (seen (S.to_come input.new) (S.faults input.new) (W.taken sink.new)
+        (W.faults sink.new) (W.unflushed sink.new))
+        job.new result }
+{
     if files.is_empty() {
         return on_input(rt, "-", input, sink, job);
     }
     for name in files {
-        on_input(rt, *name, input, sink, job)?;
+        match on_input(rt, *name, input, sink, job) {
+            Ok(()) => {}
+            Err(failure) => return Err(failure),
+        }
     }
     Ok(())
 }

@@ -1,12 +1,12 @@
-//! What a call does with an input: the report, a table, or lines that are taken one by one.
-use crate::firsts::FirstRecords;
-use crate::lines::{LineTaker, take_lines};
+//! What a call does with an input: the report, or lines that are taken one by one.
+ghost use Rattle.std.specs.Prelude.{◌≡◌, Result, ⊤};
+ghost use Rattle.phone_jobs.specs.Jobs.{ended};
+ghost use Rattle.phone_lines.specs.Ends.{Devices, seen};
+
 use crate::reader::Reader;
-use phone_csv::FirstError;
 use phone_device::{ByteSink, ByteSource};
-use phone_lines::RunError;
-use phone_plans::Plans;
-use phone_table::{Asked, Counts, TableError, write_table};
+use phone_lines::{LineTaker, RunError, take_lines};
+use phone_table::TableError;
 use std::alloc::Global;
 
 /// Why an input was not answered whole.
@@ -24,17 +24,31 @@ pub enum JobError {
 
 /// What is done with each input.
 pub trait Job {
+    ghost use Rattle.phone_jobs.specs.declared.jobs.JobError.{JobError};
+
+    // How an input is answered: what is kept before, the devices before and after, what is kept
+    // then, and the result.
+    ghost acts: { Self → Devices → Devices → Self → Result ⊤ JobError → Type 0 };
+
     /// Answers an input to its end. Where it is refused, what was answered before may be written.
     fn answer<S: ByteSource, W: ByteSink>(
         &mut self,
         alloc: Global,
         source: &mut S,
         sink: &mut W,
-    ) -> Result<(), JobError>;
+    ) -> Result<(), JobError>
+        ensures { acts self.old
+            (seen (S.to_come source.old) (S.faults source.old) (W.taken sink.old)
+            (W.faults sink.old) (W.unflushed sink.old))
+            (seen (S.to_come source.new) (S.faults source.new) (W.taken sink.new)
+            (W.faults sink.new) (W.unflushed sink.new))
+            self.new result };
 }
 
 /// A run over lines as a job's end.
-fn ended(end: Result<(), RunError>) -> Result<(), JobError> {
+fn ended(end: Result<(), RunError>) -> Result<(), JobError>
+    ensures { result ≡ ended end }
+{
     match end {
         Ok(()) => Ok(()),
         Err(RunError::Input) => Err(JobError::Input),
@@ -51,15 +65,21 @@ pub struct Report<'d> {
 }
 
 impl<'d> Job for Report<'d> {
+    ghost use Rattle.std.specs.Prelude.{◌≡◌};
+    ghost use Rattle.phone_jobs.specs.Jobs.{AnswersLines};
+    ghost use Rattle.phone_engine.specs.ReportLines.{IsReportLine};
+
+    ghost acts = { λ r before after r' result. AnswersLines
+        (IsReportLine r.reader.engine.rules r.reader.engine.database.now r.reader.engine.hint) before after result ×
+        (r' ≡ r) };
+
     fn answer<S: ByteSource, W: ByteSink>(
         &mut self,
-        alloc: Global,
+        _alloc: Global,
         source: &mut S,
         sink: &mut W,
     ) -> Result<(), JobError> {
-        let reader = self.reader;
-        let (database, hint) = (reader.database, reader.hint);
-        ended(phone_report::run(alloc, reader.rules, database, hint, source, sink))
+        ended(self.reader.engine.report(source, sink))
     }
 }
 
@@ -71,6 +91,11 @@ pub struct ByLines<'t, T> {
 }
 
 impl<'t, T: LineTaker> Job for ByLines<'t, T> {
+    ghost use Rattle.phone_jobs.specs.Jobs.{TakesLines};
+
+    ghost acts = { λ j before after j' result.
+        TakesLines T.begins T.gives j.taker.now before after j'.taker.now result };
+
     fn answer<S: ByteSource, W: ByteSink>(
         &mut self,
         alloc: Global,
@@ -78,66 +103,5 @@ impl<'t, T: LineTaker> Job for ByLines<'t, T> {
         sink: &mut W,
     ) -> Result<(), JobError> {
         ended(take_lines(alloc, self.taker, source, sink))
-    }
-}
-
-/// A table of customers.
-#[derive(Drop)]
-pub struct Customers<'d, 'w> {
-    /// The database that reads and tells.
-    pub database: &'d Plans,
-    /// What is asked of it.
-    pub asked: Asked<'w>,
-    /// Whether the first record of each number is kept alone.
-    pub is_unique: bool,
-    /// How many records were left out.
-    pub left_out: u64,
-    /// How many records there were, and how many of them gave what.
-    pub counts: Counts,
-}
-
-/// Why a table was not answered whole, as a job's error.
-fn table_error(error: TableError) -> JobError {
-    match error {
-        TableError::Header(FirstError::Input) => JobError::Input,
-        TableError::Header(FirstError::Memory) => JobError::Memory,
-        TableError::Rows(phone_csv::RunError::Input) => JobError::Input,
-        TableError::Rows(phone_csv::RunError::Output) => JobError::Output,
-        TableError::Rows(phone_csv::RunError::Memory) => JobError::Memory,
-        error => JobError::Table(error),
-    }
-}
-
-impl<'d, 'w> Customers<'d, 'w> {
-    /// Writes the table to a sink.
-    fn write<S: ByteSource, W: ByteSink>(
-        &mut self,
-        source: &mut S,
-        sink: &mut W,
-    ) -> Result<(), JobError> {
-        match write_table(self.database, self.asked, source, sink) {
-            Ok(counts) => {
-                self.counts = counts;
-                Ok(())
-            }
-            Err(error) => Err(table_error(error)),
-        }
-    }
-}
-
-impl<'d, 'w> Job for Customers<'d, 'w> {
-    fn answer<S: ByteSource, W: ByteSink>(
-        &mut self,
-        alloc: Global,
-        source: &mut S,
-        sink: &mut W,
-    ) -> Result<(), JobError> {
-        if !self.is_unique {
-            return self.write(source, sink);
-        }
-        let mut firsts = FirstRecords::new(alloc, self.asked.delimiter, sink);
-        let end = self.write(source, &mut firsts);
-        self.left_out = firsts.left_out();
-        end
     }
 }

@@ -4,11 +4,12 @@
 #![tactic(auto)]
 
 mod columns;
+mod customers;
 mod finder;
 mod firsts;
 mod inputs;
 mod jobs;
-mod lines;
+mod pairs;
 mod reader;
 mod shorts;
 mod takers;
@@ -16,10 +17,11 @@ mod text;
 mod typist;
 
 pub use columns::{Loaded, NoColumns};
+pub use customers::Customers;
 pub use finder::{Finder, FoundForm};
 pub use inputs::{Failure, is_standard, on_inputs};
-pub use jobs::{ByLines, Customers, Job, JobError, Report};
-pub use lines::LineTaker;
+pub use jobs::{ByLines, Job, JobError, Report};
+pub use phone_lines::LineTaker;
 pub use reader::Reader;
 pub use shorts::Shorts;
 pub use takers::{Firsts, Objects};

@@ -1,9 +1,11 @@
 //! What is known of short numbers.
-ghost use Rattle.std.specs.Prelude.{◌≡◌, IfOk, string_bytes};
+ghost use Rattle.std.specs.Prelude.{◌≡◌, IfOk, chars, string_bytes};
+ghost use Rattle.std.specs.Str.Lossy.{utf8_lossy};
 ghost use Rattle.phone_jobs.specs.ShortLines.{short_fields, yes_or_no};
+ghost use Rattle.phone_short.specs.Regions as regions;
 
-use crate::lines::LineTaker;
 use crate::text::push_line;
+use phone_lines::LineTaker;
 use phone_plans::Plans;
 use phone_short::{ShortFacts, short_facts};
 use phonenumber::country::Id;
@@ -20,13 +22,27 @@ pub struct Shorts<'d> {
 
 impl<'d> Shorts<'d> {
     /// What is known of a line. Refused only for memory.
-    fn facts_of(&self, alloc: Global, line: &[u8]) -> Result<ShortFacts, AllocError> {
+    fn facts_of(&self, alloc: Global, line: &[u8]) -> Result<ShortFacts, AllocError>
+        ensures { IfOk result (λ facts. facts ≡ regions.short_facts self.now.database.now
+            self.now.region (chars (utf8_lossy line.now))) }
+    {
         let text = String::from_utf8_lossy(alloc, line)?;
         short_facts(self.database, self.region, text.as_str())
     }
 }
 
 impl<'d> LineTaker for Shorts<'d> {
+    ghost use Rattle.phone_jobs.specs.ShortLines.{IsShortLine};
+    ghost use Rattle.phone_lines.specs.Taken.{begins_with_nothing, each_by_itself};
+
+    ghost begins = { begins_with_nothing };
+
+    ghost gives = { each_by_itself (λ s. IsShortLine s.database.now s.region) };
+
+    fn begin(&mut self, _alloc: Global, _answers: &mut Vec<u8>) -> Result<(), AllocError> {
+        Ok(())
+    }
+
     fn take(
         &mut self,
         alloc: Global,

@@ -1,12 +1,17 @@
 //! What lines are answered by commands that count them or keep numbers.
-ghost use Rattle.std.specs.Prelude.{◌≡◌, ◌↔◌, IsNone, false};
+ghost use Rattle.std.specs.Prelude.{◌≡◌, ◌↔◌, ◌++◌, ◌∷◌, [], IfSome, IsNone, List, OnOk, ℕ};
+ghost use Rattle.std.specs.Prelude.{Some, false, slice_get};
+ghost use Rattle.phone_jobs.specs.FirstLines.{IsFirstLine};
+ghost use Rattle.phone_jobs.specs.ObjectLines.{after_one};
 ghost use Rattle.phone_plans.specs.CodeLookUps.{is_prefix_free};
+ghost use Rattle.phone_print.specs.Texts.{e164_text};
+ghost use Rattle.phone_values.specs.declared.reading.Reading.{Reading};
 
-use crate::lines::LineTaker;
 use crate::reader::Reader;
 use crate::text::{push_line, push_text};
 use phone_book::{Book, BookError, Place};
-use phone_choice::Rules;
+use phone_engine::Rules;
+use phone_lines::LineTaker;
 use phone_plans::Plans;
 use phone_table::objects::object_line;
 use phonenumber::country::Id;
@@ -22,16 +27,29 @@ pub struct Objects<'d> {
 }
 
 impl<'d> LineTaker for Objects<'d> {
+    ghost use Rattle.std.specs.Prelude.{◌≡◌, option_map};
+    ghost use Rattle.phone_jobs.specs.ObjectLines.{IsObjectLine, after_one};
+    ghost use Rattle.phone_lines.specs.Taken.{begins_with_nothing};
+
+    ghost begins = { begins_with_nothing };
+
+    // The object of the line, whose number is that of the last one and one more.
+    ghost gives = { λ o line answer after. IsObjectLine o.reader.engine.rules o.reader.engine.database.now
+        (option_map (λ d. d.now) o.reader.short) o.reader.engine.hint o.place line answer ×
+        (after ≡ record o { place = after_one o.place }) };
+
+    fn begin(&mut self, _alloc: Global, _answers: &mut Vec<u8>) -> Result<(), AllocError> {
+        Ok(())
+    }
+
     fn take(
         &mut self,
-        alloc: Global,
+        _alloc: Global,
         line: &[u8],
         answers: &mut Vec<u8>,
     ) -> Result<(), AllocError> {
-        let reader = self.reader;
-        let (database, short, hint) = (reader.database, reader.short, reader.hint);
-        let place = self.place;
-        let object = object_line(alloc, reader.rules, database, short, hint, place, line)?;
+        let Reader { engine, short } = self.reader;
+        let object = object_line(engine, short, self.place, line)?;
         self.place = self.place.saturating_add(1);
         push_line(answers, object.as_str())
     }
@@ -41,11 +59,11 @@ impl<'d> LineTaker for Objects<'d> {
 #[derive(Drop)]
 pub struct Firsts {
     /// The numbers so far.
-    book: Book,
+    pub book: Book,
     /// By whose rules lines are read.
-    rules: Rules,
+    pub rules: Rules,
     /// The region under which lines are read.
-    hint: Option<Id>,
+    pub hint: Option<Id>,
     /// How many lines had a new number.
     pub added: u64,
     /// How many had one that was there.
@@ -58,7 +76,15 @@ impl Firsts {
     /// What keeps the first line of each number, of which there is none yet. None where the
     /// database can't tell numbers apart: a listed calling code begins another.
     pub fn new(database: Plans, rules: Rules, hint: Option<Id>) -> Option<Firsts>
-        ensures { IsNone result ↔ (is_prefix_free database ≡ false) }
+        ensures none { IsNone result ↔ (is_prefix_free database ≡ false) }
+        ensures empty { IfSome result (λ f. f ≡ record {
+          book = record { database = database; entries = [] };
+          rules = rules;
+          hint = hint;
+          added = 0;
+          present = 0;
+          refused = 0;
+        }) }
     {
         let Ok(book) = Book::over(database) else {
             return None;
@@ -73,14 +99,20 @@ impl Firsts {
         })
     }
 
-    /// Puts the line of a new number at the end of the answers.
+    /// Counts a new number, which stands at this place of the book, and puts its line at the end of
+    /// the answers. Refused only for memory.
     fn push_added(
         &mut self,
         alloc: Global,
         place: usize,
         text: &str,
         answers: &mut Vec<u8>,
-    ) -> Result<(), AllocError> {
+    ) -> Result<(), AllocError>
+        ensures { OnOk result (((n : Reading) → slice_get self.old.book.entries place ≡ Some n →
+            answers.new.items ≡ answers.old.items ++
+            (e164_text n ++ 9 ∷ (text.now ++ 10 ∷ []))) ×
+            (self.new ≡ record self.old { added = after_one self.old.added })) }
+    {
         self.added = self.added.saturating_add(1);
         if let Some(number) = self.book.get(place) {
             let told = format!(in alloc; "{number}\t{text}\n")?;
@@ -88,19 +120,18 @@ impl Firsts {
         }
         Ok(())
     }
-}
 
-impl LineTaker for Firsts {
-    fn take(
+    /// Takes a line that is a text.
+    fn take_text(
         &mut self,
         alloc: Global,
-        line: &[u8],
+        text: &str,
         answers: &mut Vec<u8>,
-    ) -> Result<(), AllocError> {
-        let Ok(text) = std::str::from_utf8(line) else {
-            self.refused = self.refused.saturating_add(1);
-            return Ok(());
-        };
+    ) -> Result<(), AllocError>
+        ensures { OnOk result ((answer : List ℕ) ×
+            IsFirstLine self.old text.now answer self.new ×
+            (answers.new.items ≡ answers.old.items ++ answer)) }
+    {
         match self.book.add_by(self.rules, self.hint, text) {
             Ok(Place::Added(place)) => self.push_added(alloc, place, text, answers),
             Ok(Place::Present(_)) => {
@@ -113,5 +144,31 @@ impl LineTaker for Firsts {
             }
             Err(BookError::Memory) => Err(AllocError),
         }
+    }
+}
+
+impl LineTaker for Firsts {
+    ghost use Rattle.phone_jobs.specs.FirstLines.{IsFirstLine};
+    ghost use Rattle.phone_lines.specs.Taken.{begins_with_nothing};
+
+    ghost begins = { begins_with_nothing };
+
+    ghost gives = { IsFirstLine };
+
+    fn begin(&mut self, _alloc: Global, _answers: &mut Vec<u8>) -> Result<(), AllocError> {
+        Ok(())
+    }
+
+    fn take(
+        &mut self,
+        alloc: Global,
+        line: &[u8],
+        answers: &mut Vec<u8>,
+    ) -> Result<(), AllocError> {
+        let Ok(text) = std::str::from_utf8(line) else {
+            self.refused = self.refused.saturating_add(1);
+            return Ok(());
+        };
+        self.take_text(alloc, text, answers)
     }
 }

@@ -1,0 +1,4 @@
+pub mod FirstLemmas
+pub mod FoundLemmas
+pub mod PairLemmas
+pub mod TypedLemmas
