@@ -1,6 +1,6 @@
 //! What the program says of itself, and of what words it knows.
-use phone_engine::Rules;
 use phone_device::{ByteSink, Fault, write_all};
+use phone_engine::Rules;
 use phone_values::country::{ALL, Id};
 use std::alloc::AllocGlobal;
 use std::fs::{self, Files};
