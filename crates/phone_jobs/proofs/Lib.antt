@@ -1,4 +1,5 @@
 pub mod FirstLemmas
 pub mod FoundLemmas
+pub mod MemoryLemmas
 pub mod PairLemmas
 pub mod TypedLemmas
