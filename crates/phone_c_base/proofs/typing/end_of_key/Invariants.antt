@@ -1,4 +1,4 @@
-use Rattle.std.proofs.Common.{◌≡◌, ◌+◌, ◌-◌, ◌≤◌, length}
+use Rattle.std.proofs.Common.{◌≡◌, ◌+◌, ◌≤◌, length}
 use Rattle.phone_typed.specs.Keys.{up_to_key}
 use Rattle.phone_c_base.proofs.typing.end_of_key.Given as goal
 
