@@ -7,11 +7,17 @@ use Rattle.phone_c.proofs.listed.phone_regions.Goals as goal
 pub returns-clause-written : goal.returns-clause-written
 returns-clause-written c =
     let same : c.deref.result.now ≡ c.args.handle.now.records = search rules in
-    λ is. subst (λ (db : List Metadata). IsWritten (region_names db) c.args.out.now c.regions-status.new.out c.regions-status.new.wrote) same
-    (c.regions-status.ensures.written is)
+    let after = c.regions-status.new in
+    let IsSo = λ (db : List Metadata).
+        IsWritten (region_names db) c.args.out.now after.out after.wrote
+    in
+    λ is. subst IsSo same (c.regions-status.ensures.written is)
 
 pub returns-clause-too_small : goal.returns-clause-too_small
 returns-clause-too_small c =
     let same : c.deref.result.now ≡ c.args.handle.now.records = search rules in
-    λ is. subst (λ (db : List Metadata). IsTooLong (region_names db) c.args.out.now c.regions-status.new.out c.regions-status.new.wrote) same
-    (c.regions-status.ensures.too_small is)
+    let after = c.regions-status.new in
+    let IsSo = λ (db : List Metadata).
+        IsTooLong (region_names db) c.args.out.now after.out after.wrote
+    in
+    λ is. subst IsSo same (c.regions-status.ensures.too_small is)

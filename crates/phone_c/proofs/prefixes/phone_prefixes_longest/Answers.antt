@@ -6,4 +6,7 @@ use Rattle.phone_c.proofs.prefixes.phone_prefixes_longest.Goals as goal
 pub returns-clause-none : goal.returns-clause-none
 returns-clause-none c =
     let same : c.deref.result.now ≡ c.args.table.now.entries = search rules in
-    λ _ utf8. subst (λ (es : List Entry). (c.longest-status.result ≡ NO_PREFIX) ↔ NoneBegins es c.args.digits.now) same (c.longest-status.ensures.none utf8)
+    let IsSo = λ (es : List Entry).
+        (c.longest-status.result ≡ NO_PREFIX) ↔ NoneBegins es c.args.digits.now
+    in
+    λ _ utf8. subst IsSo same (c.longest-status.ensures.none utf8)
