@@ -20,23 +20,23 @@ returns-clause-written c =
     let after = c.match-leniency_of.out in
     let wrote = c.match-leniency_of.wrote in
     let IsWritten = λ (r : Rules) (db : List Metadata) (h : Option Id).
-        UnderLeniency c.args.leniency (λ l. IsWrittenA (ArePlaces r db h l text) before after wrote)
+    UnderLeniency c.args.leniency (λ l. IsWrittenA (ArePlaces r db h l text) before after wrote)
     in
     λ ok. elim c.match-leniency_of.branch [
-      in-Some-leniency_of+in-Some-engine_under w ↦
-        let e = w.in-Some-engine_under in
-        let by = e.engine in
-        let l = w.in-Some-leniency_of.leniency in
-        let ArePlaced = ArePlaces by.rules by.database.now by.hint l text in
-        let same : w.deref.result.now ≡ c.args.handle.now.records = search rules in
-        let is = w.find.ensures.written (sym w.status-is ∙ ok) in
-        let IsOut = λ (o : List Place). IsWrittenA ArePlaced before o w.find.new.wrote in
-        let out = subst IsOut (sym w.out-is) is in
-        let whole = subst (λ (n : ℕ). IsWrittenA ArePlaced before after n) (sym w.wrote-is) out in
-        under IsWritten by c.args.rules c.args.hint.now c.in-Some.rules c.args.handle.now.records
-            c.in-Some.ensures.found e.ensures.hint e.ensures.rules (e.ensures.database ∙ same)
-            (l, w.in-Some-leniency_of.ensures.found, whole)
+      | in-Some-leniency_of+in-Some-engine_under w ↦
+          let e = w.in-Some-engine_under in
+          let by = e.engine in
+          let l = w.in-Some-leniency_of.leniency in
+          let ArePlaced = ArePlaces by.rules by.database.now by.hint l text in
+          let same : w.deref.result.now ≡ c.args.handle.now.records = search rules in
+          let is = w.find.ensures.written (sym w.status-is ∙ ok) in
+          let IsOut = λ (o : List Place). IsWrittenA ArePlaced before o w.find.new.wrote in
+          let out = subst IsOut (sym w.out-is) is in
+          let whole = subst (λ (n : ℕ). IsWrittenA ArePlaced before after n) (sym w.wrote-is) out in
+          under IsWritten by c.args.rules c.args.hint.now c.in-Some.rules c.args.handle.now.records
+          c.in-Some.ensures.found e.ensures.hint e.ensures.rules (e.ensures.database ∙ same)
+          (l, w.in-Some-leniency_of.ensures.found, whole)
       | in-Some-leniency_of+in-None-engine_under w ↦
-        let wrong : 0 ≡ 19 = sym ok ∙ w.status-is in absurd (omega (arith, wrong))
+          let wrong : 0 ≡ 19 = sym ok ∙ w.status-is in absurd (omega (arith, wrong))
       | in-None w ↦ let wrong : 0 ≡ 35 = sym ok ∙ w.status-is in absurd (omega (arith, wrong))
     ]

@@ -9,7 +9,7 @@ returns-clause-written c =
     let same : c.deref.result.now ≡ c.args.handle.now.records = search rules in
     let after = c.regions-status.new in
     let IsSo = λ (db : List Metadata).
-        IsWritten (region_names db) c.args.out.now after.out after.wrote
+    IsWritten (region_names db) c.args.out.now after.out after.wrote
     in
     λ is. subst IsSo same (c.regions-status.ensures.written is)
 
@@ -18,6 +18,6 @@ returns-clause-too_small c =
     let same : c.deref.result.now ≡ c.args.handle.now.records = search rules in
     let after = c.regions-status.new in
     let IsSo = λ (db : List Metadata).
-        IsTooLong (region_names db) c.args.out.now after.out after.wrote
+    IsTooLong (region_names db) c.args.out.now after.out after.wrote
     in
     λ is. subst IsSo same (c.regions-status.ensures.too_small is)

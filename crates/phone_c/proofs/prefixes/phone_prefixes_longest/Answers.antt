@@ -7,6 +7,6 @@ pub returns-clause-none : goal.returns-clause-none
 returns-clause-none c =
     let same : c.deref.result.now ≡ c.args.table.now.entries = search rules in
     let IsSo = λ (es : List Entry).
-        (c.longest-status.result ≡ NO_PREFIX) ↔ NoneBegins es c.args.digits.now
+    (c.longest-status.result ≡ NO_PREFIX) ↔ NoneBegins es c.args.digits.now
     in
     λ _ utf8. subst IsSo same (c.longest-status.ensures.none utf8)
