@@ -1,4 +1,5 @@
 pub mod Alike
+pub mod Ascii
 pub mod Bridge
 pub mod Cutting
 pub mod Fitting

@@ -1,13 +1,13 @@
 -- A table whose cells are steps tells of a text of digits where its match ends.
-use Rattle.std.proofs.Common.{◌≡◌, ⊎_elim, ◌<◌, ◌≤◌, ◌+◌, ◌-◌, ◌∷◌, [], ℕ, zero, suc, Bool}
+use Rattle.std.proofs.Common.{◌≡◌, ◌<◌, ◌≤◌, ◌+◌, ◌-◌, ◌∷◌, [], ℕ, zero, suc, Bool}
 use Rattle.std.proofs.Common.{true, false, cond, List, length, Option, Some, None, IfSome}
 use Rattle.std.proofs.Common.{slice_index, refl, sym, ap, ◌∙◌, subst, arith, ne_eqb}
-use Rattle.std.proofs.Common.{get_or, drop}
-use Rattle.std.proofs.lemmas.Bool.{cases_eq, cases_lt, cond-false}
-use Rattle.std.proofs.lemmas.List.{length-drop, drop_more, get_or-drop, get_or_default}
-use Rattle.std.specs.Option.{option_or}
+use Rattle.std.proofs.Common.{drop}
+use Rattle.std.proofs.lemmas.Bool.{cond-false, cond-true}
+use Rattle.std.proofs.lemmas.List.{drop_more}
+use Rattle.std.specs.Option.{is_some, option_or}
 use Rattle.regex_dfa.specs.Links.{best}
-use Rattle.phone_automaton.specs.Digits.{cell_at, end_by, ends_here, or_here, place_of, AreDigits}
+use Rattle.phone_automaton.specs.Digits.{cell_at, end_by, ends_here, or_here, place_of}
 
 -- ---- a walk through a table
 pub dead_end : (cells : List ℕ) (at : ℕ) (text : List ℕ) → end_by cells 0 at text ≡ None
@@ -43,6 +43,12 @@ pub given_up : (cells text : List ℕ) (place at last : ℕ) → place ≡ 0 →
 given_up cells text place at last none = ap (λ r. option_or (end_by cells r at text) (best last))
     none ∙ ap (λ o. option_or o (best last)) (dead_end cells at text)
 
+drop_all : (l : List ℕ) (n : ℕ) → n ≡ length l → drop n l ≡ []
+drop_all [] zero h = refl
+drop_all [] (suc n) h = refl
+drop_all (b ∷ bs) zero h = absurd (omega (arith, h))
+drop_all (b ∷ bs) (suc n) h = drop_all bs n (omega (arith, h))
+
 -- the step at the end of the text
 pub finished : (cells text : List ℕ) (place at last : ℕ) → 0 < place → at ≡ length text →
     option_or (end_by cells place at (drop at text)) (best last) ≡ best
@@ -52,33 +58,44 @@ finished cells text place at last some done =
     ∙ ap (λ o. option_or o (best last)) (cond-false _ None
     (or_here (cell_at cells place 10) at None) (ne_eqb place 0 (omega arith)))
     ∙ best_later None (ends_here (cell_at cells place 10)) at last
-  where
-    drop_all : (l : List ℕ) (n : ℕ) → n ≡ length l → drop n l ≡ []
-    drop_all [] zero h = refl
-    drop_all [] (suc n) h = refl
-    drop_all (b ∷ bs) zero h = absurd (omega (arith, h))
-    drop_all (b ∷ bs) (suc n) h = drop_all bs n (omega (arith, h))
 
 pub best_within : (last n : ℕ) → last ≤ n + 1 → IfSome (best last) (λ e. e ≤ n)
 best_within zero n h = tt
 best_within (suc e) n h = subst (λ o. IfSome o (λ k. k ≤ n))
     (sym (cond-false _ None (Some (suc e - 1)) (ne_eqb (suc e) 0 (omega arith)))) (omega arith)
 
--- a text is of digits if it is up to a place, at that place, and behind it
-pub digits_all : (text : List ℕ) (at : ℕ) → at < length text →
-    ((k d : ℕ) → k < at → (48 ≤ get_or text k d) × (get_or text k d < 58)) →
-    (48 ≤ slice_index text at) × (slice_index text at < 58) → AreDigits (drop (at + 1) text) →
-    AreDigits text
-digits_all text at inside front here back k d h =
-    ⊎_elim (λ before. front k d before)
-    (λ (later : at ≤ k).
-    ⊎_elim (λ (same : k ≡ at). subst (λ b. (48 ≤ b) × (b < 58))
-    (get_or_default text at 0 d inside ∙ ap (λ j. get_or text j d) (sym same)) here)
-    (λ other.
-    let whole : at + 1 + (k - (at + 1)) ≡ k = omega (arith, later, other) in
-    let fits : k - (at + 1) < length (drop (at + 1) text) = omega
-    (arith, length-drop (at + 1) text, later, other, h) in
-    subst (λ b. (48 ≤ b) × (b < 58)) (get_or-drop (at + 1) text (k - (at + 1)) d
-    ∙ ap (λ j. get_or text j d) whole) (back (k - (at + 1)) d fits))
-    (cases_eq k at))
-    (cases_lt k at)
+-- whether a match ends from a row on: its step over the next digit says it, or what follows does
+pub stepped : (cells text : List ℕ) (place at : ℕ) → 0 < place → at < length text →
+    end_by cells place at (drop at text) ≡
+    or_here (cell_at cells place (slice_index text at - 48)) at
+    (end_by cells (place_of (cell_at cells place (slice_index text at - 48))) (at + 1)
+    (drop (at + 1) text))
+stepped cells text place at some inside =
+    let cell = cell_at cells place (slice_index text at - 48) in
+    ap (end_by cells place at) (drop_more text at 0 inside)
+    ∙ cond-false _ None (or_here cell at (end_by cells (place_of cell) (at + 1) (drop (at + 1) text)))
+    (ne_eqb place 0 (omega arith))
+
+-- a match that ends here is one
+pub some_here : (cell at : ℕ) (later : Option ℕ) → ends_here cell ≡ true →
+    is_some (or_here cell at later) ≡ true
+some_here cell at None ends = ap is_some (cond-true (ends_here cell) (Some at) None ends)
+some_here cell at (Some e) ends = refl
+
+-- where none ends here, what follows says it
+pub none_here : (cell at : ℕ) (later : Option ℕ) → ends_here cell ≡ false → or_here cell at later ≡ later
+none_here cell at None ends = cond-false (ends_here cell) (Some at) None ends
+none_here cell at (Some e) ends = refl
+
+-- at the end of the text its own step says it
+pub some_at_end : (cells text : List ℕ) (place at : ℕ) → 0 < place → at ≡ length text →
+    is_some (end_by cells place at (drop at text)) ≡ ends_here (cell_at cells place 10)
+some_at_end cells text place at some done =
+    ap (λ l. is_some (end_by cells place at l)) (drop_all text at done)
+    ∙ ap is_some (cond-false _ None (or_here (cell_at cells place 10) at None)
+    (ne_eqb place 0 (omega arith)))
+    ∙ told (ends_here (cell_at cells place 10))
+  where
+    told : (b : Bool) → is_some (cond b (Some at) None) ≡ b
+    told true = refl
+    told false = refl

@@ -1,7 +1,8 @@
 //! A table of the steps over digits. A pattern is mostly asked of digits alone: for these its steps
 //! are worked out whole, so that a search only reads, and all threads may share the table.
 ghost use Rattle.std.specs.Prelude.{◌≡◌, ◌≤◌, ◌<◌, ◌-◌, ◌==◌, ◌++◌, ℕ, List, IfSome, IsTrue, None};
-ghost use Rattle.std.specs.Prelude.{Some, drop, if◌then◌else◌, length, map, slice_index, ◌+◌, ◌^◌};
+ghost use Rattle.std.specs.Prelude.{Some, if◌then◌else◌, length, map, slice_index, ◌+◌, ◌^◌};
+ghost use Rattle.std.specs.Option.{is_some};
 ghost use Rattle.phone_automaton.specs.Digits.{AreDigits, TellsFront, end_of_digits, ends_here};
 ghost use Rattle.phone_automaton.specs.Rows.{LeadInto, by_row, moved, none};
 ghost use Rattle.regex_hir.specs.Find.{find_str};
@@ -34,9 +35,9 @@ impl Model for Digits {
     ghost invariant = { λ d. HasRows d.cells.items };
 }
 
-/// Whether a text is of digits alone.
+/// Whether a text is of ASCII's digits alone.
 #[inline]
-fn are_digits(text: &[u8]) -> bool
+pub fn are_digits(text: &[u8]) -> bool
     ensures { IsTrue result → AreDigits text.now }
 {
     text.iter().all(|byte| 48 <= *byte && *byte < 58)
@@ -74,38 +75,64 @@ impl Digits {
         ensures end { IfSome result (λ end. end ≡ end_of_digits self.now text.now) }
         ensures within { IfSome result (λ end. IfSome end (λ e. e ≤ length text.now)) }
     {
+        if are_digits(text) {
+            Some(self.end_in_digits(text))
+        } else {
+            None
+        }
+    }
+
+    /// Where the match ends that begins at the front of a text that is known to be of digits; none
+    /// where there is none.
+    #[inline]
+    pub(crate) fn end_in_digits(&self, text: &[u8]) -> Option<usize>
+        requires { AreDigits text.now }
+        ensures end { result ≡ end_of_digits self.now text.now }
+        ensures within { IfSome result (λ e. e ≤ length text.now) }
+    {
         let cells = self.cells.as_slice();
         let mut place = COLUMNS;
         let mut last = 0usize;
         for at in 0..text.len() {
-            let byte = text[at];
-            if !byte.is_ascii_digit() {
-                return None;
-            }
-            let cell = cells[place + (byte - 48) as usize];
+            let cell = cells[place + (text[at] - 48) as usize];
             last = last_after(cell, at, last);
             place = (cell / 2) as usize;
             if place == 0 {
-                return settled(text, at + 1, last);
+                return best(last);
             }
         }
-        Some(best(last_after(cells[place + END], text.len(), last)))
+        best(last_after(cells[place + END], text.len(), last))
+    }
+
+    /// Whether a match begins at the front of a text that is known to be of digits: the walk ends
+    /// where the first one does.
+    #[inline]
+    pub(crate) fn begins_digits(&self, text: &[u8]) -> bool
+        requires { AreDigits text.now }
+        ensures { result ≡ is_some (end_of_digits self.now text.now) }
+    {
+        let cells = self.cells.as_slice();
+        let mut place = COLUMNS;
+        for at in 0..text.len() {
+            let cell = cells[place + (text[at] - 48) as usize];
+            if ends_here(cell) {
+                return true;
+            }
+            place = (cell / 2) as usize;
+            if place == 0 {
+                return false;
+            }
+        }
+        ends_here(cells[place + END])
     }
 }
 
-/// The end of the best match where no thread is left at a position. None where the text isn't of
-/// digits from there on.
+/// Whether a match ends where a cell's step begins.
 #[inline]
-fn settled(text: &[u8], at: usize, last: usize) -> Option<Option<usize>>
-    requires { at ≤ length text.now }
-    ensures digits { IfSome result (λ end. AreDigits (drop at text.now)) }
-    ensures end { IfSome result (λ end. end ≡ (if last == 0 then None else Some (last - 1))) }
+fn ends_here(cell: u16) -> bool
+    ensures { result ≡ ends_here cell }
 {
-    if are_digits(&text[at..]) {
-        Some(best(last))
-    } else {
-        None
-    }
+    cell % 2 == 1
 }
 
 /// One more than the end of the best match so far, or 0, after a step at a position.
@@ -114,7 +141,7 @@ fn last_after(cell: u16, at: usize, last: usize) -> usize
     requires { at < 2 ^ 63 }
     ensures { result ≡ (if ends_here cell then at + 1 else last) }
 {
-    if cell % 2 == 1 { at + 1 } else { last }
+    if ends_here(cell) { at + 1 } else { last }
 }
 
 /// The end of the best match.

@@ -1,6 +1,7 @@
 //! A table of a pattern alone: what the pattern finds at the front of a text of digits, told
 //! without an automaton.
 ghost use Rattle.std.specs.Prelude.{◌≡◌, ◌≤◌, length, string_bytes, IfOk, IfSome, Some};
+ghost use Rattle.std.specs.Option.{is_some};
 ghost use Rattle.phone_automaton.specs.Digits.{AreDigits, end_of_digits};
 ghost use Rattle.phone_automaton.specs.Tables.{Tells};
 ghost use Rattle.phone_automaton.specs.Templates.{with_match_replaced};
@@ -10,7 +11,7 @@ ghost use Rattle.regex_hir.specs.Re.{Re};
 ghost use Rattle.regex_syntax.specs.Grammar.{Names};
 
 use crate::digits::Digits;
-use crate::parts::{front_cells, replace_by_cells};
+use crate::parts::{front_cells, replace_in_digits};
 use regex_hir::Hir;
 use std::alloc::{AllocError, Global};
 use std::marker::Model;
@@ -68,6 +69,25 @@ impl FrontTable {
         self.digits.end(text)
     }
 
+    /// The same of a text that is known to be of digits, which isn't gone over to see it.
+    #[inline]
+    pub fn end_in_digits(&self, text: &[u8]) -> Option<usize>
+        requires { AreDigits text.now }
+        ensures end { result ≡ end_of_digits self.now.steps text.now }
+        ensures within { IfSome result (λ e. e ≤ length text.now) }
+    {
+        self.digits.end_in_digits(text)
+    }
+
+    /// Whether a match begins at the front of a text that is known to be of digits.
+    #[inline]
+    pub fn begins_digits(&self, text: &[u8]) -> bool
+        requires { AreDigits text.now }
+        ensures { result ≡ is_some (end_of_digits self.now.steps text.now) }
+    {
+        self.digits.begins_digits(text)
+    }
+
     /// The text with its match at the front, which ends here, replaced by a template, in which `$1`
     /// stands for the first group. None where the pattern is no sequence of groups of fixed lengths
     /// but the last, and where the template names a group in another way than by one digit. Refused
@@ -85,6 +105,6 @@ impl FrontTable {
             (names : Names) → string_bytes out ≡
             with_match_replaced names template.now hay.now (find_str re hay.now 0))) }
     {
-        replace_by_cells(alloc, self.front.as_slice(), template, hay, end)
+        replace_in_digits(alloc, self.front.as_slice(), template, hay, end)
     }
 }

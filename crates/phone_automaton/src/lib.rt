@@ -17,6 +17,7 @@ mod template;
 mod tree;
 
 pub use automaton::Automaton;
+pub use digits::are_digits;
 pub use front_table::FrontTable;
 pub use fronts::Fronts;
 pub use lengths::Lengths;

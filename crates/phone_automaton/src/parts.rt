@@ -3,6 +3,7 @@
 //! end.
 ghost use Rattle.std.specs.Prelude.{◌≡◌, ◌+◌, ◌++◌, drop, length, take, IfOk, IfSome, IsTrue, Some};
 ghost use Rattle.std.specs.Prelude.{string_bytes, vec_len};
+ghost use Rattle.phone_automaton.specs.Digits.{AreDigits};
 ghost use Rattle.phone_automaton.specs.Finds.{found_by};
 ghost use Rattle.phone_automaton.specs.Groups.{AreGroupsFor, IsFoundIn};
 ghost use Rattle.phone_automaton.specs.Parts.{AreBefore, AreFrontCells, IsGroup};
@@ -189,6 +190,25 @@ pub(crate) fn replace_by_cells(
         return Ok(None);
     }
     template::replace(alloc, template, hay, (0, end), front, front.len() - 3)
+}
+
+/// The same of a text of digits.
+pub(crate) fn replace_in_digits(
+    alloc: Global,
+    front: &[usize],
+    template: &str,
+    hay: &str,
+    end: usize,
+) -> Result<Option<String>, AllocError>
+    requires { AreDigits hay.now }
+    ensures { IfOk result (λ made. IfSome made (λ out. (bytes : _) ×
+        (string_bytes out ≡ (take 0 hay.now ++ bytes) ++ drop end hay.now) ×
+        IsWritten template.now hay.now (0, end) (with_end front.now end) bytes)) }
+{
+    if front.len() <= 3 {
+        return Ok(None);
+    }
+    template::replace_in_digits(alloc, template, hay, end, front, front.len() - 3)
 }
 
 /// The text with its match at the front, which ends here, replaced by a template. None where

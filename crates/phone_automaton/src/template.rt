@@ -4,6 +4,8 @@
 ghost use Rattle.std.specs.Prelude.{◌≡◌, ◌+◌, ◌*◌, ◌≤◌, ◌<◌, ◌++◌, ◌^◌, length, drop, take};
 ghost use Rattle.std.specs.Prelude.{slice_index, string_bytes, IfOk, IfSome, IsTrue, MatchOption};
 ghost use Rattle.std.specs.List.{prefix_len};
+ghost use Rattle.std.specs.Str.{IsAscii, IsUtf8};
+ghost use Rattle.phone_automaton.specs.Digits.{AreDigits};
 ghost use Rattle.phone_automaton.specs.Finds.{group_at};
 ghost use Rattle.phone_automaton.specs.Templates.{IsWritten, put_in};
 ghost use Rattle.regex.specs.Replace.{bytes_of};
@@ -111,9 +113,11 @@ fn push_written(
     place: usize,
 ) -> Result<bool, AllocError>
     requires { span.1 < 2 ^ 63 }
-    ensures { IfOk result (λ done. IsTrue done → (bytes : _) ×
+    ensures written { IfOk result (λ done. IsTrue done → (bytes : _) ×
         (out.new.items ≡ out.old.items ++ bytes) ×
         IsWritten template.now hay.now span (put_in cells.now place span.1) bytes) }
+    ensures utf8 { IfOk result (λ done. IsTrue done → IsAscii hay.now →
+        IsUtf8 (out.old.items ++ template.now) → IsUtf8 out.new.items) }
 {
     let mut at = 0;
     while at < template.len() {
@@ -173,6 +177,35 @@ pub(crate) fn replace(
         Ok(text) => Ok(Some(text)),
         Err(_) => Ok(None),
     }
+}
+
+/// The same of a match at the front of a text of digits, which ends here; that what is written is
+/// a text needs no look at its bytes then.
+pub(crate) fn replace_in_digits(
+    alloc: Global,
+    template: &str,
+    hay: &str,
+    end: usize,
+    cells: &[usize],
+    place: usize,
+) -> Result<Option<String>, AllocError>
+    requires { AreDigits hay.now }
+    ensures { IfOk result (λ found. IfSome found (λ out. (bytes : _) ×
+        (string_bytes out ≡ (take 0 hay.now ++ bytes) ++ drop end hay.now) ×
+        IsWritten template.now hay.now (0, end) (put_in cells.now place end) bytes)) }
+{
+    let bytes = hay.as_bytes();
+    if end > bytes.len() {
+        return Ok(None);
+    }
+    let room = bytes.len().saturating_add(template.len());
+    let mut out = Vec::with_capacity(alloc, room)?;
+    if !push_written(&mut out, template.as_bytes(), bytes, (0, end), cells, place)? {
+        return Ok(None);
+    }
+    push_all(&mut out, after(bytes, end))?;
+    // SAFETY: a template is UTF-8, and what stands in it for groups is ASCII.
+    Ok(Some(unsafe { String::from_utf8_unchecked(out) }))
 }
 
 /// The same of a match that was found, if any; a text without one as it is.

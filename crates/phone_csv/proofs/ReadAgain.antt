@@ -78,9 +78,21 @@ full_read_back : (fields answer : Record) → IsFull fields → read_back (field
 full_read_back [] answer full = absurd (full refl)
 full_read_back (f ∷ fs) answer full = refl
 
+read_full : (fields : Record) → IsFull fields → read_back fields ≡ fields
+read_full [] full = absurd (full refl)
+read_full (f ∷ fs) full = refl
+
 -- such a record is written as the kit writes it
 kit_text : (fields : Record) → record_text (commas line_end.Feed) fields ≡ row_text default_writer fields
 kit_text fields = append_assoc (row_body default_writer fields) (if is_blank default_writer fields then 34 ∷ 34 ∷ [] else []) (10 ∷ [])
+
+-- a first record that is read, and those after it
+reached_first : (cfg : Config) (s t : State) (first : Record) (text rest : List ℕ)
+    (rows : List Record) (last : State) (left : List ℕ) →
+    next_record cfg s [] [] text ≡ Some (first, t, rest) → Reached cfg t rest rows last left →
+    Reached cfg s text (first ∷ rows) last left
+unfolding Reached
+reached_first cfg s t first text rest rows last left e on = ((first, t, rest), e, refl, on)
 
 -- each record that was written is read again
 read_rows : (gives : Gives) (records : List Record) (text : List ℕ) → AllByRecursion IsFull records → AreAnswers gives (commas line_end.Feed) records text →
@@ -211,3 +223,28 @@ report_read_again gives line_end.Feed start bytes records text all are = feeds_r
 report_read_again gives line_end.ReturnFeed start bytes records text all are =
     let r = read_returns gives false records text (all_full 44 start bytes records all) are in
     (r.0, r.1, (place_at r.2.0, to_come r.2.0, r.2.1, nothing_at r.2.0))
+
+-- a first record that was written, and whatever stands behind the records that follow it
+pub table_read_again : (gives : Gives) (end : LineEnd) (start : State) (bytes : List ℕ)
+    (records : List Record) (first : Record) (body : List ℕ) → first ≢ [] →
+    AreAll 44 start bytes records → AreAnswers gives (commas end) records body →
+    (rows : List Record) × AreAnswered gives records rows ×
+    AreRecords (reading 44) st.StartRecord (record_text (commas end) first ++ body) (first ∷ rows)
+table_read_again gives line_end.Feed start bytes records first body full all are =
+    let text = record_text (commas line_end.Feed) first ++ body in
+    let r = read_rows gives records body (all_full 44 start bytes records all) are in
+    let read = next_record (reading 44) st.StartRecord [] [] in
+    let e = ap (λ t. read (t ++ body)) (kit_text first) ∙ read-write first body
+    ∙ ap (λ row. Some (row, st.StartRecord, body)) (read_full first full) in
+    let on = reached_first (reading 44) st.StartRecord st.StartRecord first text body r.0
+    st.StartRecord [] e r.2 in
+    (r.0, r.1, (st.StartRecord, [], on, nothing_left))
+table_read_again gives line_end.ReturnFeed start bytes records first body full all are =
+    let text = record_text (commas line_end.ReturnFeed) first ++ body in
+    let r = read_returns gives true records body (all_full 44 start bytes records all) are in
+    let last = r.2.0 in
+    let e = row_read first body
+    ∙ ap (λ row. Some (row, st.AfterCr, 10 ∷ body)) (read_full first full) in
+    let on = reached_first (reading 44) st.StartRecord st.AfterCr first text (10 ∷ body) r.0
+    (place_at last) (to_come last) e r.2.1 in
+    (r.0, r.1, (place_at last, to_come last, on, nothing_at last))

@@ -1,10 +1,10 @@
 //! What holds of the definitions of this crate. These functions do nothing; their contracts are the
 //! statements.
-ghost use Rattle.std.specs.Prelude.{ℕ, List};
+ghost use Rattle.std.specs.Prelude.{◌≢◌, ◌∷◌, ◌++◌, [], ℕ, List};
 ghost use Rattle.csv.specs.Reading.{AreRecords};
 ghost use Rattle.csv.specs.declared.parser.State.{State};
 ghost use Rattle.csv.specs.declared.parser.State.TheVariants as st;
-ghost use Rattle.phone_csv.specs.Formats.{Record, commas, reading};
+ghost use Rattle.phone_csv.specs.Formats.{Record, commas, reading, record_text};
 ghost use Rattle.phone_csv.specs.declared.format.LineEnd.{LineEnd};
 ghost use Rattle.phone_csv.specs.RecordReports.{AreAll, AreAnswered, IsReport};
 
@@ -25,4 +25,15 @@ pub fn read_again<A: Answers>(answers: &A)
         (records rows : List Record) × AreAll 44 start bytes records ×
         AreAnswered (A.gives answers.now) records rows ×
         AreRecords (reading 44) st.StartRecord text rows }
+{}
+
+/// What is written with commas behind a first record, read again with it, are that one and the
+/// records that were read, each with its answer behind its fields, whatever stands behind records.
+pub fn table_read_again<A: Answers>(answers: &A)
+    ensures { (end : LineEnd) (start : State) (bytes body : List ℕ) (first : Record) →
+        first ≢ [] → IsReport (A.gives answers.now) (commas end) start bytes body →
+        (records rows : List Record) × AreAll 44 start bytes records ×
+        AreAnswered (A.gives answers.now) records rows ×
+        AreRecords (reading 44) st.StartRecord (record_text (commas end) first ++ body)
+        (first ∷ rows) }
 {}

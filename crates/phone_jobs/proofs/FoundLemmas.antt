@@ -1,5 +1,7 @@
 -- Numbers that were found in a text: their order, their territories, and their columns.
-use Rattle.std.proofs.Common.{suc, zero, append_assoc, ◌≡◌, ℕ, ◌+◌, ◌-◌, ◌≤◌, List, [], ◌∷◌, ◌++◌, Option, chars, length, length-append, take, slice_range, refl, sym, ap, ◌∙◌, arith}
+use Rattle.std.proofs.Common.{suc, zero, append_assoc, ◌≡◌, ℕ, ◌+◌, ◌-◌, ◌≤◌, List, [], ◌∷◌, ◌++◌}
+use Rattle.std.proofs.Common.{Option, chars, length, length-append, take, slice_range, refl, sym}
+use Rattle.std.proofs.Common.{ap, ◌∙◌, arith}
 use Rattle.std.proofs.Math.Seq.{take-add}
 use Rattle.std.proofs.lemmas.Str.{chars-append, IsUtf8-take}
 use Rattle.std.specs.Str.{IsCharBoundary, IsUtf8}

@@ -1,5 +1,6 @@
 -- The first record of a line, as it is read from memory.
-use Rattle.std.proofs.Common.{◌≡◌, inl, inr, ℕ, List, [], ◌∷◌, ◌++◌, Bool, Option, Some, None, length, refl, subst, ◌∙◌, arith}
+use Rattle.std.proofs.Common.{◌≡◌, inl, inr, ℕ, List, [], ◌∷◌, ◌++◌, Bool, Option, Some, None}
+use Rattle.std.proofs.Common.{length, refl, subst, ◌∙◌, arith}
 use Rattle.std.specs.Prelude.{IfSome, IsNone, MatchOption, false}
 use Rattle.csv.specs.Records.{field_at}
 use Rattle.phone_csv.specs.Firsts.{IsHead, IsOnly}
@@ -27,7 +28,11 @@ pub read-record : (line : List ℕ) (after : Option (List ℕ)) (fields : Record
 read-record line after fields has_mark (Some start) head only end =
     inl (head.0, head.1.0, state_of start.place, start.feeds, has_mark, head.1.1, head.2)
 read-record line after fields has_mark None head only end =
-    inr (has_mark, of_all line after (λ bytes. IsOnly 44 bytes fields has_mark) (end refl) (only refl))
+    inr (
+      has_mark,
+      of_all line after (λ bytes. IsOnly 44 bytes fields has_mark) (end refl)
+          (only refl),
+    )
 
 -- a list of two
 pub two : (fields : Record) → length fields ≡ 2 →

@@ -156,8 +156,8 @@ impl<'d, 'f> Finder<'d, 'f> {
         answers: &mut Vec<u8>,
     ) -> Result<(), AllocError>
         ensures { OnOk result ((one : List ℕ) × IsTold self.now.reader.engine.rules
-            self.now.reader.engine.database.now (name_told self.now.names.now self.now.begun) spot.entry
-            number.now form.Fields one × (answers.new.items ≡ answers.old.items ++ one)) }
+            self.now.reader.engine.database.now (name_told self.now.names.now self.now.begun)
+            spot.entry number.now form.Fields one × (answers.new.items ≡ answers.old.items ++ one)) }
     {
         let told = fields_text(alloc, self.name(), spot, number)?;
         push_text(answers, told.as_str())
@@ -173,8 +173,8 @@ impl<'d, 'f> Finder<'d, 'f> {
     ) -> Result<(), AllocError>
         requires { HasTerritory self.now.reader.engine.database.now number.now }
         ensures { OnOk result ((one : List ℕ) × IsTold self.now.reader.engine.rules
-            self.now.reader.engine.database.now (name_told self.now.names.now self.now.begun) spot.entry
-            number.now form.Object one × (answers.new.items ≡ answers.old.items ++ one)) }
+            self.now.reader.engine.database.now (name_told self.now.names.now self.now.begun)
+            spot.entry number.now form.Object one × (answers.new.items ≡ answers.old.items ++ one)) }
     {
         match found_object(self.reader.engine, spot, number) {
             Ok(object) => push_line(answers, object.as_str()),
@@ -193,8 +193,8 @@ impl<'d, 'f> Finder<'d, 'f> {
     ) -> Result<(), AllocError>
         requires { HasTerritory self.now.reader.engine.database.now number.now }
         ensures { OnOk result ((one : List ℕ) × IsTold self.now.reader.engine.rules
-            self.now.reader.engine.database.now (name_told self.now.names.now self.now.begun) spot.entry
-            number.now form.Record one × (answers.new.items ≡ answers.old.items ++ one)) }
+            self.now.reader.engine.database.now (name_told self.now.names.now self.now.begun)
+            spot.entry number.now form.Record one × (answers.new.items ≡ answers.old.items ++ one)) }
     {
         let mut record = record_of(alloc, self.name())?;
         match push_found(self.reader.engine, spot, number, &mut record) {
@@ -214,8 +214,8 @@ impl<'d, 'f> Finder<'d, 'f> {
     ) -> Result<(), AllocError>
         requires { HasTerritory self.now.reader.engine.database.now number.now }
         ensures { OnOk result ((one : List ℕ) × IsTold self.now.reader.engine.rules
-            self.now.reader.engine.database.now (name_told self.now.names.now self.now.begun) spot.entry
-            number.now self.now.form one × (answers.new.items ≡ answers.old.items ++ one)) }
+            self.now.reader.engine.database.now (name_told self.now.names.now self.now.begun)
+            spot.entry number.now self.now.form one × (answers.new.items ≡ answers.old.items ++ one)) }
     {
         match self.form {
             FoundForm::Fields => self.push_fields(alloc, spot, number, answers),
@@ -278,8 +278,8 @@ impl<'d, 'f> LineTaker for Finder<'d, 'f> {
         (name_told f.names.now (after_one f.begun))) ×
         (after ≡ record f { place = f.first; begun = after_one f.begun }) };
 
-    ghost gives = { λ f line answer after. IsFoundLine f.reader.engine.rules f.reader.engine.database.now
-        f.reader.engine.hint f.form (name_told f.names.now f.begun) f.place line answer ×
+    ghost gives = { λ f line answer after. IsFoundLine f.reader.engine.rules
+        f.reader.engine.database.now f.reader.engine.hint f.form (name_told f.names.now f.begun) f.place line answer ×
         (after ≡ record f { place = after_one f.place }) };
 
     fn begin(&mut self, alloc: Global, answers: &mut Vec<u8>) -> Result<(), AllocError> {

@@ -70,7 +70,8 @@ impl<'d> Job for Report<'d> {
     ghost use Rattle.phone_engine.specs.ReportLines.{IsReportLine};
 
     ghost acts = { λ r before after r' result. AnswersLines
-        (IsReportLine r.reader.engine.rules r.reader.engine.database.now r.reader.engine.hint) before after result ×
+        (IsReportLine r.reader.engine.rules r.reader.engine.database.now r.reader.engine.hint)
+        before after result ×
         (r' ≡ r) };
 
     fn answer<S: ByteSource, W: ByteSink>(

@@ -7,8 +7,9 @@ ghost use Rattle.phone_library.specs.Homes.{TellsKind, territory_of};
 ghost use Rattle.phone_library.specs.Kinds.{has_digits, territory_in};
 ghost use Rattle.phone_plans.specs.CodeLookUps.{is_main_of, is_other_of, territories};
 
-use crate::kinds::{is_known, kind_in};
+use crate::kinds::{is_known, kind_of_digits};
 use phone_plans::{Plans, Territory};
+use phone_territory::Subject;
 use phone_values::Type;
 use std::alloc::AllocError;
 
@@ -39,7 +40,7 @@ pub(crate) fn home_in<'d>(
         return Ok(None);
     };
     match all.next() {
-        Some(_) => home_of_several(db, code, digits),
+        Some(_) => home_of_several(db, code, &Subject::of(digits)),
         None => Ok(Some(Home {
             territory: first,
             kind: None,
@@ -51,7 +52,7 @@ pub(crate) fn home_in<'d>(
 fn home_of_several<'d>(
     db: &'d Plans,
     code: u16,
-    digits: &str,
+    digits: &Subject<'_>,
 ) -> Result<Option<Home<'d>>, AllocError>
     ensures territory { IfOk result (λ home. option_map territory_of home ≡
         find (has_digits digits.now) (territories code db.entry.now)) }
@@ -64,7 +65,11 @@ fn home_of_several<'d>(
 }
 
 /// Of the main territories of a code the last that has the digits.
-fn last_main<'d>(db: &'d Plans, code: u16, digits: &str) -> Result<Option<Home<'d>>, AllocError>
+fn last_main<'d>(
+    db: &'d Plans,
+    code: u16,
+    digits: &Subject<'_>,
+) -> Result<Option<Home<'d>>, AllocError>
     ensures territory { IfOk result (λ home. option_map territory_of home ≡
         find (has_digits digits.now) (reverse (filter (is_main_of code) db.entry.now))) }
     ensures kind { IfOk result (λ home. IfSome home (TellsKind digits.now)) }
@@ -79,7 +84,11 @@ fn last_main<'d>(db: &'d Plans, code: u16, digits: &str) -> Result<Option<Home<'
 }
 
 /// Of the other territories of a code the first that has the digits.
-fn first_other<'d>(db: &'d Plans, code: u16, digits: &str) -> Result<Option<Home<'d>>, AllocError>
+fn first_other<'d>(
+    db: &'d Plans,
+    code: u16,
+    digits: &Subject<'_>,
+) -> Result<Option<Home<'d>>, AllocError>
     ensures territory { IfOk result (λ home. option_map territory_of home ≡
         find (has_digits digits.now) (filter (is_other_of code) db.entry.now)) }
     ensures kind { IfOk result (λ home. IfSome home (TellsKind digits.now)) }
@@ -96,7 +105,7 @@ fn first_other<'d>(db: &'d Plans, code: u16, digits: &str) -> Result<Option<Home
 fn home_if<'d>(
     is_asked: bool,
     m: &'d Territory,
-    digits: &str,
+    digits: &Subject<'_>,
 ) -> Result<Option<Home<'d>>, AllocError>
     ensures territory { IfOk result (λ home. option_map territory_of home ≡
         (if is_asked && has_digits digits.now m.entry.now then Some m.entry.now else None)) }
@@ -110,14 +119,14 @@ fn home_if<'d>(
 }
 
 /// A territory, if it has the digits.
-fn home_of<'d>(m: &'d Territory, digits: &str) -> Result<Option<Home<'d>>, AllocError>
+fn home_of<'d>(m: &'d Territory, digits: &Subject<'_>) -> Result<Option<Home<'d>>, AllocError>
     ensures territory { IfOk result (λ home. option_map territory_of home ≡
         (if has_digits digits.now m.entry.now then Some m.entry.now else None)) }
     ensures kind { IfOk result (λ home. IfSome home (TellsKind digits.now)) }
 {
     match m.leading_digits_pattern() {
         Some(pattern) => {
-            if pattern.is_at_start(digits)? {
+            if pattern.is_at_start_in(digits)? {
                 Ok(Some(Home {
                     territory: m,
                     kind: None,
@@ -126,7 +135,7 @@ fn home_of<'d>(m: &'d Territory, digits: &str) -> Result<Option<Home<'d>>, Alloc
                 Ok(None)
             }
         }
-        None => Ok(if_known(m, kind_in(m, digits)?)),
+        None => Ok(if_known(m, kind_of_digits(m, digits)?)),
     }
 }
 

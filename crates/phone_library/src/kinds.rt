@@ -7,7 +7,7 @@ ghost use Rattle.phone_library.specs.Kinds.{is_number_of, kind_in, line_or_mobil
 ghost use Rattle.phone_territory.specs.Kinds.{descriptor_for};
 
 use phone_rules::kinds::TRIED;
-use phone_territory::{Descriptor, Descriptors, Territory};
+use phone_territory::{Descriptor, Descriptors, Subject, Territory};
 use phone_values::Type;
 use std::alloc::AllocError;
 
@@ -17,6 +17,13 @@ use std::alloc::AllocError;
 /// `FixedLineOrMobile` where the mobile descriptor has the digits too. `Unknown` where no kind has
 /// them, or the general descriptor doesn't. Refused only for memory.
 pub fn kind_in(m: &Territory, digits: &str) -> Result<Type, AllocError>
+    ensures { IfOk result (λ kind. kind ≡ kind_in m.now digits.now) }
+{
+    kind_of_digits(m, &Subject::of(digits))
+}
+
+/// The same of digits of which it is known whether they are of ASCII.
+pub(crate) fn kind_of_digits(m: &Territory, digits: &Subject<'_>) -> Result<Type, AllocError>
     ensures { IfOk result (λ kind. kind ≡ kind_in m.now digits.now) }
 {
     let kinds = m.descriptors();
@@ -30,7 +37,11 @@ pub fn kind_in(m: &Territory, digits: &str) -> Result<Type, AllocError>
 }
 
 /// The first of these kinds whose descriptor has the digits.
-fn first_kind(kinds: &Descriptors, tried: &[Type], digits: &str) -> Result<Option<Type>, AllocError>
+fn first_kind(
+    kinds: &Descriptors,
+    tried: &[Type],
+    digits: &Subject<'_>,
+) -> Result<Option<Type>, AllocError>
     ensures { IfOk result (λ kind. kind ≡
         find (λ k. is_number_of (descriptor_for k kinds.now) digits.now) tried.now) }
 {
@@ -43,7 +54,7 @@ fn first_kind(kinds: &Descriptors, tried: &[Type], digits: &str) -> Result<Optio
 }
 
 /// The kind, where a fixed line may as well be a mobile.
-fn line_or_mobile(m: &Territory, digits: &str, kind: Type) -> Result<Type, AllocError>
+fn line_or_mobile(m: &Territory, digits: &Subject<'_>, kind: Type) -> Result<Type, AllocError>
     ensures { IfOk result (λ k. k ≡ line_or_mobile m.now digits.now kind) }
 {
     let Type::FixedLine = kind else {
@@ -57,7 +68,10 @@ fn line_or_mobile(m: &Territory, digits: &str, kind: Type) -> Result<Type, Alloc
 }
 
 /// Whether a descriptor is there and has the digits.
-fn is_number_of(descriptor: Option<&Descriptor>, digits: &str) -> Result<bool, AllocError>
+fn is_number_of(
+    descriptor: Option<&Descriptor>,
+    digits: &Subject<'_>,
+) -> Result<bool, AllocError>
     ensures { IfOk result (λ b. b ≡ is_number_of (option_copied descriptor.entry) digits.now) }
 {
     match descriptor {
@@ -68,10 +82,13 @@ fn is_number_of(descriptor: Option<&Descriptor>, digits: &str) -> Result<bool, A
 
 /// Whether a descriptor allows the count of the digits, and its pattern matches all of them. Most
 /// descriptors that are asked refuse the count or the front of the digits, which is the least dear.
-fn has_digits(descriptor: &Descriptor, digits: &str) -> Result<bool, AllocError>
+fn has_digits(descriptor: &Descriptor, digits: &Subject<'_>) -> Result<bool, AllocError>
     ensures { IfOk result (λ b. b ≡ is_number_of (Some descriptor.now) digits.now) }
 {
-    Ok(descriptor.is_match(digits)? && descriptor.pattern().is_whole_match(digits)?)
+    if !descriptor.allows_length(digits.as_str().len()) {
+        return Ok(false);
+    }
+    descriptor.pattern().is_whole_match_in(digits)
 }
 
 /// Whether the general pattern of a territory matches all of the digits.

@@ -1,6 +1,8 @@
 -- A text none of whose characters announces an extension has none.
-use Rattle.std.proofs.Common.{◌≡◌, ℕ, zero, suc, Bool, true, false, not, ◌||◌, List, [], ◌∷◌, ◌++◌, drop, codes, refl, ap, sym, ◌∙◌, true≢false}
-use Rattle.std.proofs.lemmas.Bool.{not-true, or_left, or_right}
+use Rattle.std.proofs.Common.{◌≡◌, ◌<◌, ℕ, zero, suc, Bool, true, false, not, ◌||◌, List, [], ◌∷◌, ◌++◌, All, chars, drop, codes, nat_lt, refl, ap, sym, ◌∙◌, arith, ltb-true, true≢false}
+use Rattle.std.proofs.lemmas.Bool.{and_parts, not-true, or_left, or_right}
+use Rattle.std.proofs.lemmas.Str.{chars-IsAscii}
+use Rattle.std.proofs.lemmas.Str.Ascii.{IsAscii-from_all}
 use Rattle.std.specs.List.{list_any, list_all}
 use Rattle.ucd_case.proofs.Computing.{ucd_case}
 use Rattle.phone_chars.specs.Characters.{is_digit, is_one_of}
@@ -65,3 +67,27 @@ plain_announces_none c plain = by (is_digit c) refl plain
     by true digit h =
         ap (is_one_of announcers) (simple_fold-digit c (digit_nd c digit)) ∙ not-true _ (digit_passes (λ d. not (is_one_of announcers d)) refl c digit)
     by false e h = not-true _ (member_passes (λ d. not (announces d)) (32 ∷ 40 ∷ 41 ∷ 43 ∷ 45 ∷ 46 ∷ 47 ∷ []) c marks_announce_none h)
+
+-- plain characters are ASCII
+plain_small : (c : ℕ) → is_plain c ≡ true → c < 128
+plain_small c plain = ltb-true c 128 (by (is_digit c) refl plain)
+  where
+    by : (b : Bool) → is_digit c ≡ b → (b || is_one_of (32 ∷ 40 ∷ 41 ∷ 43 ∷ 45 ∷ 46 ∷ 47 ∷ []) c) ≡ true → nat_lt c 128 ≡ true
+    by true digit h = digit_passes (λ d. nat_lt d 128) refl c digit
+    by false e h = member_passes (λ d. nat_lt d 128) (32 ∷ 40 ∷ 41 ∷ 43 ∷ 45 ∷ 46 ∷ 47 ∷ []) c refl h
+
+all_small : (bs : List ℕ) → list_all is_plain bs ≡ true → All (λ b. b < 128) bs
+all_small [] plain k d h = absurd (omega (arith, h))
+all_small (c ∷ cs) plain zero d h = plain_small c (and_parts (is_plain c) (list_all is_plain cs) plain).0
+all_small (c ∷ cs) plain (suc k) d h = all_small cs (and_parts (is_plain c) (list_all is_plain cs) plain).1 k d (omega (arith, h))
+
+none_of_plain : (cs : List ℕ) → list_all is_plain cs ≡ true → list_any announces cs ≡ false
+none_of_plain [] plain = refl
+none_of_plain (c ∷ cs) plain =
+    let both = and_parts (is_plain c) (list_all is_plain cs) plain in
+    ap (λ b. b || list_any announces cs) (plain_announces_none c both.0) ∙ none_of_plain cs both.1
+
+-- a text of plain bytes announces none
+pub plain_bytes_announce_none : (text : List ℕ) → list_all is_plain text ≡ true → list_any announces (chars text) ≡ false
+plain_bytes_announce_none text plain =
+    ap (list_any announces) (chars-IsAscii text (IsAscii-from_all text (all_small text plain))) ∙ none_of_plain text plain

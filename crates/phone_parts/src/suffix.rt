@@ -116,8 +116,23 @@ fn folds_to_announcer(c: char) -> bool
     )
 }
 
-/// Whether a text has a character that each extension has.
+/// Whether a text has a character that each extension has. Most texts are made of plain characters
+/// alone, which are ASCII: these are gone over byte by byte.
 fn has_announcer(text: &str) -> bool
+    ensures { result ≡ list_any announces (chars text.now) }
+{
+    !are_plain(text.as_bytes()) && some_announces(text)
+}
+
+/// Whether bytes are plain characters alone.
+fn are_plain(bytes: &[u8]) -> bool
+    ensures { result ≡ list_all is_plain bytes.now }
+{
+    bytes.iter().all(|byte| is_plain(char::from(*byte)))
+}
+
+/// Whether a character of a text announces an extension.
+fn some_announces(text: &str) -> bool
     ensures { result ≡ list_any announces (chars text.now) }
 {
     text.chars().any(|c| announces(c))

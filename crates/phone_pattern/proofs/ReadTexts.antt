@@ -1,17 +1,17 @@
 -- A tree that a pattern text is read as finds as the text, and a table of the tree tells of it.
 use Rattle.std.proofs.Common.{◌≡◌, ◌<◌, ◌+◌, ◌==◌, ℕ, List, [], length, cond, None, Some, Option, All, IfOk, IfSome, Result, String, Global, string_bytes, option_map, refl, sym, subst, ap, ◌∙◌, arith}
 use Rattle.std.proofs.lemmas.List.{length-replicate}
-use Rattle.std.specs.Option.{IsSome, option_and_then, option_map_or}
+use Rattle.std.specs.Option.{IsSome, is_some, option_and_then, option_map_or}
 use Rattle.std.specs.Str.{chars}
 use Rattle.std.specs.declared.alloc.AllocError.{AllocError}
 use Rattle.phone_automaton.specs.Ascii.{AsciiSame}
 use Rattle.phone_automaton.specs.Digits.{AreDigits, end_of_digits}
 use Rattle.phone_automaton.specs.Tables.{FrontCells, Tells}
 use Rattle.phone_automaton.specs.Templates.{with_match_replaced}
-use Rattle.phone_pattern.specs.First.{first_match, front_end, names_in, replaced, seen_of, verbose, with_first_replaced, IsPattern, Seen}
+use Rattle.phone_pattern.specs.First.{at_start, first_match, front_end, names_in, replaced, seen_of, verbose, with_first_replaced, IsPattern, Seen}
 use Rattle.phone_pattern.specs.Outlines.{IsReadAs, TellsOf}
 use Rattle.phone_pattern.proofs.Matches.{found, pattern_read}
-use Rattle.phone_pattern.proofs.Serving.{digits_ascii, for_names, front_end_seen, names_read, replaced_seen}
+use Rattle.phone_pattern.proofs.Serving.{digits_ascii, for_names, front_end_seen, names_read, replaced_seen, starts_by_end}
 use Rattle.phone_plain.specs.Plain.{IsPlain}
 use Rattle.phone_plain.specs.declared.whole.PlainPattern.{PlainPattern}
 use Rattle.regex_hir.specs.Find.{find_str, first_between}
@@ -58,6 +58,11 @@ front_told pattern t (re, finds, tells) hay digits =
     tells.0 hay digits
     ∙ front_end_seen (find_str re hay 0)
     ∙ ap (λ o. option_and_then (λ (s : ℕ × ℕ). cond (s.0 == 0) (Some s.1) None) (option_map (λ (s : Seen). (s.0, s.1)) o)) (finds hay (digits_ascii hay digits))
+
+-- and whether one begins there
+pub begins_told : (pattern : List ℕ) (t : FrontCells) → TellsOf pattern t → (hay : List ℕ) → AreDigits hay →
+    is_some (end_of_digits t.steps hay) ≡ at_start pattern hay
+begins_told pattern t told hay digits = starts_by_end pattern hay (end_of_digits t.steps hay) (front_told pattern t told hay digits)
 
 -- the same of an answer, which may be absent
 pub if_told : (pattern : List ℕ) (t : FrontCells) → TellsOf pattern t → (hay text : List ℕ) → hay ≡ text → (o : Option (Option ℕ)) →

@@ -1,7 +1,7 @@
 -- What a machine finds in ASCII texts is what the text of its pattern finds there.
 use Rattle.std.proofs.Common.{⊎_elim, is_some, ◌≡◌, ◌<◌, ◌≤◌, ◌-◌, ◌==◌, ◌&&◌, ◌⊎◌, inl, inr, ℕ, Bool, List, length, true, false, Option, None, Some, Result, Ok, Err, IfOk, IfSome, String, Global, string_bytes, All, option_map, slice_get, get_or, refl, sym, subst, ap, ap₂, ◌∙◌, arith, true≢false, cond, ne_eqb}
 use Rattle.std.proofs.lemmas.List.{get_or_default}
-use Rattle.std.proofs.lemmas.Bool.{cases_eq}
+use Rattle.std.proofs.lemmas.Bool.{cases_eq, eqb-true}
 use Rattle.std.proofs.lemmas.Option.{none-some, same_Some, slice_get_cases}
 use Rattle.std.specs.Prelude.{slice_index_or}
 use Rattle.std.specs.declared.alloc.AllocError.{AllocError}
@@ -82,6 +82,14 @@ whole_at_front pattern text = go (first_span pattern text)
     go : (o : Option (ℕ × ℕ)) → option_map_or (λ (s : ℕ × ℕ). (s.0 == 0) && (s.1 == length text)) o false ≡ option_map_or (λ e. e == length text) (option_and_then (λ (s : ℕ × ℕ). cond (s.0 == 0) (Some s.1) None) o) false
     go None = refl
     go (Some s) = step s.1 (s.0 == 0)
+
+-- and where it is, it ends there
+pub whole_ends : (pattern text : List ℕ) → is_whole_match pattern text ≡ true → front_end pattern text ≡ Some (length text)
+whole_ends pattern text whole = go (front_end pattern text) (sym (whole_at_front pattern text) ∙ whole)
+  where
+    go : (o : Option ℕ) → option_map_or (λ e. e == length text) o false ≡ true → o ≡ Some (length text)
+    go None e = absurd (true≢false (sym e))
+    go (Some n) e = ap (λ (k : ℕ). Some k) (eqb-true n (length text) e)
 
 -- what doesn't begin at the front ends nowhere
 pub none_at_front : (pattern text : List ℕ) → at_start pattern text ≡ false → front_end pattern text ≡ None

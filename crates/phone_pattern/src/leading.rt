@@ -3,6 +3,7 @@ ghost use Rattle.std.specs.Prelude.{◌≡◌, ◌==◌, ◌++◌, [], ◌∷◌
 ghost use Rattle.phone_pattern.specs.First.{led_by};
 
 use crate::pattern::Pattern;
+use crate::subject::Subject;
 use phone_base::Text;
 use std::alloc::AllocError;
 use std::marker::Model;
@@ -69,6 +70,18 @@ impl Leading {
     {
         match &self.last {
             Some(last) => last.is_at_start(digits),
+            None => Ok(true),
+        }
+    }
+
+    /// The same of a text of which it is known whether it is of digits.
+    #[inline]
+    pub fn lead_in(&self, subject: &Subject<'_>) -> Result<bool, AllocError>
+        ensures led { IfOk result (λ b. b ≡ led_by subject.now (reverse self.now)) }
+        ensures unsearched { self.now ≡ [] → result ≡ Ok true }
+    {
+        match &self.last {
+            Some(last) => last.is_at_start_in(subject),
             None => Ok(true),
         }
     }

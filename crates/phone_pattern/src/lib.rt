@@ -15,6 +15,8 @@ mod rules;
 mod scans;
 mod searches;
 mod size;
+mod subject;
+mod subjects;
 mod uncached;
 mod under_x;
 
@@ -24,3 +26,4 @@ pub use pattern::{Captured, Pattern};
 pub use pool::Pool;
 pub use ruled::KeptRuled;
 pub use rules::FirstGroup;
+pub use subject::Subject;

@@ -1,12 +1,13 @@
 //! A pattern that was read once and is held. Contracts see its text.
-ghost use Rattle.std.specs.Prelude.{◌≡◌, [], ◌∷◌, IfErr, IfOk, IfSome, length, string_bytes};
+ghost use Rattle.std.specs.Prelude.{◌≡◌, [], ◌∷◌, true, IfErr, IfOk, IfSome, length, string_bytes};
 ghost use Rattle.std.specs.Arc.{arc_value};
 ghost use Rattle.phone_pattern.specs.First.{at_start, captured, first_span, front_end, names_in};
 ghost use Rattle.phone_pattern.specs.First.{is_whole_match, replaced, AreCuts, IsCut, IsPattern};
 ghost use Rattle.phone_pattern.specs.Refusals.{IsPatternRefusal};
 
 use crate::plan::Plan;
-use crate::searches;
+use crate::subject::Subject;
+use crate::{searches, subjects};
 use phone_base::{LoadMetadata, Text};
 use std::alloc::{AllocError, Global};
 use std::marker::Model;
@@ -129,6 +130,48 @@ impl Pattern {
         ensures { IfOk result (λ out. string_bytes out ≡ replaced self.now template.now text.now) }
     {
         searches::replace(&self.plan, template, text)
+    }
+
+    /// Whether the first match begins at the first byte, as [`Pattern::is_at_start`] has it.
+    /// Refused only for memory.
+    #[inline]
+    pub fn is_at_start_in(&self, subject: &Subject<'_>) -> Result<bool, AllocError>
+        ensures { IfOk result (λ b. b ≡ at_start self.now subject.now) }
+    {
+        subjects::is_at_start(&self.plan, subject)
+    }
+
+    /// Whether the first match begins at the first byte and ends after the last. Refused only for
+    /// memory.
+    #[inline]
+    pub fn is_whole_match_in(&self, subject: &Subject<'_>) -> Result<bool, AllocError>
+        ensures { IfOk result (λ b. b ≡ is_whole_match self.now subject.now) }
+    {
+        subjects::is_whole_match(&self.plan, subject)
+    }
+
+    /// The text with its first match replaced by a template, as [`Pattern::replace`] has it.
+    /// Refused only for memory.
+    #[inline]
+    pub fn replace_in(&self, template: &str, subject: &Subject<'_>) -> Result<String, AllocError>
+        ensures { IfOk result (λ out. string_bytes out ≡
+            replaced self.now template.now subject.now) }
+    {
+        subjects::replace(&self.plan, template, subject)
+    }
+
+    /// The same of a text that is known to be matched as a whole. Refused only for memory.
+    #[inline]
+    pub fn replace_whole_in(
+        &self,
+        template: &str,
+        subject: &Subject<'_>,
+    ) -> Result<String, AllocError>
+        requires { is_whole_match self.now subject.now ≡ true }
+        ensures { IfOk result (λ out. string_bytes out ≡
+            replaced self.now template.now subject.now) }
+    {
+        subjects::replace_whole(&self.plan, template, subject)
     }
 }
 

@@ -3,7 +3,7 @@ ghost use Rattle.std.specs.Prelude.{◌≡◌, ◌≤◌, [], ◌∷◌, length,
 ghost use Rattle.std.specs.Prelude.{string_bytes};
 ghost use Rattle.phone_automaton.specs.Digits.{AreDigits};
 ghost use Rattle.phone_automaton.specs.Tables.{Tells};
-ghost use Rattle.phone_pattern.specs.First.{front_end, names_in, replaced};
+ghost use Rattle.phone_pattern.specs.First.{at_start, front_end, names_in, replaced};
 ghost use Rattle.phone_pattern.specs.First.{IsPattern, IsPatternOf};
 ghost use Rattle.phone_pattern.specs.Outlines.{IsReadAs, IsShape};
 ghost use Rattle.phone_pattern.specs.Refusals.{IsPatternRefusal};
@@ -133,6 +133,31 @@ impl Plan {
     {
         match &self.table {
             Some(table) => table.front_end_of_digits(text.as_bytes()),
+            None => None,
+        }
+    }
+
+    /// The same of a text that is known to be of digits. None where there is no table.
+    #[inline]
+    pub(crate) fn end_in_digits(&self, text: &str) -> Option<Option<usize>>
+        requires { AreDigits text.now }
+        ensures { IfSome result (λ end. end ≡ front_end self.now text.now) }
+    {
+        match &self.table {
+            Some(table) => Some(table.end_in_digits(text.as_bytes())),
+            None => None,
+        }
+    }
+
+    /// Whether the first match begins at the front of a text that is known to be of digits. None
+    /// where there is no table.
+    #[inline]
+    pub(crate) fn begins_digits(&self, text: &str) -> Option<bool>
+        requires { AreDigits text.now }
+        ensures { IfSome result (λ b. b ≡ at_start self.now text.now) }
+    {
+        match &self.table {
+            Some(table) => Some(table.begins_digits(text.as_bytes())),
             None => None,
         }
     }

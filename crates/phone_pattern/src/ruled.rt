@@ -1,9 +1,7 @@
 //! The place in which a layout keeps its template of national text from one number to the next.
-ghost use Rattle.std.specs.Prelude.{◌≡◌, IfOk, IfSome, string_bytes};
-ghost use Rattle.phone_pattern.specs.First.{replaced};
+ghost use Rattle.std.specs.Prelude.{◌≡◌, IfSome, string_bytes};
 ghost use Rattle.phone_pattern.specs.Rules.{ruled_template};
 
-use crate::pattern::Pattern;
 use once_cell::race::OnceBox;
 use phone_base::together::both;
 use std::alloc::{AllocError, Global};
@@ -120,27 +118,12 @@ impl KeptRuled {
         }
     }
 
-    /// Digits with the first match of a pattern replaced by the template that is made of these
-    /// texts. None where another template is kept, or none. Refused only for memory.
-    pub fn lay_out(
-        &self,
-        pattern: &Pattern,
-        text: &str,
-        rule: &str,
-        prefix: &str,
-        carrier: &str,
-        digits: &str,
-    ) -> Result<Option<String>, AllocError>
-        ensures { IfOk result (λ found. IfSome found (λ t. string_bytes t ≡ replaced pattern.now
-            (ruled_template text.now rule.now prefix.now carrier.now) digits.now)) }
+    /// The template that is made of these texts. None where another template is kept, or none.
+    pub fn template(&self, text: &str, rule: &str, prefix: &str, carrier: &str) -> Option<&str>
+        ensures { IfSome result (λ t. t.now ≡
+            ruled_template text.now rule.now prefix.now carrier.now) }
     {
-        let Some(ruled) = self.slot.get() else {
-            return Ok(None);
-        };
-        match ruled.made_of(text, rule, prefix, carrier) {
-            Some(template) => Ok(Some(pattern.replace(template, digits)?)),
-            None => Ok(None),
-        }
+        self.slot.get()?.made_of(text, rule, prefix, carrier)
     }
 
     /// Keeps a template with the texts of which it was made, for the numbers that follow, where the

@@ -1,7 +1,7 @@
 -- The texts of a number by how it is laid out, abroad and at home.
 use Rattle.std.proofs.Common.{◌≡◌, ℕ, List, [], ◌∷◌, ◌++◌, Option, None, Some}
 use Rattle.std.proofs.Common.{chars, codes, encode_utf8_all}
-use Rattle.std.proofs.Common.{encode_utf8, refl, ap, ap₂, ◌∙◌}
+use Rattle.std.proofs.Common.{refl, ap, ap₂, ◌∙◌}
 use Rattle.std.specs.Fmt.{decimal}
 use Rattle.phone_values.specs.Numbers.{text_of}
 use Rattle.phone_values.specs.declared.mode.Mode.{Mode}

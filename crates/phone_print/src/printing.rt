@@ -1,5 +1,5 @@
 //! The printed text of a number, by a territory.
-ghost use Rattle.std.specs.Prelude.{◌≡◌, ◌∷◌, ◌++◌, IfOk, OnErr, OnOk, IsTrue, Ok, Option, chars};
+ghost use Rattle.std.specs.Prelude.{◌≡◌, ◌∷◌, ◌++◌, IfOk, IfSome, OnErr, OnOk, IsTrue, Ok, Option, chars, true};
 ghost use Rattle.std.specs.Prelude.{codes, encode_utf8_all, string_bytes};
 ghost use Rattle.std.specs.Fmt.{decimal};
 ghost use Rattle.std.specs.List.{find};
@@ -21,7 +21,7 @@ use crate::appending::{
 use crate::written::{ROOM, text_of_value};
 use itoa::Buffer;
 use phone_base::together::both;
-use phone_territory::{FirstGroup, Format, Territory};
+use phone_territory::{FirstGroup, Format, Subject, Territory};
 use phone_values::Mode;
 use std::alloc::{AllocError, Global};
 
@@ -104,19 +104,27 @@ fn texts_of(
     ensures rfc3966 { IfOk result (λ t. string_bytes t.rfc3966 ≡
         text_by m.now mode.Rfc3966 (option_copied own.entry) number.now) }
 {
-    let layouts = layouts_of(m, own, digits)?;
-    let (abroad, at_home) = (layouts.abroad, layouts.at_home);
+    let digits = Subject::of(digits);
+    let layouts = layouts_of(m, own, &digits)?;
     let (abroad, at_home) = both(
         laid_by(
             alloc,
             finder,
             m,
             Mode::International,
-            abroad,
+            layouts.abroad,
             number,
-            digits,
+            &digits,
         ),
-        laid_by(alloc, finder, m, Mode::National, at_home, number, digits),
+        laid_by(
+            alloc,
+            finder,
+            m,
+            Mode::National,
+            layouts.at_home,
+            number,
+            &digits,
+        ),
     )?;
     texts_laid(alloc, abroad.as_str(), at_home, m, number)
 }
@@ -221,15 +229,16 @@ fn push_texts_of(
         9 ∷ texts_by m.now (option_copied own.entry) number.now) }
     ensures behind { OnErr result (IsBehind (string_bytes line.old) (string_bytes line.new)) }
 {
-    let layouts = layouts_of(m, own, digits)?;
+    let subject = Subject::of(digits);
+    let layouts = layouts_of(m, own, &subject)?;
     let mode = Mode::International;
-    let abroad = laid_by(alloc, finder, m, mode, layouts.abroad, number, digits)?;
+    let abroad = laid_by(alloc, finder, m, mode, layouts.abroad, number, &subject)?;
     let laid = abroad.as_str();
-    if is_laid_alike(m, layouts.abroad, number) {
+    if is_laid_alike(m, layouts.abroad.layout, number) {
         return push_laid(line, m, number, digits, laid, laid);
     }
     let mode = Mode::National;
-    let at_home = laid_by(alloc, finder, m, mode, layouts.at_home, number, digits)?;
+    let at_home = laid_by(alloc, finder, m, mode, layouts.at_home, number, &subject)?;
     push_laid(line, m, number, digits, laid, at_home.as_str())
 }
 
@@ -378,8 +387,9 @@ fn laid_in_mode(
         laid (layout_for m.now mode (option_copied own.entry) digits.now)
         m.now mode number.now.carrier digits.now) }
 {
-    let layout = layout_for(m, mode, own, digits)?;
-    laid_by(alloc, finder, m, mode, layout, number, digits)
+    let digits = Subject::of(digits);
+    let chosen = layout_for(m, mode, own, &digits)?;
+    laid_by(alloc, finder, m, mode, chosen, number, &digits)
 }
 
 /// Digits of a number, laid out by a layout; the digits themselves where there is none.
@@ -388,22 +398,24 @@ fn laid_by(
     finder: &FirstGroup,
     m: &Territory,
     mode: Mode,
-    layout: Option<&Format>,
+    chosen: Chosen<'_>,
     number: &Printable<'_>,
-    digits: &str,
+    digits: &Subject<'_>,
 ) -> Result<String, AllocError>
+    requires { IsTrue chosen.is_suited → IfSome chosen.layout (λ f. suits digits.now f.now ≡ true) }
     ensures { IfOk result (λ t. string_bytes t ≡
-        laid (option_copied layout.entry) m.now mode number.now.carrier digits.now) }
+        laid (option_copied chosen.entry.layout) m.now mode number.now.carrier digits.now) }
 {
-    let Some(layout) = layout else {
-        return String::from_str(alloc, digits);
+    let Some(layout) = chosen.layout else {
+        return String::from_str(alloc, digits.as_str());
     };
     match mode {
         Mode::National => {
             let prefix = m.national_prefix();
-            layout.lay_out_nationally(finder, prefix, carrier_of(number), digits)
+            let carrier = carrier_of(number);
+            layout.lay_out_nationally_in(finder, prefix, carrier, digits, chosen.is_suited)
         }
-        _ => layout.lay_out(digits),
+        _ => layout.lay_out_in(digits, chosen.is_suited),
     }
 }
 
@@ -417,11 +429,19 @@ fn carrier_of<'n>(number: &Printable<'n>) -> Option<&'n str>
     }
 }
 
+/// The layout of a number, and whether it is known to suit the number's digits: one that was handed
+/// in need not.
+#[derive(Clone, Copy)]
+struct Chosen<'a> {
+    layout: Option<&'a Format>,
+    is_suited: bool,
+}
+
 /// The layouts of a number: at home, for national text, and abroad, for all other.
 #[derive(Clone, Copy)]
 struct Layouts<'a> {
-    abroad: Option<&'a Format>,
-    at_home: Option<&'a Format>,
+    abroad: Chosen<'a>,
+    at_home: Chosen<'a>,
 }
 
 /// The layouts that count for digits. They are looked for once where national text and other text
@@ -429,12 +449,16 @@ struct Layouts<'a> {
 fn layouts_of<'a>(
     m: &'a Territory,
     own: Option<&'a Format>,
-    digits: &str,
+    digits: &Subject<'_>,
 ) -> Result<Layouts<'a>, AllocError>
-    ensures abroad { IfOk result (λ l. option_copied l.abroad ≡
+    ensures abroad { IfOk result (λ l. option_copied l.abroad.layout ≡
         layout_for m.entry.now mode.International (option_copied own.entry) digits.now) }
-    ensures at_home { IfOk result (λ l. option_copied l.at_home ≡
+    ensures at_home { IfOk result (λ l. option_copied l.at_home.layout ≡
         layout_for m.entry.now mode.National (option_copied own.entry) digits.now) }
+    ensures abroad_suits { IfOk result (λ l. IsTrue l.abroad.is_suited →
+        IfSome l.abroad.layout (λ f. suits digits.now f.now ≡ true)) }
+    ensures home_suits { IfOk result (λ l. IsTrue l.at_home.is_suited →
+        IfSome l.at_home.layout (λ f. suits digits.now f.now ≡ true)) }
 {
     let abroad = layout_for(m, Mode::International, own, digits)?;
     let at_home = at_home(m, own, digits, abroad)?;
@@ -446,13 +470,17 @@ fn layouts_of<'a>(
 fn at_home<'a>(
     m: &'a Territory,
     own: Option<&'a Format>,
-    digits: &str,
-    abroad: Option<&'a Format>,
-) -> Result<Option<&'a Format>, AllocError>
-    requires { option_copied abroad ≡
+    digits: &Subject<'_>,
+    abroad: Chosen<'a>,
+) -> Result<Chosen<'a>, AllocError>
+    requires layout { option_copied abroad.layout ≡
         layout_for m.now mode.International (option_copied own) digits.now }
-    ensures { IfOk result (λ f. option_copied f ≡
+    requires suits { IsTrue abroad.is_suited →
+        IfSome abroad.layout (λ f. suits digits.now f.now ≡ true) }
+    ensures layout { IfOk result (λ f. option_copied f.layout ≡
         layout_for m.entry.now mode.National (option_copied own.entry) digits.now) }
+    ensures suits { IfOk result (λ f. IsTrue f.is_suited →
+        IfSome f.layout (λ f. suits digits.now f.now ≡ true)) }
 {
     if has_one_list(m) {
         return Ok(abroad);
@@ -465,14 +493,22 @@ fn layout_for<'a>(
     m: &'a Territory,
     mode: Mode,
     own: Option<&'a Format>,
-    digits: &str,
-) -> Result<Option<&'a Format>, AllocError>
-    ensures { IfOk result (λ f. option_copied f ≡
+    digits: &Subject<'_>,
+) -> Result<Chosen<'a>, AllocError>
+    ensures layout { IfOk result (λ f. option_copied f.layout ≡
         layout_for m.entry.now mode (option_copied own.entry) digits.now) }
+    ensures suits { IfOk result (λ f. IsTrue f.is_suited →
+        IfSome f.layout (λ f. suits digits.now f.now ≡ true)) }
 {
     match own {
-        Some(own) => Ok(Some(own)),
-        None => first_suiting(layouts_for(m, mode), digits),
+        Some(own) => Ok(Chosen {
+            layout: Some(own),
+            is_suited: false,
+        }),
+        None => Ok(Chosen {
+            layout: first_suiting(layouts_for(m, mode), digits)?,
+            is_suited: true,
+        }),
     }
 }
 
@@ -490,11 +526,16 @@ pub fn layouts_for(m: &Territory, mode: Mode) -> &[Format]
 }
 
 /// The first of these layouts that suits the digits.
-fn first_suiting<'a>(layouts: &'a [Format], digits: &str) -> Result<Option<&'a Format>, AllocError>
-    ensures { IfOk result (λ f. option_copied f ≡ find (suits digits.now) layouts.entry.now) }
+fn first_suiting<'a>(
+    layouts: &'a [Format],
+    digits: &Subject<'_>,
+) -> Result<Option<&'a Format>, AllocError>
+    ensures first { IfOk result (λ f.
+        option_copied f ≡ find (suits digits.now) layouts.entry.now) }
+    ensures suits { IfOk result (λ f. IfSome f (λ f. suits digits.now f.now ≡ true)) }
 {
     for layout in layouts {
-        if layout.suits(digits)? {
+        if layout.suits_in(digits)? {
             return Ok(Some(layout));
         }
     }

@@ -5,7 +5,8 @@ ghost use Rattle.phone_rules.specs.Kinds.{belongs_to, is_known, type_of};
 ghost use Rattle.phone_read.specs.Belonging.{IsOfKind, is_member};
 
 use phone_plans::Territory;
-use phone_rules::kinds::number_type;
+use phone_rules::kinds::number_type_in;
+use phone_territory::Subject;
 use phone_values::Type;
 use std::alloc::AllocError;
 
@@ -22,13 +23,13 @@ pub(crate) enum Belonging {
 
 /// Whether a number belongs to a territory: its leading digits are at the front, or where the
 /// territory has none, the number's kind is known there. Refused only for memory.
-pub(crate) fn membership(text: &str, m: &Territory) -> Result<Belonging, AllocError>
+pub(crate) fn membership(text: &Subject<'_>, m: &Territory) -> Result<Belonging, AllocError>
     ensures belongs { IfOk result (λ b. is_member b ≡ belongs_to text.now m.now) }
     ensures kind { IfOk result (IsOfKind m.now text.now) }
 {
     match m.leading_digits_pattern() {
-        Some(pattern) => Ok(by_digits(pattern.is_at_start(text)?)),
-        None => Ok(by_kind(number_type(m, text)?)),
+        Some(pattern) => Ok(by_digits(pattern.is_at_start_in(text)?)),
+        None => Ok(by_kind(number_type_in(m, text)?)),
     }
 }
 

@@ -17,6 +17,7 @@ use crate::belonging::{Belonging, membership};
 use either::{Either, Left, Right};
 use phone_plans::{Plans, Territory, WithLast, WithLasts};
 pub use phone_rules::kinds::{is_general, length, length_of, number_type};
+use phone_territory::Subject;
 use phone_values::Type;
 use phone_values::consts::REGION_CODE_FOR_NON_GEO_ENTITY;
 use phone_values::country::Id;
@@ -59,13 +60,13 @@ fn origin_of<'a>(db: &'a Plans, code: u16, text: &str) -> Result<Option<Origin<'
         return Ok(None);
     };
     match rest.next() {
-        Some(_) => origin_of_several(&all, text),
+        Some(_) => origin_of_several(&all, &Subject::of(text)),
         None => Ok(sole(code, first.territory, first.last)),
     }
 }
 
 /// The same by several territories of a code, which are these.
-fn origin_of_several<'a>(all: &WithLasts<'a>, text: &str) -> Result<Option<Origin<'a>>, AllocError>
+fn origin_of_several<'a>(all: &WithLasts<'a>, text: &Subject<'_>) -> Result<Option<Origin<'a>>, AllocError>
     ensures origin { IfOk result (λ r. option_map told r ≡
         option_and_then by_name (first_given (is_of_last text.now) all.now)) }
     ensures kind { IfOk result (λ r. IfSome r (TellsKind text.now)) }
@@ -127,7 +128,7 @@ struct Found<'a> {
 
 /// Of territories of a code the first to whose id's last one the number belongs: the latest main
 /// one, or else the earliest of the others.
-fn first_region<'a>(all: &WithLasts<'a>, text: &str) -> Result<Option<Found<'a>>, AllocError>
+fn first_region<'a>(all: &WithLasts<'a>, text: &Subject<'_>) -> Result<Option<Found<'a>>, AllocError>
     ensures region { IfOk result (λ r.
         option_map shown r ≡ first_given (is_of_last text.now) all.now) }
     ensures kind { IfOk result (λ r. IfSome r (FoundKind text.now)) }
@@ -139,7 +140,7 @@ fn first_region<'a>(all: &WithLasts<'a>, text: &str) -> Result<Option<Found<'a>>
 }
 
 /// Of the main ones of territories the last to whose id's last one the number belongs.
-fn last_main_region<'a>(all: WithLasts<'a>, text: &str) -> Result<Option<Found<'a>>, AllocError>
+fn last_main_region<'a>(all: WithLasts<'a>, text: &Subject<'_>) -> Result<Option<Found<'a>>, AllocError>
     ensures region { IfOk result (λ r.
         option_map shown r ≡ latest_main (is_of_last text.now) all.entry) }
     ensures kind { IfOk result (λ r. IfSome r (FoundKind text.now)) }
@@ -154,7 +155,7 @@ fn last_main_region<'a>(all: WithLasts<'a>, text: &str) -> Result<Option<Found<'
 }
 
 /// Of the other ones of territories the first to whose id's last one the number belongs.
-fn first_other_region<'a>(all: WithLasts<'a>, text: &str) -> Result<Option<Found<'a>>, AllocError>
+fn first_other_region<'a>(all: WithLasts<'a>, text: &Subject<'_>) -> Result<Option<Found<'a>>, AllocError>
     ensures region { IfOk result (λ r.
         option_map shown r ≡ first_other (is_of_last text.now) all.entry) }
     ensures kind { IfOk result (λ r. IfSome r (FoundKind text.now)) }
@@ -171,7 +172,7 @@ fn first_other_region<'a>(all: WithLasts<'a>, text: &str) -> Result<Option<Found
 fn found_if<'a>(
     is_asked: bool,
     pair: WithLast<'a>,
-    text: &str,
+    text: &Subject<'_>,
 ) -> Result<Option<Found<'a>>, AllocError>
     ensures region { IfOk result (λ r. option_map shown r ≡
         (if is_asked && is_of_last text.now (seen pair.entry)
@@ -186,7 +187,7 @@ fn found_if<'a>(
 }
 
 /// A territory, if the number belongs to the last one of its id.
-fn found_in<'a>(pair: WithLast<'a>, text: &str) -> Result<Option<Found<'a>>, AllocError>
+fn found_in<'a>(pair: WithLast<'a>, text: &Subject<'_>) -> Result<Option<Found<'a>>, AllocError>
     ensures region { IfOk result (λ r. option_map shown r ≡
         (if is_of_last text.now (seen pair.entry) then Some (seen pair.entry) else None)) }
     ensures kind { IfOk result (λ r. IfSome r (FoundKind text.now)) }

@@ -10,7 +10,7 @@ ghost use Rattle.phone_rules.specs.Kinds.{line_or_mobile, type_of};
 ghost use Rattle.phone_rules.specs.Verdicts.{last_of, verdict_by, verdict_for};
 
 use phone_parts::Number;
-use phone_territory::{Descriptor, Descriptors, Territory};
+use phone_territory::{Descriptor, Descriptors, Subject, Territory};
 use phone_values::{Type, Validation};
 use std::alloc::AllocError;
 
@@ -106,8 +106,15 @@ fn has_length(lengths: &[u16], bytes: usize) -> bool
 pub fn number_type(m: &Territory, text: &str) -> Result<Type, AllocError>
     ensures { IfOk result (λ k. k ≡ type_of m.now text.now) }
 {
+    number_type_in(m, &Subject::of(text))
+}
+
+/// The same of a text of which it is known whether it is of digits.
+pub fn number_type_in(m: &Territory, text: &Subject<'_>) -> Result<Type, AllocError>
+    ensures { IfOk result (λ k. k ≡ type_of m.now text.now) }
+{
     let kinds = m.descriptors();
-    if !kinds.general().is_match(text)? {
+    if !kinds.general().is_match_in(text)? {
         return Ok(Type::Unknown);
     }
     match first_kind(kinds, &TRIED, text)? {
@@ -117,7 +124,11 @@ pub fn number_type(m: &Territory, text: &str) -> Result<Type, AllocError>
 }
 
 /// The first of these kinds whose descriptor is there and matches.
-fn first_kind(kinds: &Descriptors, tried: &[Type], text: &str) -> Result<Option<Type>, AllocError>
+fn first_kind(
+    kinds: &Descriptors,
+    tried: &[Type],
+    text: &Subject<'_>,
+) -> Result<Option<Type>, AllocError>
     ensures { IfOk result (λ k. k ≡
         find (λ k. is_of (descriptor_for k kinds.now) text.now) tried.now) }
 {
@@ -139,17 +150,17 @@ pub fn is_general(m: &Territory, digits: &str) -> Result<bool, AllocError>
 }
 
 /// Whether a descriptor is there and matches.
-fn is_of(descriptor: Option<&Descriptor>, text: &str) -> Result<bool, AllocError>
+fn is_of(descriptor: Option<&Descriptor>, text: &Subject<'_>) -> Result<bool, AllocError>
     ensures { IfOk result (λ b. b ≡ is_of (option_copied descriptor.entry) text.now) }
 {
     match descriptor {
-        Some(descriptor) => descriptor.is_match(text),
+        Some(descriptor) => descriptor.is_match_in(text),
         None => Ok(false),
     }
 }
 
 /// The kind of a number, where a fixed line may as well be a mobile.
-fn line_or_mobile(m: &Territory, text: &str, kind: Type) -> Result<Type, AllocError>
+fn line_or_mobile(m: &Territory, text: &Subject<'_>, kind: Type) -> Result<Type, AllocError>
     ensures { IfOk result (λ k. k ≡ line_or_mobile m.now text.now kind) }
 {
     let Type::FixedLine = kind else {

@@ -14,3 +14,4 @@ pub mod OneAnswers
 pub mod SomeAnswers
 pub mod OneRows
 pub mod SomeRows
+pub mod ReadAgain

@@ -1,11 +1,13 @@
 -- What is written for a table.
-use Rattle.std.specs.Prelude.{◌≡◌, ◌⊎◌, ℕ, Bool, List, [], ◌++◌, Option, Some, None}
-use Rattle.std.specs.Prelude.{if◌then◌else◌}
+use Rattle.std.specs.Prelude.{◌≡◌, ◌⊎◌, ℕ, Bool, true, false, List, [], ◌∷◌, ◌++◌, Option, Some}
+use Rattle.std.specs.Prelude.{None, if◌then◌else◌}
+use Rattle.csv.specs.Reading.{AreRecords, strip_bom}
 use Rattle.csv.specs.declared.parser.State.{State}
+use Rattle.csv.specs.declared.parser.State.TheVariants.{StartRecord}
 use Rattle.phone_device.specs.Passing.{IsAtEnd}
 use Rattle.phone_csv.specs.Firsts.{IsHead, IsOnly, begins_with_mark, byte_order_mark, first_in}
-use Rattle.phone_csv.specs.Formats.{Record, format_after, record_text, state_of}
-use Rattle.phone_csv.specs.RecordReports.{Gives, IsReport, IsReportOnFirst}
+use Rattle.phone_csv.specs.Formats.{Record, format_after, reading, record_text, state_of}
+use Rattle.phone_csv.specs.RecordReports.{AreAll, AreAnswered, Gives, IsReport, IsReportOnFirst}
 use Rattle.phone_csv.specs.declared.cutter.Start.{Start}
 use Rattle.phone_csv.specs.declared.format.Format.{Format}
 
@@ -20,10 +22,13 @@ IsHeader delimiter fields (Some start) has_mark bytes =
     IsHead delimiter bytes fields (state_of start.place) start.feeds has_mark
 IsHeader delimiter fields None has_mark bytes = IsOnly delimiter bytes fields has_mark
 
+-- a byte-order mark, where there is one
+abbrev pub mark_text : Bool → List ℕ
+mark_text has_mark = if has_mark then byte_order_mark else []
+
 -- the text of a header, a byte-order mark in front of it where one was
 abbrev pub head_text : Format → Bool → Record → List ℕ
-head_text format has_mark fields =
-    (if has_mark then byte_order_mark else []) ++ record_text format fields
+head_text format has_mark fields = mark_text has_mark ++ record_text format fields
 
 -- the text for a table with this header: a byte-order mark where the table begins with one, the
 -- header with the added names behind it, then the body for what follows; its records end in
@@ -46,3 +51,20 @@ abbrev pub IsBeginning : Gives → (header added : Record) → ℕ → Option (L
 IsBeginning gives header added delimiter to_come bytes text = (left : List ℕ) ×
     IsTable header added (λ format after rest body. IsReportOnFirst gives format after rest body ⊎
     (IsAtEnd to_come × IsReport gives format after rest body)) delimiter bytes (text ++ left)
+
+-- the text for a table with commas, read as the kit's `csv` reads: what stands behind the mark are
+-- the header with the added names, and the table's records, each with its answer behind its fields;
+-- the mark is passed over, and nothing else, but where the first name begins with one itself
+pub record IsReadAgain (gives : Gives) (header added : Record) (bytes text : List ℕ) : Type 0 where
+  pub after : State
+  pub rest : List ℕ
+  pub records : List Record
+  pub rows : List Record
+  pub written : List ℕ
+  pub begins : first_in 44 bytes ≡ Some (header, after, rest)
+  pub read : AreAll 44 after rest records
+  pub answered : AreAnswered gives records rows
+  pub whole : text ≡ mark_text (begins_with_mark bytes) ++ written
+  pub again : AreRecords (reading 44) StartRecord written ((header ++ added) ∷ rows)
+  pub behind_mark : (begins_with_mark bytes ≡ true) ⊎ (begins_with_mark written ≡ false) →
+      strip_bom text ≡ written

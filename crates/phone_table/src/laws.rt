@@ -7,16 +7,19 @@ ghost use Rattle.serde_json.specs.Data.{Data};
 ghost use Rattle.phone_values.specs.declared.country.Id.{Id};
 ghost use Rattle.phone_values.specs.declared.reading.Reading.{Reading};
 ghost use Rattle.phone_csv.specs.Formats.{Record};
+ghost use Rattle.phone_csv.specs.RecordReports.{IsReport};
 ghost use Rattle.phone_values.specs.declared.rules.Rules.{Rules};
 ghost use Rattle.phone_records.specs.declared.loader.Metadata as loader;
 ghost use Rattle.phone_short.specs.Regions.{short_kind};
 ghost use Rattle.phone_short.specs.declared.kind.ShortKind.TheVariants as kind;
-ghost use Rattle.phone_prefixes.specs.Tables.{Entry, IsTable};
+ghost use Rattle.phone_prefixes.specs.Tables as prefixes;
 ghost use Rattle.phone_table.specs.Answers.{IsAnswer, IsFieldAnswer, IsOfOtherWidth};
 ghost use Rattle.phone_table.specs.Answers.{IsSevenAnswer};
 ghost use Rattle.phone_table.specs.Extras.{EachHasOneText, HaveOneText};
 ghost use Rattle.phone_table.specs.Objects.{IsObject, IsObjectLine};
+ghost use Rattle.phone_table.specs.Runs.{names_in};
 ghost use Rattle.phone_table.specs.Shorts.{short_answer};
+ghost use Rattle.phone_table.specs.Tables.{IsReadAgain, IsTable};
 ghost use Rattle.phone_table.specs.declared.header.Columns as header;
 ghost use Rattle.phone_table.specs.declared.run.Asked as run;
 
@@ -85,8 +88,8 @@ pub fn some_row(columns: Columns, asked: Asked<'_>, fields: &ByteRecord)
 
 /// In each table of prefixes that was loaded a prefix has one text.
 pub fn loaded_tables()
-    ensures { (bytes : List ℕ) (entries : List Entry) → IsTable bytes entries →
-        HaveOneText entries }
+    ensures { (bytes : List ℕ) (entries : List prefixes.Entry) →
+        prefixes.IsTable bytes entries → HaveOneText entries }
 {}
 
 /// By either rules a line has one object at most, and one text of it, under each database, database
@@ -111,3 +114,14 @@ pub fn some_object(line: &[u8])
 {
     some_answer(line);
 }
+
+/// What a run writes for a whole table with commas, read again, is the byte-order mark that the
+/// table begins with, if it does, the header with the added names, and the table's records, each
+/// with its answer behind its fields.
+pub fn read_again()
+    ensures { (rules : Rules) (db : List loader.Metadata) (hint : Option Id)
+        (columns : header.Columns) (asked : run.Asked) (header : Record) (bytes text : List ℕ) →
+        IsTable header (names_in asked) (IsReport (IsAnswer rules db hint columns asked)) 44 bytes
+        text → IsReadAgain (IsAnswer rules db hint columns asked) header (names_in asked) bytes
+        text }
+{}

@@ -1,12 +1,10 @@
 //! The header that is written.
 ghost use Rattle.std.specs.Prelude.{◌≡◌, ◌+◌, ◌++◌, ◌∷◌, [], Err, IfOk, OnOk};
-ghost use Rattle.std.specs.Prelude.{if◌then◌else◌};
 ghost use Rattle.csv.specs.Records.{fields_of, partial_of};
-ghost use Rattle.phone_csv.specs.Firsts.{byte_order_mark};
 ghost use Rattle.phone_device.specs.Passing.{Takes, TakesFront};
 ghost use Rattle.phone_table.specs.Extras.{added_names, headings};
 ghost use Rattle.phone_table.specs.Headers.{names};
-ghost use Rattle.phone_table.specs.Tables.{head_text};
+ghost use Rattle.phone_table.specs.Tables.{head_text, mark_text};
 ghost use Rattle.phone_table.specs.declared.names.HeaderError.TheVariants as error;
 
 use crate::extra::Extra;
@@ -66,7 +64,7 @@ fn push_headings(header: &mut ByteRecord, extra: &[Extra<'_>]) -> Result<(), All
 
 /// The UTF-8 byte-order mark, where there is one, as a text's beginning. Refused only for memory.
 fn mark_text(alloc: Global, has_mark: bool) -> Result<Vec<u8>, AllocError>
-    ensures { IfOk result (λ text. text.items ≡ (if has_mark then byte_order_mark else [])) }
+    ensures { IfOk result (λ text. text.items ≡ mark_text has_mark) }
 {
     let mut text = Vec::new(alloc);
     if has_mark {

@@ -1,2 +1,3 @@
 pub mod Complete
 pub mod Refused
+pub mod Suited

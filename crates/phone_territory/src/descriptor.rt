@@ -10,7 +10,7 @@ ghost use Rattle.phone_territory.specs.Records.{allows_length, matches, pattern_
 use crate::lent;
 use crate::loader::{self, Text};
 use crate::together::both;
-use phone_pattern::{Pattern, Pool};
+use phone_pattern::{Pattern, Pool, Subject};
 use phone_records::LoadMetadata;
 use std::alloc::AllocError;
 use std::marker::Model;
@@ -104,15 +104,28 @@ impl Descriptor {
         ensures matched { IfOk result (λ b. b ≡ matches self.now text.now) }
         ensures unsearched { allows_length self.now (length text.now) ≡ false → result ≡ Ok false }
     {
-        if !self.has_length(text.len()) {
+        if !self.allows_length(text.len()) {
             return Ok(false);
         }
         self.national_number.is_at_start(text)
     }
-}
 
-impl Descriptor {
-    fn has_length(&self, length: usize) -> bool
+    /// The same of a text of which it is known whether it is of digits.
+    pub fn is_match_in(&self, subject: &Subject<'_>) -> Result<bool, AllocError>
+        ensures matched { IfOk result (λ b. b ≡ matches self.now subject.now) }
+        ensures unsearched { allows_length self.now (length subject.now) ≡ false →
+            result ≡ Ok false }
+    {
+        if !self.allows_length(subject.as_str().len()) {
+            return Ok(false);
+        }
+        self.national_number.is_at_start_in(subject)
+    }
+
+    /// Whether a number may have so many digits: the list of possible lengths is empty, or has this
+    /// one. No memory is taken.
+    #[inline]
+    pub fn allows_length(&self, length: usize) -> bool
         ensures { result ≡ allows_length self.now length }
     {
         self.possible_length.is_empty() || lists(self.possible_length(), length)

@@ -1,5 +1,5 @@
 //! A layout of national numbers, with its patterns compiled.
-ghost use Rattle.std.specs.Prelude.{◌≡◌, ℕ, List, [], true, Some, Ok, option_map, IfOk};
+ghost use Rattle.std.specs.Prelude.{◌≡◌, ℕ, List, [], true, Some, Ok, option_map, IfOk, IsTrue};
 ghost use Rattle.std.specs.Prelude.{string_bytes};
 ghost use Rattle.std.specs.Borrow.{Bor};
 ghost use Rattle.std.specs.Option.{option_copied};
@@ -13,7 +13,7 @@ use crate::each::Compile;
 use crate::lent;
 use crate::loader::{self, Text};
 use crate::together::both_read;
-use phone_pattern::{FirstGroup, KeptRuled, Leading, Pattern, Pool};
+use phone_pattern::{FirstGroup, KeptRuled, Leading, Pattern, Pool, Subject};
 use phone_records::LoadMetadata;
 use std::alloc::AllocError;
 use std::marker::Model;
@@ -125,13 +125,55 @@ impl Format {
         self.pattern.is_whole_match(digits)
     }
 
+    /// The same of digits of which it is known whether they are of ASCII.
+    #[inline]
+    pub fn suits_in(&self, digits: &Subject<'_>) -> Result<bool, AllocError>
+        ensures suited { IfOk result (λ b. b ≡ suits digits.now self.now) }
+        ensures unsearched { self.now.leading_digits ≡ [] → result ≡ Ok true }
+    {
+        if self.leading_digits.is_empty() {
+            return Ok(true);
+        }
+        if !self.leading_digits.lead_in(digits)? {
+            return Ok(false);
+        }
+        self.pattern.is_whole_match_in(digits)
+    }
+
     /// The digits laid out: the first match of the pattern replaced by the template as it stands.
     /// Digits without a match stay as they are. Refused only for memory.
     pub fn lay_out(&self, digits: &str) -> Result<String, AllocError>
         ensures { IfOk result (λ t. string_bytes t ≡
             laid_by self.now (layout_template self.now) digits.now) }
     {
-        self.pattern.replace(self.text.as_str(), digits)
+        self.lay_out_in(&Subject::of(digits), false)
+    }
+
+    /// The same of digits of which it is known whether they are of ASCII, and by a layout that may
+    /// be known to suit them: then its pattern isn't searched for again.
+    pub fn lay_out_in(&self, digits: &Subject<'_>, is_suited: bool) -> Result<String, AllocError>
+        requires { IsTrue is_suited → suits digits.now self.now ≡ true }
+        ensures { IfOk result (λ t. string_bytes t ≡
+            laid_by self.now (layout_template self.now) digits.now) }
+    {
+        self.lay_out_by(self.text.as_str(), digits, is_suited)
+    }
+
+    /// The digits laid out by a template.
+    fn lay_out_by(
+        &self,
+        template: &str,
+        digits: &Subject<'_>,
+        is_suited: bool,
+    ) -> Result<String, AllocError>
+        requires { IsTrue is_suited → suits digits.now self.now ≡ true }
+        ensures { IfOk result (λ t. string_bytes t ≡ laid_by self.now template.now digits.now) }
+    {
+        if is_suited && !self.leading_digits.is_empty() {
+            self.pattern.replace_whole_in(template, digits)
+        } else {
+            self.pattern.replace_in(template, digits)
+        }
     }
 
     /// The digits laid out for callers inside the country, by the template with its first group
@@ -149,19 +191,34 @@ impl Format {
             laid_by self.now (national_template self.now (option_copied prefix.entry)
             (option_copied carrier.entry)) digits.now) }
     {
+        let digits = Subject::of(digits);
+        self.lay_out_nationally_in(first_group, prefix, carrier, &digits, false)
+    }
+
+    /// The same of digits of which it is known whether they are of ASCII, and by a layout that may
+    /// be known to suit them.
+    pub fn lay_out_nationally_in(
+        &self,
+        first_group: &FirstGroup,
+        prefix: Option<&str>,
+        carrier: Option<&str>,
+        digits: &Subject<'_>,
+        is_suited: bool,
+    ) -> Result<String, AllocError>
+        requires { IsTrue is_suited → suits digits.now self.now ≡ true }
+        ensures { IfOk result (λ t. string_bytes t ≡
+            laid_by self.now (national_template self.now (option_copied prefix.entry)
+            (option_copied carrier.entry)) digits.now) }
+    {
         let Some((rule, carrier)) = self.rule_for(carrier) else {
-            return self.lay_out(digits);
+            return self.lay_out_in(digits, is_suited);
         };
-        let pattern = &self.pattern;
         let text = self.text.as_str();
         let prefix = prefix.unwrap_or("");
-        if let Some(laid) = self
-            .ruled
-            .lay_out(pattern, text, rule, prefix, carrier, digits)?
-        {
-            return Ok(laid);
+        match self.ruled.template(text, rule, prefix, carrier) {
+            Some(template) => self.lay_out_by(template, digits, is_suited),
+            None => self.lay_out_anew(first_group, rule, prefix, carrier, digits),
         }
-        self.lay_out_anew(first_group, rule, prefix, carrier, digits)
     }
 
     /// The digits laid out by the template with its first group written by a rule, which is kept
@@ -174,7 +231,7 @@ impl Format {
         rule: &str,
         prefix: &str,
         carrier: &str,
-        digits: &str,
+        digits: &Subject<'_>,
     ) -> Result<String, AllocError>
         ensures { IfOk result (λ t. string_bytes t ≡ laid_by self.now
             (ruled_template (layout_template self.now) rule.now prefix.now carrier.now)
@@ -182,7 +239,7 @@ impl Format {
     {
         let text = self.text.as_str();
         let template = first_group.apply_rule(text, rule, prefix, carrier)?;
-        let laid = self.pattern.replace(template.as_str(), digits);
+        let laid = self.pattern.replace_in(template.as_str(), digits);
         self.ruled.keep(template, text, rule, prefix, carrier);
         laid
     }

@@ -18,6 +18,6 @@ pub use descriptor::Descriptor;
 pub use descriptors::Descriptors;
 pub use each::{Compile, compile_each};
 pub use format::Format;
-pub use phone_pattern::{Captured, FirstGroup, Pattern};
+pub use phone_pattern::{Captured, FirstGroup, Pattern, Subject};
 pub use phone_records::LoadMetadata;
 pub use territory::{Territory, compile_all};

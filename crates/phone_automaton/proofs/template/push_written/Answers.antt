@@ -1,4 +1,4 @@
-use Rattle.std.proofs.Common.{◌≡◌, ◌<◌, ◌+◌, ◌*◌, ◌≤◌, ◌++◌, ℕ, List, [], ap, arith, length, refl, sym, ◌∙◌}
+use Rattle.std.proofs.Common.{◌≡◌, ◌<◌, ◌+◌, ◌*◌, ◌≤◌, ◌++◌, ◌∷◌, ℕ, List, [], ap, arith, length, refl, sym, ◌∙◌}
 use Rattle.std.proofs.lemmas.List.{append_cancel_left, length-drop, length-set}
 use Rattle.regex.specs.Replace.{bytes_of}
 use Rattle.regex.specs.Templates.{written_after}
@@ -6,20 +6,30 @@ use Rattle.regex_syntax.specs.Grammar.{Names}
 use Rattle.phone_automaton.specs.Finds.{group_at}
 use Rattle.phone_automaton.specs.Templates.{AreTexts, put_in}
 use Rattle.phone_automaton.proofs.Writing.{all_on, byte_on, dollar_on, group_on}
+use Rattle.phone_automaton.proofs.Ascii.{all_one, all_utf8, byte_utf8, bytes_ascii, two_utf8}
+use Rattle.std.proofs.lemmas.Str.Ascii.{IsAscii-from_all}
 use Rattle.phone_automaton.proofs.template.push_written.Goals as goal
 
 pub loop-at-preserved-then-template-at-ne36 : goal.loop-at-preserved-then-template-at-ne36
 loop-at-preserved-then-template-at-ne36 c =
-    let inside : c.loop-at.at < length c.args.template.now = c.loop-at-test.true in
-    (omega arith, λ names text_of texts. rw c.in_ok-push.ensures.items (byte_on names text_of c.args.template.now c.loop-at.at c.loop-at.out.items _ inside c.if-template-at-ne36.true (c.loop-at.invariant.1 names text_of texts)))
+    let inside : c.loop-at.at < length c.args.template.now = c.loop-at-test.true in (
+      omega arith,
+      λ names text_of texts. rw c.in_ok-push.ensures.items (byte_on names text_of c.args.template.now c.loop-at.at c.loop-at.out.items _ inside c.if-template-at-ne36.true (c.loop-at.invariant.1 names text_of texts)),
+      λ ascii whole. rw c.in_ok-push.ensures.items (byte_utf8 c.args.template.now c.loop-at.at c.loop-at.out.items inside (c.loop-at.invariant.2 ascii whole)),
+    )
 
 pub loop-at-preserved-then-is_doubled : goal.loop-at-preserved-then-is_doubled
 loop-at-preserved-then-is_doubled c =
     let t = c.args.template.now in
     let (more, again) = rw c.after-rest.ensures at c.is_doubled.ensures c.if-is_doubled.true in
     let here : c.loop-at.at < length t = c.loop-at-test.true in
-    let inside : c.loop-at.at + 1 < length t = (let left = rw length-drop at more in omega arith) in
-    (omega arith, λ names text_of texts. rw c.in_ok-push-2.ensures.items (dollar_on names text_of t c.loop-at.at c.loop-at.out.items _ inside c.if-template-at-ne36.false again (c.loop-at.invariant.1 names text_of texts)))
+    let inside : c.loop-at.at + 1 < length t = (let left = rw length-drop at more in omega arith) in (
+      omega arith,
+      λ names text_of texts. rw c.in_ok-push-2.ensures.items (dollar_on names text_of t c.loop-at.at c.loop-at.out.items _ inside c.if-template-at-ne36.false again (c.loop-at.invariant.1 names text_of texts)),
+      λ ascii whole. rw c.in_ok-push-2.ensures.items
+          (two_utf8 t c.loop-at.at 36 c.loop-at.out.items (36 ∷ []) inside c.if-template-at-ne36.false again (omega arith) (IsAscii-from_all (36 ∷ []) (all_one 36 (omega arith)))
+          (c.loop-at.invariant.2 ascii whole)),
+    )
 
 pub loop-at-preserved : goal.loop-at-preserved
 loop-at-preserved c =
@@ -37,10 +47,17 @@ loop-at-preserved c =
           (group_on names text_of t c.loop-at.at c.in-Some.n c.loop-at.out.items _ _ inside c.if-template-at-ne36.false small digit alone
           (ap (bytes_of c.args.hay.now) c.group_in.ensures ∙ sym (texts c.in-Some.n fits))
           (c.loop-at.invariant.1 names text_of texts)),
+      λ ascii whole. rw (c.in_ok-push_group.ensures c.if-not-branch.false)
+          (two_utf8 t c.loop-at.at (48 + c.in-Some.n) c.loop-at.out.items _ inside c.if-template-at-ne36.false digit (omega (arith, small)) (bytes_ascii c.args.hay.now c.group_in.result ascii)
+          (c.loop-at.invariant.2 ascii whole)),
     )
 
-pub returns : goal.returns
-returns c = λ yes.
+pub returns-clause-utf8 : goal.returns-clause-utf8
+returns-clause-utf8 c = λ yes ascii whole.
+    all_utf8 c.args.template.now c.loop-at.at c.loop-at.out.items c.loop-at-test.false (c.loop-at.invariant.2 ascii whole)
+
+pub returns-clause-written : goal.returns-clause-written
+returns-clause-written c = λ yes.
     let t = c.args.template.now in
     let cells = put_in c.args.cells.now c.args.place c.args.span.1 in
     let own : ℕ → List ℕ = λ n. bytes_of c.args.hay.now (group_at c.args.span cells n) in

@@ -10,5 +10,6 @@ returns g c =
     let ends = Ends-by_itself _ _ _ _ _ _ c.take_lines-end.ensures.ends in
     IfOk-weaker c.copy_after.result _ _
     (λ v h. rw (h.1, c.bytes.ensures)
-    (report_taken IsWithTab _ _ _ (whole_of IsWithTab _ _ _ ends h.0) (ap (λ s. Some s.taken) c.new-text.ensures) refl))
+    (report_taken IsWithTab _ _ _ (whole_of IsWithTab _ _ _ ends h.0) (ap
+    (λ s. Some s.taken) c.new-text.ensures) refl))
     c.copy_after.ensures

@@ -25,7 +25,8 @@ returns-in-Err-clause-files g c some =
     let files = c.args.files.now in
     let name = get_or files i nameless in
     failed (take i files) (drop (i + 1) files) name _ _ c.in-Err.failure
-    (sym (take-append-drop i files) ∙ ap (λ names. take i files ++ names) (drop_more files i nameless c.loop-name-test.true))
+    (sym (take-append-drop i files) ∙
+    ap (λ names. take i files ++ names) (drop_more files i nameless c.loop-name-test.true))
     c.loop-name.invariant c.in-Err.ensures
 
 pub returns-clause-files : goal.returns-clause-files

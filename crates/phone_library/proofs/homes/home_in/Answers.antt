@@ -11,7 +11,7 @@ pub returns-in-Some-next-clause-territory : goal.returns-in-Some-next-clause-ter
 returns-in-Some-next-clause-territory c =
     let two = sym c.of_code-all.ensures ∙ c.in-Some.ensures.steps ∙ ap (λ ms. c.in-Some.first.now ∷ ms) c.in-Some-next.ensures.steps in
     let same = several_territories c.args.db.now c.args.code c.args.digits.now _ _ _ two in
-    subst (λ o. IfOk c.home_of_several.result (λ home. option_map territory_of home ≡ o)) (sym same) c.home_of_several.ensures.territory
+    subst (λ o. IfOk c.home_of_several.result (λ home. option_map territory_of home ≡ o)) (sym same) (rw c.of.ensures at c.home_of_several.ensures.territory)
 
 pub returns-in-None-clause-territory : goal.returns-in-None-clause-territory
 returns-in-None-clause-territory c =

@@ -11,11 +11,12 @@ returns-then-is_laid_alike-clause-texts c =
     let digits = c.args.digits.now in
     let own = option_copied c.args.own in
     let layouts = c.in_ok-layouts.ensures in
-    let abroad = laid-laid_out m International own _ n digits _ c.requires layouts.abroad
+    let is = c.of-subject.ensures ∙ c.requires in
+    let abroad = laid-laid_out m International own _ n c.of-subject.result _ is layouts.abroad
     (c.as_str-laid.ensures.value ∙ c.in_ok-abroad.ensures) in
     subst (λ t. OnOk c.push_laid.result (string_bytes c.push_laid.new.line ≡ string_bytes c.args.line.now ++ 9 ∷ t))
     (texts_laid-texts_by m own n digits _ _ c.requires abroad
-    (abroad ∙ sym (c.is_laid_alike.ensures c.if-is_laid_alike.true own (layouts.abroad ∙ ap (layout_for m International own) c.requires))))
+    (abroad ∙ sym (c.is_laid_alike.ensures c.if-is_laid_alike.true own (layouts.abroad ∙ ap (layout_for m International own) is))))
     c.push_laid.ensures.texts
 
 pub returns-clause-texts : goal.returns-clause-texts
@@ -25,8 +26,9 @@ returns-clause-texts c =
     let digits = c.args.digits.now in
     let own = option_copied c.args.own in
     let layouts = c.in_ok-layouts.ensures in
+    let is = c.of-subject.ensures ∙ c.requires in
     subst (λ t. OnOk c.push_laid-2.result (string_bytes c.push_laid-2.new.line ≡ string_bytes c.args.line.now ++ 9 ∷ t))
     (texts_laid-texts_by m own n digits _ _ c.requires
-    (laid-laid_out m International own _ n digits _ c.requires layouts.abroad (c.as_str-laid.ensures.value ∙ c.in_ok-abroad.ensures))
-    (laid-laid_out m National own _ n digits _ c.requires layouts.at_home (c.as_str.ensures.value ∙ c.in_ok-at_home.ensures)))
+    (laid-laid_out m International own _ n c.of-subject.result _ is layouts.abroad (c.as_str-laid.ensures.value ∙ c.in_ok-abroad.ensures))
+    (laid-laid_out m National own _ n c.of-subject.result _ is layouts.at_home (c.as_str.ensures.value ∙ c.in_ok-at_home.ensures)))
     c.push_laid-2.ensures.texts

@@ -13,7 +13,7 @@ pub returns-in-Some-next-clause-origin : goal.returns-in-Some-next-clause-origin
 returns-in-Some-next-clause-origin c =
     let two = sym c.again-rest.ensures ∙ c.in-Some.ensures.steps ∙ ap (λ ts. seen c.in-Some.first ∷ ts) c.in-Some-next.ensures.steps in
     subst (λ o. IfOk c.origin_of_several.result (λ r. option_map told r ≡ o))
-    (several_found c.args.db.now c.args.code c.args.text.now _ _ _ _ c.of_code_with_lasts-all.ensures two) c.origin_of_several.ensures.origin
+    (several_found c.args.db.now c.args.code c.args.text.now _ _ _ _ c.of_code_with_lasts-all.ensures two) (rw c.of.ensures at c.origin_of_several.ensures.origin)
 
 pub returns-in-None-clause-origin : goal.returns-in-None-clause-origin
 returns-in-None-clause-origin c =

@@ -5,7 +5,7 @@ use Rattle.phone_rules.proofs.kinds.is_of.Goals as goal
 
 pub returns-in-Some : goal.returns-in-Some
 returns-in-Some c =
-    subst (λ o. IfOk c.is_match.result (λ b. b ≡ is_of (option_copied o) c.args.text.now)) (sym c.in-Some.is) c.is_match.ensures.matched
+    subst (λ o. IfOk c.is_match_in.result (λ b. b ≡ is_of (option_copied o) c.args.text.now)) (sym c.in-Some.is) c.is_match_in.ensures.matched
 
 pub returns-in-None : goal.returns-in-None
 returns-in-None c = ap (λ o. is_of (option_copied o) c.args.text.now) (sym c.in-None.is)

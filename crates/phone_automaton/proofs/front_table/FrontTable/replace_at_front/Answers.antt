@@ -20,4 +20,4 @@ returns c re tells =
     (λ text. Parts c.args.template.now hay cells (0, end) text)
     (λ text. (names : Names) → text ≡ with_match_replaced names c.args.template.now hay (find_str re hay 0))
     (λ text made names. replaced_in c.args.template.now hay cells text (find_str re hay 0) (Some (0, end)) told.0 told.1 made names)
-    c.replace_by_cells.result c.replace_by_cells.ensures
+    c.replace_in_digits.result c.replace_in_digits.ensures

@@ -29,17 +29,24 @@ loop-found-preserved c =
     let ordered = rw c.in-Some.ensures.cases.0 at i.ordered in
     let listed = rw c.in-Some.ensures.cases.0 at i.listed in
     let one = c.in_ok-push_one.ensures in
-    let spot : Spot = record { line = c.args.self.now.place; column = c.column_at-column.result; piece = c.range.result } in
+    let spot : Spot = record {
+      line = c.args.self.now.place;
+      column = c.column_at-column.result;
+      piece = c.range.result;
+    } in
     let stands : IsSpot c.args.self.now.place c.args.text.now found spot =
     record { line = refl; column = c.column_at-column.ensures; piece = c.range.ensures.value } in
     record {
       done = i.done ++ found ∷ [];
-      whole = i.whole ∙ ap (λ t. i.done ++ t) c.in-Some.ensures.cases.0 ∙ sym (append_assoc i.done (found ∷ []) others);
+      whole = i.whole ∙ ap (λ t. i.done ++ t) c.in-Some.ensures.cases.0 ∙
+          sym (append_assoc i.done (found ∷ []) others);
       told = i.told ++ one.0;
       are = next i.done i.told found spot one.0 i.are stands one.1;
-      items = one.2 ∙ ap (λ t. t ++ one.0) i.items ∙ append_assoc c.args.answers.now.items i.told one.0;
+      items = one.2 ∙ ap (λ t. t ++ one.0) i.items ∙
+          append_assoc c.args.answers.now.items i.told one.0;
       border = ordered.from_border;
       column = c.column_at-column.ensures;
-      ordered = IsOrdered-earlier c.args.text.now found.start found.end others (omega (arith, ordered.some)) ordered.later;
+      ordered = IsOrdered-earlier c.args.text.now found.start found.end others (omega
+          (arith, ordered.some)) ordered.later;
       listed = listed.1;
     }

@@ -14,11 +14,13 @@ returns c =
     let spot = c.args.spot in
     let items = c.args.answers.now.items in
     let told : Option (List ℕ) → List ℕ = λ name. tabbed (option_to_list name ++
-    (decimal spot.line ∷ decimal spot.column ∷ e164_text c.args.number.now ∷ spot.piece.now ∷ [])) ++ 10 ∷ [] in
+    (decimal spot.line ∷ decimal spot.column ∷ e164_text c.args.number.now ∷ spot.piece.now ∷ []))
+    ++ 10 ∷ [] in
     on_ok_weaker c.push_text.result
     (λ e. (
       told (name_told self.names.now self.begun),
       fields,
-      e ∙ ap (λ t. items ++ t) (c.as_str.ensures.value ∙ c.in_ok-told.ensures ∙ ap told c.name.ensures),
+      e ∙ ap (λ t. items ++ t) (c.as_str.ensures.value ∙ c.in_ok-told.ensures ∙
+          ap told c.name.ensures),
     ))
     c.push_text.ensures

@@ -16,7 +16,8 @@ returns-in-Ok-Added c =
     let text = c.args.text.now in
     let told = rw c.in-Ok-Added.field-0-is at c.in-Ok-Added.ensures.answer in
     let n = told.0 in
-    let book = contacts_are self.book c.add_by.new.self (self.book.entries ++ n ∷ []) c.in-Ok-Added.ensures.database told.2.2 in
+    let book = contacts_are self.book c.add_by.new.self
+    (self.book.entries ++ n ∷ []) c.in-Ok-Added.ensures.database told.2.2 in
     let got : slice_get c.add_by.new.self.entries c.in-Ok-Added.place ≡ Some n =
     ap₂ slice_get told.2.2 told.2.1 ∙ slice_get-last self.book.entries n in
     let kept : Contacts → Firsts = λ b. record self { book = b; added = after_one self.added } in
@@ -24,7 +25,8 @@ returns-in-Ok-Added c =
     on_ok_weaker c.push_added.result
     (λ t. (
       line,
-      subst (λ k. IsFirstLine self text line k) (sym (t.1 ∙ ap kept book)) (added n c.utf8.text told.1 told.2.0),
+      subst (λ k. IsFirstLine self text line k) (sym (t.1 ∙
+          ap kept book)) (added n c.utf8.text told.1 told.2.0),
       t.0 n got,
     ))
     c.push_added.ensures
@@ -34,8 +36,10 @@ returns-in-Ok-Present c =
     let self = c.args.self.now in
     let text = c.args.text.now in
     let told = rw c.in-Ok-Present.field-0-is at c.in-Ok-Present.ensures.answer in
-    let book = contacts_are self.book c.add_by.new.self self.book.entries c.in-Ok-Present.ensures.database told.2.3 in
-    let among = is_among-at told.0 told.2.0 self.book.entries c.in-Ok-Present.field-0-0 told.2.1 told.2.2 in (
+    let book = contacts_are self.book c.add_by.new.self self.book.entries
+    c.in-Ok-Present.ensures.database told.2.3 in
+    let among = is_among-at told.0 told.2.0 self.book.entries c.in-Ok-Present.field-0-0 told.2.1
+    told.2.2 in (
       [],
       rw (book, c.saturating_add-self.ensures) (present told.0 c.utf8.text told.1 among),
       sym (append-nil c.args.answers.now.items),
@@ -46,8 +50,10 @@ returns-in-Err-Refused c =
     let self = c.args.self.now in
     let text = c.args.text.now in
     let told = rw c.in-Err-Refused.field-0-is at c.in-Err-Refused.ensures.answer in
-    let book = contacts_are self.book c.add_by.new.self self.book.entries c.in-Err-Refused.ensures.database told.2 in (
+    let book = contacts_are self.book c.add_by.new.self self.book.entries
+    c.in-Err-Refused.ensures.database told.2 in (
       [],
-      rw (book, c.saturating_add-self-in-Err-Refused.ensures) (no_number c.in-Err-Refused.field-0-0 c.utf8.text told.0),
+      rw (book, c.saturating_add-self-in-Err-Refused.ensures)
+          (no_number c.in-Err-Refused.field-0-0 c.utf8.text told.0),
       sym (append-nil c.args.answers.now.items),
     )

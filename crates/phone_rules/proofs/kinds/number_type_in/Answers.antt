@@ -4,7 +4,7 @@ use Rattle.phone_territory.specs.Kinds.{Kinds, descriptor_for}
 use Rattle.phone_rules.specs.declared.kinds.TheConstants.{TRIED}
 use Rattle.phone_rules.specs.Kinds.{is_of}
 use Rattle.phone_rules.proofs.TriedKinds.{is_of_kind, type_of-found, type_of-none}
-use Rattle.phone_rules.proofs.kinds.number_type.Goals as goal
+use Rattle.phone_rules.proofs.kinds.number_type_in.Goals as goal
 
 pub returns-in-Some : goal.returns-in-Some
 returns-in-Some c =

@@ -4,7 +4,7 @@ use Rattle.phone_territory.specs.Kinds.{Kinds, descriptor_for}
 use Rattle.phone_rules.specs.declared.kinds.TheConstants.{TRIED}
 use Rattle.phone_library.specs.Kinds.{is_number_of}
 use Rattle.phone_library.proofs.TriedKinds.{is_of_kind, kind_in-found, kind_in-none}
-use Rattle.phone_library.proofs.kinds.kind_in.Goals as goal
+use Rattle.phone_library.proofs.kinds.kind_of_digits.Goals as goal
 
 pub returns-in-Some : goal.returns-in-Some
 returns-in-Some c =

@@ -1,0 +1,9 @@
+use Rattle.std.proofs.Common.{◌≡◌, ◌<◌, ◌≤◌, ◌+◌, drop, length}
+use Rattle.std.specs.Option.{is_some}
+use Rattle.phone_automaton.specs.Digits.{end_by}
+use Rattle.phone_automaton.proofs.digits.Digits.begins_digits.Given as goal
+
+abbrev pub invariant-loop-at : goal.invariant-loop-at
+invariant-loop-at l =
+    (0 < l.place) × (l.place + 11 ≤ length l.cells)
+    × (is_some (end_by l.cells 11 0 l.text) ≡ is_some (end_by l.cells l.place l.at (drop l.at l.text)))

@@ -1,0 +1,14 @@
+use Rattle.std.proofs.Common.{subst, sym, ap, ◌∙◌}
+use Rattle.phone_automaton.specs.Digits.{AreDigits}
+use Rattle.phone_pattern.specs.First.{at_start}
+use Rattle.phone_pattern.specs.Outlines.{TellsOf}
+use Rattle.phone_pattern.proofs.ReadTexts.{begins_told}
+use Rattle.phone_pattern.proofs.plan.Plan.begins_digits.Goals as goal
+
+pub returns-in-Some : goal.returns-in-Some
+returns-in-Some c =
+    let told = subst (λ p. TellsOf p c.in-Some.table) c.self.view_is (rw c.in-Some.is at c.self.invariant.2) in
+    let same = c.as_bytes.ensures.value in
+    c.begins_digits.ensures
+    ∙ begins_told c.args.self.now c.in-Some.table told c.as_bytes.result.now (subst AreDigits (sym same) c.requires)
+    ∙ ap (at_start c.args.self.now) same
