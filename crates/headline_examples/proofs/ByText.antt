@@ -14,7 +14,7 @@ use Rattle.phone_territory.specs.Prefixes.{is_benign_prefix}
 use Rattle.phone_parts.specs.Texts.{ends}
 use Rattle.phone_records.specs.declared.loader.Metadata.{Metadata}
 use Rattle.phone_values.specs.declared.reading.Reading.{Reading}
-use Rattle.phonenumber.specs.Plain.{has_digits, IsBenign, IsPlain, IsPlainInternational, IsPlainRfc3966}
+use Rattle.phonenumber.specs.Plain.{has_digits, IsAnnouncedSafely, IsPlain, IsPlainInternational, IsPlainRfc3966}
 use Rattle.phone_print.specs.Texts.{laid_out}
 
 -- the value isn't 0, and there are so many digits
@@ -72,19 +72,19 @@ ends_in_digit t = ends is_digit (chars t)
 
 pub benign : (m : Metadata) (n : Reading) {text : List ℕ} →
     laid_out m International None n ≡ text → is_benign_prefix m.preferred_extension_prefix ≡ true →
-    ends_in_digit text ≡ true → IsBenign m n
+    ends_in_digit text ≡ true → IsAnnouncedSafely m n
 benign m n out known digit = inr (known, ap ends_in_digit out ∙ digit)
 
 -- a prefix that is none of the benign ones
 pub not_known : (m : Metadata) (n : Reading) →
-    is_benign_prefix m.preferred_extension_prefix ≡ false → ¬ (IsBenign m n)
+    is_benign_prefix m.preferred_extension_prefix ≡ false → ¬ (IsAnnouncedSafely m n)
 not_known m n other (inl none) = true≢false (sym (ap is_benign_prefix none) ∙ other)
 not_known m n other (inr (known, digit)) = true≢false (sym known ∙ other)
 
 -- a prefix behind a text that doesn't end in a digit
 pub not_behind_digit : (m : Metadata) (n : Reading) {text p : List ℕ} →
     m.preferred_extension_prefix ≡ Some p → laid_out m International None n ≡ text →
-    ends_in_digit text ≡ false → ¬ (IsBenign m n)
+    ends_in_digit text ≡ false → ¬ (IsAnnouncedSafely m n)
 not_behind_digit m n some out other (inl none) =
     true≢false (ap (λ o. option_map_or (λ _. true) o false) (sym some ∙ none))
 not_behind_digit m n some out other (inr (known, digit)) =

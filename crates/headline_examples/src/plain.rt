@@ -1,6 +1,6 @@
 //! Numbers that the premises take.
 ghost use Rattle.std.specs.Prelude.{[], codes, None, Some};
-ghost use Rattle.phonenumber.specs.Plain.{IsBenign, IsIdle, IsPlainE164};
+ghost use Rattle.phonenumber.specs.Plain.{IsAnnouncedSafely, IsLeftAlone, IsPlainE164};
 ghost use Rattle.phonenumber.specs.Plain.{IsPlainInternational, IsPlainRfc3966};
 ghost use Rattle.headline_examples.specs.Samples.{ad, ad_by_x, am_by_anexo, db_b, db_c, db_e};
 ghost use Rattle.headline_examples.specs.Samples.{number, us};
@@ -10,7 +10,7 @@ pub fn without_extension()
     ensures e164 { IsPlainE164 db_b (number 64 0 33316005 None) }
     ensures rfc3966 { IsPlainRfc3966 db_b (number 64 0 33316005 None) }
     ensures international { IsPlainInternational db_b (number 64 0 33316005 None) }
-    ensures idle { IsIdle db_b 64 (codes "33316005") }
+    ensures idle { IsLeftAlone db_b 64 (codes "33316005") }
 {}
 
 /// A number of the United States with an empty extension.
@@ -18,8 +18,8 @@ pub fn with_empty_extension()
     ensures e164 { IsPlainE164 db_b (number 1 0 6502530000 (Some [])) }
     ensures rfc3966 { IsPlainRfc3966 db_b (number 1 0 6502530000 (Some [])) }
     ensures international { IsPlainInternational db_b (number 1 0 6502530000 (Some [])) }
-    ensures benign { IsBenign us (number 1 0 6502530000 (Some [])) }
-    ensures idle { IsIdle db_b 1 (codes "6502530000") }
+    ensures benign { IsAnnouncedSafely us (number 1 0 6502530000 (Some [])) }
+    ensures idle { IsLeftAlone db_b 1 (codes "6502530000") }
 {}
 
 /// A number of Andorra with an extension.
@@ -27,24 +27,24 @@ pub fn with_extension()
     ensures e164 { IsPlainE164 db_c (number 376 0 123456 (Some (codes "5"))) }
     ensures rfc3966 { IsPlainRfc3966 db_c (number 376 0 123456 (Some (codes "5"))) }
     ensures international { IsPlainInternational db_c (number 376 0 123456 (Some (codes "5"))) }
-    ensures benign { IsBenign ad (number 376 0 123456 (Some (codes "5"))) }
-    ensures idle { IsIdle db_c 376 (codes "123456") }
+    ensures benign { IsAnnouncedSafely ad (number 376 0 123456 (Some (codes "5"))) }
+    ensures idle { IsLeftAlone db_c 376 (codes "123456") }
 {}
 
 /// A number of Andorra whose extension is announced by an `x`, which is there or empty.
 pub fn announced_by_x()
     ensures international { IsPlainInternational db_e (number 376 0 123456 (Some (codes "5"))) }
-    ensures benign { IsBenign ad_by_x (number 376 0 123456 (Some (codes "5"))) }
+    ensures benign { IsAnnouncedSafely ad_by_x (number 376 0 123456 (Some (codes "5"))) }
     ensures empty { IsPlainInternational db_e (number 376 0 123456 (Some [])) }
-    ensures empty_benign { IsBenign ad_by_x (number 376 0 123456 (Some [])) }
-    ensures idle { IsIdle db_e 376 (codes "123456") }
+    ensures empty_benign { IsAnnouncedSafely ad_by_x (number 376 0 123456 (Some [])) }
+    ensures idle { IsLeftAlone db_e 376 (codes "123456") }
 {}
 
 /// A number of Armenia whose extension is announced by `anexo`, which is there or empty.
 pub fn announced_by_anexo()
     ensures international { IsPlainInternational db_e (number 374 0 123456 (Some (codes "12"))) }
-    ensures benign { IsBenign am_by_anexo (number 374 0 123456 (Some (codes "12"))) }
+    ensures benign { IsAnnouncedSafely am_by_anexo (number 374 0 123456 (Some (codes "12"))) }
     ensures empty { IsPlainInternational db_e (number 374 0 123456 (Some [])) }
-    ensures empty_benign { IsBenign am_by_anexo (number 374 0 123456 (Some [])) }
-    ensures idle { IsIdle db_e 374 (codes "123456") }
+    ensures empty_benign { IsAnnouncedSafely am_by_anexo (number 374 0 123456 (Some [])) }
+    ensures idle { IsLeftAlone db_e 374 (codes "123456") }
 {}

@@ -1,4 +1,4 @@
-//! Texts and lists as records hold them, why a database is refused, and values that go on together:
+//! Texts and lists as records hold them, why a database is refused, and results of several steps:
 //! what the patterns of a database stand on, without its records.
 #![tactic(auto)]
 
@@ -6,8 +6,8 @@ pub mod error;
 pub mod fault;
 mod forms;
 pub mod items;
+pub mod results;
 pub mod text;
-pub mod together;
 
 pub use error::LoadMetadata;
 pub use fault::MetadataError;

@@ -5,7 +5,7 @@
 mod answers;
 mod book;
 mod iter;
-mod rows;
+mod worked;
 
 pub use answers::{BookError, BookNewError, Place};
 pub use book::Book;

@@ -3,8 +3,8 @@ ghost use Rattle.std.specs.Prelude.{◌≡◌, ◌≤◌};
 
 use crate::say::{say, say_columns};
 use itoa::Buffer;
+use phone_commands::{Failure, JobError, NoColumns, is_standard};
 use phone_device::ByteSink;
-use phone_jobs::{Failure, JobError, NoColumns, is_standard};
 use phone_prefixes::{LineFault, PrefixesError};
 use phone_table::{Column, FirstError, RunError, TableError};
 use phone_words::Call;

@@ -2,8 +2,8 @@
 ghost use Rattle.std.specs.Prelude.{◌≡◌, IfSome};
 
 use crate::say::say;
+use phone_commands::is_standard;
 use phone_device::ByteSink;
-use phone_jobs::is_standard;
 use phone_table::id_in;
 use phonenumber::country::Id;
 use std::fs::{self, Files};

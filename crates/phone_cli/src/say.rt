@@ -4,8 +4,8 @@ ghost use Rattle.phone_cli.specs.Statuses.{status_of_words};
 
 use csv::ByteRecord;
 use itoa::Buffer;
+use phone_commands::{Customers, FirstLines};
 use phone_device::{ByteSink, Fault, write_all};
-use phone_jobs::{Customers, Firsts};
 use phone_words::{Why, WordError, value_word};
 
 /// Writes the program's name, these texts and a line feed.
@@ -93,7 +93,7 @@ pub(crate) fn say_columns<E: ByteSink>(errors: &mut E, name: &str, header: &Byte
 }
 
 /// Tells how many lines gave what, and gives the status.
-pub(crate) fn say_firsts<E: ByteSink>(job: &Firsts, errors: &mut E) -> u8
+pub(crate) fn say_firsts<E: ByteSink>(job: &FirstLines, errors: &mut E) -> u8
     ensures { result ≡ 0 }
 {
     let (mut added, mut present, mut refused) = (Buffer::new(), Buffer::new(), Buffer::new());

@@ -9,12 +9,12 @@ use crate::operands::{hint_and_files, say_missing};
 use crate::outlet::Outlet;
 use crate::say::{say, say_firsts, say_records, say_word_error};
 use crate::written::is_read;
+use phone_commands::{
+    ByLines, Customers, Finder, FirstLines, FoundForm, Job, LineTaker, Loaded, Objects, Reader,
+    Report, Shorts, Typist, on_inputs,
+};
 use phone_device::{ByteSink, ByteSource, Fault, Std};
 use phone_engine::{Engine, Rules};
-use phone_jobs::{
-    ByLines, Customers, Finder, Firsts, FoundForm, Job, LineTaker, Loaded, Objects, Reader, Report,
-    Shorts, Typist, on_inputs,
-};
 use phone_plans::Plans;
 use phone_table::{Asked, Counts, Extra};
 use phone_words::{Call, Command, Table, call_of, help};
@@ -382,7 +382,7 @@ fn firsts<R: Files + AllocGlobal, S: ByteSource, W: Outlet, E: ByteSink>(
 ) -> u8
     ensures { result ≤ 3 }
 {
-    let Some(mut taker) = Firsts::new(database, reading.call.rules, reading.hint) else {
+    let Some(mut taker) = FirstLines::new(database, reading.call.rules, reading.hint) else {
         let more = " can't tell numbers apart: a calling code begins another";
         return say(errors, &["the database ", reading.path, more], 3);
     };

@@ -1,6 +1,6 @@
 //! The file that is written, and whether a call reads it too.
 use crate::tool::Reading;
-use phone_jobs::is_standard;
+use phone_commands::is_standard;
 use phone_words::Further;
 use std::fs::{self, Files};
 use std::os::unix::fs::MetadataExt;

@@ -10,9 +10,9 @@ pub mod laws;
 mod line;
 mod number;
 mod printing;
-mod rows;
 pub mod tool;
 pub mod words;
+mod worked;
 
 pub use engine::Engine;
 pub use phone_device::{ByteSink, ByteSource};

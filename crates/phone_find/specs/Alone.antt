@@ -10,7 +10,7 @@ use Rattle.phone_print.specs.Texts.{laid_out}
 use Rattle.phone_parts.specs.Texts.{ends}
 use Rattle.phone_records.specs.declared.loader.Metadata.{Metadata}
 use Rattle.phone_values.specs.declared.reading.Reading.{Reading}
-use Rattle.phonenumber.specs.Plain.{IsBenign, IsIdle, IsPlainInternational}
+use Rattle.phonenumber.specs.Plain.{IsAnnouncedSafely, IsLeftAlone, IsPlainInternational}
 use Rattle.phone_find.specs.Candidates.{is_number_shaped, is_opening}
 use Rattle.phone_find.specs.Founds.{most_bytes}
 use Rattle.phone_find.specs.Leniencies.{suffices}
@@ -42,8 +42,8 @@ pub record IsShaped (text : List ℕ) : Type 0 where
 -- its code has one to three digits, and no listed code begins another
 pub record IsPlainEnough (db : List Metadata) (leniency : Leniency) (n : Reading) : Type 0 where
   pub plain : IsPlainInternational db n
-  pub idle : IsIdle db n.code.value (text_of n.national)
-  pub announced : (n.extension ≡ None) ⊎ IsBenign plain.territory n
+  pub idle : IsLeftAlone db n.code.value (text_of n.national)
+  pub announced : (n.extension ≡ None) ⊎ IsAnnouncedSafely plain.territory n
   pub some_code : 1 ≤ n.code.value
   pub few_digits : n.code.value ≤ 999
   pub prefix_free : is_prefix_free db ≡ true

@@ -10,7 +10,8 @@ ghost use Rattle.phone_json.specs.Records.{with_prefixes, with_others, metadata_
 ghost use Rattle.phone_records.specs.Empty.{no_descriptor, no_format, no_defaults};
 
 use crate::fields::{field, items_at, items_in, number_at, small_number, truth_at};
-use crate::steps::{both, put};
+use crate::steps::put;
+use phone_base::results::zip;
 use phone_records::loader::{Defaults, Descriptor, Format, Items, Metadata, Text};
 use serde_json::Value;
 use std::alloc::{AllocError, Global};
@@ -61,12 +62,12 @@ fn numbers_at(alloc: Global, object: &Value, key: &str) -> Result<Items<u16>, Al
 fn descriptor(alloc: Global, object: &Value) -> Result<Descriptor, AllocError>
     ensures { IfOk result (λ d. d ≡ descriptor_of (view object.now)) }
 {
-    let ((national_number, example), (possible_length, possible_local_length)) = both(
-        both(
+    let ((national_number, example), (possible_length, possible_local_length)) = zip(
+        zip(
             text_at(alloc, object, "national_number"),
             text_at(alloc, object, "example"),
         ),
-        both(
+        zip(
             numbers_at(alloc, object, "possible_length"),
             numbers_at(alloc, object, "possible_local_length"),
         ),
@@ -92,16 +93,16 @@ fn descriptor_at(alloc: Global, object: &Value, key: &str) -> Result<Option<Desc
 fn format(alloc: Global, object: &Value) -> Result<Format, AllocError>
     ensures { IfOk result (λ f. f ≡ format_of (view object.now)) }
 {
-    let rules = both(
+    let rules = zip(
         text_at(alloc, object, "national_prefix_formatting_rule"),
         text_at(alloc, object, "domestic_carrier"),
     );
-    let ((pattern, format), (leading_digits, rules)) = both(
-        both(
+    let ((pattern, format), (leading_digits, rules)) = zip(
+        zip(
             text_at(alloc, object, "pattern"),
             text_at(alloc, object, "format"),
         ),
-        both(texts_at(alloc, object, "leading_digits"), rules),
+        zip(texts_at(alloc, object, "leading_digits"), rules),
     )?;
     let (national_prefix_formatting_rule, domestic_carrier) = rules;
     Ok(Format {
@@ -155,7 +156,7 @@ fn defaults_at(alloc: Global, object: &Value) -> Result<Defaults, AllocError>
     let Some(value) = field(object, "defaults") else {
         return Ok(Defaults::empty(alloc));
     };
-    let (format, descriptor) = both(
+    let (format, descriptor) = zip(
         default_format(alloc, value),
         default_descriptor(alloc, value),
     )?;

@@ -3,8 +3,8 @@ ghost use Rattle.std.specs.Prelude.{◌≡◌, IfOk, string_bytes};
 ghost use Rattle.phone_base.specs.Errors.{told};
 ghost use Rattle.phone_json.specs.Told.{refusal_of};
 
-use crate::steps::both;
 use phone_base::MetadataError;
+use phone_base::results::zip;
 use phone_records::LoadMetadata;
 use std::alloc::{AllocError, Global};
 
@@ -39,5 +39,5 @@ impl<'v> Fault<'v> {
 fn own_texts(alloc: Global, a: &str, b: &str) -> Result<(String, String), AllocError>
     ensures { IfOk result (λ pair. (string_bytes pair.0 ≡ a.now) × (string_bytes pair.1 ≡ b.now)) }
 {
-    both(String::from_str(alloc, a), String::from_str(alloc, b))
+    zip(String::from_str(alloc, a), String::from_str(alloc, b))
 }

@@ -15,7 +15,7 @@ ghost use Rattle.phone_rules.specs.Dialling.{after_match, found_in};
 use crate::kinds::matches_general;
 use crate::lengths::{is_too_long, length_in};
 use crate::stripping::strip;
-use phone_base::together::{beside, instead};
+use phone_base::results::{in_place_of, zip_value};
 use phone_plans::{Plans, Territory};
 use phone_rules::trims::{begins_with_number, behind_number};
 use phone_values::ParseError;
@@ -70,7 +70,7 @@ fn cut_off<'a>(coded: Result<Coded<'a>, ParseError>) -> Result<Coded<'a>, ParseE
 {
     let coded = coded?;
     match coded.source {
-        Source::Default => Err(instead(coded, ParseError::InvalidCountryCode)),
+        Source::Default => Err(in_place_of(coded, ParseError::InvalidCountryCode)),
         _ => Ok(coded),
     }
 }
@@ -199,11 +199,11 @@ fn if_general<'a>(m: &Territory, digits: CowStr<'a>) -> Result<Option<CowStr<'a>
         then Some (cow_str_bytes digits.entry) else None)) }
 {
     let is_general = matches_general(m, digits.as_str());
-    let (is_general, digits) = beside(is_general, digits)?;
+    let (is_general, digits) = zip_value(is_general, digits)?;
     if is_general {
         Ok(Some(digits))
     } else {
-        Ok(instead(digits, None))
+        Ok(in_place_of(digits, None))
     }
 }
 

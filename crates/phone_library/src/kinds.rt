@@ -68,10 +68,7 @@ fn line_or_mobile(m: &Territory, digits: &Subject<'_>, kind: Type) -> Result<Typ
 }
 
 /// Whether a descriptor is there and has the digits.
-fn is_number_of(
-    descriptor: Option<&Descriptor>,
-    digits: &Subject<'_>,
-) -> Result<bool, AllocError>
+fn is_number_of(descriptor: Option<&Descriptor>, digits: &Subject<'_>) -> Result<bool, AllocError>
     ensures { IfOk result (λ b. b ≡ is_number_of (option_copied descriptor.entry) digits.now) }
 {
     match descriptor {

@@ -8,7 +8,7 @@ ghost use Rattle.phone_library.specs.Readings.{reading_under, stripped, strippin
 
 use crate::codes::{Coded, code_in};
 use crate::stripping::{Left, strip_national_prefix};
-use phone_base::together::{beside, instead};
+use phone_base::results::{in_place_of, zip_value};
 use phone_library_text::WrittenNumber;
 use phone_plans::{Plans, Territory};
 use phone_rules::trims::without_zeros;
@@ -36,7 +36,7 @@ pub(crate) fn reading_under(
         extension,
     } = number;
     let numbered = main_number(db, territory, has_plus, digits.as_str());
-    let (numbered, extension) = beside(instead(digits, numbered), extension)?;
+    let (numbered, extension) = zip_value(in_place_of(digits, numbered), extension)?;
     let MainNumber {
         code,
         national,
@@ -78,7 +78,7 @@ fn main_number(
 {
     let coded = code_in(db, territory, has_plus, digits)?;
     let numbered = after_code(db, territory, &coded);
-    instead(coded, numbered)
+    in_place_of(coded, numbered)
 }
 
 /// The number of a calling code and the digits that follow it.
@@ -97,7 +97,7 @@ fn after_code(
     }
     let left = left_after_code(stripping_territory(db, territory, coded), digits)?;
     let numbered = reading_of_left(db.allocator(), coded, digits, &left);
-    instead(left, numbered)
+    in_place_of(left, numbered)
 }
 
 /// The number of a calling code and of what stripping left of the digits after it.

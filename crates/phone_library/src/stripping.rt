@@ -11,7 +11,7 @@ ghost use Rattle.phone_territory.specs.First.{AreCuts, IsCut, last_group};
 
 use crate::kinds::matches_general;
 use crate::lengths::{length_in, may_be_left};
-use phone_base::together::{beside, instead};
+use phone_base::results::{in_place_of, zip_value};
 use phone_rules::trims::{has_front, trim};
 use phone_territory::{Captured, Pattern, Territory};
 use std::alloc::AllocError;
@@ -41,7 +41,7 @@ pub(crate) fn strip_national_prefix<'a>(
     if may_be_left(length_in(m, left.national.as_str().len())) {
         Ok(Some(left))
     } else {
-        Ok(instead(left, None))
+        Ok(in_place_of(left, None))
     }
 }
 
@@ -54,9 +54,9 @@ pub(crate) fn strip<'a>(m: &Territory, digits: &'a str) -> Result<Option<Left<'a
         return Ok(None);
     };
     let leaves = leaves_general(m, digits, left.national.as_str());
-    let (leaves, left) = beside(leaves, left)?;
+    let (leaves, left) = zip_value(leaves, left)?;
     if leaves {
-        Ok(instead(left, None))
+        Ok(in_place_of(left, None))
     } else {
         Ok(Some(left))
     }

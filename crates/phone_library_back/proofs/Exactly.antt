@@ -23,7 +23,7 @@ use Rattle.phone_plans.specs.CodeLookUps.{first_of, territories}
 use Rattle.phone_read.specs.TransformRules.{rules_have_no_plus}
 use Rattle.phone_records.specs.declared.loader.Metadata.{Metadata}
 use Rattle.phonenumber.proofs.BackNumbers.{list_all-text_of}
-use Rattle.phone_library_back.specs.Coded.{IsCoded, IsIdle}
+use Rattle.phone_library_back.specs.Coded.{IsCoded, IsLeftAlone}
 use Rattle.phone_library_back.specs.Printed.{printed_reading}
 use Rattle.phone_library_back.proofs.OwnDigits.{own_digits}
 use Rattle.phone_library_back.proofs.ReadSigned.{coded, left, reads_left, signed}
@@ -77,7 +77,7 @@ module _ (db : List Metadata) (n : Reading) (h : IsCoded db n)
         national = v;
         extension = n.extension;
         carrier = (left db n h).carrier;
-      }) (λ e. e) r ≡ Ok (printed_reading n) → IsIdle db n
+      }) (λ e. e) r ≡ Ok (printed_reading n) → IsLeftAlone db n
   told (Err e) f g = cc
   told (Ok v) f g =
       let same : v ≡ n.national = ap (λ r. national_of r v) g in
@@ -87,7 +87,7 @@ module _ (db : List Metadata) (n : Reading) (h : IsCoded db n)
       ap₂ (λ d c. record { national = d; carrier = c }) text none
 
   pub idle_if_read : (hint : Option Id) (t : List ℕ) → IsWritten t (Ok (signed db n h)) →
-      ReadsByLibrary db hint t (Ok (printed_reading n)) → IsIdle db n
+      ReadsByLibrary db hint t (Ok (printed_reading n)) → IsLeftAlone db n
   idle_if_read hint t written read =
       told (national_number (left db n h).national) refl
       (reading_same written_same db hint t

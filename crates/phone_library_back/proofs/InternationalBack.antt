@@ -21,7 +21,7 @@ use Rattle.phonenumber.specs.Printed.{printed}
 use Rattle.phonenumber.proofs.BackNumbers.{list_all-decimal}
 use Rattle.phonenumber.proofs.BackTexts.{IsUtf8-low, chars-low, is_low, low_digits}
 use Rattle.phone_library_back.specs.Announced.{prefix_of}
-use Rattle.phone_library_back.specs.Coded.{IsCoded, IsIdle}
+use Rattle.phone_library_back.specs.Coded.{IsCoded, IsLeftAlone}
 use Rattle.phone_library_back.specs.Plain.{IsPlainInternational}
 use Rattle.phone_library_back.specs.Printed.{printed_reading, uncarried}
 use Rattle.phone_library_back.proofs.CodedNumbers.{coded_digits, coded_number, no_front}
@@ -89,7 +89,7 @@ module _ (db : List Metadata) (n : Reading) (h : IsCoded db n)
       p.layout.first e)) ∙ characters
 
   pub international_back : (hint : Option Id) (text : List ℕ) →
-      printed db International None (uncarried n) ≡ Some text → IsIdle db n →
+      printed db International None (uncarried n) ≡ Some text → IsLeftAlone db n →
       ReadsByLibrary db hint (chars text) (Ok (printed_reading n))
   international_back hint text e idle =
       subst (λ t. ReadsByLibrary db hint t (Ok (printed_reading n))) (sym (printed_is text e))
@@ -97,7 +97,7 @@ module _ (db : List Metadata) (n : Reading) (h : IsCoded db n)
 
   pub international_idle : rules_have_no_plus db ≡ true → (hint : Option Id) (text : List ℕ) →
       printed db International None (uncarried n) ≡ Some text →
-      ReadsByLibrary db hint (chars text) (Ok (printed_reading n)) → IsIdle db n
+      ReadsByLibrary db hint (chars text) (Ok (printed_reading n)) → IsLeftAlone db n
   international_idle rules hint text e read =
       idle_if_read db n h rules hint (number ++ behind) written
       (subst (λ t. ReadsByLibrary db hint t (Ok (printed_reading n))) (printed_is text e) read)

@@ -25,7 +25,7 @@ use Rattle.phone_read.specs.Hints.{Coded, hinted}
 use Rattle.phone_records.specs.declared.loader.Metadata.{Metadata}
 use Rattle.phone_rules.specs.Strips.{Stripped}
 use Rattle.phonenumber.proofs.BackCodes.{shortest-decimal}
-use Rattle.phone_library_back.specs.Coded.{IsCoded, IsIdle}
+use Rattle.phone_library_back.specs.Coded.{IsCoded, IsLeftAlone}
 use Rattle.phone_library_back.specs.Printed.{printed_reading}
 
 -- a settled number is coded
@@ -94,12 +94,12 @@ module _ (db : List Metadata) (n : Reading) (h : IsCoded db n) where
   reads_left hint t written =
       subst (ReadsByLibrary db hint t) (read (hinted db hint)) (Readings.written signed written)
 
-  whole : IsIdle db n → reading_of coded n.extension left ≡ Ok (printed_reading n)
+  whole : IsLeftAlone db n → reading_of coded n.extension left ≡ Ok (printed_reading n)
   whole idle = ap (reading_of coded n.extension) idle
       ∙ rw (national_number-text_of n.national h.held h.long_enough h.short_enough)
 
   -- which is the number
-  pub read_signed : IsIdle db n → (hint : Option Id) (t : List ℕ) → IsWritten t (Ok signed) →
+  pub read_signed : IsLeftAlone db n → (hint : Option Id) (t : List ℕ) → IsWritten t (Ok signed) →
       ReadsByLibrary db hint t (Ok (printed_reading n))
   read_signed idle hint t written =
       subst (ReadsByLibrary db hint t) (whole idle) (reads_left hint t written)

@@ -29,7 +29,7 @@ use Rattle.phonenumber.proofs.BackNumbers.{list_all-decimal}
 use Rattle.phonenumber.proofs.BackTexts.{IsUtf8-low, all_dialled, chars-low, hyphenated-digits}
 use Rattle.phonenumber.proofs.BackTexts.{is_dialled, is_low, low_digit, low_digits}
 use Rattle.phone_library_back.specs.Layouts.{IsLaidOut, is_quiet}
-use Rattle.phone_library_back.specs.Coded.{IsCoded, IsIdle}
+use Rattle.phone_library_back.specs.Coded.{IsCoded, IsLeftAlone}
 use Rattle.phone_library_back.specs.Plain.{IsPlainRfc3966}
 use Rattle.phone_library_back.specs.Printed.{printed_reading, uncarried}
 use Rattle.phone_library_back.proofs.CodedNumbers.{coded_digits, coded_number, some_last}
@@ -157,7 +157,7 @@ module _ (db : List Metadata) (n : Reading) (h : IsCoded db n)
       p.layout.first e)) ∙ characters
 
   pub rfc3966_back : (hint : Option Id) (text : List ℕ) →
-      printed db Rfc3966 None (uncarried n) ≡ Some text → IsIdle db n →
+      printed db Rfc3966 None (uncarried n) ≡ Some text → IsLeftAlone db n →
       ReadsByLibrary db hint (chars text) (Ok (printed_reading n))
   rfc3966_back hint text e idle =
       subst (λ t. ReadsByLibrary db hint t (Ok (printed_reading n))) (sym (printed_is text e))
@@ -165,7 +165,7 @@ module _ (db : List Metadata) (n : Reading) (h : IsCoded db n)
 
   pub rfc3966_idle : rules_have_no_plus db ≡ true → (hint : Option Id) (text : List ℕ) →
       printed db Rfc3966 None (uncarried n) ≡ Some text →
-      ReadsByLibrary db hint (chars text) (Ok (printed_reading n)) → IsIdle db n
+      ReadsByLibrary db hint (chars text) (Ok (printed_reading n)) → IsLeftAlone db n
   rfc3966_idle rules hint text e read =
       idle_if_read db n h rules hint (codes "tel:" ++ (number ++ behind)) written
       (subst (λ t. ReadsByLibrary db hint t (Ok (printed_reading n))) (printed_is text e) read)

@@ -19,6 +19,6 @@ pub record IsCoded (db : List Metadata) (n : Reading) : Type 0 where
   pub short_enough : length (text_of n.national) ≤ 17
 
 -- the code's first territory strips nothing off the national number
-abbrev pub IsIdle : List Metadata → Reading → Type 0
-IsIdle db n = stripped (first_of (territories n.code.value db)) (text_of n.national)
+abbrev pub IsLeftAlone : List Metadata → Reading → Type 0
+IsLeftAlone db n = stripped (first_of (territories n.code.value db)) (text_of n.national)
     ≡ untouched (text_of n.national)

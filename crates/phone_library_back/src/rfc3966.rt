@@ -8,7 +8,7 @@ ghost use Rattle.phone_library_laws.specs.Again.{IsSettled};
 ghost use Rattle.phone_read.specs.TransformRules.{rules_have_no_plus};
 ghost use Rattle.phone_records.specs.declared.loader.Metadata as loader;
 ghost use Rattle.phonenumber.specs.Printed.{printed};
-ghost use Rattle.phone_library_back.specs.Coded.{IsCoded, IsIdle};
+ghost use Rattle.phone_library_back.specs.Coded.{IsCoded, IsLeftAlone};
 ghost use Rattle.phone_library_back.specs.Plain.{IsPlainRfc3966};
 ghost use Rattle.phone_library_back.specs.Printed.{printed_reading, uncarried};
 
@@ -33,5 +33,5 @@ pub fn rfc3966_again()
         (text : List ℕ) → IsCoded db n → IsPlainRfc3966 db (uncarried n) →
         rules_have_no_plus db ≡ true →
         printed db mode.Rfc3966 None (uncarried n) ≡ Some text →
-        (ReadsByLibrary db hint (chars text) (Ok (printed_reading n)) ↔ IsIdle db n) }
+        (ReadsByLibrary db hint (chars text) (Ok (printed_reading n)) ↔ IsLeftAlone db n) }
 {}

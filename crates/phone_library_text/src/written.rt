@@ -11,7 +11,7 @@ use crate::letters::digits_in;
 use crate::number_text::number_text;
 use crate::viable::{is_viable, split_extension};
 use phone_base::Text;
-use phone_base::together::{both, instead};
+use phone_base::results::{in_place_of, zip};
 use phone_chars::chars::is_plus;
 use phone_chars::cuts::split_first;
 use phone_values::{Extension, ParseError};
@@ -46,7 +46,7 @@ pub fn read_written(alloc: Global, text: &str) -> Result<WrittenNumber, ParseErr
         return Err(ParseError::NoNumber);
     };
     let written = written_in(alloc, number.as_str());
-    instead(number, written)
+    in_place_of(number, written)
 }
 
 /// Whether a text has too many characters. They are counted only where it has so many bytes.
@@ -64,7 +64,7 @@ fn written_in(alloc: Global, number: &str) -> Result<WrittenNumber, ParseError>
         return Err(ParseError::NoNumber);
     }
     let (front, extension) = split_extension(number);
-    let (digits, extension) = both(text_of_digits(alloc, front), text_of(alloc, extension))?;
+    let (digits, extension) = zip(text_of_digits(alloc, front), text_of(alloc, extension))?;
     Ok(WrittenNumber {
         has_plus: begins_with_plus(number),
         digits,

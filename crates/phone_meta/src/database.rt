@@ -27,11 +27,11 @@ ghost use Rattle.phone_base.specs.declared.error.LoadMetadata.TheVariants as err
 use crate::iter::Iter;
 use crate::metadata::Metadata;
 use crate::tree::Tree;
+use phone_base::results::zip;
 use phone_device::{ByteSource, ReadError, Std, read_all};
 use phone_plans::{Plans, Steps};
 use phone_territory::LoadMetadata;
 use phone_territory::loader::{self, Items};
-use phone_territory::together::both;
 use regex::Regex;
 use std::alloc::{AllocError, Global};
 use std::fs::{self, Files};
@@ -233,7 +233,7 @@ impl Database {
     {
         let alloc = self.allocator();
         let all = self.territories();
-        let (mains, others) = both(mains(alloc, all, *code), others(alloc, all, *code))?;
+        let (mains, others) = zip(mains(alloc, all, *code), others(alloc, all, *code))?;
         backwards_before(mains, others)
     }
 

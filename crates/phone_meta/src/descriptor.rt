@@ -5,8 +5,8 @@ ghost use Rattle.phone_territory.specs.First.{IsPatternOf};
 ghost use Rattle.phone_territory.specs.Records.{pattern_of};
 ghost use Rattle.phone_territory.specs.Refusals.{AreRead, patterns_in_descriptor};
 
+use phone_base::results::zip;
 use phone_pattern::{Compiled, Pool};
-use phone_territory::together::both;
 use phone_territory::{LoadMetadata, loader};
 use regex::Regex;
 use std::marker::Model;
@@ -55,7 +55,7 @@ impl Descriptor {
     {
         let light = phone_territory::Descriptor::compile(pool, given)?;
         let pattern = Compiled::new(pool, light.pattern_text());
-        let (light, national_number) = both(Ok(light), pattern)?;
+        let (light, national_number) = zip(Ok(light), pattern)?;
         Ok(Descriptor {
             light,
             national_number,

@@ -2,8 +2,8 @@
 ghost use Rattle.std.specs.Prelude.{Some};
 ghost use Rattle.phone_territory.specs.First.{ArePatternsOf, IsLentPattern};
 
+use phone_base::results::zip;
 use phone_pattern::{Compiled, CompiledList, Pool};
-use phone_territory::together::both;
 use phone_territory::{Compile, LoadMetadata, loader};
 use regex::Regex;
 use std::marker::Model;
@@ -58,9 +58,9 @@ impl Compile for Format {
     fn compile(pool: &Pool, given: loader::Format) -> Result<Format, LoadMetadata> {
         let leading = CompiledList::new(pool, given.leading_digits.as_slice());
         let light = phone_territory::Format::compile(pool, given);
-        let (light, leading) = both(light, leading)?;
+        let (light, leading) = zip(light, leading)?;
         let pattern = Compiled::new(pool, light.whole_pattern().as_str());
-        let ((light, leading_digits), pattern) = both(Ok((light, leading)), pattern)?;
+        let ((light, leading_digits), pattern) = zip(Ok((light, leading)), pattern)?;
         Ok(Format {
             light,
             pattern,

@@ -9,9 +9,10 @@ ghost use Rattle.phone_territory.specs.Refusals.{AreRead, patterns_in};
 use crate::descriptors::Descriptors;
 use crate::format::Format;
 use crate::patterns::{self, Patterns};
+use phone_base::results::zip;
 use phone_pattern::Pool;
 use phone_territory::loader::{self, TryCopy};
-use phone_territory::together::{both, both_read};
+use phone_territory::results::zip_read;
 use phone_territory::{Compile, LoadMetadata, Territory};
 use regex::Regex;
 use std::marker::Model;
@@ -98,7 +99,7 @@ fn compile_parts(
         given.formats.into_vec(),
         given.international_formats.into_vec(),
     );
-    let (descriptors, patterns) = both_read(descriptors, patterns)?;
+    let (descriptors, patterns) = zip_read(descriptors, patterns)?;
     Ok((descriptors, patterns))
 }
 
@@ -117,7 +118,7 @@ impl Compile for Metadata {
     /// Compiles a record that lacks nothing.
     fn compile(pool: &Pool, given: loader::Metadata) -> Result<Metadata, LoadMetadata> {
         let light = light(pool, &given);
-        let (light, (descriptors, patterns)) = both(light, compile_parts(pool, given))?;
+        let (light, (descriptors, patterns)) = zip(light, compile_parts(pool, given))?;
         Ok(Metadata {
             light,
             descriptors,

@@ -8,7 +8,7 @@ ghost use Rattle.phone_territory.specs.Refusals.{AreRead, patterns_besides};
 use crate::format::Format;
 use phone_pattern::{Compiled, Pool};
 use phone_territory::loader::{self, Text};
-use phone_territory::together::both_read;
+use phone_territory::results::zip_read;
 use phone_territory::{LoadMetadata, compile_each};
 use regex::Regex;
 
@@ -79,9 +79,9 @@ impl Patterns {
         let parsing = compile_text(pool, parsing);
         let leading = compile_text(pool, leading);
         let national = compile_each(pool, national);
-        let layouts = both_read(national, compile_each(pool, international));
-        let texts = both_read(parsing, both_read(leading, layouts));
-        let (international_prefix, (national_prefix_for_parsing, others)) = both_read(
+        let layouts = zip_read(national, compile_each(pool, international));
+        let texts = zip_read(parsing, zip_read(leading, layouts));
+        let (international_prefix, (national_prefix_for_parsing, others)) = zip_read(
             dialled, texts,
         )?;
         let (leading_digits, (formats, international_formats)) = others;

@@ -13,7 +13,7 @@ use crate::metadata::Metadata;
 use crate::{index, patterns};
 use phone_index::{Sorted, Steps};
 use phone_pattern::{Compiled, FirstGroup, Pool};
-use phone_territory::together::both_read;
+use phone_territory::results::zip_read;
 use phone_territory::{LoadMetadata, compile_each, loader};
 use regex::Regex;
 use std::alloc::Global;
@@ -75,8 +75,8 @@ impl Tree {
         let pool = Pool::new(alloc);
         let territories = compile_each::<Metadata>(&pool, records)?;
         let by_id = index::by_id(alloc, territories.as_slice());
-        let others = both_read(by_id, first_group(&pool));
-        let (territories, (by_id, first_group)) = both_read(Ok(territories), others)?;
+        let others = zip_read(by_id, first_group(&pool));
+        let (territories, (by_id, first_group)) = zip_read(Ok(territories), others)?;
         Ok(Tree {
             territories,
             by_id,

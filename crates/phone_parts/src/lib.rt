@@ -12,10 +12,10 @@ pub mod printed;
 pub mod printed_international;
 mod readers;
 pub mod rfc3966;
-mod rows;
 pub mod sets;
 mod suffix;
 mod tails;
+mod worked;
 
 pub use number::Number;
 pub use readers::parts;

@@ -3,7 +3,7 @@ ghost use Rattle.std.specs.Prelude.{◌≡◌, IfSome, string_bytes};
 ghost use Rattle.phone_pattern.specs.Rules.{ruled_template};
 
 use once_cell::race::OnceBox;
-use phone_base::together::both;
+use phone_base::results::zip;
 use std::alloc::{AllocError, Global};
 use std::marker::Model;
 
@@ -60,12 +60,12 @@ impl Ruled {
         requires { string_bytes template ≡
             ruled_template text.now rule.now prefix.now carrier.now }
     {
-        let front = both(String::from_str(alloc, text), String::from_str(alloc, rule));
-        let back = both(
+        let front = zip(String::from_str(alloc, text), String::from_str(alloc, rule));
+        let back = zip(
             String::from_str(alloc, prefix),
             String::from_str(alloc, carrier),
         );
-        let (front, back) = both(front, back)?;
+        let (front, back) = zip(front, back)?;
         Ok(Ruled {
             template,
             text: front.0,

@@ -11,8 +11,8 @@ ghost use Rattle.phone_index.specs.Orders.{place_of, text_of};
 ghost use Rattle.phone_index.specs.Orders as placed;
 ghost use Rattle.phone_index.specs.ListedCodes.{is_in};
 
+use phone_base::results::zip;
 use phone_index::{Coded, Grouped, Named, Sorted, Steps, Trie};
-use phone_territory::together::both;
 use phone_territory::{LoadMetadata, Territory};
 use std::alloc::{AllocError, Global};
 
@@ -37,8 +37,8 @@ impl Index {
     {
         let ids = ids(alloc, territories);
         let by_code = by_code(alloc, territories);
-        let others = both(by_code, codes(alloc, territories));
-        let ((by_id, lasts), (by_code, codes)) = both(ids, others)?;
+        let others = zip(by_code, codes(alloc, territories));
+        let ((by_id, lasts), (by_code, codes)) = zip(ids, others)?;
         Ok(Index {
             by_id,
             lasts,
@@ -58,7 +58,7 @@ fn ids(alloc: Global, territories: &[Territory]) -> Result<(Sorted, Vec<Option<u
 {
     let by_id = by_id(alloc, territories)?;
     let lasts = lasts(alloc, territories, &by_id);
-    both(Ok(by_id), lasts)
+    zip(Ok(by_id), lasts)
 }
 
 /// For each territory the place that its id has among these. Refused only for memory.

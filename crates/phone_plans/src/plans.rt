@@ -33,12 +33,13 @@ use crate::index::Index;
 use crate::iter::Iter;
 use crate::of_code::{Placed, WithLast, WithLasts};
 use phone_base::MetadataError;
+use phone_base::results::zip;
 use phone_compact::NotRead;
 use phone_device::{ByteSource, ReadError, Std, read_all};
 use phone_index::{Coded, Steps, Trie};
 use phone_records::LoadMetadata;
 use phone_records::missing::{self, Missing};
-use phone_territory::together::{both, both_read};
+use phone_territory::results::zip_read;
 use phone_territory::{FirstGroup, Territory, compile_all, loader};
 use std::alloc::{AllocError, Global};
 use std::fs::{self, Files};
@@ -97,8 +98,8 @@ impl Plans {
         }
         let territories = compile_all(alloc, records)?;
         let index = Index::of(alloc, territories.as_slice());
-        let others = both_read(index, FirstGroup::new(alloc));
-        let (territories, (index, first_group)) = both_read(Ok(territories), others)?;
+        let others = zip_read(index, FirstGroup::new(alloc));
+        let (territories, (index, first_group)) = zip_read(Ok(territories), others)?;
         Ok(Plans {
             alloc,
             territories,
@@ -331,7 +332,7 @@ impl Plans {
             option_map (λ v. map (λ (t : Bor loader.Metadata). t.now) v.items) found ≡
             if_any (territories code.now self.now)) }
     {
-        let (mains, others) = both(self.mains(*code), self.others(*code))?;
+        let (mains, others) = zip(self.mains(*code), self.others(*code))?;
         backwards_before(mains, others)
     }
 
@@ -451,7 +452,7 @@ fn missing_value(alloc: Global, missing: Missing) -> LoadMetadata
 {
     let phase = String::from_str(alloc, missing.phase());
     let name = String::from_str(alloc, missing.name());
-    match both(phase, name) {
+    match zip(phase, name) {
         Ok((phase, name)) => {
             LoadMetadata::Metadata(MetadataError::MissingValue { phase, name })
         },

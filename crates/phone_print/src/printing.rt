@@ -20,7 +20,7 @@ use crate::appending::{
 };
 use crate::written::{ROOM, text_of_value};
 use itoa::Buffer;
-use phone_base::together::both;
+use phone_base::results::zip;
 use phone_territory::{FirstGroup, Format, Subject, Territory};
 use phone_values::Mode;
 use std::alloc::{AllocError, Global};
@@ -106,7 +106,7 @@ fn texts_of(
 {
     let digits = Subject::of(digits);
     let layouts = layouts_of(m, own, &digits)?;
-    let (abroad, at_home) = both(
+    let (abroad, at_home) = zip(
         laid_by(
             alloc,
             finder,
@@ -148,12 +148,12 @@ fn texts_laid(
         45 ∷ (encode_utf8_all (hyphenated (chars abroad.now)) ++
         extension_parameter number.now.extension))) }
 {
-    let ((e164, international), (national, rfc3966)) = both(
-        both(
+    let ((e164, international), (national, rfc3966)) = zip(
+        zip(
             text_of_value(alloc, format_args!("{number}")),
             international(alloc, abroad, m, number),
         ),
-        both(
+        zip(
             with_extension(at_home, m, number),
             rfc3966(alloc, abroad, number),
         ),

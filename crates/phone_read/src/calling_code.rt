@@ -20,7 +20,7 @@ ghost use Rattle.phone_read.specs.Hints.{Coded, code_by_hint, hinted, looks_nati
 ghost use Rattle.phone_read.specs.WithoutMemory.{AnswersAtOnce, AnswersWithoutMemory};
 
 use crate::hints::{hint_territory, looks_national};
-use phone_base::together::{beside, instead};
+use phone_base::results::{in_place_of, zip_value};
 use phone_parts::Number;
 use phone_plans::{Pattern, Plans, Territory};
 use phone_rules::dialled::{OfTerritory, read_dialling};
@@ -103,9 +103,9 @@ fn with_code_as_prefix<'a>(
     if number.prefix.is_some() {
         return Ok(number);
     }
-    let (prefix, number) = beside(in_decimal(alloc, code), number)?;
+    let (prefix, number) = zip_value(in_decimal(alloc, code), number)?;
     Ok(Number {
-        prefix: instead(number.prefix, Some(CowStr::Owned(prefix))),
+        prefix: in_place_of(number.prefix, Some(CowStr::Owned(prefix))),
         ..number
     })
 }
@@ -192,7 +192,7 @@ fn by_prefix<'a, 'd>(
       territory = territory.entry;
     }) (λ e. e) code }
 {
-    let (code, number) = beside(code, number)?;
+    let (code, number) = zip_value(code, number)?;
     Ok(CodedNumber {
         code,
         number,
@@ -302,7 +302,7 @@ fn by_front<'a, 'd>(
         KeepsLentCode number.entry r.number) }
 {
     let code = code_by_front(db, number.national.as_str());
-    let (code, number) = beside(code, number)?;
+    let (code, number) = zip_value(code, number)?;
     let country = number.country;
     Ok(cut_off(code, country, territory, number))
 }
@@ -335,7 +335,7 @@ fn cut_off<'a, 'd>(
         number: Number {
             country,
             national,
-            prefix: instead(number.prefix, prefix),
+            prefix: in_place_of(number.prefix, prefix),
             ..number
         },
         territory,
@@ -367,7 +367,7 @@ fn by_hint<'a, 'd>(
     };
     let code = territory.country_code();
     let is_apart = is_code_apart(territory, code, number.national.as_str());
-    let (is_apart, number) = beside(is_apart, number)?;
+    let (is_apart, number) = zip_value(is_apart, number)?;
     if is_apart {
         return Ok(cut_off(code, Source::Number, Some(territory), number));
     }

@@ -9,8 +9,8 @@ mod hints;
 pub mod laws;
 pub mod number_laws;
 mod reading;
-mod rows;
 pub mod validator;
+mod worked;
 
 pub use phone_parts::{Number, natural, rfc3966};
 pub use phone_values::Reading;

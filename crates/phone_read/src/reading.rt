@@ -13,7 +13,7 @@ ghost use Rattle.phone_read.specs.Regions.{home};
 
 use crate::calling_code::{CodedNumber, find_calling_code};
 use crate::validator::territory_of;
-use phone_base::together::{both, instead};
+use phone_base::results::{in_place_of, zip};
 use phone_chars::is_viable;
 use phone_parts::{Number, parts};
 use phone_plans::{Plans, Territory};
@@ -99,8 +99,8 @@ fn reading_of(
         carrier,
     } = number;
     let left = left_of(alloc, territory, national.as_str());
-    let left = instead((national, prefix, carrier), left);
-    let ((national, carrier), extension) = both(left, extension_of(alloc, extension))?;
+    let left = in_place_of((national, prefix, carrier), left);
+    let ((national, carrier), extension) = zip(left, extension_of(alloc, extension))?;
     Ok(Reading {
         code: Code::new(code, country),
         national,
@@ -128,8 +128,8 @@ fn left_of(
         extension,
         carrier,
     } = strip_national_prefix(territory, digits)?;
-    let number = instead((prefix, extension), nsn(national.as_str()));
-    both(instead(national, number), carrier_of(alloc, carrier))
+    let number = in_place_of((prefix, extension), nsn(national.as_str()));
+    zip(in_place_of(national, number), carrier_of(alloc, carrier))
 }
 
 /// The extension of a text, if there is one.

@@ -66,7 +66,10 @@ fn origin_of<'a>(db: &'a Plans, code: u16, text: &str) -> Result<Option<Origin<'
 }
 
 /// The same by several territories of a code, which are these.
-fn origin_of_several<'a>(all: &WithLasts<'a>, text: &Subject<'_>) -> Result<Option<Origin<'a>>, AllocError>
+fn origin_of_several<'a>(
+    all: &WithLasts<'a>,
+    text: &Subject<'_>,
+) -> Result<Option<Origin<'a>>, AllocError>
     ensures origin { IfOk result (λ r. option_map told r ≡
         option_and_then by_name (first_given (is_of_last text.now) all.now)) }
     ensures kind { IfOk result (λ r. IfSome r (TellsKind text.now)) }
@@ -128,7 +131,10 @@ struct Found<'a> {
 
 /// Of territories of a code the first to whose id's last one the number belongs: the latest main
 /// one, or else the earliest of the others.
-fn first_region<'a>(all: &WithLasts<'a>, text: &Subject<'_>) -> Result<Option<Found<'a>>, AllocError>
+fn first_region<'a>(
+    all: &WithLasts<'a>,
+    text: &Subject<'_>,
+) -> Result<Option<Found<'a>>, AllocError>
     ensures region { IfOk result (λ r.
         option_map shown r ≡ first_given (is_of_last text.now) all.now) }
     ensures kind { IfOk result (λ r. IfSome r (FoundKind text.now)) }
@@ -140,7 +146,10 @@ fn first_region<'a>(all: &WithLasts<'a>, text: &Subject<'_>) -> Result<Option<Fo
 }
 
 /// Of the main ones of territories the last to whose id's last one the number belongs.
-fn last_main_region<'a>(all: WithLasts<'a>, text: &Subject<'_>) -> Result<Option<Found<'a>>, AllocError>
+fn last_main_region<'a>(
+    all: WithLasts<'a>,
+    text: &Subject<'_>,
+) -> Result<Option<Found<'a>>, AllocError>
     ensures region { IfOk result (λ r.
         option_map shown r ≡ latest_main (is_of_last text.now) all.entry) }
     ensures kind { IfOk result (λ r. IfSome r (FoundKind text.now)) }
@@ -155,7 +164,10 @@ fn last_main_region<'a>(all: WithLasts<'a>, text: &Subject<'_>) -> Result<Option
 }
 
 /// Of the other ones of territories the first to whose id's last one the number belongs.
-fn first_other_region<'a>(all: WithLasts<'a>, text: &Subject<'_>) -> Result<Option<Found<'a>>, AllocError>
+fn first_other_region<'a>(
+    all: WithLasts<'a>,
+    text: &Subject<'_>,
+) -> Result<Option<Found<'a>>, AllocError>
     ensures region { IfOk result (λ r.
         option_map shown r ≡ first_other (is_of_last text.now) all.entry) }
     ensures kind { IfOk result (λ r. IfSome r (FoundKind text.now)) }

@@ -18,7 +18,7 @@ ghost use Rattle.phone_rules.specs.Dialling.{front_of, unsigned};
 ghost use Rattle.phone_rules.specs.Lent.{IsLentDigits, KeepsLent};
 
 use crate::trims::trim;
-use phone_base::together::{beside, both};
+use phone_base::results::{zip, zip_value};
 use phone_chars::chars::{is_plus, normalize};
 use phone_chars::cuts::{CharSet, after_run};
 use phone_parts::Number;
@@ -198,11 +198,11 @@ pub fn read_dialling<'a, F: Finder>(
         ..
     } = number;
     let start = dialled_beside(alloc, finder, &prefix, national);
-    let rest = both(
+    let rest = zip(
         digits_if_any(alloc, prefix),
         digits_if_any(alloc, extension),
     );
-    let ((start, rest), carrier) = beside(both(start, rest), carrier)?;
+    let ((start, rest), carrier) = zip_value(zip(start, rest), carrier)?;
     Ok(Number {
         country: start.0,
         national: start.1,
@@ -256,7 +256,7 @@ fn dialled_alone<'a, F: Finder>(
     let has_plus = begins_with_plus(national.as_str());
     let digits = digits_after_signs(alloc, national)?;
     let after = place_after(finder, digits.as_str());
-    let (after, digits) = beside(after, digits)?;
+    let (after, digits) = zip_value(after, digits)?;
     Ok(match after {
         Some(at) => (unless_plus(has_plus, Source::Idd), trim(digits, at)),
         None => (unless_plus(has_plus, Source::Default), digits),

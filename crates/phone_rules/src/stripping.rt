@@ -14,7 +14,7 @@ ghost use Rattle.phone_rules.specs.Strips.{left_by, step, strip, stripped};
 
 use crate::kinds::{is_general, length_of};
 use crate::trims::{part, trim, without_front};
-use phone_base::together::{beside, instead};
+use phone_base::results::{in_place_of, zip_value};
 use phone_parts::Number;
 use phone_territory::{Captured, Pattern, Territory};
 use phone_values::{Type, Validation};
@@ -60,7 +60,7 @@ pub fn national_number<'a>(m: &Territory, number: Number<'a>) -> Result<Number<'
         (is_anew (cut_of m.now (cow_str_bytes number.entry.national))) n) }
 {
     let cut = cut_of(m, &number.national);
-    let (cut, number) = beside(cut, number)?;
+    let (cut, number) = zip_value(cut, number)?;
     let (national, carrier) = left_by(m, cut, number.national, number.carrier);
     Ok(Number {
         national,
@@ -90,10 +90,10 @@ fn left_by<'a>(
     match cut {
         Cut::Stay => (national, carrier),
         Cut::OffPrefix => (without_front(m.national_prefix(), national), carrier),
-        Cut::OffMatch(end, name) => (trim(national, end), instead(carrier, name)),
+        Cut::OffMatch(end, name) => (trim(national, end), in_place_of(carrier, name)),
         Cut::Anew(written, name) => (
-            instead(national, CowStr::Owned(written)),
-            instead(carrier, name),
+            in_place_of(national, CowStr::Owned(written)),
+            in_place_of(carrier, name),
         ),
     }
 }
@@ -172,7 +172,7 @@ fn by_rule<'a>(
         return Ok(Cut::Stay);
     };
     let name = part_if_any(m.allocator(), digits, found.first);
-    let (name, written) = beside(name, written)?;
+    let (name, written) = zip_value(name, written)?;
     Ok(Cut::Anew(written, name))
 }
 
@@ -191,9 +191,9 @@ fn written_in_kind(
 {
     let written = pattern.replace(rule, digits)?;
     let leaves = leaves_general(m, digits, written.as_str());
-    let (leaves, written) = beside(leaves, written)?;
+    let (leaves, written) = zip_value(leaves, written)?;
     if leaves {
-        Ok(instead(written, None))
+        Ok(in_place_of(written, None))
     } else {
         Ok(Some(written))
     }
@@ -246,7 +246,7 @@ pub fn strip<'b>(m: &Territory, digits: &'b str) -> Result<Number<'b>, AllocErro
     };
     Ok(
         match length_of(m, left.national.as_str().len(), Type::Unknown) {
-            Validation::TooShort => instead(left, Number::of(digits)),
+            Validation::TooShort => in_place_of(left, Number::of(digits)),
             _ => left,
         },
     )

@@ -9,7 +9,7 @@ ghost use Rattle.phone_territory.specs.Records.{allows_length, matches, pattern_
 
 use crate::lent;
 use crate::loader::{self, Text};
-use crate::together::both;
+use phone_base::results::zip;
 use phone_pattern::{Pattern, Pool, Subject};
 use phone_records::LoadMetadata;
 use std::alloc::AllocError;
@@ -50,7 +50,7 @@ impl Descriptor {
         let lengths = given.possible_length.into_vec();
         let local_lengths = given.possible_local_length.into_vec();
         let pattern = pool.pattern(given.national_number.unwrap());
-        let (others, national_number) = both(Ok((lengths, local_lengths, given.example)), pattern)?;
+        let (others, national_number) = zip(Ok((lengths, local_lengths, given.example)), pattern)?;
         let (possible_length, possible_local_length, example) = others;
         Ok(Descriptor {
             national_number,

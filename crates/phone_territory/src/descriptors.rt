@@ -7,7 +7,7 @@ ghost use Rattle.phone_records.specs.Missing.{missing_in_descriptor};
 
 use crate::descriptor::Descriptor;
 use crate::loader;
-use crate::together::both_read;
+use crate::results::zip_read;
 use phone_pattern::Pool;
 use phone_records::LoadMetadata;
 use phone_values::Type;
@@ -113,10 +113,10 @@ fn compile_four<R: Drop>(
     ensures read { (ps : List (List ℕ)) → AreRead ps rest → AreRead (with_four given ps) result }
 {
     let (first, second, third, fourth) = given;
-    let fourth = both_read(compile_descriptor(pool, fourth), rest);
-    let third = both_read(compile_descriptor(pool, third), fourth);
-    let second = both_read(compile_descriptor(pool, second), third);
-    flat(both_read(compile_descriptor(pool, first), second))
+    let fourth = zip_read(compile_descriptor(pool, fourth), rest);
+    let third = zip_read(compile_descriptor(pool, third), fourth);
+    let second = zip_read(compile_descriptor(pool, second), third);
+    flat(zip_read(compile_descriptor(pool, first), second))
 }
 
 impl Descriptors {

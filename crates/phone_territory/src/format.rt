@@ -12,7 +12,7 @@ ghost use Rattle.phone_territory.specs.Records.{is_led};
 use crate::each::Compile;
 use crate::lent;
 use crate::loader::{self, Text};
-use crate::together::both_read;
+use crate::results::zip_read;
 use phone_pattern::{FirstGroup, KeptRuled, Leading, Pattern, Pool, Subject};
 use phone_records::LoadMetadata;
 use std::alloc::AllocError;
@@ -68,7 +68,7 @@ impl Compile for Format {
             given.national_prefix_formatting_rule,
             given.domestic_carrier,
         );
-        let (others, patterns) = both_read(Ok(others), both_read(pattern, leading))?;
+        let (others, patterns) = zip_read(Ok(others), zip_read(pattern, leading))?;
         let (text, national_prefix_rule, domestic_carrier) = others;
         let (pattern, leading_digits) = patterns;
         Ok(Format {

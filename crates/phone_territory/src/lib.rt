@@ -10,9 +10,9 @@ mod lent;
 pub mod loader;
 mod patterns;
 mod prefixes;
+pub mod results;
 mod territory;
 mod territory_id;
-pub mod together;
 
 pub use descriptor::Descriptor;
 pub use descriptors::Descriptors;

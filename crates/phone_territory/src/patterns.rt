@@ -8,7 +8,7 @@ use crate::alike::are_same;
 use crate::each;
 use crate::format::Format;
 use crate::loader::{self, Text};
-use crate::together::both_read;
+use crate::results::zip_read;
 use phone_pattern::{Pattern, Pool};
 use phone_records::LoadMetadata;
 
@@ -64,9 +64,9 @@ impl Patterns {
         let parsing = compile_text(pool, parsing);
         let leading = compile_text(pool, leading);
         let national = each::compile_each(pool, national);
-        let layouts = both_read(national, each::compile_each(pool, international));
-        let texts = both_read(parsing, both_read(leading, layouts));
-        let (international_prefix, (national_prefix_for_parsing, others)) = both_read(
+        let layouts = zip_read(national, each::compile_each(pool, international));
+        let texts = zip_read(parsing, zip_read(leading, layouts));
+        let (international_prefix, (national_prefix_for_parsing, others)) = zip_read(
             dialled, texts,
         )?;
         let (leading_digits, (formats, international_formats)) = others;

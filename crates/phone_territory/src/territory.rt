@@ -15,8 +15,8 @@ use crate::each::{self, Compile};
 use crate::format::Format;
 use crate::loader::{self, Text};
 use crate::patterns::Patterns;
+use crate::results::zip_read;
 use crate::territory_id::TerritoryId;
-use crate::together::both_read;
 use crate::{lent, prefixes};
 use phone_pattern::{Pattern, Pool};
 use phone_records::LoadMetadata;
@@ -147,10 +147,7 @@ impl Compile for Territory {
             given.formats.into_vec(),
             given.international_formats.into_vec(),
         );
-        let (kept, (descriptors, patterns)) = both_read(
-            Ok(kept),
-            both_read(descriptors, patterns),
-        )?;
+        let (kept, (descriptors, patterns)) = zip_read(Ok(kept), zip_read(descriptors, patterns))?;
         Ok(Territory {
             alloc: pool.allocator(),
             descriptors,

@@ -9,7 +9,7 @@ ghost use Rattle.phone_rules.specs.Kinds.{is_of};
 ghost use Rattle.phone_rules.specs.Strips.{step};
 ghost use Rattle.phone_territory.specs.First.{replaced};
 
-use phone_base::together::{beside, instead};
+use phone_base::results::{in_place_of, zip_value};
 use phone_rules::kinds::is_general;
 use phone_rules::trims::has_front;
 use phone_territory::{Pattern, Territory};
@@ -113,9 +113,9 @@ fn anew<'k>(
 {
     let written = pattern.replace(rule, keys)?;
     let leaves = leaves_general(m, keys, written.as_str());
-    let (leaves, written) = beside(leaves, written)?;
+    let (leaves, written) = zip_value(leaves, written)?;
     if leaves {
-        Ok(instead(written, CowStr::Borrowed(keys)))
+        Ok(in_place_of(written, CowStr::Borrowed(keys)))
     } else {
         Ok(CowStr::Owned(written))
     }

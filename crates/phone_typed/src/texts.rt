@@ -15,7 +15,7 @@ ghost use Rattle.phone_typed.specs.Typed.{text_of_keys, typed};
 use crate::keys::{are_keys, keys_in};
 use crate::layouts::{is_short, text_of_keys};
 use crate::stripping::national_digits;
-use phone_base::together::instead;
+use phone_base::results::in_place_of;
 use phone_plans::{Plans, Territory};
 use phone_print::written::ROOM;
 use phone_rules::trims::behind_number;
@@ -40,7 +40,7 @@ pub fn typed(database: &Plans, hint: Option<Id>, text: &str) -> Result<String, A
     }
     let keys = keys_in(database.allocator(), text)?;
     let shown = shown_of(database, hint, keys.as_str());
-    instead(keys, shown)
+    in_place_of(keys, shown)
 }
 
 /// What is shown of keys. Refused only for memory.
@@ -124,7 +124,7 @@ fn text_at(db: &Plans, m: &Territory, keys: &str) -> Result<String, AllocError>
     }
     let national = national_digits(m, keys)?;
     let shown = text_of_keys(db, m, Mode::National, national.as_str(), keys);
-    instead(national, shown)
+    in_place_of(national, shown)
 }
 
 /// What is shown of digits that are typed after a plus sign. Refused only for memory.
@@ -167,7 +167,7 @@ fn after_code(db: &Plans, code: &str, text: String) -> Result<String, AllocError
     ensures { IfOk result (λ t. string_bytes t ≡ 43 ∷ (code.now ++ 32 ∷ string_bytes text)) }
 {
     let shown = joined(db, code, text.as_str());
-    instead(text, shown)
+    in_place_of(text, shown)
 }
 
 /// The same with a text that is lent.

@@ -24,7 +24,7 @@ use Rattle.phonenumber.proofs.BackNumbers.{list_all-text_of}
 use Rattle.phonenumber.proofs.BackPrefixes.{announced_safely}
 use Rattle.phonenumber.proofs.BackTexts.{IsUtf8-low, announced, chars-low, is_low, low_announced, low_digits}
 use Rattle.phonenumber.proofs.BackViable.{all_from_left, digits_left, indicating, is_parted, no_digits, norm-parted}
-use Rattle.phonenumber.specs.Plain.{IsBenign, IsPlainInternational, has_digits}
+use Rattle.phonenumber.specs.Plain.{IsAnnouncedSafely, IsPlainInternational, has_digits}
 use Rattle.phone_print.specs.Texts.{extension_part, laid_out}
 
 any_of_left : (p : ℕ → Bool) (t : List ℕ) → 1 ≤ length (filter p t) → list_any p t ≡ true
@@ -181,7 +181,7 @@ module _ (db : List Metadata) (n : Reading) (held : IsHeld n.national)
       }
 
   -- what announces its extension
-  pub plain_told : (n.extension ≡ None) ⊎ IsBenign plain.territory n →
+  pub plain_told : (n.extension ≡ None) ⊎ IsAnnouncedSafely plain.territory n →
       IsTold plain.territory laid_text n.extension
   plain_told benign =
       told_by_word plain.territory laid_text n plain.extension plain.few_digits refl

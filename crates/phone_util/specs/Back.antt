@@ -17,7 +17,7 @@ use Rattle.phone_read.specs.Readings.{Reads}
 use Rattle.phone_rules.specs.Strips.{strip}
 use Rattle.phone_values.specs.declared.reading.Reading.{Reading}
 use Rattle.phonenumber.specs.RoundTrips.{IsSame}
-use Rattle.phonenumber.specs.Plain.{IsBenign, IsPlainInternational}
+use Rattle.phonenumber.specs.Plain.{IsAnnouncedSafely, IsPlainInternational}
 use Rattle.phone_util.specs.Dialled.{dialled_prefix}
 
 -- with the region as hint, the text is read as a number that is n, with its extension, whose code
@@ -38,7 +38,7 @@ pub record IsPlainDialled (db : List Metadata) (region : Id) (n : Reading) : Typ
   pub hinted : last_with (name region) db ≡ Some from
   pub other_code : (code_of from == n.code.value) ≡ false
   pub plain : IsPlainInternational db n
-  pub announced : (n.extension ≡ None) ⊎ IsBenign plain.territory n
+  pub announced : (n.extension ≡ None) ⊎ IsAnnouncedSafely plain.territory n
   pub some_code : 1 ≤ n.code.value
   pub few_digits : n.code.value ≤ 999
   pub prefix_free : is_prefix_free db ≡ true

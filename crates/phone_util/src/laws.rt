@@ -16,7 +16,7 @@ ghost use Rattle.phone_values.specs.declared.reading.Reading.{Reading};
 ghost use Rattle.phonenumber.specs.Bounds.{IsBounded};
 ghost use Rattle.phonenumber.specs.Queries.{is_valid};
 ghost use Rattle.phonenumber.specs.Printed.{printed};
-ghost use Rattle.phonenumber.specs.Plain.{IsBenign, IsIdle, IsPlainInternational, IsPlainRfc3966};
+ghost use Rattle.phonenumber.specs.Plain.{IsAnnouncedSafely, IsLeftAlone, IsPlainInternational, IsPlainRfc3966};
 ghost use Rattle.phone_util.specs.Possibilities.{has_listed_kind, possibility_by, possibility_of};
 ghost use Rattle.phone_util.specs.Sameness.{IsAnswer, is_one_extension, sameness_of};
 ghost use Rattle.phone_util.specs.Sides.{IsTaken};
@@ -98,25 +98,25 @@ pub fn read_alike()
 /// each with the E.164 text, which has no extension, exactly where the number has none.
 pub fn printed_alike()
     ensures rfc3966 { (db : List loader.Metadata) (n : Reading) (e164 text : List ℕ) →
-        IsBounded n → IsPlainRfc3966 db n → IsIdle db n.code.value (text_of n.national) →
+        IsBounded n → IsPlainRfc3966 db n → IsLeftAlone db n.code.value (text_of n.national) →
         1 ≤ n.code.value → n.code.value ≤ 999 → is_prefix_free db ≡ true →
         printed db mode.E164 None n ≡ Some e164 → printed db mode.Rfc3966 None n ≡ Some text →
         IsAnswer rules.Crate db (chars e164) (chars text)
         (Ok (if is_one_extension None n.extension then sameness.Exact else sameness.Number)) }
     ensures international { (db : List loader.Metadata) (n : Reading) (e164 text : List ℕ) →
         IsBounded n → IsUtf8 text → (plain : IsPlainInternational db n) →
-        IsIdle db n.code.value (text_of n.national) →
+        IsLeftAlone db n.code.value (text_of n.national) →
         1 ≤ n.code.value → n.code.value ≤ 999 → is_prefix_free db ≡ true →
-        (n.extension ≡ None) ⊎ IsBenign plain.territory n →
+        (n.extension ≡ None) ⊎ IsAnnouncedSafely plain.territory n →
         printed db mode.E164 None n ≡ Some e164 →
         printed db mode.International None n ≡ Some text →
         IsAnswer rules.Crate db (chars e164) (chars text)
         (Ok (if is_one_extension None n.extension then sameness.Exact else sameness.Number)) }
     ensures both { (db : List loader.Metadata) (n : Reading) (rfc3966 text : List ℕ) →
         IsBounded n → IsUtf8 text → IsPlainRfc3966 db n → (plain : IsPlainInternational db n) →
-        IsIdle db n.code.value (text_of n.national) →
+        IsLeftAlone db n.code.value (text_of n.national) →
         1 ≤ n.code.value → n.code.value ≤ 999 → is_prefix_free db ≡ true →
-        (n.extension ≡ None) ⊎ IsBenign plain.territory n →
+        (n.extension ≡ None) ⊎ IsAnnouncedSafely plain.territory n →
         printed db mode.Rfc3966 None n ≡ Some rfc3966 →
         printed db mode.International None n ≡ Some text →
         IsAnswer rules.Crate db (chars rfc3966) (chars text) (Ok sameness.Exact) }

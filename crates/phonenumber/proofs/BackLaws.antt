@@ -30,7 +30,7 @@ use Rattle.phone_read.specs.TransformRules.{rules_have_no_plus}
 use Rattle.phone_values.specs.declared.reading.Reading.{Reading}
 use Rattle.phonenumber.specs.RoundTrips.{IsReadAs}
 use Rattle.phonenumber.specs.Bounds.{IsBounded}
-use Rattle.phonenumber.specs.Plain.{IsAnnouncedByWord, IsIdle, IsPlain, IsPlainE164, IsPlainInternational, IsPlainRfc3966, has_digits}
+use Rattle.phonenumber.specs.Plain.{IsAnnouncedByWord, IsLeftAlone, IsPlain, IsPlainE164, IsPlainInternational, IsPlainRfc3966, has_digits}
 use Rattle.phone_print.specs.Texts.{e164_text, extension_part, hyphenated, laid_out, text_by}
 use Rattle.phonenumber.specs.Printed.{printed}
 use Rattle.phonenumber.proofs.BackNumbers.{list_all-decimal, list_all-text_of, nsn-text_of}
@@ -339,17 +339,17 @@ module _ (finds : FindsInternational) (finds_announced : FindsAnnounced) where
 
 module _ (finds : FindsSigned) (db : List Metadata) (n : Reading) (text : List ℕ) (bounded : IsBounded n) (p : IsPlainE164 db n)
     (some : 1 ≤ n.code.value) (few : n.code.value ≤ 999) (free : is_prefix_free db ≡ true) (e : printed db E164 None n ≡ Some text) where
-  pub e164_back : IsIdle db n.code.value (text_of n.national) → IsReadAs db (chars text) n None
+  pub e164_back : IsLeftAlone db n.code.value (text_of n.national) → IsReadAs db (chars text) n None
   e164_back = read_as db (chars text) n None (e164_found finds db n text bounded p some few free e) (plain_number db n 2 p.0 bounded.national p.1 (omega arith))
 
-  pub e164_idle : rules_have_no_plus db ≡ true → IsReadAs db (chars text) n None → IsIdle db n.code.value (text_of n.national)
+  pub e164_idle : rules_have_no_plus db ≡ true → IsReadAs db (chars text) n None → IsLeftAlone db n.code.value (text_of n.national)
   e164_idle = idle_as db (chars text) n None (e164_found finds db n text bounded p some few free e)
 
 module _ (finds : FindsTel) (db : List Metadata) (n : Reading) (text : List ℕ) (bounded : IsBounded n) (p : IsPlainRfc3966 db n) (e : printed db Rfc3966 None n ≡ Some text) where
-  pub rfc3966_back : IsIdle db n.code.value (text_of n.national) → IsReadAs db (chars text) n n.extension
+  pub rfc3966_back : IsLeftAlone db n.code.value (text_of n.national) → IsReadAs db (chars text) n n.extension
   rfc3966_back = read_as db (chars text) n n.extension (rfc3966_found finds db n text bounded p e) (plain_number db n 3 p.territory bounded.national p.plain (omega arith))
 
-  pub rfc3966_idle : rules_have_no_plus db ≡ true → IsReadAs db (chars text) n n.extension → IsIdle db n.code.value (text_of n.national)
+  pub rfc3966_idle : rules_have_no_plus db ≡ true → IsReadAs db (chars text) n n.extension → IsLeftAlone db n.code.value (text_of n.national)
   rfc3966_idle = idle_as db (chars text) n n.extension (rfc3966_found finds db n text bounded p e)
 
 module _ (finds : FindsInternational) (finds_announced : FindsAnnounced) (db : List Metadata)
@@ -361,10 +361,10 @@ module _ (finds : FindsInternational) (finds_announced : FindsAnnounced) (db : L
   found = international_found finds finds_announced db n text bounded utf8 p some few free
       announcing e
 
-  pub international_back : IsIdle db n.code.value (text_of n.national) → IsReadAs db (chars text) n n.extension
+  pub international_back : IsLeftAlone db n.code.value (text_of n.national) → IsReadAs db (chars text) n n.extension
   international_back =
       read_as db (chars text) n n.extension found
       (plain_number db n 2 p.territory bounded.national p.plain (omega arith))
 
-  pub international_idle : rules_have_no_plus db ≡ true → IsReadAs db (chars text) n n.extension → IsIdle db n.code.value (text_of n.national)
+  pub international_idle : rules_have_no_plus db ≡ true → IsReadAs db (chars text) n n.extension → IsLeftAlone db n.code.value (text_of n.national)
   international_idle = idle_as db (chars text) n n.extension found

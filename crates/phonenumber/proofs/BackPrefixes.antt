@@ -15,7 +15,7 @@ use Rattle.phone_parts.specs.Announcements.{IsAnnouncement, is_space}
 use Rattle.phone_parts.specs.Suffixes.{indicators, is_mark}
 use Rattle.phone_parts.specs.Texts.{ends, is_like}
 use Rattle.phone_values.specs.declared.reading.Reading.{Reading}
-use Rattle.phonenumber.specs.Plain.{IsBenign}
+use Rattle.phonenumber.specs.Plain.{IsAnnouncedSafely}
 use Rattle.phone_print.specs.Texts.{laid_out}
 use Rattle.phonenumber.proofs.BackLaws.{IsAnnounced}
 use Rattle.phonenumber.proofs.BackTexts.{IsUtf8-low, chars-low, is_low}
@@ -115,7 +115,7 @@ benign_announced m n (Some p) preferred benign digit =
     })
 
 -- so an extension that is announced by one is read back
-pub announced_safely : (m : Metadata) (n : Reading) → (n.extension ≡ None) ⊎ IsBenign m n →
+pub announced_safely : (m : Metadata) (n : Reading) → (n.extension ≡ None) ⊎ IsAnnouncedSafely m n →
     IsAnnounced m n
 announced_safely m n (inl none) = inl (inl none)
 announced_safely m n (inr (inl default)) = inl (inr default)

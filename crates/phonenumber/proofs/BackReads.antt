@@ -31,7 +31,7 @@ use Rattle.phone_rules.specs.Strips.{Stripped, stripped}
 use Rattle.phone_read.specs.TransformRules.{rules_have_no_plus}
 use Rattle.phone_values.specs.declared.reading.Reading.{Reading}
 use Rattle.phonenumber.specs.RoundTrips.{IsReadAs}
-use Rattle.phonenumber.specs.Plain.{IsIdle}
+use Rattle.phonenumber.specs.Plain.{IsLeftAlone}
 use Rattle.phonenumber.proofs.BackCodes.{number_in-decimal, shortest-decimal}
 use Rattle.phonenumber.proofs.BackNumbers.{list_all-decimal}
 
@@ -48,12 +48,12 @@ pub record IsFoundAs (db : List Metadata) (t : List ℕ) (n : Reading) (extensio
 abbrev left : List Metadata → ℕ → List ℕ → Stripped
 left db code digits = stripped (home db code (without_zeros digits)) digits
 
-idle_left : (db : List Metadata) (code : ℕ) (digits : List ℕ) → IsIdle db code digits → (left db code digits).national ≡ digits
+idle_left : (db : List Metadata) (code : ℕ) (digits : List ℕ) → IsLeftAlone db code digits → (left db code digits).national ≡ digits
 idle_left db code digits (inl none) = ap (λ o. (stripped o digits).national) none
 idle_left db code digits (inr (m, there, same)) = ap (λ o. (stripped o digits).national) there ∙ same
 
 idle_of : (db : List Metadata) (code : ℕ) (digits : List ℕ) (o : Option Metadata) → home db code (without_zeros digits) ≡ o → (stripped o digits).national ≡ digits →
-    IsIdle db code digits
+    IsLeftAlone db code digits
 idle_of db code digits None there same = inl there
 idle_of db code digits (Some m) there same = inr (m, there, same)
 
@@ -73,7 +73,7 @@ module _ (db : List Metadata) (t : List ℕ) (n : Reading) (extension : Option (
   reads = Readings.coded f.parts c f.found f.viable f.coded
 
   -- where stripping leaves the digits alone, the text is read as the number
-  pub read_as : nsn (text_of n.national) ≡ Ok n.national → IsIdle db n.code.value (text_of n.national) → IsReadAs db t n extension
+  pub read_as : nsn (text_of n.national) ≡ Ok n.national → IsLeftAlone db n.code.value (text_of n.national) → IsReadAs db t n extension
   read_as number idle =
       let s = left db n.code.value (text_of n.national) in
       let m : Reading = record { code = record { value = n.code.value; source = f.source }; national = n.national; extension = option_map norm f.parts.extension; carrier = s.carrier } in
@@ -82,7 +82,7 @@ module _ (db : List Metadata) (t : List ℕ) (n : Reading) (extension : Option (
       (m, subst (λ r. Reads db None t r) whole reads, record { code = refl; national = refl; extension = f.same_extension })
 
   -- and only there, where no transform rule has a plus sign
-  pub idle_as : rules_have_no_plus db ≡ true → IsReadAs db t n extension → IsIdle db n.code.value (text_of n.national)
+  pub idle_as : rules_have_no_plus db ≡ true → IsReadAs db t n extension → IsLeftAlone db n.code.value (text_of n.national)
   idle_as plain (m, is_read, same) =
       let digits = text_of n.national in
       let s = left db n.code.value digits in

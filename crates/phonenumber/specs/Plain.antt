@@ -56,8 +56,8 @@ pub record IsPlainInternational (db : List Metadata) (n : Reading) : Type 0 wher
 
 -- an extension is announced safely: the territory has no preferred extension prefix, so that
 -- ` ext. ` is printed, or a benign one, and the laid-out text ends in an ASCII digit
-abbrev pub IsBenign : Metadata → Reading → Type 0
-IsBenign m n =
+abbrev pub IsAnnouncedSafely : Metadata → Reading → Type 0
+IsAnnouncedSafely m n =
     (m.preferred_extension_prefix ≡ None)
     ⊎ ((is_benign_prefix m.preferred_extension_prefix ≡ true)
     × (ends is_digit (chars (laid_out m International None n)) ≡ true))
@@ -73,7 +73,7 @@ pub record IsAnnouncedByWord (m : Metadata) (n : Reading) : Type 0 where
 
 -- stripping leaves the digits alone: they, without their leading zeros, have no home, or its rules
 -- leave them as they are
-abbrev pub IsIdle : List Metadata → ℕ → List ℕ → Type 0
-IsIdle db code digits = (home db code (without_zeros digits) ≡ None) ⊎
+abbrev pub IsLeftAlone : List Metadata → ℕ → List ℕ → Type 0
+IsLeftAlone db code digits = (home db code (without_zeros digits) ≡ None) ⊎
     ((m : Metadata) × (home db code (without_zeros digits) ≡ Some m) ×
     ((strip m digits).national ≡ digits))

@@ -17,7 +17,7 @@ ghost use Rattle.phone_values.specs.declared.reading.Reading.{Reading};
 ghost use Rattle.phonenumber.specs.RoundTrips.{IsReadAs};
 ghost use Rattle.phone_print.specs.Layouts.{layout_for};
 ghost use Rattle.phonenumber.specs.Bounds.{IsBounded};
-ghost use Rattle.phonenumber.specs.Plain.{IsAnnouncedByWord, IsBenign, IsIdle};
+ghost use Rattle.phonenumber.specs.Plain.{IsAnnouncedByWord, IsAnnouncedSafely, IsLeftAlone};
 ghost use Rattle.phonenumber.specs.Plain.{IsPlainE164, IsPlainInternational, IsPlainRfc3966};
 ghost use Rattle.phone_print.specs.Texts.{e164_text, hyphenated};
 ghost use Rattle.phonenumber.specs.Printed.{printed};
@@ -54,7 +54,7 @@ pub fn key()
 /// keeps; [`again`](crate::round_trip) asks for neither.
 pub fn e164_back()
     ensures { (db : List loader.Metadata) (n : Reading) (text : List ℕ) → IsBounded n →
-        IsPlainE164 db n → IsIdle db n.code.value (text_of n.national) → 1 ≤ n.code.value →
+        IsPlainE164 db n → IsLeftAlone db n.code.value (text_of n.national) → 1 ≤ n.code.value →
         n.code.value ≤ 999 → is_prefix_free db ≡ true → printed db mode.E164 None n ≡ Some text →
         IsReadAs db (chars text) n None }
 {}
@@ -64,7 +64,7 @@ pub fn e164_back()
 /// says where it ends.
 pub fn rfc3966_back()
     ensures { (db : List loader.Metadata) (n : Reading) (text : List ℕ) → IsBounded n →
-        IsPlainRfc3966 db n → IsIdle db n.code.value (text_of n.national) →
+        IsPlainRfc3966 db n → IsLeftAlone db n.code.value (text_of n.national) →
         printed db mode.Rfc3966 None n ≡ Some text → IsReadAs db (chars text) n n.extension }
 {}
 
@@ -76,8 +76,8 @@ pub fn rfc3966_back()
 pub fn international_back()
     ensures { (db : List loader.Metadata) (n : Reading) (text : List ℕ) → IsBounded n →
         IsUtf8 text → (plain : IsPlainInternational db n) →
-        IsIdle db n.code.value (text_of n.national) → 1 ≤ n.code.value → n.code.value ≤ 999 →
-        is_prefix_free db ≡ true → (n.extension ≡ None) ⊎ IsBenign plain.territory n →
+        IsLeftAlone db n.code.value (text_of n.national) → 1 ≤ n.code.value → n.code.value ≤ 999 →
+        is_prefix_free db ≡ true → (n.extension ≡ None) ⊎ IsAnnouncedSafely plain.territory n →
         printed db mode.International None n ≡ Some text → IsReadAs db (chars text) n n.extension }
 {}
 
@@ -89,7 +89,7 @@ pub fn international_back()
 pub fn announced_back()
     ensures { (db : List loader.Metadata) (n : Reading) (text : List ℕ) → IsBounded n →
         IsUtf8 text → (plain : IsPlainInternational db n) →
-        IsIdle db n.code.value (text_of n.national) →
+        IsLeftAlone db n.code.value (text_of n.national) →
         1 ≤ n.code.value → n.code.value ≤ 999 → is_prefix_free db ≡ true →
         IsAnnouncedByWord plain.territory n →
         printed db mode.International None n ≡ Some text → IsReadAs db (chars text) n n.extension }
@@ -104,17 +104,17 @@ pub fn reach()
     ensures e164_exactly { (db : List loader.Metadata) (n : Reading) (text : List ℕ) → IsBounded n →
         IsPlainE164 db n → rules_have_no_plus db ≡ true → 1 ≤ n.code.value → n.code.value ≤ 999 →
         is_prefix_free db ≡ true → printed db mode.E164 None n ≡ Some text →
-        (IsReadAs db (chars text) n None ↔ IsIdle db n.code.value (text_of n.national)) }
+        (IsReadAs db (chars text) n None ↔ IsLeftAlone db n.code.value (text_of n.national)) }
     ensures rfc3966_exactly { (db : List loader.Metadata) (n : Reading) (text : List ℕ) →
         IsBounded n → IsPlainRfc3966 db n → rules_have_no_plus db ≡ true →
         printed db mode.Rfc3966 None n ≡ Some text →
-        (IsReadAs db (chars text) n n.extension ↔ IsIdle db n.code.value (text_of n.national)) }
+        (IsReadAs db (chars text) n n.extension ↔ IsLeftAlone db n.code.value (text_of n.national)) }
     ensures international_exactly { (db : List loader.Metadata) (n : Reading) (text : List ℕ) →
         IsBounded n → IsUtf8 text → (plain : IsPlainInternational db n) →
         rules_have_no_plus db ≡ true → 1 ≤ n.code.value → n.code.value ≤ 999 →
-        is_prefix_free db ≡ true → (n.extension ≡ None) ⊎ IsBenign plain.territory n →
+        is_prefix_free db ≡ true → (n.extension ≡ None) ⊎ IsAnnouncedSafely plain.territory n →
         printed db mode.International None n ≡ Some text →
-        (IsReadAs db (chars text) n n.extension ↔ IsIdle db n.code.value (text_of n.national)) }
+        (IsReadAs db (chars text) n n.extension ↔ IsLeftAlone db n.code.value (text_of n.national)) }
     ensures what_is_read { (db : List loader.Metadata) (hint : Option Id) (text : List ℕ)
         (n : Reading) → rules_have_no_plus db ≡ true → Reads db hint text (Ok n) →
         IsPlainE164 db n }

@@ -4,7 +4,7 @@ ghost use Rattle.phone_values.specs.Numbers.{text_of};
 ghost use Rattle.phone_values.specs.declared.mode.Mode.TheVariants as mode;
 ghost use Rattle.phone_plans.specs.CodeLookUps.{is_prefix_free};
 ghost use Rattle.phonenumber.specs.RoundTrips.{IsAgain, IsReadOfPrinted};
-ghost use Rattle.phonenumber.specs.Plain.{IsBenign, IsIdle};
+ghost use Rattle.phonenumber.specs.Plain.{IsAnnouncedSafely, IsLeftAlone};
 ghost use Rattle.phonenumber.specs.Plain.{IsPlainE164, IsPlainInternational, IsPlainRfc3966};
 
 use crate::{FormatError, PhoneNumber, format_with, parse_with};
@@ -18,7 +18,7 @@ use phone_values::{Mode, ParseError};
 pub fn e164(database: &Plans, number: &PhoneNumber) -> Result<PhoneNumber, ParseError>
     ensures read { IsReadOfPrinted database.now mode.E164 number.now result }
     ensures back { IsPlainE164 database.now number.now →
-        IsIdle database.now number.now.code.value (text_of number.now.national) →
+        IsLeftAlone database.now number.now.code.value (text_of number.now.national) →
         1 ≤ number.now.code.value → number.now.code.value ≤ 999 →
         is_prefix_free database.now ≡ true → IsAgain number.now None result }
 {
@@ -32,7 +32,7 @@ pub fn e164(database: &Plans, number: &PhoneNumber) -> Result<PhoneNumber, Parse
 pub fn rfc3966(database: &Plans, number: &PhoneNumber) -> Result<PhoneNumber, ParseError>
     ensures read { IsReadOfPrinted database.now mode.Rfc3966 number.now result }
     ensures back { IsPlainRfc3966 database.now number.now →
-        IsIdle database.now number.now.code.value (text_of number.now.national) →
+        IsLeftAlone database.now number.now.code.value (text_of number.now.national) →
         IsAgain number.now number.now.extension result }
 {
     number.keeps_bounds();
@@ -47,10 +47,10 @@ pub fn rfc3966(database: &Plans, number: &PhoneNumber) -> Result<PhoneNumber, Pa
 pub fn international(database: &Plans, number: &PhoneNumber) -> Result<PhoneNumber, ParseError>
     ensures read { IsReadOfPrinted database.now mode.International number.now result }
     ensures back { (plain : IsPlainInternational database.now number.now) →
-        IsIdle database.now number.now.code.value (text_of number.now.national) →
+        IsLeftAlone database.now number.now.code.value (text_of number.now.national) →
         1 ≤ number.now.code.value → number.now.code.value ≤ 999 →
         is_prefix_free database.now ≡ true → (number.now.extension ≡ None) ⊎
-        IsBenign plain.territory number.now → IsAgain number.now number.now.extension result }
+        IsAnnouncedSafely plain.territory number.now → IsAgain number.now number.now.extension result }
 {
     number.keeps_bounds();
     read_of_printed(database, number, Mode::International)

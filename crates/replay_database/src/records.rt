@@ -2,7 +2,7 @@
 //! are told in words.
 use anyhow::{Result, anyhow};
 use phone_base::MetadataError;
-use phone_base::together::both;
+use phone_base::results::zip;
 use phone_records::LoadMetadata;
 use phone_records::loader::Metadata;
 use replay_base::marks::{around, begin};
@@ -79,7 +79,7 @@ fn in_words(alloc: Global, refusal: &LoadMetadata) -> Result<String> {
 
 /// The refusal of this name, which speaks of `metadata` and `id`.
 fn refusal(alloc: Global, refusal: &str) -> Result<LoadMetadata> {
-    let (phase, name) = both(
+    let (phase, name) = zip(
         String::from_str(alloc, "metadata"),
         String::from_str(alloc, "id"),
     )?;

@@ -4,7 +4,7 @@ use crate::given::with_extension;
 use crate::printing::text_or_refusal;
 use crate::reading::push_parts_or_refusal;
 use anyhow::{Result, anyhow};
-use phone_base::together::beside;
+use phone_base::results::zip_value;
 use phone_meta::Database;
 use phone_values::{Mode, ParseError};
 use phonenumber::{PhoneNumber, format_with, round_trip};
@@ -29,7 +29,7 @@ pub fn answer(alloc: Global, row: &Row, db: &Database) -> Result<Option<String>>
 fn number_and_mode(alloc: Global, row: &Row) -> Result<(PhoneNumber, Mode)> {
     match mode(row.argument(5))? {
         Mode::National => Err(anyhow!("national text is not read back")),
-        mode => beside(with_extension(alloc, row), mode),
+        mode => zip_value(with_extension(alloc, row), mode),
     }
 }
 

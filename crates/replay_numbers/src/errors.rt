@@ -1,7 +1,7 @@
 //! The texts of errors that no other call tells, and the errors of records as copies.
 use anyhow::{Result, anyhow};
 use phone_base::MetadataError;
-use phone_base::together::both;
+use phone_base::results::zip;
 use phone_book::{BookError, BookNewError};
 use phone_values::country::UnknownId;
 use phonenumber::{FormatError, ParseError};
@@ -64,11 +64,11 @@ fn equality_words(alloc: Global, error: &MetadataError, copy: &MetadataError) ->
 
 /// The record's error that a line names, of the words behind the name.
 fn record_error(alloc: Global, row: &Row) -> Result<MetadataError> {
-    let words = both(
+    let words = zip(
         String::from_str(alloc, row.argument(1)),
         String::from_str(alloc, row.argument(2)),
     );
-    let ((phase, name), value) = both(words, String::from_str(alloc, row.argument(3)))?;
+    let ((phase, name), value) = zip(words, String::from_str(alloc, row.argument(3)))?;
     match row.argument(0) {
         "UnexpectedEof" => Ok(MetadataError::UnexpectedEof),
         "MismatchedTag" => Ok(MetadataError::MismatchedTag(name)),

@@ -1,7 +1,7 @@
 //! The number that a line gives by its parts: calling code, value and zeros, perhaps an extension
 //! and a carrier.
 use anyhow::Result;
-use phone_base::together::{beside, both};
+use phone_base::results::{zip, zip_value};
 use phone_values::country::{Code, Source};
 use phone_values::{Carrier, Extension, NationalNumber};
 use phonenumber::PhoneNumber;
@@ -15,7 +15,7 @@ pub fn number(
     extension: Option<Extension>,
     carrier: Option<Carrier>,
 ) -> Result<PhoneNumber> {
-    let ((code, national), (extension, carrier)) = beside(
+    let ((code, national), (extension, carrier)) = zip_value(
         code_and_national(row, at),
         (extension, carrier),
     )?;
@@ -41,7 +41,7 @@ pub fn with_extension(alloc: Global, row: &Row) -> Result<PhoneNumber> {
 pub fn number_of_row(alloc: Global, row: &Row, at: usize) -> Result<PhoneNumber> {
     let extension = extension(alloc, row.argument(at.saturating_add(3)));
     let carrier = carrier(alloc, row.argument(at.saturating_add(4)));
-    let (extension, carrier) = both(extension, carrier)?;
+    let (extension, carrier) = zip(extension, carrier)?;
     number(row, at, extension, carrier)
 }
 

@@ -2,7 +2,7 @@
 //! by code of its own and not by reading a text.
 use crate::given::with_extension;
 use anyhow::{Result, anyhow};
-use phone_base::together::both;
+use phone_base::results::zip;
 use phone_chars::chars::{is_digit, is_punctuation, is_separator};
 use phone_meta::Database;
 use phone_plans::Territory;
@@ -39,7 +39,7 @@ pub fn answer(alloc: Global, row: &Row, db: &Database) -> Result<Option<String>>
 
 /// What holds of a line's number in the mode that the line names.
 fn in_mode(alloc: Global, row: &Row, premises: &Premises<'_>) -> Result<String> {
-    let (mode, number) = both(mode(row.argument(5)), with_extension(alloc, row))?;
+    let (mode, number) = zip(mode(row.argument(5)), with_extension(alloc, row))?;
     let holds = if row.call() == "plain" {
         premises.is_plain(mode, &number)
     } else {

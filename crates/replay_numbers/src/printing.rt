@@ -3,7 +3,7 @@ use crate::facts::{push_facts, push_texts};
 use crate::given::{number, number_of_row};
 use crate::page::Page;
 use anyhow::{Result, anyhow};
-use phone_base::together::both;
+use phone_base::results::zip;
 use phone_meta::{Database, Format, Metadata};
 use phone_values::{Carrier, Extension};
 use phonenumber::{Facts, FormatError, Formatter, PhoneNumber, format_with};
@@ -135,7 +135,7 @@ fn layout_at<'a>(territory: &'a Metadata, place: &str) -> Result<&'a Format> {
 /// The text of a line's number in one mode, by the number's own call; `UnknownCode` where it isn't
 /// printed.
 fn format_one(alloc: Global, row: &Row, db: &Database) -> Result<String> {
-    let (number, mode) = both(number_of_row(alloc, row, 1), mode(row.argument(6)))?;
+    let (number, mode) = zip(number_of_row(alloc, row, 1), mode(row.argument(6)))?;
     let printer = number.format_with(db).mode(mode);
     text_or_refusal(alloc, around(alloc, begin(alloc), printer.to_text(alloc)))
 }
@@ -151,7 +151,7 @@ pub fn text_or_refusal(alloc: Global, text: Result<String, FormatError>) -> Resu
 
 /// What a printer of a line's number in one mode writes as it is displayed.
 fn display(alloc: Global, row: &Row, db: &Database) -> Result<String> {
-    let (number, mode) = both(number_of_row(alloc, row, 1), mode(row.argument(6)))?;
+    let (number, mode) = zip(number_of_row(alloc, row, 1), mode(row.argument(6)))?;
     let printer = format_with(db, &number).mode(mode);
     display_words(alloc, db, &number, &printer)
 }

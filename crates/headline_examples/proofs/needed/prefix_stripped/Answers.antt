@@ -3,12 +3,12 @@ use Rattle.std.proofs.lemmas.Option.{none-some, same_Some}
 use Rattle.std.specs.Fmt.{digits}
 use Rattle.phone_values.specs.Ids.{id_of, name}
 use Rattle.phone_rules.specs.Strips.{strip}
-use Rattle.phonenumber.specs.Plain.{IsIdle}
+use Rattle.phonenumber.specs.Plain.{IsLeftAlone}
 use Rattle.headline_examples.proofs.ByText.{is_plain}
 use Rattle.headline_examples.specs.Samples.{db_b, nz}
 use Rattle.headline_examples.proofs.needed.prefix_stripped.Goals as goal
 
-not_idle : ¬ (IsIdle db_b 64 (codes "033316005"))
+not_idle : ¬ (IsLeftAlone db_b 64 (codes "033316005"))
 unfolding id_of name
 not_idle =
     ⊎_elim (λ e. none-some nz (sym e)) (λ h.

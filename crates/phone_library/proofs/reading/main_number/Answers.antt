@@ -12,7 +12,7 @@ returns c =
     let m = option_copied c.args.territory in
     let found : Ok (told c.in_ok-coded.coded) ≡ code_in db m c.args.has_plus c.args.digits.now =
     ⊎_elim (λ f. cc) (λ f. f) c.in_ok-coded.ensures in
-    ⊎_elim (λ f. inl (c.instead.ensures ∙ f))
+    ⊎_elim (λ f. inl (c.in_place_of.ensures ∙ f))
     (λ h. inr (λ extension.
-    ap (result_map_both (read_as extension) (λ e. e)) c.instead.ensures ∙ h extension ∙ ap (after_code_if_any db m extension) found))
+    ap (result_map_both (read_as extension) (λ e. e)) c.in_place_of.ensures ∙ h extension ∙ ap (after_code_if_any db m extension) found))
     c.after_code-numbered.ensures

@@ -31,7 +31,7 @@ returns c =
     let number = chars c.as_str.result.now in
     let read : number ≡ chars (cow_str_bytes c.in-Some.number) = ap chars c.as_str.ensures.value in
     let has = subst (λ o. HasNumberText text (option_map (λ t. chars (cow_str_bytes t)) o)) c.in-Some.is c.in_ok-number.ensures in
-    passed text c.instead.result c.written_in-written.result c.instead.ensures (IsWrittenIn number)
+    passed text c.in_place_of.result c.written_in-written.result c.in_place_of.ensures (IsWrittenIn number)
     (λ r w. Written.something number r (not_long c.is_too_long.result (length text) c.is_too_long.ensures c.if-is_too_long.false)
     (subst (λ n. HasNumberText text (Some n)) (sym read) has) w)
     c.written_in-written.ensures

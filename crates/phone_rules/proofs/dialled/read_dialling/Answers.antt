@@ -14,7 +14,7 @@ returns-in_err-start-clause-no_memory g c idle plain =
     let start = c.dialled_beside-start.ensures.no_memory idle (plain_national n p e plain) in
     let prefix = c.digits_if_any.ensures.no_memory (plain_prefix n p e plain) in
     let extension = c.digits_if_any-2.ensures.no_memory (plain_extension n p e plain) in
-    let made = c.both.ensures.not_refused start (c.both-rest.ensures.not_refused prefix extension) in
+    let made = c.zip.ensures.not_refused start (c.zip-rest.ensures.not_refused prefix extension) in
     absurd (false≢true (subst IsOk c.in_err-start.ensures.refused made))
 
 pub returns-clause-lent : goal.returns-clause-lent

@@ -27,12 +27,12 @@ compile-patterns-requires-clause-international c = subst (λ xs. first_given (ma
 pub returns-in_err-kept-clause-read : goal.returns-in_err-kept-clause-read
 returns-in_err-kept-clause-read c =
     let besides = besides-read c.args.given c.compile-patterns.result _ _ c.into_vec.ensures c.into_vec-2.ensures c.compile-patterns.ensures.read in
-    let all = c.in_err-kept.ensures.read [] _ (tt, tt) (c.both_read.ensures.read _ _ c.compile-descriptors.ensures.read besides) in
+    let all = c.in_err-kept.ensures.read [] _ (tt, tt) (c.zip_read.ensures.read _ _ c.compile-descriptors.ensures.read besides) in
     let h = subst (λ ps. IsPatternRefusal ps c.in_err-kept.field-0.0) (in_order c.args.given) all.1 in
     search (rules, h)
 
 pub returns-clause-read : goal.returns-clause-read
 returns-clause-read c =
     let besides = besides-read c.args.given c.compile-patterns.result _ _ c.into_vec.ensures c.into_vec-2.ensures c.compile-patterns.ensures.read in
-    let all = c.in_ok-kept.ensures.read [] _ (tt, tt) (c.both_read.ensures.read _ _ c.compile-descriptors.ensures.read besides) in
+    let all = c.in_ok-kept.ensures.read [] _ (tt, tt) (c.zip_read.ensures.read _ _ c.compile-descriptors.ensures.read besides) in
     (subst ArePatterns (in_order c.args.given) all.0, tt)

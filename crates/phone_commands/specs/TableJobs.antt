@@ -1,0 +1,51 @@
+-- What the job of a table does with an input.
+use Rattle.std.specs.Prelude.{◌≡◌, ⊤, List, Option, Result, Ok, Err}
+use Rattle.phone_csv.specs.declared.blocks.RunError.TheVariants as rows
+use Rattle.phone_csv.specs.declared.first.FirstError.TheVariants as header
+use Rattle.phone_commands.specs.declared.jobs.JobError.{JobError}
+use Rattle.phone_commands.specs.declared.jobs.JobError.TheVariants as job
+use Rattle.phone_lines.specs.Ends.{Devices}
+use Rattle.phone_records.specs.declared.loader.Metadata.{Metadata}
+use Rattle.phone_table.specs.Runs.{RunEnds}
+use Rattle.phone_table.specs.declared.counts.Counts.{Counts}
+use Rattle.phone_table.specs.declared.run.Asked.{Asked}
+use Rattle.phone_table.specs.declared.run.TableError.{TableError}
+use Rattle.phone_table.specs.declared.run.TableError.TheVariants as table
+use Rattle.phone_values.specs.declared.country.Id.{Id}
+use Rattle.phone_values.specs.declared.rules.Rules.{Rules}
+
+-- why a table was not answered whole, as a job's error
+abbrev pub table_error : TableError → JobError
+table_error (table.Header header.Input) = job.Input
+table_error (table.Header header.Memory) = job.Memory
+table_error (table.Header header.Absent) = job.Table (table.Header header.Absent)
+table_error (table.Header (header.Quote line)) = job.Table (table.Header (header.Quote line))
+table_error (table.Rows rows.Input) = job.Input
+table_error (table.Rows rows.Output) = job.Output
+table_error (table.Rows rows.Memory) = job.Memory
+table_error (table.Rows (rows.Record feeds)) = job.Table (table.Rows (rows.Record feeds))
+table_error (table.Rows (rows.Quote line)) = job.Table (table.Rows (rows.Quote line))
+table_error table.Delimiter = job.Table table.Delimiter
+table_error (table.NoColumn column fields) = job.Table (table.NoColumn column fields)
+
+-- a run over a table as a job's end: its counts are told where it is whole
+pub data IsTableEnd (counts : Counts) : Result Counts TableError → Result ⊤ JobError → Type 0 where
+  whole : IsTableEnd counts (Ok counts) (Ok tt)
+  refused : (e : TableError) → IsTableEnd counts (Err e) (Err (table_error e))
+
+-- an input is answered as a table
+abbrev pub AnswersTable : Rules → List Metadata → Option Id → Asked → Devices → Devices → Counts →
+    Result ⊤ JobError → Type 0
+AnswersTable rules db hint asked before after counts result = (run : Result Counts TableError) ×
+    RunEnds rules db hint asked before after run × IsTableEnd counts run result
+
+-- the same where another sink stands in front of that of the devices, about which nothing is told
+pub record AnswersBehind (rules : Rules) (db : List Metadata) (hint : Option Id) (asked : Asked)
+    (before after : Devices) (counts : Counts) (result : Result ⊤ JobError) : Type 0 where
+  pub front_before : Devices
+  pub front_after : Devices
+  pub to_come_before : front_before.to_come ≡ before.to_come
+  pub to_come_after : front_after.to_come ≡ after.to_come
+  pub faults_before : front_before.source_faults ≡ before.source_faults
+  pub faults_after : front_after.source_faults ≡ after.source_faults
+  pub answers : AnswersTable rules db hint asked front_before front_after counts result

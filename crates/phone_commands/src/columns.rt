@@ -1,0 +1,202 @@
+//! The further columns of a table, and the tables of prefixes by which they tell.
+ghost use Rattle.std.specs.Prelude.{◌≡◌, IfOk, Ok};
+ghost use Rattle.phone_csv.specs.Runs.{OfRead};
+ghost use Rattle.phone_commands.specs.Pairs.{IsWithTab};
+ghost use Rattle.phone_lines.specs.LineReports.{IsReport};
+
+use crate::pairs::Tabs;
+use phone_device::{ByteSource, MemorySink, Std};
+use phone_lines::{RunError, take_lines};
+use phone_prefixes::{Prefixes, PrefixesError};
+use phone_table::{Extra, Owner, Told};
+use phone_words::Further;
+use std::alloc::{AllocError, AllocGlobal, Global};
+use std::fs::{self, Files};
+
+/// A column that is asked for.
+#[derive(Clone, Copy)]
+struct Wanted<'w> {
+    /// Its name.
+    heading: &'w str,
+    /// What it tells.
+    told: Told,
+    /// The file of its table.
+    file: &'w str,
+}
+
+/// Puts a column at the end of others, where a file is named for it. Refused only for memory.
+fn push_wanted<'w>(
+    columns: &mut Vec<Wanted<'w>>,
+    heading: &'w str,
+    told: Told,
+    file: Option<&'w str>,
+) -> Result<(), AllocError> {
+    if let Some(file) = file {
+        columns.push(Wanted {
+            heading,
+            told,
+            file,
+        })?;
+    }
+    Ok(())
+}
+
+/// Puts the columns that are asked for at the end of others, in their order: that of one's own,
+/// `time_zone`, `carrier`, `first_carrier`, `area`. Refused only for memory.
+fn push_further<'w>(columns: &mut Vec<Wanted<'w>>, further: Further<'w>) -> Result<(), AllocError> {
+    push_wanted(columns, further.name, Told::Prefix, further.prefixes)?;
+    let (today, first) = (Told::Carrier(Owner::Today), Told::Carrier(Owner::First));
+    push_wanted(columns, "time_zone", Told::TimeZones, further.time_zones)?;
+    push_wanted(columns, "carrier", today, further.carriers)?;
+    push_wanted(columns, "first_carrier", first, further.first_carriers)?;
+    push_wanted(columns, "area", Told::Area, further.areas)
+}
+
+/// The columns that are asked for. Refused only for memory.
+fn columns_wanted<'w>(alloc: Global, further: Further<'w>) -> Result<Vec<Wanted<'w>>, AllocError> {
+    let mut columns = Vec::new(alloc);
+    push_further(&mut columns, further)?;
+    Ok(columns)
+}
+
+/// Why further columns are not there, and by which file.
+#[derive(Clone, Copy)]
+pub enum NoColumns<'w> {
+    /// The file can't be read.
+    Unopened(&'w str),
+    /// What it holds is no table of prefixes.
+    Refused(&'w str, PrefixesError),
+    /// There was no memory.
+    Memory,
+}
+
+/// The bytes of a source, each of its lines with a tab.
+fn bytes_with_tabs<S: ByteSource>(alloc: Global, source: &mut S) -> Result<Vec<u8>, PrefixesError>
+    ensures { IfOk result (λ v. OfRead (S.to_come source.old) (S.to_come source.new)
+        (λ bytes. IsReport IsWithTab bytes v.items)) }
+{
+    let mut text = MemorySink::new(alloc);
+    let end = take_lines(alloc, &mut Tabs {}, source, &mut text);
+    copy_after(alloc, end, text.bytes())
+}
+
+/// A copy of bytes that a run over lines wrote, where it came to its end.
+fn copy_after(
+    alloc: Global,
+    end: Result<(), RunError>,
+    bytes: &[u8],
+) -> Result<Vec<u8>, PrefixesError>
+    ensures { IfOk result (λ v. (end ≡ Ok tt) × (v.items ≡ bytes.now)) }
+{
+    match end {
+        Ok(()) => Ok(bytes.to_vec(alloc)?),
+        Err(RunError::Input) => Err(PrefixesError::Source),
+        Err(_) => Err(PrefixesError::Memory),
+    }
+}
+
+/// The bytes of a file, each of its lines with a tab.
+fn with_tabs<R: Files + AllocGlobal>(rt: &R, name: &str) -> Result<Vec<u8>, PrefixesError> {
+    let Ok(file) = fs::open(rt, name) else {
+        return Err(PrefixesError::Source);
+    };
+    bytes_with_tabs(rt.alloc(), &mut Std::new(file))
+}
+
+/// The table of prefixes in a file.
+fn table_in<'w, R: Files + AllocGlobal>(rt: &R, name: &'w str) -> Result<Prefixes, NoColumns<'w>> {
+    let bytes = match with_tabs(rt, name) {
+        Ok(bytes) => bytes,
+        Err(error) => return Err(refused(name, error)),
+    };
+    match Prefixes::of(rt.alloc(), bytes) {
+        Ok(table) => Ok(table),
+        Err(error) => Err(refused(name, error)),
+    }
+}
+
+/// Why a file gives no table, by its refusal.
+fn refused<'w>(name: &'w str, error: PrefixesError) -> NoColumns<'w> {
+    match error {
+        PrefixesError::Source => NoColumns::Unopened(name),
+        PrefixesError::Memory => NoColumns::Memory,
+        error => NoColumns::Refused(name, error),
+    }
+}
+
+/// Puts the table of a file at the end of others.
+fn push_table<'w, R: Files + AllocGlobal>(
+    rt: &R,
+    file: &'w str,
+    tables: &mut Vec<Prefixes>,
+) -> Result<(), NoColumns<'w>> {
+    match tables.push(table_in(rt, file)?) {
+        Ok(()) => Ok(()),
+        Err(_) => Err(NoColumns::Memory),
+    }
+}
+
+/// Puts the tables of columns at the end of others, in their order.
+fn push_tables<'w, R: Files + AllocGlobal>(
+    rt: &R,
+    columns: &[Wanted<'w>],
+    tables: &mut Vec<Prefixes>,
+) -> Result<(), NoColumns<'w>> {
+    for column in columns {
+        push_table(rt, column.file, tables)?;
+    }
+    Ok(())
+}
+
+/// The tables of columns, in their order.
+fn tables_of<'w, R: Files + AllocGlobal>(
+    rt: &R,
+    columns: &[Wanted<'w>],
+) -> Result<Vec<Prefixes>, NoColumns<'w>> {
+    let mut tables = Vec::new(rt.alloc());
+    push_tables(rt, columns, &mut tables)?;
+    Ok(tables)
+}
+
+/// The further columns of a table, loaded.
+#[derive(Drop)]
+pub struct Loaded<'w> {
+    columns: Vec<Wanted<'w>>,
+    /// The table of each.
+    tables: Vec<Prefixes>,
+}
+
+impl<'w> Loaded<'w> {
+    /// Loads the tables of the columns that are asked for.
+    pub fn new<R: Files + AllocGlobal>(
+        rt: &R,
+        further: Further<'w>,
+    ) -> Result<Loaded<'w>, NoColumns<'w>> {
+        let Ok(columns) = columns_wanted(rt.alloc(), further) else {
+            return Err(NoColumns::Memory);
+        };
+        let tables = tables_of(rt, columns.as_slice())?;
+        Ok(Loaded { columns, tables })
+    }
+
+    /// The columns with their tables. Refused only for memory.
+    pub fn extra<'s>(&'s self, alloc: Global) -> Result<Vec<Extra<'s>>, AllocError> {
+        let mut extra = Vec::new(alloc);
+        self.push_extra(&mut extra)?;
+        Ok(extra)
+    }
+
+    /// Puts the columns with their tables at the end of others. Refused only for memory.
+    fn push_extra<'s>(&'s self, extra: &mut Vec<Extra<'s>>) -> Result<(), AllocError> {
+        for (place, column) in self.columns.iter().enumerate() {
+            if let Some(table) = self.tables.get(place) {
+                extra.push(Extra {
+                    heading: column.heading,
+                    told: column.told,
+                    table,
+                })?;
+            }
+        }
+        Ok(())
+    }
+}

@@ -1,0 +1,96 @@
+//! What a call does with a table of customers.
+ghost use Rattle.std.specs.Prelude.{◌≡◌};
+ghost use Rattle.phone_commands.specs.TableJobs.{AnswersTable, table_error};
+ghost use Rattle.phone_lines.specs.Ends.{seen};
+
+use crate::firsts::FirstRecords;
+use crate::jobs::{Job, JobError};
+use phone_csv::FirstError;
+use phone_device::{ByteSink, ByteSource};
+use phone_engine::Engine;
+use phone_table::{Asked, Counts, TableError, write_table};
+use std::alloc::Global;
+
+/// A table of customers.
+#[derive(Drop)]
+pub struct Customers<'d, 'w> {
+    /// What reads the numbers, prints and tells.
+    pub engine: Engine<'d>,
+    /// What is asked of it.
+    pub asked: Asked<'w>,
+    /// Whether the first record of each number is kept alone.
+    pub is_unique: bool,
+    /// How many records were left out.
+    pub left_out: u64,
+    /// How many records there were, and how many of them gave what.
+    pub counts: Counts,
+}
+
+/// Why a table was not answered whole, as a job's error.
+fn table_error(error: TableError) -> JobError
+    ensures { result ≡ table_error error }
+{
+    match error {
+        TableError::Header(FirstError::Input) => JobError::Input,
+        TableError::Header(FirstError::Memory) => JobError::Memory,
+        TableError::Rows(phone_csv::RunError::Input) => JobError::Input,
+        TableError::Rows(phone_csv::RunError::Output) => JobError::Output,
+        TableError::Rows(phone_csv::RunError::Memory) => JobError::Memory,
+        error => JobError::Table(error),
+    }
+}
+
+impl<'d, 'w> Customers<'d, 'w> {
+    /// Writes the table to a sink.
+    fn write<S: ByteSource, W: ByteSink>(
+        &mut self,
+        source: &mut S,
+        sink: &mut W,
+    ) -> Result<(), JobError>
+        ensures answered { AnswersTable self.old.engine.rules self.old.engine.database.now
+            self.old.engine.hint self.old.asked
+            (seen (S.to_come source.old) (S.faults source.old) (W.taken sink.old)
+            (W.faults sink.old) (W.unflushed sink.old))
+            (seen (S.to_come source.new) (S.faults source.new) (W.taken sink.new)
+            (W.faults sink.new) (W.unflushed sink.new))
+            self.new.counts result }
+        ensures left_out { self.new.left_out ≡ self.old.left_out }
+    {
+        match write_table(self.engine, self.asked, source, sink) {
+            Ok(counts) => {
+                self.counts = counts;
+                Ok(())
+            }
+            Err(error) => Err(table_error(error)),
+        }
+    }
+}
+
+impl<'d, 'w> Job for Customers<'d, 'w> {
+    ghost use Rattle.std.specs.Prelude.{◌≡◌, true, false};
+    ghost use Rattle.phone_commands.specs.TableJobs.{AnswersBehind, AnswersTable};
+
+    // Of the table in which the first record of each number is kept alone nothing is told but what
+    // is read, and how it ends.
+    ghost acts = { λ c before after c' result. (c.is_unique ≡ false →
+        AnswersTable c.engine.rules c.engine.database.now c.engine.hint c.asked before after
+        c'.counts result) ×
+        (c.is_unique ≡ true →
+        AnswersBehind c.engine.rules c.engine.database.now c.engine.hint c.asked before after
+        c'.counts result) };
+
+    fn answer<S: ByteSource, W: ByteSink>(
+        &mut self,
+        alloc: Global,
+        source: &mut S,
+        sink: &mut W,
+    ) -> Result<(), JobError> {
+        if !self.is_unique {
+            return self.write(source, sink);
+        }
+        let mut firsts = FirstRecords::new(alloc, self.asked.delimiter, sink);
+        let end = self.write(source, &mut firsts);
+        self.left_out = firsts.left_out();
+        end
+    }
+}

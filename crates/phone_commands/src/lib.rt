@@ -1,0 +1,28 @@
+//! What a call of `./phone` does with its inputs, files or standard input, one after the other: the
+//! report on lines, a table, or lines that are taken one by one: for the numbers in them, as keys,
+//! as numbers that are dialled, as JSON objects, or for the first line of each number.
+#![tactic(auto)]
+
+mod columns;
+mod customers;
+mod finder;
+mod firsts;
+mod inputs;
+mod jobs;
+mod pairs;
+mod reader;
+mod shorts;
+mod takers;
+mod text;
+mod typist;
+
+pub use columns::{Loaded, NoColumns};
+pub use customers::Customers;
+pub use finder::{Finder, FoundForm};
+pub use inputs::{Failure, is_standard, on_inputs};
+pub use jobs::{ByLines, Job, JobError, Report};
+pub use phone_lines::LineTaker;
+pub use reader::Reader;
+pub use shorts::Shorts;
+pub use takers::{FirstLines, Objects};
+pub use typist::Typist;

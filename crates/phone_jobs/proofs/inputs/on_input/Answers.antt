@@ -1,7 +1,0 @@
-use Rattle.phone_jobs.specs.Inputs.IsAnswered.{standard}
-use Rattle.phone_jobs.proofs.inputs.on_input.Goals as goal
-
-pub returns-then-is_standard : goal.returns-then-is_standard
-returns-then-is_standard g c =
-    rw c.failed_in.ensures
-    (standard c.answer.result (c.is_standard.ensures.0 c.if-is_standard.true) c.answer.ensures)

@@ -1,6 +1,0 @@
-use Rattle.std.proofs.Common.{refl}
-use Rattle.phone_parts.proofs.IndicatorRows.{each_indicator, like_indicator}
-use Rattle.phone_parts.proofs.rows.indicator_rows.Goals as goal
-
-pub returns : goal.returns
-returns c = record { count = refl; each = each_indicator; like = like_indicator }
