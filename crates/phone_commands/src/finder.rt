@@ -9,7 +9,8 @@ ghost use Rattle.phone_csv.specs.Feeds.{counted};
 ghost use Rattle.phone_csv.specs.Formats.{Record, record_text};
 ghost use Rattle.phone_find.specs.Founds.{IsOrdered};
 ghost use Rattle.phone_commands.specs.FoundLines.{AreTold, AreToldIn, HasTerritory};
-ghost use Rattle.phone_commands.specs.FoundLines.{HaveTerritories, IsTold, columns, name_told, records};
+ghost use Rattle.phone_commands.specs.FoundLines.{HaveTerritories, IsTold, columns, name_told};
+ghost use Rattle.phone_commands.specs.FoundLines.{records};
 ghost use Rattle.phone_commands.specs.declared.finder.FoundForm.TheVariants as form;
 ghost use Rattle.phone_print.specs.Tabbed.{tabbed};
 ghost use Rattle.phone_print.specs.Texts.{e164_text};
@@ -157,7 +158,8 @@ impl<'d, 'f> Finder<'d, 'f> {
     ) -> Result<(), AllocError>
         ensures { OnOk result ((one : List ℕ) × IsTold self.now.reader.engine.rules
             self.now.reader.engine.database.now (name_told self.now.names.now self.now.begun)
-            spot.entry number.now form.Fields one × (answers.new.items ≡ answers.old.items ++ one)) }
+            spot.entry number.now form.Fields one ×
+            (answers.new.items ≡ answers.old.items ++ one)) }
     {
         let told = fields_text(alloc, self.name(), spot, number)?;
         push_text(answers, told.as_str())
@@ -174,7 +176,8 @@ impl<'d, 'f> Finder<'d, 'f> {
         requires { HasTerritory self.now.reader.engine.database.now number.now }
         ensures { OnOk result ((one : List ℕ) × IsTold self.now.reader.engine.rules
             self.now.reader.engine.database.now (name_told self.now.names.now self.now.begun)
-            spot.entry number.now form.Object one × (answers.new.items ≡ answers.old.items ++ one)) }
+            spot.entry number.now form.Object one ×
+            (answers.new.items ≡ answers.old.items ++ one)) }
     {
         match found_object(self.reader.engine, spot, number) {
             Ok(object) => push_line(answers, object.as_str()),
@@ -194,7 +197,8 @@ impl<'d, 'f> Finder<'d, 'f> {
         requires { HasTerritory self.now.reader.engine.database.now number.now }
         ensures { OnOk result ((one : List ℕ) × IsTold self.now.reader.engine.rules
             self.now.reader.engine.database.now (name_told self.now.names.now self.now.begun)
-            spot.entry number.now form.Record one × (answers.new.items ≡ answers.old.items ++ one)) }
+            spot.entry number.now form.Record one ×
+            (answers.new.items ≡ answers.old.items ++ one)) }
     {
         let mut record = record_of(alloc, self.name())?;
         match push_found(self.reader.engine, spot, number, &mut record) {
@@ -215,7 +219,8 @@ impl<'d, 'f> Finder<'d, 'f> {
         requires { HasTerritory self.now.reader.engine.database.now number.now }
         ensures { OnOk result ((one : List ℕ) × IsTold self.now.reader.engine.rules
             self.now.reader.engine.database.now (name_told self.now.names.now self.now.begun)
-            spot.entry number.now self.now.form one × (answers.new.items ≡ answers.old.items ++ one)) }
+            spot.entry number.now self.now.form one ×
+            (answers.new.items ≡ answers.old.items ++ one)) }
     {
         match self.form {
             FoundForm::Fields => self.push_fields(alloc, spot, number, answers),
@@ -279,7 +284,8 @@ impl<'d, 'f> LineTaker for Finder<'d, 'f> {
         (after ≡ record f { place = f.first; begun = after_one f.begun }) };
 
     ghost gives = { λ f line answer after. IsFoundLine f.reader.engine.rules
-        f.reader.engine.database.now f.reader.engine.hint f.form (name_told f.names.now f.begun) f.place line answer ×
+        f.reader.engine.database.now f.reader.engine.hint f.form
+        (name_told f.names.now f.begun) f.place line answer ×
         (after ≡ record f { place = after_one f.place }) };
 
     fn begin(&mut self, alloc: Global, answers: &mut Vec<u8>) -> Result<(), AllocError> {

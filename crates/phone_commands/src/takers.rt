@@ -35,7 +35,8 @@ impl<'d> LineTaker for Objects<'d> {
 
     // The object of the line, whose number is that of the last one and one more.
     ghost gives = { λ o line answer after. IsObjectLine o.reader.engine.rules
-        o.reader.engine.database.now (option_map (λ d. d.now) o.reader.short) o.reader.engine.hint o.place line answer ×
+        o.reader.engine.database.now (option_map (λ d. d.now) o.reader.short)
+        o.reader.engine.hint o.place line answer ×
         (after ≡ record o { place = after_one o.place }) };
 
     fn begin(&mut self, _alloc: Global, _answers: &mut Vec<u8>) -> Result<(), AllocError> {

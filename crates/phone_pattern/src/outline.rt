@@ -1,5 +1,5 @@
-//! What is made of a pattern's text for searches of texts that aren't of digits alone: what is known
-//! of its matches before any search, and the automaton that searches texts of ASCII.
+//! What is made of a pattern's text for searches of texts that aren't of digits alone: what is
+//! known of its matches before any search, and the automaton that searches texts of ASCII.
 ghost use Rattle.std.specs.Prelude.{◌≡◌, ℕ, false, List, IfSome, IsTrue, Some};
 ghost use Rattle.phone_pattern.specs.First.{at_start};
 ghost use Rattle.phone_pattern.specs.Outlines.{IsShape};

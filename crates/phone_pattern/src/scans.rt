@@ -1,6 +1,6 @@
 //! Searches of texts that aren't of digits alone: by a machine of a pattern's automaton where the
-//! text is of ASCII, and by its `Regex` where it isn't, where the machine gives up, and where memory
-//! is refused for it.
+//! text is of ASCII, and by its `Regex` where it isn't, where the machine gives up, and where
+//! memory is refused for it.
 ghost use Rattle.std.specs.Prelude.{◌≡◌, ◌<◌, All, None, Some, IfOk, IfSome, IsTrue, option_map};
 ghost use Rattle.std.specs.Prelude.{string_bytes};
 ghost use Rattle.phone_pattern.specs.First.{at_start, captured, first_span, front_end, replaced};

@@ -22,7 +22,7 @@ abbrev pub IsFormRefusal : List ℕ → LoadMetadata → Type 0
 IsFormRefusal bytes e = (IsCompact bytes × IsCompactRefusal bytes e) ⊎
     (¬ (IsCompact bytes) × IsByteRefusal bytes e)
 
--- a refusal of a table that was read from bytes, whatever they were: the read was cut short, or some
--- bytes are refused so
+-- a refusal of a table that was read from bytes, whatever they were: the read was cut short, or
+-- some bytes are refused so
 abbrev pub IsFormRefusalOfSome : LoadMetadata → Type 0
 IsFormRefusalOfSome e = IsCutShort e ⊎ ((bytes : List ℕ) × IsFormRefusal bytes e)

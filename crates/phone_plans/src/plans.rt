@@ -136,9 +136,9 @@ impl Plans {
         Plans::from(alloc, phone_json::records(alloc, text)?)
     }
 
-    /// The database that these bytes are: the compact form of its records, as `phone_compact` writes
-    /// them, where they begin with that form's first line, else a JSON text in UTF-8, as `parse`
-    /// reads it.
+    /// The database that these bytes are: the compact form of its records, as `phone_compact`
+    /// writes them, where they begin with that form's first line, else a JSON text in UTF-8, as
+    /// `parse` reads it.
     ///
     /// Errors: `Json` where the bytes are neither; else those of `from` or of `parse` for the
     /// records; `Memory` where memory is refused; never `Io`.

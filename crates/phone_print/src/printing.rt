@@ -1,5 +1,6 @@
 //! The printed text of a number, by a territory.
-ghost use Rattle.std.specs.Prelude.{◌≡◌, ◌∷◌, ◌++◌, IfOk, IfSome, OnErr, OnOk, IsTrue, Ok, Option, chars, true};
+ghost use Rattle.std.specs.Prelude.{◌≡◌, ◌∷◌, ◌++◌, IfOk, IfSome, OnErr, OnOk, IsTrue, Ok, Option};
+ghost use Rattle.std.specs.Prelude.{chars, true};
 ghost use Rattle.std.specs.Prelude.{codes, encode_utf8_all, string_bytes};
 ghost use Rattle.std.specs.Fmt.{decimal};
 ghost use Rattle.std.specs.List.{find};

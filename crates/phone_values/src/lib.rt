@@ -1,6 +1,6 @@
 //! The values that all other crates speak of: national numbers, calling codes with their source,
-//! region ids, extensions and carriers, kinds, verdicts, errors, by whose rules a number is read, and
-//! the constants of reading and printing.
+//! region ids, extensions and carriers, kinds, verdicts, errors, by whose rules a number is read,
+//! and the constants of reading and printing.
 #![tactic(auto)]
 
 mod carrier;

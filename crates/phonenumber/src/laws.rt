@@ -108,13 +108,15 @@ pub fn reach()
     ensures rfc3966_exactly { (db : List loader.Metadata) (n : Reading) (text : List ℕ) →
         IsBounded n → IsPlainRfc3966 db n → rules_have_no_plus db ≡ true →
         printed db mode.Rfc3966 None n ≡ Some text →
-        (IsReadAs db (chars text) n n.extension ↔ IsLeftAlone db n.code.value (text_of n.national)) }
+        (IsReadAs db (chars text) n n.extension ↔
+        IsLeftAlone db n.code.value (text_of n.national)) }
     ensures international_exactly { (db : List loader.Metadata) (n : Reading) (text : List ℕ) →
         IsBounded n → IsUtf8 text → (plain : IsPlainInternational db n) →
         rules_have_no_plus db ≡ true → 1 ≤ n.code.value → n.code.value ≤ 999 →
         is_prefix_free db ≡ true → (n.extension ≡ None) ⊎ IsAnnouncedSafely plain.territory n →
         printed db mode.International None n ≡ Some text →
-        (IsReadAs db (chars text) n n.extension ↔ IsLeftAlone db n.code.value (text_of n.national)) }
+        (IsReadAs db (chars text) n n.extension ↔
+        IsLeftAlone db n.code.value (text_of n.national)) }
     ensures what_is_read { (db : List loader.Metadata) (hint : Option Id) (text : List ℕ)
         (n : Reading) → rules_have_no_plus db ≡ true → Reads db hint text (Ok n) →
         IsPlainE164 db n }

@@ -54,8 +54,9 @@ impl<'a> Country<'a> {
         self.number.code().value()
     }
 
-    /// The region's id: that of the number's territory, as `territory` has it. None where the number
-    /// has no territory, and where the territory's id is no region's. Refused only for memory.
+    /// The region's id: that of the number's territory, as `territory` has it. None where the
+    /// number has no territory, and where the territory's id is no region's. Refused only for
+    /// memory.
     pub fn id(&self, database: &Plans) -> Result<Option<Id>, AllocError>
         ensures { IfOk result (λ id. id ≡ region_of_number database.now self.now) }
     {

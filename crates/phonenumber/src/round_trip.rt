@@ -50,7 +50,8 @@ pub fn international(database: &Plans, number: &PhoneNumber) -> Result<PhoneNumb
         IsLeftAlone database.now number.now.code.value (text_of number.now.national) →
         1 ≤ number.now.code.value → number.now.code.value ≤ 999 →
         is_prefix_free database.now ≡ true → (number.now.extension ≡ None) ⊎
-        IsAnnouncedSafely plain.territory number.now → IsAgain number.now number.now.extension result }
+        IsAnnouncedSafely plain.territory number.now →
+        IsAgain number.now number.now.extension result }
 {
     number.keeps_bounds();
     read_of_printed(database, number, Mode::International)

@@ -1,4 +1,4 @@
-use Rattle.phone_base.proofs.Results.{of_done, where_done}
+use Rattle.phone_base.proofs.Outcomes.{of_done, where_done}
 use Rattle.phone_print.proofs.Behinds.{append-then, behind-then}
 use Rattle.phone_print.proofs.appending.push_announced.Goals as goal
 

@@ -1,5 +1,5 @@
 use Rattle.std.proofs.Common.{◌++◌, codes, string_bytes}
-use Rattle.phone_base.proofs.Results.{of_done, where_done}
+use Rattle.phone_base.proofs.Outcomes.{of_done, where_done}
 use Rattle.phone_print.proofs.Behinds.{append-then, behind-then}
 use Rattle.phone_print.proofs.appending.push_e164.Goals as goal
 

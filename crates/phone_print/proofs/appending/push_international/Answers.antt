@@ -1,6 +1,6 @@
 use Rattle.std.proofs.Common.{◌++◌, codes, string_bytes}
 use Rattle.phone_print.specs.Texts.{extension_part}
-use Rattle.phone_base.proofs.Results.{of_done, where_done}
+use Rattle.phone_base.proofs.Outcomes.{of_done, where_done}
 use Rattle.phone_print.proofs.Behinds.{append-then, behind-then}
 use Rattle.phone_print.proofs.appending.push_international.Goals as goal
 

@@ -1,6 +1,6 @@
 use Rattle.std.proofs.Common.{[], ◌++◌, ◌∷◌, codes, chars, encode_utf8_all, string_bytes}
 use Rattle.phone_print.specs.Texts.{extension_parameter, extension_part, hyphenated}
-use Rattle.phone_base.proofs.Results.{of_done, where_done}
+use Rattle.phone_base.proofs.Outcomes.{of_done, where_done}
 use Rattle.phone_print.proofs.Behinds.{append-then, behind-then, where_refused}
 use Rattle.phone_print.proofs.printing.push_coded.Goals as goal
 

@@ -1,6 +1,6 @@
 use Rattle.std.proofs.Common.{codes}
 use Rattle.phone_records.specs.Members.{descriptor_written, given}
-use Rattle.phone_base.proofs.Results.{of_done, where_done}
+use Rattle.phone_base.proofs.Outcomes.{of_done, where_done}
 use Rattle.phone_records.proofs.Written.{given_written, member_written, members-cons, members-last}
 use Rattle.phone_records.proofs.loader.forms.write_kinds.Goals as goal
 

@@ -2,7 +2,7 @@ use Rattle.std.proofs.Common.{codes, ap, is_ok}
 use Rattle.std.proofs.lemmas.Result.{on_ok_weaker}
 use Rattle.phone_records.specs.Empty.{no_defaults}
 use Rattle.phone_records.specs.Members.{defaults_members, descriptor_written, format_written}
-use Rattle.phone_base.proofs.Results.{of_done}
+use Rattle.phone_base.proofs.Outcomes.{of_done}
 use Rattle.phone_records.proofs.Written.{member_written, members-cons, members-last, names_count, object_written}
 use Rattle.phone_records.proofs.loader.forms.DefaultsSerialize.serialize.Goals as goal
 

@@ -2,7 +2,7 @@ use Rattle.std.proofs.Common.{codes, ap, is_ok}
 use Rattle.std.proofs.lemmas.Result.{on_ok_weaker}
 use Rattle.phone_records.specs.Empty.{no_descriptor}
 use Rattle.phone_records.specs.Members.{descriptor_members, given, number_written, sequence, text_written}
-use Rattle.phone_base.proofs.Results.{of_done}
+use Rattle.phone_base.proofs.Outcomes.{of_done}
 use Rattle.phone_records.proofs.Written.{given_written, member_written, members-cons, members-last, names_count, number_grows, object_written, sequence_written, text_grows}
 use Rattle.phone_records.proofs.loader.forms.DescriptorSerialize.serialize.Goals as goal
 

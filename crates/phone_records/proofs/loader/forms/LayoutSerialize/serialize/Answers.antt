@@ -3,7 +3,7 @@ use Rattle.std.proofs.lemmas.Result.{on_ok_weaker}
 use Rattle.serde.specs.Event.{boolean}
 use Rattle.phone_records.specs.Empty.{no_format}
 use Rattle.phone_records.specs.Members.{format_members, given, sequence, text_written}
-use Rattle.phone_base.proofs.Results.{of_done}
+use Rattle.phone_base.proofs.Outcomes.{of_done}
 use Rattle.phone_records.proofs.Written.{given_written, member_written, members-cons, members-last, names_count, object_written, sequence_written, text_grows, truth_grows}
 use Rattle.phone_records.proofs.loader.forms.LayoutSerialize.serialize.Goals as goal
 

@@ -3,7 +3,7 @@ use Rattle.std.proofs.lemmas.Result.{on_ok_weaker}
 use Rattle.serde.specs.Event.{boolean}
 use Rattle.phone_records.specs.Empty.{no_metadata}
 use Rattle.phone_records.specs.Members.{defaults_written, format_written, given, code_members, kind_members, layout_members, metadata_members, number_written, prefix_members, sequence, text_written}
-use Rattle.phone_base.proofs.Results.{of_done}
+use Rattle.phone_base.proofs.Outcomes.{of_done}
 use Rattle.phone_records.proofs.Written.{given_written, member_written, members-append, members-cons, members-last, names_count, number_grows, object_written, sequence_written, text_grows, truth_grows}
 use Rattle.phone_records.proofs.loader.forms.MetadataSerialize.serialize.Goals as goal
 
