@@ -1,6 +1,6 @@
 /* Handles in threads, by a small table or by the one of a file: threads [TABLE]. A handle is opened in one thread, used in
- * a second and closed in a third; threads use one in turn, behind a lock; each has its own, all at once, on a table of its
- * own and then on one for all, which the last of them frees; handles on one table are closed in each order. All are told
+ * a second and closed in a third; threads read one at once; each has its own, all at once, on a table of its own and then on
+ * one for all, which the last of them frees; handles on one table are closed in each order. All are told
  * what the first thread is. The last line is `threads: ok`, else the number of the first check that failed is printed. */
 #define _POSIX_C_SOURCE 200112L
 #include "phone.h"
@@ -38,11 +38,11 @@ typedef struct {
 
 static void open_both(phone_handle *world, phone_prefixes *prefixes) {
     size_t line = 0;
-    CHECK(1, phone_open(table, table_len, world) == PHONE_OK);
+    CHECK(1, phone_open(table, table_len, PHONE_LIBRARY, world) == PHONE_OK);
     CHECK(2, phone_prefixes_open((const uint8_t *)PREFIXES, sizeof PREFIXES - 1, prefixes, &line) == PHONE_OK);
 }
 
-static void share_both(phone_handle *world, phone_prefixes *prefixes, phone_handle *mine, phone_prefixes *own) {
+static void share_both(const phone_handle *world, const phone_prefixes *prefixes, phone_handle *mine, phone_prefixes *own) {
     CHECK(15, phone_share(world, mine) == PHONE_OK);
     CHECK(16, phone_prefixes_share(prefixes, own) == PHONE_OK);
 }
@@ -53,13 +53,13 @@ static void close_both(phone_handle *world, phone_prefixes *prefixes) {
     size_t wrote = 0;
     phone_close(world);
     phone_prefixes_close(prefixes);
-    CHECK(3, phone_text_possibility_by(world, PHONE_LIBRARY, phone_text("NZ", 2), 2, phone_text("3", 1), 1, &told) == PHONE_IS_CLOSED);
+    CHECK(3, phone_text_possibility(world, phone_text("NZ", 2), 2, phone_text("3", 1), 1, &told) == PHONE_IS_CLOSED);
     CHECK(4, phone_regions(world, out, sizeof out, &wrote) == PHONE_IS_CLOSED);
 }
 
 /* What is told of a line behind them: its reports by both rules, what is shown while it is typed, where a number stands in it;
  * and the longest prefix of some digits. */
-static void ask(phone_handle *world, phone_prefixes *prefixes, const char *line, char *told) {
+static void ask(const phone_handle *world, const phone_prefixes *prefixes, const char *line, char *told) {
     uint8_t out[ROOM];
     size_t wrote, prefix_len = 0, len = strlen(line);
     const uint8_t *text = phone_text(line, len), *hint = phone_text("NZ", 2);
@@ -67,14 +67,17 @@ static void ask(phone_handle *world, phone_prefixes *prefixes, const char *line,
     char *at = told;
     memset(told, 0, LINE);
     for (uint32_t rules = PHONE_LIBRARY; rules <= PHONE_CRATE; rules++) {
+        phone_handle by = PHONE_CLOSED;
         memset(out, 0, ROOM);
-        CHECK(5, phone_report_by(world, rules, hint, 2, text, len, out, ROOM - 1, &wrote) == PHONE_OK);
+        CHECK(21, phone_share_by(world, rules, &by) == PHONE_OK);
+        CHECK(5, phone_report(&by, hint, 2, text, len, out, ROOM - 1, &wrote) == PHONE_OK);
         at += sprintf(at, "%s\n", (char *)out);
+        phone_close(&by);
     }
     memset(out, 0, ROOM);
     CHECK(18, phone_typing_shown(world, hint, 2, text, len, out, ROOM - 1, &wrote) == PHONE_OK);
     at += sprintf(at, "%s\n", (char *)out);
-    CHECK(19, phone_find_by(world, PHONE_LIBRARY, hint, 2, PHONE_IF_VALID, text, len, &place, 1, &wrote) == PHONE_OK);
+    CHECK(19, phone_find(world, hint, 2, PHONE_IF_VALID, text, len, &place, 1, &wrote) == PHONE_OK);
     at += sprintf(at, "%zu %zu %zu\n", wrote, place.start, place.end);
     memset(out, 0, ROOM);
     CHECK(6, phone_prefixes_longest(prefixes, phone_text("6433316005", 10), 10, out, ROOM - 1, &wrote, &prefix_len) == PHONE_OK);
@@ -83,13 +86,11 @@ static void ask(phone_handle *world, phone_prefixes *prefixes, const char *line,
 }
 
 /* All lines, often; what is told of each is what was wanted. */
-static void ask_all(phone_handle *world, phone_prefixes *prefixes, pthread_mutex_t *lock, char wanted[LINES][LINE]) {
+static void ask_all(const phone_handle *world, const phone_prefixes *prefixes, char wanted[LINES][LINE]) {
     for (int round = 0; round < ROUNDS; round++) {
         for (int i = 0; i < LINES; i++) {
             char told[LINE];
-            if (lock) pthread_mutex_lock(lock);
             ask(world, prefixes, lines[i], told);
-            if (lock) pthread_mutex_unlock(lock);
             CHECK(8, !memcmp(told, wanted[i], LINE));
         }
     }
@@ -104,16 +105,16 @@ static void *learns(void *it) {
     for (int i = 0; i < LINES; i++) ask(&all->world, &all->prefixes, lines[i], all->wanted[i]);
     return NULL;
 }
-static void *asks_in_turn(void *it) {
+static void *asks_at_once(void *it) {
     shared *all = (shared *)it;
-    ask_all(&all->world, &all->prefixes, &all->lock, all->wanted);
+    ask_all(&all->world, &all->prefixes, all->wanted);
     return NULL;
 }
 static void *asks_its_own(void *it) {
     phone_handle world = PHONE_CLOSED;
     phone_prefixes prefixes = PHONE_CLOSED;
     open_both(&world, &prefixes);
-    ask_all(&world, &prefixes, NULL, ((shared *)it)->wanted);
+    ask_all(&world, &prefixes, ((shared *)it)->wanted);
     close_both(&world, &prefixes);
     return NULL;
 }
@@ -129,7 +130,7 @@ static void *asks_one_table(void *it) {
     if (++all->made % THREADS == 0) close_both(&all->world, &all->prefixes);
     pthread_mutex_unlock(&all->lock);
     pthread_barrier_wait(&all->start);
-    ask_all(&world, &prefixes, NULL, all->wanted);
+    ask_all(&world, &prefixes, all->wanted);
     close_both(&world, &prefixes);
     return NULL;
 }
@@ -182,7 +183,7 @@ int main(int count, char **words) {
     run(1, opens, &all);
     run(1, learns, &all);
     CHECK(14, !strncmp(all.wanted[0], "ok\t+6433316005\t", 15) && !strncmp(all.wanted[2], "error\t1\t", 8));
-    run(THREADS, asks_in_turn, &all);
+    run(THREADS, asks_at_once, &all);
     run(THREADS, asks_its_own, &all);
     run(1, closes, &all);
     for (int i = 0; i < (count > 1 ? 2 : TABLES); i++) {

@@ -3,13 +3,13 @@ ghost use Rattle.std.specs.Prelude.{◌≡◌, ◌⊎◌, ◌↔◌, IsUtf8, len
 ghost use Rattle.phone_prefixes.specs.Tables.{NoneBegins};
 ghost use Rattle.phone_c_base.specs.Buffers.{IsTooLongA, IsWrittenA};
 ghost use Rattle.phone_c_base.specs.PrefixTables.{IsLineRefusedAs, IsTableClosed};
-ghost use Rattle.phone_c_base.specs.PrefixTables.{IsTableKept, IsTableOpen, IsTableOpenedBy};
+ghost use Rattle.phone_c_base.specs.PrefixTables.{IsTableOpen, IsTableOpenedBy};
 ghost use Rattle.phone_c_base.specs.PrefixTables.{IsTextFor, IsTextOfLongest};
 
 use phone_c_base::prefixes::{longest, open_table};
 use phone_c_base::sharing::share_table;
 use phone_c_base::status::{CLOSED, MEMORY, NO_PREFIX, NOT_UTF8, OK, TOO_SMALL};
-use phone_c_base::table::{Table, put_table, take_table};
+use phone_c_base::table::{Table, close_table, open_behind};
 use std::alloc::Global;
 
 /// Opens the table of prefixes that a text is, as `Prefixes::of` reads it: lines of a prefix of 1
@@ -34,12 +34,10 @@ pub extern "C" fn phone_prefixes_open(
     ensures closed { ¬ (result ≡ OK) → IsTableClosed table.new }
 {
     *line = 0;
-    if let Some(old) = take_table(alloc, table) {
-        drop(old);
-    }
+    close_table(alloc, table);
     match open_table(alloc, text) {
         Ok(prefixes) => {
-            put_table(alloc, table, prefixes);
+            open_behind(alloc, table, prefixes);
             OK
         }
         Err((status, at)) => {
@@ -49,19 +47,17 @@ pub extern "C" fn phone_prefixes_open(
     }
 }
 
-/// Opens behind `mine` the table of prefixes that is open behind `table`: both handles stand on it,
-/// and each serves one call at a time. It takes the memory of a few words, and copies no table.
-/// What `mine` had open is closed first, whatever comes.
+/// Opens behind `mine` the table of prefixes that is open behind `table`. It takes the memory of a
+/// few words, and copies no table. What `mine` had open is closed first, whatever comes.
 ///
 /// `OK`: the table is open behind `mine`. `CLOSED` exactly where `table` is closed. `MEMORY`:
-/// memory was refused. For each but `OK` `mine` is closed. `table` stays as it was.
+/// memory was refused. For each but `OK` `mine` is closed.
 #[unsafe(no_mangle)]
-pub extern "C" fn phone_prefixes_share(alloc: Global, table: &mut Table, mine: &mut Table) -> u32
-    ensures shared { result ≡ OK → IsTableOpen mine.new table.old.entries }
-    ensures closed { (result ≡ CLOSED) ↔ IsTableClosed table.old }
-    ensures other { ¬ (result ≡ OK) → ¬ (result ≡ CLOSED) → result ≡ MEMORY }
+pub extern "C" fn phone_prefixes_share(alloc: Global, table: &Table, mine: &mut Table) -> u32
+    ensures shared { result ≡ OK → IsTableOpen mine.new table.now.entries }
+    ensures closed { (result ≡ CLOSED) ↔ IsTableClosed table.now }
+    ensures status { (result ≡ OK) ⊎ (result ≡ CLOSED) ⊎ (result ≡ MEMORY) }
     ensures refused { ¬ (result ≡ OK) → IsTableClosed mine.new }
-    ensures kept { IsTableKept table.old table.new }
 {
     share_table(alloc, table, mine)
 }
@@ -72,9 +68,7 @@ pub extern "C" fn phone_prefixes_share(alloc: Global, table: &mut Table, mine: &
 pub extern "C" fn phone_prefixes_close(alloc: Global, table: &mut Table)
     ensures { IsTableClosed table.new }
 {
-    if let Some(old) = take_table(alloc, table) {
-        drop(old);
-    }
+    close_table(alloc, table)
 }
 
 /// Looks up digits, as those of an E.164 text, in a table of prefixes: writes the text of the
@@ -85,37 +79,33 @@ pub extern "C" fn phone_prefixes_close(alloc: Global, table: &mut Table)
 /// `wrote` is the length that it needs. `CLOSED` exactly where the handle is closed, else
 /// `NOT_UTF8` exactly where the digits aren't UTF-8, else `NO_PREFIX` exactly where no prefix
 /// begins them. For each but `OK` `out` and `prefix_len` are as they were, and for each but `OK`
-/// and `TOO_SMALL` `wrote` is 0. The handle stays as it was.
+/// and `TOO_SMALL` `wrote` is 0.
 #[unsafe(no_mangle)]
 pub extern "C" fn phone_prefixes_longest(
-    alloc: Global,
-    table: &mut Table,
+    table: &Table,
     digits: &[u8],
     out: &mut [u8],
     wrote: &mut usize,
     prefix_len: &mut usize,
 ) -> u32
-    ensures written { result ≡ OK → IsWrittenA (λ text. IsTextOfLongest table.old.entries
+    ensures written { result ≡ OK → IsWrittenA (λ text. IsTextOfLongest table.now.entries
         digits.now text prefix_len.new) out.old out.new wrote.new }
     ensures too_small { result ≡ TOO_SMALL →
-        IsTooLongA (IsTextFor table.old.entries digits.now) out.old out.new wrote.new }
-    ensures closed { (result ≡ CLOSED) ↔ IsTableClosed table.old }
+        IsTooLongA (IsTextFor table.now.entries digits.now) out.old out.new wrote.new }
+    ensures closed { (result ≡ CLOSED) ↔ IsTableClosed table.now }
     ensures not_utf8 { (result ≡ NOT_UTF8) ↔
-        (¬ (IsTableClosed table.old) × ¬ (IsUtf8 digits.now)) }
+        (¬ (IsTableClosed table.now) × ¬ (IsUtf8 digits.now)) }
     ensures none { ¬ (result ≡ CLOSED) → ¬ (result ≡ NOT_UTF8) →
-        (result ≡ NO_PREFIX) ↔ NoneBegins table.old.entries digits.now }
+        (result ≡ NO_PREFIX) ↔ NoneBegins table.now.entries digits.now }
     ensures status { ¬ (result ≡ OK) → ¬ (result ≡ TOO_SMALL) → ¬ (result ≡ CLOSED) →
         ¬ (result ≡ NOT_UTF8) → result ≡ NO_PREFIX }
     ensures untouched { ¬ (result ≡ OK) → out.new ≡ out.old }
     ensures no_prefix { ¬ (result ≡ OK) → prefix_len.new ≡ prefix_len.old }
     ensures no_length { ¬ (result ≡ OK) → ¬ (result ≡ TOO_SMALL) → wrote.new ≡ 0 }
-    ensures kept { IsTableKept table.old table.new }
 {
     *wrote = 0;
-    let Some(prefixes) = take_table(alloc, table) else {
+    let Some(prefixes) = table.prefixes() else {
         return CLOSED;
     };
-    let status = longest(&*prefixes, digits, out, wrote, prefix_len);
-    put_table(alloc, table, prefixes);
-    status
+    longest(prefixes, digits, out, wrote, prefix_len)
 }

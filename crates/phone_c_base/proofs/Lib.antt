@@ -10,5 +10,4 @@ pub mod OneShown
 pub mod OneTold
 pub mod Places
 pub mod ReadPlaces
-pub mod Statuses
 pub mod TheirWords

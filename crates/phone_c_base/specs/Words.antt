@@ -11,7 +11,7 @@ use Rattle.phone_util.specs.declared.sameness.Sameness.{Sameness}
 use Rattle.phone_util.specs.declared.sameness.Sameness.TheVariants.{Exact, Number, National, End}
 use Rattle.phone_util.specs.declared.sameness.Sameness.TheVariants.{Different}
 use Rattle.phone_c_base.specs.declared.words.TheConstants.{COST_WORDS, KIND_WORDS}
-use Rattle.phone_c_base.specs.declared.words.TheConstants.{OPENING_WORDS, POSSIBILITY_WORDS}
+use Rattle.phone_c_base.specs.declared.words.TheConstants.{POSSIBILITY_WORDS}
 use Rattle.phone_c_base.specs.declared.words.TheConstants.{SAMENESS_WORDS, SOURCE_WORDS}
 use Rattle.phone_c_base.specs.declared.words.TheConstants.{STATUS_WORDS}
 
@@ -27,9 +27,11 @@ word_of set value =
     else if set == 2 then word_at (map (λ w. w.now) POSSIBILITY_WORDS) value
     else if set == 3 then word_at (map (λ w. w.now) SAMENESS_WORDS) value
     else if set == 4 then word_at (map (λ w. w.now) COST_WORDS) value
-    else if set == 5 then word_at (map (λ w. w.now) STATUS_WORDS) value
-    else if set == 6 then word_at (map (λ w. w.now) OPENING_WORDS) value
     else None
+
+-- the words of a status
+unfoldable pub status_words : ℕ → Option (List ℕ)
+status_words status = word_at (map (λ w. w.now) STATUS_WORDS) status
 
 -- what a length says, in a word
 abbrev pub possibility_word : Possibility → List ℕ

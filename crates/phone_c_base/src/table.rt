@@ -4,7 +4,7 @@ ghost use denote.RawPtr.{null_ptr, InBlock};
 ghost use Rattle.phone_prefixes.specs.Tables.{Entry};
 
 use crate::raw_box::RawBox;
-use crate::shared::{Held, Owner};
+use crate::shared::Owner;
 use phone_prefixes::Prefixes;
 use std::alloc::Global;
 use std::marker::Model;
@@ -26,6 +26,9 @@ impl Model for Table {
 
 /// A handle, closed or open, may be passed to another thread: a table is plain data.
 unsafe impl Send for Table {}
+
+/// Several threads may make calls on one handle at a time that only read it.
+unsafe impl Sync for Table {}
 
 impl Table {
     /// A handle behind which nothing is open.
@@ -61,27 +64,47 @@ impl Table {
             })
         }
     }
-}
 
-/// Takes what a handle holds out of it; the handle is closed then.
-pub fn take_table(alloc: Global, table: &mut Table) -> Option<Held<Prefixes>>
-    ensures entries { MatchOption result (table.old.at ≡ null_ptr)
-        (λ held. InBlock table.old.at × (held ≡ table.old.entries)) }
-    ensures closed { table.new.at ≡ null_ptr }
-{
-    let whole = std::mem::replace(table, Table::empty());
-    match whole.into_raw(alloc) {
-        Some(loose) => Some(Held::of_box(loose.into_box())),
-        None => None,
+    /// What is open behind the handle, which is only read.
+    pub(crate) fn opened(&self) -> Option<&Owner<Prefixes>>
+        ensures { MatchOption result (self.now.at ≡ null_ptr)
+            (λ o. InBlock self.now.at × (o.now ≡ self.now.entries)) }
+    {
+        if self.at.is_null() {
+            None
+        } else {
+            Some(unsafe { &*(self.at as *const Owner<Prefixes>) })
+        }
+    }
+
+    /// The table that is open behind the handle.
+    pub fn prefixes(&self) -> Option<&Prefixes>
+        ensures { MatchOption result (self.now.at ≡ null_ptr)
+            (λ p. InBlock self.now.at × (p.now ≡ self.now.entries)) }
+    {
+        match self.opened() {
+            Some(owner) => Some(owner.thing()),
+            None => None,
+        }
     }
 }
 
-/// Puts what is held of a table into a handle; what the handle held is dropped.
-pub fn put_table(alloc: Global, table: &mut Table, prefixes: Held<Prefixes>)
-    ensures open { InBlock table.new.at }
-    ensures entries { table.new.entries ≡ prefixes }
+/// Closes the handle of a table: what it held is dropped.
+pub fn close_table(alloc: Global, table: &mut Table)
+    ensures { table.new.at ≡ null_ptr }
 {
-    let before = std::mem::replace(table, Table::of_raw(RawBox::of(prefixes.into_box())));
+    let whole = std::mem::replace(table, Table::empty());
+    if let Some(loose) = whole.into_raw(alloc) {
+        drop(loose.into_box());
+    }
+}
+
+/// Opens a table behind a handle; what the handle held is dropped.
+pub fn open_behind(alloc: Global, table: &mut Table, prefixes: Box<Owner<Prefixes>>)
+    ensures open { InBlock table.new.at }
+    ensures entries { table.new.entries ≡ prefixes.value }
+{
+    let before = std::mem::replace(table, Table::of_raw(RawBox::of(prefixes)));
     if let Some(loose) = before.into_raw(alloc) {
         drop(loose.into_box());
     }

@@ -32,6 +32,16 @@ pub fn handle_crosses(handle: &Handle) {
     crosses(handle)
 }
 
+/// Several threads may make calls that read one handle at a time.
+pub fn handle_is_shared(handle: &Handle) {
+    is_shared(handle)
+}
+
+/// Several threads may make calls that read one handle of a table of prefixes at a time.
+pub fn table_is_shared(table: &Table) {
+    is_shared(table)
+}
+
 /// The handle of a table of prefixes may be passed to another thread.
 pub fn table_crosses(table: &Table) {
     crosses(table)

@@ -3,7 +3,7 @@ ghost use Rattle.std.specs.Prelude.{◌≡◌, ◌⊎◌, ◌↔◌, None, Some,
 ghost use Rattle.std.specs.Option.{option_copied};
 ghost use Rattle.phone_c_base.specs.Buffers.{IsTooLongA, IsWrittenA};
 ghost use Rattle.phone_util.specs.Dialled.{if_some};
-ghost use Rattle.phone_c_base.specs.Words.{word_at, word_of};
+ghost use Rattle.phone_c_base.specs.Words.{status_words, word_at, word_of};
 
 use crate::buffer::give;
 use crate::status::{NO_WORD, OK, TOO_SMALL};
@@ -48,8 +48,8 @@ const SAMENESS_WORDS: [&str; 5] = ["exact", "number", "national", "end", "differ
 /// The words of costs.
 const COST_WORDS: [&str; 4] = ["TOLL_FREE", "STANDARD_RATE", "PREMIUM_RATE", "UNKNOWN_COST"];
 
-/// The words of the statuses of a call other than `phone_open`, empty where there is none: those
-/// from 1 to 7 are the words of the refusals of a text.
+/// The words of the statuses, empty where there is none: those from 1 to 7 are the words of the
+/// refusals of a text, and those from 8 to 12 say why bytes are no database.
 const STATUS_WORDS: [&str; 36] = [
     "done",
     "not a number",
@@ -59,11 +59,11 @@ const STATUS_WORDS: [&str; 36] = [
     "the number is too long",
     "malformed integer part in phone number",
     "out of memory",
-    "",
-    "",
-    "",
-    "",
-    "",
+    "a record lacks a value that it must have",
+    "a record has a key that it may not have",
+    "malformed JSON",
+    "a value is of the wrong kind",
+    "a text is no pattern",
     "",
     "",
     "",
@@ -74,7 +74,7 @@ const STATUS_WORDS: [&str; 36] = [
     "unknown calling code",
     "the plain numbers are no phone number",
     "unknown mode",
-    "no refusal has the number",
+    "",
     "unknown rules",
     "the line is empty",
     "the line has no tab",
@@ -87,29 +87,6 @@ const STATUS_WORDS: [&str; 36] = [
     "no value has the number",
     "the table has no territory of the region",
     "unknown leniency",
-];
-
-/// The words of the statuses of `phone_open`, empty where there is none.
-const OPENING_WORDS: [&str; 19] = [
-    "done",
-    "a record lacks a value that it must have",
-    "a record has a key that it may not have",
-    "malformed JSON",
-    "a value is of the wrong kind",
-    "a text is no pattern",
-    "",
-    "out of memory",
-    "",
-    "",
-    "",
-    "",
-    "",
-    "",
-    "",
-    "",
-    "",
-    "",
-    "not UTF-8",
 ];
 
 /// The word of a value in a table of them; none where that is empty or past the end.
@@ -130,8 +107,7 @@ fn some(text: &'static str) -> Option<&'static str>
 }
 
 /// The word of a value of a set: of kinds, 0; of the ways in which a calling code was found, 1; of
-/// what a length says, 2; of how like two numbers are, 3; of costs, 4; of statuses, 5; of those of
-/// `phone_open`, 6.
+/// what a length says, 2; of how like two numbers are, 3; of costs, 4.
 #[tactic(auto, unfolding(crate::specs::Words::word_of))]
 pub fn word_of(set: u32, value: u32) -> Option<&'static str>
     ensures { option_copied result ≡ word_of set value }
@@ -142,10 +118,16 @@ pub fn word_of(set: u32, value: u32) -> Option<&'static str>
         2 => word_at(&POSSIBILITY_WORDS, value),
         3 => word_at(&SAMENESS_WORDS, value),
         4 => word_at(&COST_WORDS, value),
-        5 => word_at(&STATUS_WORDS, value),
-        6 => word_at(&OPENING_WORDS, value),
         _ => None,
     }
+}
+
+/// The words of a status.
+#[tactic(auto, unfolding(crate::specs::Words::status_words))]
+pub fn status_words_of(status: u32) -> Option<&'static str>
+    ensures { option_copied result ≡ status_words status }
+{
+    word_at(&STATUS_WORDS, status)
 }
 
 /// The word of a value of a set, in a buffer.
@@ -161,6 +143,24 @@ pub fn word(set: u32, value: u32, out: &mut [u8], wrote: &mut usize) -> u32
 {
     *wrote = 0;
     match word_of(set, value) {
+        Some(text) => give(text.as_bytes(), out, wrote),
+        None => NO_WORD,
+    }
+}
+
+/// The words of a status, in a buffer.
+pub fn words(status: u32, out: &mut [u8], wrote: &mut usize) -> u32
+    ensures written { result ≡ OK →
+        IsWrittenA (λ text. status_words status ≡ Some text) out.old out.new wrote.new }
+    ensures too_small { result ≡ TOO_SMALL →
+        IsTooLongA (λ text. status_words status ≡ Some text) out.old out.new wrote.new }
+    ensures none { (result ≡ NO_WORD) ↔ (status_words status ≡ None) }
+    ensures status { (result ≡ OK) ⊎ (result ≡ TOO_SMALL) ⊎ (result ≡ NO_WORD) }
+    ensures untouched { ¬ (result ≡ OK) → out.new ≡ out.old }
+    ensures no_length { result ≡ NO_WORD → wrote.new ≡ 0 }
+{
+    *wrote = 0;
+    match status_words_of(status) {
         Some(text) => give(text.as_bytes(), out, wrote),
         None => NO_WORD,
     }
