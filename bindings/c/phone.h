@@ -4,10 +4,12 @@
  * What a caller owes, and nothing checks:
  *   - A handle begins as PHONE_CLOSED, and only these calls write it. It is not copied: two copies
  *     would own one thing; phone_share makes a second. So with a table of prefixes.
- *   - A handle is of no thread. Calls that take it as const may run at once, any number of them, on one
- *     handle; one that opens, shares into or closes it runs alone on it, with a lock or a join between
- *     it and other calls. No call is made from a signal handler, nor in a forked child on a handle that
- *     another thread's call was opening or closing at the fork.
+ *   - One call at a time on a handle, also of those that take it as const, which don't write it. It is of
+ *     no thread: one thread opens it, others use it in turn, any closes it, with a lock or a join between
+ *     two calls. Threads that read at once have handles of their own: those made by phone_share stand on
+ *     one table, of the world some 6 MB, and calls on different handles may run at once, any number of
+ *     them. No call is made from a signal handler, nor in a forked child on a handle that another
+ *     thread's call was on at the fork.
  *   - A length is not past its buffer. A buffer that is written is memory that may be read: what was
  *     allocated is set to something first. What one call is given does not overlap.
  *   - `phone_text(p, n)` makes of a null text of length 0 one that may be passed; no pointer that is

@@ -1,6 +1,6 @@
 /* Handles in threads, by a small table or by the one of a file: threads [TABLE]. A handle is opened in one thread, used in
- * a second and closed in a third; threads read one at once; each has its own, all at once, on a table of its own and then on
- * one for all, which the last of them frees; handles on one table are closed in each order. All are told
+ * a second and closed in a third; threads use one in turn, behind a lock; each has its own, all at once, on a table of its
+ * own and then on one for all, which the last of them frees; handles on one table are closed in each order. All are told
  * what the first thread is. The last line is `threads: ok`, else the number of the first check that failed is printed. */
 #define _POSIX_C_SOURCE 200112L
 #include "phone.h"
@@ -86,11 +86,13 @@ static void ask(const phone_handle *world, const phone_prefixes *prefixes, const
 }
 
 /* All lines, often; what is told of each is what was wanted. */
-static void ask_all(const phone_handle *world, const phone_prefixes *prefixes, char wanted[LINES][LINE]) {
+static void ask_all(const phone_handle *world, const phone_prefixes *prefixes, pthread_mutex_t *lock, char wanted[LINES][LINE]) {
     for (int round = 0; round < ROUNDS; round++) {
         for (int i = 0; i < LINES; i++) {
             char told[LINE];
+            if (lock) pthread_mutex_lock(lock);
             ask(world, prefixes, lines[i], told);
+            if (lock) pthread_mutex_unlock(lock);
             CHECK(8, !memcmp(told, wanted[i], LINE));
         }
     }
@@ -105,16 +107,16 @@ static void *learns(void *it) {
     for (int i = 0; i < LINES; i++) ask(&all->world, &all->prefixes, lines[i], all->wanted[i]);
     return NULL;
 }
-static void *asks_at_once(void *it) {
+static void *asks_in_turn(void *it) {
     shared *all = (shared *)it;
-    ask_all(&all->world, &all->prefixes, all->wanted);
+    ask_all(&all->world, &all->prefixes, &all->lock, all->wanted);
     return NULL;
 }
 static void *asks_its_own(void *it) {
     phone_handle world = PHONE_CLOSED;
     phone_prefixes prefixes = PHONE_CLOSED;
     open_both(&world, &prefixes);
-    ask_all(&world, &prefixes, ((shared *)it)->wanted);
+    ask_all(&world, &prefixes, NULL, ((shared *)it)->wanted);
     close_both(&world, &prefixes);
     return NULL;
 }
@@ -130,7 +132,7 @@ static void *asks_one_table(void *it) {
     if (++all->made % THREADS == 0) close_both(&all->world, &all->prefixes);
     pthread_mutex_unlock(&all->lock);
     pthread_barrier_wait(&all->start);
-    ask_all(&world, &prefixes, all->wanted);
+    ask_all(&world, &prefixes, NULL, all->wanted);
     close_both(&world, &prefixes);
     return NULL;
 }
@@ -183,7 +185,7 @@ int main(int count, char **words) {
     run(1, opens, &all);
     run(1, learns, &all);
     CHECK(14, !strncmp(all.wanted[0], "ok\t+6433316005\t", 15) && !strncmp(all.wanted[2], "error\t1\t", 8));
-    run(THREADS, asks_at_once, &all);
+    run(THREADS, asks_in_turn, &all);
     run(THREADS, asks_its_own, &all);
     run(1, closes, &all);
     for (int i = 0; i < (count > 1 ? 2 : TABLES); i++) {
