@@ -18,7 +18,7 @@ BINDINGS = Path(__file__).resolve().parent
 CRATES = BINDINGS.parent / "crates"
 # The names of a struct in the four places, each by its name in phone.h.
 STRUCTS = {
-    "Handle": "handle", "Table": "prefixes", "Prefixes": "prefixes", "PrefixesHandle": "prefixes", "Part": "part", "Number": "number",
+    "Handle": "handle", "PrefixTable": "prefixes", "Prefixes": "prefixes", "PrefixesHandle": "prefixes", "Part": "part", "Number": "number",
     "PlainFacts": "short_facts", "ShortFacts": "short_facts", "Facts": "short_facts", "Place": "place",
 }
 # What the names of a set's values begin with in phone.h.

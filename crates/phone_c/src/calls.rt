@@ -9,6 +9,7 @@ ghost use Rattle.phone_c_base.specs.Numbers.{AreNoNumber, AreNone};
 ghost use Rattle.phone_c_base.specs.Parses.{IsParsed, IsParsedTooLong, IsRefusedAs};
 
 use phone_c_base::asked::{key, kind, region, validity};
+use phone_c_base::engines::under;
 use phone_c_base::handle::Handle;
 use phone_c_base::number::Number;
 use phone_c_base::parse::parse;
@@ -52,10 +53,10 @@ pub extern "C" fn phone_parse(
     ensures no_length { ¬ (result ≡ OK) → ¬ (result ≡ TOO_SMALL) → wrote.new ≡ 0 }
 {
     *wrote = 0;
-    let Some(opened) = handle.opened() else {
+    let Some(engine) = handle.engine() else {
         return CLOSED;
     };
-    match opened.engine_under(hint) {
+    match under(engine, hint) {
         Some(engine) => parse(engine, text, number, out, wrote),
         None => NO_REGION,
     }
@@ -99,10 +100,10 @@ pub extern "C" fn phone_format(
     ensures no_length { ¬ (result ≡ OK) → ¬ (result ≡ TOO_SMALL) → wrote.new ≡ 0 }
 {
     *wrote = 0;
-    let Some(opened) = handle.opened() else {
+    let Some(engine) = handle.engine() else {
         return CLOSED;
     };
-    print(opened.engine(), number, bytes, mode, out, wrote)
+    print(engine, number, bytes, mode, out, wrote)
 }
 
 /// Tells the kind of a number that is given as plain numbers, by the kind's number: 0 a fixed line,
@@ -121,10 +122,10 @@ pub extern "C" fn phone_kind(handle: &Handle, number: &Number, told: &mut u32) -
         result ≡ MEMORY }
     ensures untouched { ¬ (result ≡ OK) → told.new ≡ told.old }
 {
-    let Some(opened) = handle.opened() else {
+    let Some(engine) = handle.engine() else {
         return CLOSED;
     };
-    kind(opened.engine(), number, told)
+    kind(engine, number, told)
 }
 
 /// Writes the id of the region of a number that is given as plain numbers; no byte where it has
@@ -151,10 +152,10 @@ pub extern "C" fn phone_region(
     ensures no_length { ¬ (result ≡ OK) → ¬ (result ≡ TOO_SMALL) → wrote.new ≡ 0 }
 {
     *wrote = 0;
-    let Some(opened) = handle.opened() else {
+    let Some(engine) = handle.engine() else {
         return CLOSED;
     };
-    region(opened.engine(), number, out, wrote)
+    region(engine, number, out, wrote)
 }
 
 /// Tells whether a number that is given as plain numbers is valid: 1, else 0. Its statuses are
@@ -169,10 +170,10 @@ pub extern "C" fn phone_is_valid(handle: &Handle, number: &Number, told: &mut u8
         result ≡ MEMORY }
     ensures untouched { ¬ (result ≡ OK) → told.new ≡ told.old }
 {
-    let Some(opened) = handle.opened() else {
+    let Some(engine) = handle.engine() else {
         return CLOSED;
     };
-    validity(opened.engine(), number, told)
+    validity(engine, number, told)
 }
 
 /// Writes the E.164 text of a number that is given as plain numbers: equal texts mean equal calling

@@ -5,6 +5,7 @@ ghost use Rattle.phone_c_base.specs.Found.{ArePlaces, UnderLeniency};
 ghost use Rattle.phone_c_base.specs.Handles.{IsClosed};
 ghost use Rattle.phone_c_base.specs.Hints.{UnderHint, hint_of};
 
+use phone_c_base::engines::under;
 use phone_c_base::found::{Place, find, leniency_of};
 use phone_c_base::handle::Handle;
 use phone_c_base::status::{CLOSED, MEMORY, NO_LENIENCY, NO_REGION, NOT_UTF8, OK, TOO_SMALL};
@@ -48,11 +49,11 @@ pub extern "C" fn phone_find(
     ensures no_length { ¬ (result ≡ OK) → ¬ (result ≡ TOO_SMALL) → wrote.new ≡ 0 }
 {
     *wrote = 0;
-    let Some(opened) = handle.opened() else {
+    let Some(engine) = handle.engine() else {
         return CLOSED;
     };
     match leniency_of(leniency) {
-        Some(leniency) => match opened.engine_under(hint) {
+        Some(leniency) => match under(engine, hint) {
             Some(engine) => find(engine, leniency, text, out, wrote),
             None => NO_REGION,
         },

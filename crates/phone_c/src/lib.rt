@@ -25,6 +25,7 @@ mod typing;
 mod util;
 
 use phone_c_base::buffer::give;
+use phone_c_base::engines::under;
 use phone_c_base::handle::{Handle, close, open};
 use phone_c_base::opening::open_database;
 use phone_c_base::report::report;
@@ -143,10 +144,10 @@ pub extern "C" fn phone_report(
     ensures no_length { ¬ (result ≡ OK) → ¬ (result ≡ TOO_SMALL) → wrote.new ≡ 0 }
 {
     *wrote = 0;
-    let Some(opened) = handle.opened() else {
+    let Some(engine) = handle.engine() else {
         return CLOSED;
     };
-    match opened.engine_under(hint) {
+    match under(engine, hint) {
         Some(engine) => report(engine, line, out, wrote),
         None => NO_REGION,
     }

@@ -27,10 +27,10 @@ pub extern "C" fn phone_regions(handle: &Handle, out: &mut [u8], wrote: &mut usi
     ensures no_length { ¬ (result ≡ OK) → ¬ (result ≡ TOO_SMALL) → wrote.new ≡ 0 }
 {
     *wrote = 0;
-    let Some(opened) = handle.opened() else {
+    let Some(database) = handle.database() else {
         return CLOSED;
     };
-    regions(opened.database(), out, wrote)
+    regions(database, out, wrote)
 }
 
 /// Writes the calling codes that the database has a territory of, ascending. The room of `out` and
@@ -51,8 +51,8 @@ pub extern "C" fn phone_codes(handle: &Handle, out: &mut [u16], wrote: &mut usiz
     ensures no_length { ¬ (result ≡ OK) → ¬ (result ≡ TOO_SMALL) → wrote.new ≡ 0 }
 {
     *wrote = 0;
-    let Some(opened) = handle.opened() else {
+    let Some(database) = handle.database() else {
         return CLOSED;
     };
-    codes(opened.database(), out, wrote)
+    codes(database, out, wrote)
 }

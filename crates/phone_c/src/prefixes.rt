@@ -9,7 +9,7 @@ ghost use Rattle.phone_c_base.specs.PrefixTables.{IsTextFor, IsTextOfLongest};
 use phone_c_base::prefixes::{longest, open_table};
 use phone_c_base::sharing::share_table;
 use phone_c_base::status::{CLOSED, MEMORY, NO_PREFIX, NOT_UTF8, OK, TOO_SMALL};
-use phone_c_base::table::{Table, close_table, open_behind};
+use phone_c_base::table::{PrefixTable, close_table, open_behind};
 use std::alloc::Global;
 
 /// Opens the table of prefixes that a text is, as `Prefixes::of` reads it: lines of a prefix of 1
@@ -24,7 +24,7 @@ use std::alloc::Global;
 pub extern "C" fn phone_prefixes_open(
     alloc: Global,
     text: &[u8],
-    table: &mut Table,
+    table: &mut PrefixTable,
     line: &mut usize,
 ) -> u32
     ensures opened { result ≡ OK → IsTableOpenedBy text.now table.new }
@@ -53,7 +53,7 @@ pub extern "C" fn phone_prefixes_open(
 /// `OK`: the table is open behind `mine`. `CLOSED` exactly where `table` is closed. `MEMORY`:
 /// memory was refused. For each but `OK` `mine` is closed.
 #[unsafe(no_mangle)]
-pub extern "C" fn phone_prefixes_share(alloc: Global, table: &Table, mine: &mut Table) -> u32
+pub extern "C" fn phone_prefixes_share(alloc: Global, table: &PrefixTable, mine: &mut PrefixTable) -> u32
     ensures shared { result ≡ OK → IsTableOpen mine.new table.now.entries }
     ensures closed { (result ≡ CLOSED) ↔ IsTableClosed table.now }
     ensures status { (result ≡ OK) ⊎ (result ≡ CLOSED) ⊎ (result ≡ MEMORY) }
@@ -65,7 +65,7 @@ pub extern "C" fn phone_prefixes_share(alloc: Global, table: &Table, mine: &mut 
 /// Closes the handle of a table of prefixes; nothing where it is closed already. The table is freed
 /// with the last of the handles that stand on it.
 #[unsafe(no_mangle)]
-pub extern "C" fn phone_prefixes_close(alloc: Global, table: &mut Table)
+pub extern "C" fn phone_prefixes_close(alloc: Global, table: &mut PrefixTable)
     ensures { IsTableClosed table.new }
 {
     close_table(alloc, table)
@@ -82,7 +82,7 @@ pub extern "C" fn phone_prefixes_close(alloc: Global, table: &mut Table)
 /// and `TOO_SMALL` `wrote` is 0.
 #[unsafe(no_mangle)]
 pub extern "C" fn phone_prefixes_longest(
-    table: &Table,
+    table: &PrefixTable,
     digits: &[u8],
     out: &mut [u8],
     wrote: &mut usize,

@@ -33,8 +33,8 @@ pub extern "C" fn phone_short(
         ¬ (result ≡ NOT_UTF8) → result ≡ MEMORY }
     ensures untouched { ¬ (result ≡ OK) → facts.new ≡ facts.old }
 {
-    let Some(opened) = handle.opened() else {
+    let Some(database) = handle.database() else {
         return CLOSED;
     };
-    short(opened.database(), region, text, facts)
+    short(database, region, text, facts)
 }

@@ -40,11 +40,11 @@ pub extern "C" fn phone_typing_shown(
     ensures no_length { ¬ (result ≡ OK) → ¬ (result ≡ TOO_SMALL) → wrote.new ≡ 0 }
 {
     *wrote = 0;
-    let Some(opened) = handle.opened() else {
+    let Some(database) = handle.database() else {
         return CLOSED;
     };
     match hint_of(hint) {
-        Some(hint) => show(opened.database(), hint, keys, out, wrote),
+        Some(hint) => show(database, hint, keys, out, wrote),
         None => NO_REGION,
     }
 }
@@ -74,11 +74,11 @@ pub extern "C" fn phone_typing_caret(
         ¬ (result ≡ NOT_UTF8) → result ≡ MEMORY }
     ensures untouched { ¬ (result ≡ OK) → told.new ≡ told.old }
 {
-    let Some(opened) = handle.opened() else {
+    let Some(database) = handle.database() else {
         return CLOSED;
     };
     match hint_of(hint) {
-        Some(hint) => caret(opened.database(), hint, keys, n, told),
+        Some(hint) => caret(database, hint, keys, n, told),
         None => NO_REGION,
     }
 }

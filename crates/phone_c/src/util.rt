@@ -17,6 +17,7 @@ ghost use Rattle.phone_c_base.specs.Possibilities.{IsTextPossibility};
 
 use phone_c_base::comparison::comparison;
 use phone_c_base::dialling::dialled;
+use phone_c_base::engines::under;
 use phone_c_base::example::example;
 use phone_c_base::handle::Handle;
 use phone_c_base::number::Number;
@@ -42,10 +43,10 @@ pub extern "C" fn phone_possibility(handle: &Handle, number: &Number, told: &mut
         ¬ (result ≡ BAD_NUMBER) → result ≡ MEMORY }
     ensures untouched { ¬ (result ≡ OK) → told.new ≡ told.old }
 {
-    let Some(opened) = handle.opened() else {
+    let Some(engine) = handle.engine() else {
         return CLOSED;
     };
-    possibility(opened.engine(), number, told)
+    possibility(engine, number, told)
 }
 
 /// Tells the same of a text, perhaps not yet whole, as `phone_util::possibility_of_text` does,
@@ -74,10 +75,10 @@ pub extern "C" fn phone_text_possibility(
         handle.now.records h text.now result) }
     ensures untouched { ¬ (result ≡ OK) → told.new ≡ told.old }
 {
-    let Some(opened) = handle.opened() else {
+    let Some(engine) = handle.engine() else {
         return CLOSED;
     };
-    match opened.engine_under(hint) {
+    match under(engine, hint) {
         Some(engine) => text_possibility(engine, text, told),
         None => NO_REGION,
     }
@@ -101,10 +102,10 @@ pub extern "C" fn phone_compare(handle: &Handle, first: &[u8], second: &[u8], to
         result }
     ensures untouched { ¬ (result ≡ OK) → told.new ≡ told.old }
 {
-    let Some(opened) = handle.opened() else {
+    let Some(engine) = handle.engine() else {
         return CLOSED;
     };
-    comparison(opened.engine(), first, second, told)
+    comparison(engine, first, second, told)
 }
 
 /// Writes how a number is dialled from a region, as `phone_util::dialled::dialled_from` prints it.
@@ -146,10 +147,10 @@ pub extern "C" fn phone_dialled_from(
     ensures no_length { ¬ (result ≡ OK) → ¬ (result ≡ TOO_SMALL) → wrote.new ≡ 0 }
 {
     *wrote = 0;
-    let Some(opened) = handle.opened() else {
+    let Some(database) = handle.database() else {
         return CLOSED;
     };
-    dialled(opened.database(), region, number, bytes, out, wrote)
+    dialled(database, region, number, bytes, out, wrote)
 }
 
 /// Reads the example number of a region and a kind, with the region as hint, as
@@ -190,8 +191,8 @@ pub extern "C" fn phone_example(
     ensures no_length { ¬ (result ≡ OK) → ¬ (result ≡ TOO_SMALL) → wrote.new ≡ 0 }
 {
     *wrote = 0;
-    let Some(opened) = handle.opened() else {
+    let Some(engine) = handle.engine() else {
         return CLOSED;
     };
-    example(opened.engine(), region, kind, number, out, wrote)
+    example(engine, region, kind, number, out, wrote)
 }

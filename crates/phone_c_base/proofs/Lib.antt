@@ -9,5 +9,6 @@ pub mod OneAnswers
 pub mod OneShown
 pub mod OneTold
 pub mod Places
+pub mod Pointers
 pub mod ReadPlaces
 pub mod TheirWords

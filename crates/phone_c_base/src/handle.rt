@@ -1,11 +1,13 @@
 //! A handle: the pointer by which C keeps a database, and by whose rules it is asked.
-ghost use Rattle.std.specs.Prelude.{◌≡◌, List, MatchOption};
+ghost use Rattle.std.specs.Prelude.{◌≡◌, List, MatchOption, None};
 ghost use denote.RawPtr.{null_ptr, InBlock};
 ghost use Rattle.phone_records.specs.declared.loader.Metadata.{Metadata};
 ghost use Rattle.phone_values.specs.declared.rules.Rules.{Rules};
 
 use crate::opened::Opened;
 use crate::raw_box::RawBox;
+use phone_engine::Engine;
+use phone_plans::Plans;
 use std::alloc::Global;
 use std::marker::Model;
 
@@ -20,16 +22,15 @@ pub struct Handle {
 }
 
 impl Model for Handle {
-    ghost use Rattle.phone_c_base.specs.Owned.{handle_owns};
+    ghost use Rattle.phone_c_base.specs.Owned.{handle_lends, handle_owns};
 
     ghost also_owns = { λ h. handle_owns h.at (h.records, h.rules) };
+
+    ghost also_shares = { λ h _ κ. handle_lends h.at (h.records, h.rules) κ };
 }
 
 /// A handle, closed or open, may be passed to another thread: several threads may read a database.
 unsafe impl Send for Handle {}
-
-/// Several threads may make calls on one handle at a time that only read it.
-unsafe impl Sync for Handle {}
 
 impl Handle {
     /// A handle behind which nothing is open.
@@ -68,14 +69,42 @@ impl Handle {
     }
 
     /// What is open behind the handle, which is only read.
-    pub fn opened(&self) -> Option<&Opened>
+    pub(crate) fn opened(&self) -> Option<&Opened>
         ensures { MatchOption result (self.now.at ≡ null_ptr) (λ o. InBlock self.now.at ×
             (o.now.0 ≡ self.now.records) × (o.now.1 ≡ self.now.rules)) }
     {
-        if self.at.is_null() {
+        let at = self.at;
+        if at.is_null() {
             None
         } else {
-            Some(unsafe { &*(self.at as *const Opened) })
+            Some(unsafe { &*(at as *const Opened) })
+        }
+    }
+
+    /// The database that is open behind the handle.
+    pub fn database(&self) -> Option<&Plans>
+        ensures { MatchOption result (self.now.at ≡ null_ptr)
+            (λ d. InBlock self.now.at × (d.now ≡ self.now.records)) }
+    {
+        match self.opened() {
+            Some(opened) => Some(opened.database()),
+            None => None,
+        }
+    }
+
+    /// The engine that a call asks: of the database that is open behind the handle, by the rules by
+    /// which it is asked, without a hint.
+    pub fn engine(&self) -> Option<Engine<'_>>
+        ensures { MatchOption result (self.now.at ≡ null_ptr) (λ e. InBlock self.now.at ×
+            (e.rules ≡ self.now.rules) × (e.database.now ≡ self.now.records) × (e.hint ≡ None)) }
+    {
+        match self.opened() {
+            Some(opened) => Some(Engine {
+                database: opened.database(),
+                rules: opened.rules(),
+                hint: None,
+            }),
+            None => None,
         }
     }
 }

@@ -7,6 +7,7 @@ pub mod asked;
 pub mod buffer;
 pub mod comparison;
 pub mod dialling;
+pub mod engines;
 pub mod example;
 pub mod found;
 pub mod handle;

@@ -1,12 +1,10 @@
 //! What stands behind the handle of a database: one of its owners, and by whose rules it is asked.
-ghost use Rattle.std.specs.Prelude.{◌≡◌, IfNone, IfOk, IfSome, List, None, Some};
+ghost use Rattle.std.specs.Prelude.{◌≡◌, IfOk, List};
 ghost use Rattle.phone_records.specs.declared.loader.Metadata.{Metadata};
 ghost use Rattle.phone_values.specs.declared.rules.Rules.{Rules};
-ghost use Rattle.phone_c_base.specs.Hints.{hint_of};
 
-use crate::hint::hint_of;
 use crate::shared::Owner;
-use phone_engine::{Engine, Rules};
+use phone_engine::Rules;
 use phone_plans::Plans;
 use std::alloc::{AllocError, Global};
 use std::marker::Model;
@@ -62,34 +60,6 @@ impl Opened {
         ensures { result ≡ self.now.1 }
     {
         self.rules
-    }
-
-    /// The engine that a call asks, without a hint.
-    pub fn engine(&self) -> Engine<'_>
-        ensures rules { result.rules ≡ self.now.1 }
-        ensures database { result.database.now ≡ self.now.0 }
-        ensures hint { result.hint ≡ None }
-    {
-        Engine {
-            database: self.database(),
-            rules: self.rules,
-            hint: None,
-        }
-    }
-
-    /// The engine that a call asks under the hint that bytes are; none where they are no hint.
-    pub fn engine_under<'o>(&'o self, hint: &[u8]) -> Option<Engine<'o>>
-        ensures rules { IfSome result (λ e. e.rules ≡ self.now.1) }
-        ensures database { IfSome result (λ e. e.database.now ≡ self.now.0) }
-        ensures hint { IfSome result (λ e. hint_of hint.now ≡ Some e.hint) }
-        ensures none { IfNone result (hint_of hint.now ≡ None) }
-    {
-        let hint = hint_of(hint)?;
-        Some(Engine {
-            database: self.database(),
-            rules: self.rules,
-            hint,
-        })
     }
 }
 

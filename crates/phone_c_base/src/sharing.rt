@@ -6,7 +6,7 @@ ghost use Rattle.phone_c_base.specs.PrefixTables.{IsTableClosed, IsTableOpen};
 use crate::handle::{Handle, close, open};
 use crate::opened::Opened;
 use crate::status::{CLOSED, MEMORY, OK};
-use crate::table::{Table, close_table, open_behind};
+use crate::table::{PrefixTable, close_table, open_behind};
 use phone_engine::Rules;
 use std::alloc::Global;
 
@@ -56,7 +56,7 @@ fn share_opened(alloc: Global, opened: &Opened, rules: Rules, mine: &mut Handle)
 
 /// Opens behind `mine` the table of prefixes that is open behind `table`. What `mine` had open is
 /// closed first, whatever comes.
-pub fn share_table(alloc: Global, table: &Table, mine: &mut Table) -> u32
+pub fn share_table(alloc: Global, table: &PrefixTable, mine: &mut PrefixTable) -> u32
     ensures shared { result ≡ OK → IsTableOpen mine.new table.now.entries }
     ensures closed { (result ≡ CLOSED) ↔ IsTableClosed table.now }
     ensures status { (result ≡ OK) ⊎ (result ≡ CLOSED) ⊎ (result ≡ MEMORY) }

@@ -13,40 +13,39 @@ use std::marker::Model;
 /// a table. Contracts see the pointer and the table's entries. The pointer is one to bytes, since
 /// one to an `Owner` doesn't cross to C.
 #[repr(C)]
-pub struct Table {
+pub struct PrefixTable {
     pub(crate) at: *mut u8,
     pub ghost entries: { List Entry },
 }
 
-impl Model for Table {
-    ghost use Rattle.phone_c_base.specs.Owned.{table_owns};
+impl Model for PrefixTable {
+    ghost use Rattle.phone_c_base.specs.Owned.{table_lends, table_owns};
 
     ghost also_owns = { λ t. table_owns t.at t.entries };
+
+    ghost also_shares = { λ t _ κ. table_lends t.at t.entries κ };
 }
 
 /// A handle, closed or open, may be passed to another thread: a table is plain data.
-unsafe impl Send for Table {}
+unsafe impl Send for PrefixTable {}
 
-/// Several threads may make calls on one handle at a time that only read it.
-unsafe impl Sync for Table {}
-
-impl Table {
+impl PrefixTable {
     /// A handle behind which nothing is open.
-    fn empty() -> Table
+    fn empty() -> PrefixTable
         ensures { result.at ≡ null_ptr }
     {
-        Table {
+        PrefixTable {
             at: std::ptr::null_mut(),
         }
     }
 
     /// The handle at the pointer of a boxed owner.
-    fn of_raw(loose: RawBox<Owner<Prefixes>, Global>) -> Table
+    fn of_raw(loose: RawBox<Owner<Prefixes>, Global>) -> PrefixTable
         ensures open { InBlock result.at }
         ensures entries { result.entries ≡ loose.value }
     {
         let RawBox { at, alloc: _ } = loose;
-        Table { at: at as *mut u8 }
+        PrefixTable { at: at as *mut u8 }
     }
 
     /// The pointer of the boxed owner, where one is open.
@@ -54,7 +53,7 @@ impl Table {
         ensures { MatchOption result (self.at ≡ null_ptr)
             (λ l. InBlock self.at × (l.value ≡ self.entries)) }
     {
-        let Table { at } = self;
+        let PrefixTable { at } = self;
         if at.is_null() {
             None
         } else {
@@ -70,10 +69,11 @@ impl Table {
         ensures { MatchOption result (self.now.at ≡ null_ptr)
             (λ o. InBlock self.now.at × (o.now ≡ self.now.entries)) }
     {
-        if self.at.is_null() {
+        let at = self.at;
+        if at.is_null() {
             None
         } else {
-            Some(unsafe { &*(self.at as *const Owner<Prefixes>) })
+            Some(unsafe { &*(at as *const Owner<Prefixes>) })
         }
     }
 
@@ -90,21 +90,21 @@ impl Table {
 }
 
 /// Closes the handle of a table: what it held is dropped.
-pub fn close_table(alloc: Global, table: &mut Table)
+pub fn close_table(alloc: Global, table: &mut PrefixTable)
     ensures { table.new.at ≡ null_ptr }
 {
-    let whole = std::mem::replace(table, Table::empty());
+    let whole = std::mem::replace(table, PrefixTable::empty());
     if let Some(loose) = whole.into_raw(alloc) {
         drop(loose.into_box());
     }
 }
 
 /// Opens a table behind a handle; what the handle held is dropped.
-pub fn open_behind(alloc: Global, table: &mut Table, prefixes: Box<Owner<Prefixes>>)
+pub fn open_behind(alloc: Global, table: &mut PrefixTable, prefixes: Box<Owner<Prefixes>>)
     ensures open { InBlock table.new.at }
     ensures entries { table.new.entries ≡ prefixes.value }
 {
-    let before = std::mem::replace(table, Table::of_raw(RawBox::of(prefixes)));
+    let before = std::mem::replace(table, PrefixTable::of_raw(RawBox::of(prefixes)));
     if let Some(loose) = before.into_raw(alloc) {
         drop(loose.into_box());
     }

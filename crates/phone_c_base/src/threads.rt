@@ -2,7 +2,7 @@
 //! functions is proved only while its type is `Send`, or `Sync`; none of them does anything.
 
 use crate::handle::Handle;
-use crate::table::Table;
+use crate::table::PrefixTable;
 use phone_plans::Plans;
 use phone_prefixes::Prefixes;
 
@@ -32,17 +32,7 @@ pub fn handle_crosses(handle: &Handle) {
     crosses(handle)
 }
 
-/// Several threads may make calls that read one handle at a time.
-pub fn handle_is_shared(handle: &Handle) {
-    is_shared(handle)
-}
-
-/// Several threads may make calls that read one handle of a table of prefixes at a time.
-pub fn table_is_shared(table: &Table) {
-    is_shared(table)
-}
-
 /// The handle of a table of prefixes may be passed to another thread.
-pub fn table_crosses(table: &Table) {
+pub fn table_crosses(table: &PrefixTable) {
     crosses(table)
 }

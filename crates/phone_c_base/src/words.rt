@@ -2,108 +2,116 @@
 ghost use Rattle.std.specs.Prelude.{◌≡◌, ◌⊎◌, ◌↔◌, None, Some, map};
 ghost use Rattle.std.specs.Option.{option_copied};
 ghost use Rattle.phone_c_base.specs.Buffers.{IsTooLongA, IsWrittenA};
-ghost use Rattle.phone_util.specs.Dialled.{if_some};
-ghost use Rattle.phone_c_base.specs.Words.{status_words, word_at, word_of};
+ghost use Rattle.phone_c_base.specs.Words.{status_words, word_in, word_of};
 
 use crate::buffer::give;
 use crate::status::{NO_WORD, OK, TOO_SMALL};
 
 /// The words of kinds.
-const KIND_WORDS: [&str; 17] = [
-    "FixedLine",
-    "Mobile",
-    "FixedLineOrMobile",
-    "TollFree",
-    "PremiumRate",
-    "SharedCost",
-    "PersonalNumber",
-    "Voip",
-    "Pager",
-    "Uan",
-    "Emergency",
-    "Voicemail",
-    "ShortCode",
-    "StandardRate",
-    "Carrier",
-    "NoInternational",
-    "Unknown",
+const KIND_WORDS: [(u32, &str); 17] = [
+    (0, "FixedLine"),
+    (1, "Mobile"),
+    (2, "FixedLineOrMobile"),
+    (3, "TollFree"),
+    (4, "PremiumRate"),
+    (5, "SharedCost"),
+    (6, "PersonalNumber"),
+    (7, "Voip"),
+    (8, "Pager"),
+    (9, "Uan"),
+    (10, "Emergency"),
+    (11, "Voicemail"),
+    (12, "ShortCode"),
+    (13, "StandardRate"),
+    (14, "Carrier"),
+    (15, "NoInternational"),
+    (16, "Unknown"),
 ];
 
 /// The words of the ways in which a calling code was found.
-const SOURCE_WORDS: [&str; 4] = ["plus", "idd", "number", "default"];
+const SOURCE_WORDS: [(u32, &str); 4] = [
+    (0, "plus"),
+    (1, "idd"),
+    (2, "number"),
+    (3, "default"),
+];
 
 /// The words of what a length says.
-const POSSIBILITY_WORDS: [&str; 6] = [
-    "possible",
-    "possible-locally",
-    "too-short",
-    "too-long",
-    "wrong-length",
-    "unknown-code",
+const POSSIBILITY_WORDS: [(u32, &str); 6] = [
+    (0, "possible"),
+    (1, "possible-locally"),
+    (2, "too-short"),
+    (3, "too-long"),
+    (4, "wrong-length"),
+    (5, "unknown-code"),
 ];
 
 /// The words of how like two numbers are.
-const SAMENESS_WORDS: [&str; 5] = ["exact", "number", "national", "end", "different"];
-
-/// The words of costs.
-const COST_WORDS: [&str; 4] = ["TOLL_FREE", "STANDARD_RATE", "PREMIUM_RATE", "UNKNOWN_COST"];
-
-/// The words of the statuses, empty where there is none: those from 1 to 7 are the words of the
-/// refusals of a text, and those from 8 to 12 say why bytes are no database.
-const STATUS_WORDS: [&str; 36] = [
-    "done",
-    "not a number",
-    "invalid country code",
-    "the number is too short after IDD",
-    "the number is too short after the country code",
-    "the number is too long",
-    "malformed integer part in phone number",
-    "out of memory",
-    "a record lacks a value that it must have",
-    "a record has a key that it may not have",
-    "malformed JSON",
-    "a value is of the wrong kind",
-    "a text is no pattern",
-    "",
-    "",
-    "",
-    "closed",
-    "the buffer is too short for the answer",
-    "not UTF-8",
-    "unknown region",
-    "unknown calling code",
-    "the plain numbers are no phone number",
-    "unknown mode",
-    "",
-    "unknown rules",
-    "the line is empty",
-    "the line has no tab",
-    "the prefix isn't 1 to 15 digits",
-    "the text isn't UTF-8",
-    "the prefix stands in an earlier line",
-    "no prefix begins the digits",
-    "unknown kind",
-    "the table has no example",
-    "no value has the number",
-    "the table has no territory of the region",
-    "unknown leniency",
+const SAMENESS_WORDS: [(u32, &str); 5] = [
+    (0, "exact"),
+    (1, "number"),
+    (2, "national"),
+    (3, "end"),
+    (4, "different"),
 ];
 
-/// The word of a value in a table of them; none where that is empty or past the end.
-fn word_at(words: &[&'static str], value: u32) -> Option<&'static str>
-    ensures { option_copied result ≡ word_at (map (λ w. w.now) words.now) value }
-{
-    match words.get(value as usize) {
-        Some(word) => some(word),
-        None => None,
-    }
-}
+/// The words of costs.
+const COST_WORDS: [(u32, &str); 4] = [
+    (0, "TOLL_FREE"),
+    (1, "STANDARD_RATE"),
+    (2, "PREMIUM_RATE"),
+    (3, "UNKNOWN_COST"),
+];
 
-/// A text that isn't empty.
-fn some(text: &'static str) -> Option<&'static str>
-    ensures { option_copied result ≡ if_some text.entry.now }
+/// The words of the statuses: those from 1 to 6 are the words of the refusals of a text, and those
+/// from 8 to 12 say why bytes are no database.
+const STATUS_WORDS: [(u32, &str); 32] = [
+    (0, "done"),
+    (1, "not a number"),
+    (2, "invalid country code"),
+    (3, "the number is too short after IDD"),
+    (4, "the number is too short after the country code"),
+    (5, "the number is too long"),
+    (6, "malformed integer part in phone number"),
+    (7, "out of memory"),
+    (8, "a record lacks a value that it must have"),
+    (9, "a record has a key that it may not have"),
+    (10, "malformed JSON"),
+    (11, "a value is of the wrong kind"),
+    (12, "a text is no pattern"),
+    (16, "closed"),
+    (17, "the buffer is too short for the answer"),
+    (18, "not UTF-8"),
+    (19, "unknown region"),
+    (20, "unknown calling code"),
+    (21, "the plain numbers are no phone number"),
+    (22, "unknown mode"),
+    (24, "unknown rules"),
+    (25, "the line is empty"),
+    (26, "the line has no tab"),
+    (27, "the prefix isn't 1 to 15 digits"),
+    (28, "the text isn't UTF-8"),
+    (29, "the prefix stands in an earlier line"),
+    (30, "no prefix begins the digits"),
+    (31, "unknown kind"),
+    (32, "the table has no example"),
+    (33, "no value has the number"),
+    (34, "the table has no territory of the region"),
+    (35, "unknown leniency"),
+];
+
+/// The word in the first row of a table that has this number; none where no row has it.
+fn word_in(rows: &[(u32, &'static str)], value: u32) -> Option<&'static str>
+    ensures { option_copied result ≡ word_in (map (λ r. (r.0, r.1.now)) rows.now) value }
 {
-    if text.is_empty() { None } else { Some(text) }
+    let mut rest = rows;
+    while let Some((row, after)) = rest.split_first() {
+        if row.0 == value {
+            return Some(row.1);
+        }
+        rest = after;
+    }
+    None
 }
 
 /// The word of a value of a set: of kinds, 0; of the ways in which a calling code was found, 1; of
@@ -113,11 +121,11 @@ pub fn word_of(set: u32, value: u32) -> Option<&'static str>
     ensures { option_copied result ≡ word_of set value }
 {
     match set {
-        0 => word_at(&KIND_WORDS, value),
-        1 => word_at(&SOURCE_WORDS, value),
-        2 => word_at(&POSSIBILITY_WORDS, value),
-        3 => word_at(&SAMENESS_WORDS, value),
-        4 => word_at(&COST_WORDS, value),
+        0 => word_in(&KIND_WORDS, value),
+        1 => word_in(&SOURCE_WORDS, value),
+        2 => word_in(&POSSIBILITY_WORDS, value),
+        3 => word_in(&SAMENESS_WORDS, value),
+        4 => word_in(&COST_WORDS, value),
         _ => None,
     }
 }
@@ -127,7 +135,7 @@ pub fn word_of(set: u32, value: u32) -> Option<&'static str>
 pub fn status_words_of(status: u32) -> Option<&'static str>
     ensures { option_copied result ≡ status_words status }
 {
-    word_at(&STATUS_WORDS, status)
+    word_in(&STATUS_WORDS, status)
 }
 
 /// The word of a value of a set, in a buffer.
