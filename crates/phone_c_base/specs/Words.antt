@@ -1,6 +1,7 @@
 -- The words of values that calls tell by their numbers.
 use Rattle.std.specs.Prelude.{ℕ, ◌==◌, if◌then◌else◌, List, [], ◌∷◌, Option, None, codes}
-use Rattle.std.specs.Prelude.{option_map}
+use Rattle.std.specs.Prelude.{map, option_map}
+use Rattle.std.specs.Borrow.{Bor}
 use Rattle.std.specs.List.{find}
 use Rattle.phone_util.specs.declared.possibilities.Possibility.{Possibility}
 use Rattle.phone_util.specs.declared.possibilities.Possibility.TheVariants.{Possible}
@@ -14,7 +15,12 @@ use Rattle.phone_util.specs.declared.sameness.Sameness.TheVariants.{Different}
 
 -- the word in the first row of a table that has this number; none where no row has it
 abbrev pub word_in : List (ℕ × List ℕ) → ℕ → Option (List ℕ)
-word_in rows value = option_map (λ row. row.1) (find (λ row. row.0 == value) rows)
+word_in rows value = option_map (λ (row : ℕ × List ℕ). row.1)
+    (find (λ (row : ℕ × List ℕ). row.0 == value) rows)
+
+-- the rows of a table as the code has it, whose words are references
+abbrev pub rows_of : List (ℕ × Bor (List ℕ)) → List (ℕ × List ℕ)
+rows_of = map (λ (row : ℕ × Bor (List ℕ)). (row.0, row.1.now))
 
 -- the words of kinds, each with the number by which `phone_kind` tells it
 abbrev pub kind_rows : List (ℕ × List ℕ)

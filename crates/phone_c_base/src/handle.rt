@@ -73,11 +73,11 @@ impl Handle {
         ensures { MatchOption result (self.now.at ≡ null_ptr) (λ o. InBlock self.now.at ×
             (o.now.0 ≡ self.now.records) × (o.now.1 ≡ self.now.rules)) }
     {
-        let at = self.at;
+        let at = self.at as *const Opened;
         if at.is_null() {
             None
         } else {
-            Some(unsafe { &*(at as *const Opened) })
+            Some(unsafe { &*at })
         }
     }
 

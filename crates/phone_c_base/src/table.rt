@@ -69,11 +69,11 @@ impl PrefixTable {
         ensures { MatchOption result (self.now.at ≡ null_ptr)
             (λ o. InBlock self.now.at × (o.now ≡ self.now.entries)) }
     {
-        let at = self.at;
+        let at = self.at as *const Owner<Prefixes>;
         if at.is_null() {
             None
         } else {
-            Some(unsafe { &*(at as *const Owner<Prefixes>) })
+            Some(unsafe { &*at })
         }
     }
 

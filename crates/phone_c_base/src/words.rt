@@ -1,8 +1,8 @@
 //! The words of values that calls tell by their numbers, as texts and in a buffer.
-ghost use Rattle.std.specs.Prelude.{◌≡◌, ◌⊎◌, ◌↔◌, None, Some, map};
+ghost use Rattle.std.specs.Prelude.{◌≡◌, ◌⊎◌, ◌↔◌, None, Some};
 ghost use Rattle.std.specs.Option.{option_copied};
 ghost use Rattle.phone_c_base.specs.Buffers.{IsTooLongA, IsWrittenA};
-ghost use Rattle.phone_c_base.specs.Words.{status_words, word_in, word_of};
+ghost use Rattle.phone_c_base.specs.Words.{rows_of, status_words, word_in, word_of};
 
 use crate::buffer::give;
 use crate::status::{NO_WORD, OK, TOO_SMALL};
@@ -102,7 +102,7 @@ const STATUS_WORDS: [(u32, &str); 32] = [
 
 /// The word in the first row of a table that has this number; none where no row has it.
 fn word_in(rows: &[(u32, &'static str)], value: u32) -> Option<&'static str>
-    ensures { option_copied result ≡ word_in (map (λ r. (r.0, r.1.now)) rows.now) value }
+    ensures { option_copied result ≡ word_in (rows_of rows.now) value }
 {
     let mut rest = rows;
     while let Some((row, after)) = rest.split_first() {
