@@ -53,7 +53,11 @@ pub extern "C" fn phone_prefixes_open(
 /// `OK`: the table is open behind `mine`. `CLOSED` exactly where `table` is closed. `MEMORY`:
 /// memory was refused. For each but `OK` `mine` is closed.
 #[unsafe(no_mangle)]
-pub extern "C" fn phone_prefixes_share(alloc: Global, table: &PrefixTable, mine: &mut PrefixTable) -> u32
+pub extern "C" fn phone_prefixes_share(
+    alloc: Global,
+    table: &PrefixTable,
+    mine: &mut PrefixTable,
+) -> u32
     ensures shared { result ≡ OK → IsTableOpen mine.new table.now.entries }
     ensures closed { (result ≡ CLOSED) ↔ IsTableClosed table.now }
     ensures status { (result ≡ OK) ⊎ (result ≡ CLOSED) ⊎ (result ≡ MEMORY) }

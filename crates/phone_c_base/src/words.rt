@@ -29,12 +29,7 @@ const KIND_WORDS: [(u32, &str); 17] = [
 ];
 
 /// The words of the ways in which a calling code was found.
-const SOURCE_WORDS: [(u32, &str); 4] = [
-    (0, "plus"),
-    (1, "idd"),
-    (2, "number"),
-    (3, "default"),
-];
+const SOURCE_WORDS: [(u32, &str); 4] = [(0, "plus"), (1, "idd"), (2, "number"), (3, "default")];
 
 /// The words of what a length says.
 const POSSIBILITY_WORDS: [(u32, &str); 6] = [

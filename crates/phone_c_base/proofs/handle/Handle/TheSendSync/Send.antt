@@ -18,8 +18,13 @@ use Rattle.std.proofs.Common.{List}
 -- what a handle owns says the same to every thread
 owned : (p : Ptr) (known : List Metadata × Rules) → Keyless (handle_owns p known)
 owned null_ptr known = tt
-owned (block_ptr b o) known = ((λ may. tt), (lies behind Opened-send (block_ptr b o) known,
-    heap.frees.frees c_heap (raw (lone behind.mir)) (block_ptr b o)))
+owned (block_ptr b o) known = (
+  (λ may. tt),
+  (
+    lies behind Opened-send (block_ptr b o) known,
+    heap.frees.frees c_heap (raw (lone behind.mir)) (block_ptr b o),
+  ),
+)
 
 pub send : IsSend the_row
 send =
