@@ -3,6 +3,7 @@ pub mod BehindTable
 pub mod ByNumber
 pub mod CaretPlaces
 pub mod Crossing
+pub mod FoundRows
 pub mod IdsByPlace
 pub mod LongestFound
 pub mod OneAnswers

@@ -1,5 +1,7 @@
 //! The words of values that calls tell by their numbers, as texts and in a buffer.
-ghost use Rattle.std.specs.Prelude.{◌≡◌, ◌⊎◌, ◌↔◌, None, Some};
+ghost use Rattle.std.specs.Prelude.{◌≡◌, ◌⊎◌, ◌↔◌, ◌==◌, ℕ, List, None, Some};
+ghost use Rattle.std.specs.Borrow.{Bor};
+ghost use Rattle.std.specs.List.{find};
 ghost use Rattle.std.specs.Option.{option_copied};
 ghost use Rattle.phone_c_base.specs.Buffers.{IsTooLongA, IsWrittenA};
 ghost use Rattle.phone_c_base.specs.Words.{rows_of, status_words, word_in, word_of};
@@ -95,18 +97,23 @@ const STATUS_WORDS: [(u32, &str); 32] = [
     (35, "unknown leniency"),
 ];
 
+/// The first row of a table that has this number.
+fn row_of<'r>(rows: &'r [(u32, &'static str)], value: u32) -> Option<&'r (u32, &'static str)>
+    ensures { option_copied result ≡
+        find (λ (row : ℕ × Bor (List ℕ)). row.0 == value) rows.now }
+{
+    rows.iter().find(|row| row.0 == value)
+}
+
 /// The word in the first row of a table that has this number; none where no row has it.
+#[tactic(auto, using(crate::proofs::FoundRows::found_rows))]
 fn word_in(rows: &[(u32, &'static str)], value: u32) -> Option<&'static str>
     ensures { option_copied result ≡ word_in (rows_of rows.now) value }
 {
-    let mut rest = rows;
-    while let Some((row, after)) = rest.split_first() {
-        if row.0 == value {
-            return Some(row.1);
-        }
-        rest = after;
+    match row_of(rows, value) {
+        Some(row) => Some(row.1),
+        None => None,
     }
-    None
 }
 
 /// The word of a value of a set: of kinds, 0; of the ways in which a calling code was found, 1; of
