@@ -213,7 +213,8 @@ pub extern "C" fn phone_word(set: u32, value: u32, out: &mut [u8], wrote: &mut u
     word(set, value, out, wrote)
 }
 
-/// The version of these calls. A change to what one of them takes or means gives it a new number.
+/// The version of these calls. From 3 on a version has the calls of those before it, with what they
+/// take and mean: a call that takes or means something else gets another name.
 #[unsafe(no_mangle)]
 pub extern "C" fn phone_version() -> u32
     ensures { result ≡ VERSION }

@@ -20,17 +20,17 @@ one_more : (row : Row) (rows : List Row) (value : ℕ) → (here : Bool) →
 one_more row rows value true rest = refl
 one_more row rows value false rest = rest
 
-apart : (p : Row) (here : Bool) (none : Option Row) →
-    option_map (λ (row : Row). row.1.now) (if here then Some p else none) ≡
-    (if here then Some p.1.now else option_map (λ (row : Row). row.1.now) none)
-apart p true none = refl
-apart p false none = refl
+apart : (p : Row) (here : Bool) (rest : Option Row) →
+    option_map (λ (row : Row). row.1.now) (if here then Some p else rest) ≡
+    (if here then Some p.1.now else option_map (λ (row : Row). row.1.now) rest)
+apart p true rest = refl
+apart p false rest = refl
 
-apart_plain : (p : ℕ × List ℕ) (here : Bool) (none : Option (ℕ × List ℕ)) →
-    option_map (λ (row : ℕ × List ℕ). row.1) (if here then Some p else none) ≡
-    (if here then Some p.1 else option_map (λ (row : ℕ × List ℕ). row.1) none)
-apart_plain p true none = refl
-apart_plain p false none = refl
+apart_plain : (p : ℕ × List ℕ) (here : Bool) (rest : Option (ℕ × List ℕ)) →
+    option_map (λ (row : ℕ × List ℕ). row.1) (if here then Some p else rest) ≡
+    (if here then Some p.1 else option_map (λ (row : ℕ × List ℕ). row.1) rest)
+apart_plain p true rest = refl
+apart_plain p false rest = refl
 
 pub found_rows : (rows : List Row) (value : ℕ) →
     word_in (rows_of rows) value ≡ word_of_found rows value
