@@ -24,7 +24,7 @@ static void value(const char *call, uint32_t status, unsigned long told) {
 #define VALUE(call, made, told) do { uint32_t status = made; value(call, status, (unsigned long)(told)); } while (0)
 
 /* The number of a text, by libphonenumber's rules, whose own texts go to `texts`. */
-static phone_number number_of(const phone_handle *world, const char *call, const char *line, uint8_t *texts, size_t *len) {
+static phone_number number_of(phone_handle *world, const char *call, const char *line, uint8_t *texts, size_t *len) {
     phone_number number;
     memset(&number, 0, sizeof number);
     VALUE(call, phone_parse(world, TEXT("NZ"), TEXT(line), &number, texts, 64, len), 0);
@@ -34,7 +34,7 @@ static phone_number number_of(const phone_handle *world, const char *call, const
 }
 
 /* The calls of a number, by libphonenumber's rules. */
-static void of_number(const phone_handle *world) {
+static void of_number(phone_handle *world) {
     uint8_t texts[64], flag = 9;
     size_t len = 0;
     uint32_t kind = 99;
@@ -47,7 +47,7 @@ static void of_number(const phone_handle *world) {
 }
 
 /* The same calls by the rules of the crate, behind a second handle. */
-static void by_the_crate(const phone_handle *world) {
+static void by_the_crate(phone_handle *world) {
     phone_handle crate = PHONE_CLOSED;
     phone_number number;
     uint8_t texts[64], flag = 9;
@@ -66,7 +66,7 @@ static void by_the_crate(const phone_handle *world) {
 }
 
 /* The calls of a text, and of keys. */
-static void of_text(const phone_handle *world) {
+static void of_text(phone_handle *world) {
     uint8_t flag = 9;
     size_t place = 99;
     text("phone_report",
@@ -79,7 +79,7 @@ static void of_text(const phone_handle *world) {
 }
 
 /* The calls of two texts, of lengths, of regions, and of numbers in a text. */
-static void of_more(const phone_handle *world) {
+static void of_more(phone_handle *world) {
     const char *line = "Ring 03-331 6005, or +1 650 253 0000";
     uint8_t texts[64];
     size_t len = 0;

@@ -45,27 +45,27 @@ static int is_untouched(size_t from) {
     for (size_t i = from; i < sizeof out; i++) if (out[i] != 0xAA) return 0;
     return 1;
 }
-static phone_status report(const phone_handle *h, const char *hint, const void *line, size_t len, size_t room) {
+static phone_status report(phone_handle *h, const char *hint, const void *line, size_t len, size_t room) {
     fill();
     return phone_report(h, phone_text(hint, strlen(hint)), strlen(hint), phone_text(line, len), len, out, room, &wrote);
 }
-static phone_status parse(const phone_handle *h, const char *hint, const void *text, size_t len, size_t room) {
+static phone_status parse(phone_handle *h, const char *hint, const void *text, size_t len, size_t room) {
     fill();
     memset(&number, 0x55, sizeof number);
     return phone_parse(h, phone_text(hint, strlen(hint)), strlen(hint), phone_text(text, len), len, &number, out, room, &wrote);
 }
-static phone_status shown(const phone_handle *h, const char *hint, const void *keys, size_t len, size_t room) {
+static phone_status shown(phone_handle *h, const char *hint, const void *keys, size_t len, size_t room) {
     fill();
     return phone_typing_shown(h, phone_text(hint, strlen(hint)), strlen(hint), phone_text(keys, len), len, out, room, &wrote);
 }
-static phone_status caret(const phone_handle *h, const char *keys, size_t n, size_t *told) {
+static phone_status caret(phone_handle *h, const char *keys, size_t n, size_t *told) {
     return phone_typing_caret(h, phone_text("", 0), 0, phone_text(keys, strlen(keys)), strlen(keys), n, told);
 }
 /* The calls, by a number, each on the same text; those up to ROOMS write to a buffer. Some are asked by the rules of
  * libphonenumber, behind a second handle on the table. */
 static phone_handle second = PHONE_CLOSED;
 enum { ROOMS = 16, CALLS = 24 };
-static phone_status call(int which, const phone_handle *h, const phone_number *n, const uint8_t *bytes, size_t len, size_t room) {
+static phone_status call(int which, phone_handle *h, const phone_number *n, const uint8_t *bytes, size_t len, size_t room) {
     const char *text = "+64 3 331 6005 ext. 12";
     phone_status status, kind = 99;
     uint8_t flag = 99;
@@ -105,7 +105,7 @@ static phone_status call(int which, const phone_handle *h, const phone_number *n
     default: return status = phone_is_valid(h, n, &flag), flag == (status ? 99 : 1) ? status : 98;
     }
 }
-static int every_room(const phone_handle *h, const phone_number *n, const uint8_t *bytes, size_t bytes_len) {
+static int every_room(phone_handle *h, const phone_number *n, const uint8_t *bytes, size_t bytes_len) {
     for (int which = 0; which < ROOMS; which++) {
         uint8_t whole[4096];
         size_t len, room;
@@ -119,7 +119,7 @@ static int every_room(const phone_handle *h, const phone_number *n, const uint8_
     return 0;
 }
 /* Each request of a call refused in turn: want of memory is told or the answer is right, and the next call is right. */
-static int refused(const phone_handle *h, const phone_number *n, const uint8_t *bytes, size_t bytes_len, long *most) {
+static int refused(phone_handle *h, const phone_number *n, const uint8_t *bytes, size_t bytes_len, long *most) {
     for (int which = 0; which < CALLS; which++) {
         uint8_t whole[4096];
         size_t len;
@@ -254,7 +254,7 @@ static int shorts(void) {
     CHECK(809, blocks == 0);
     return 0;
 }
-static phone_status longest(const phone_prefixes *p, const char *digits, size_t room, size_t *prefix) {
+static phone_status longest(phone_prefixes *p, const char *digits, size_t room, size_t *prefix) {
     fill();
     return phone_prefixes_longest(p, phone_text(digits, strlen(digits)), strlen(digits), out, room, &wrote, prefix);
 }
@@ -315,16 +315,16 @@ static int possible(void) {
     CHECK(1015, blocks == 0);
     return 0;
 }
-static phone_status dialled(const phone_handle *h, const char *region, const phone_number *n, size_t room) {
+static phone_status dialled(phone_handle *h, const char *region, const phone_number *n, size_t room) {
     fill();
     return phone_dialled_from(h, phone_text(region, strlen(region)), strlen(region), n, B(""), out, room, &wrote);
 }
-static phone_status example(const phone_handle *h, const char *region, uint32_t kind, size_t room) {
+static phone_status example(phone_handle *h, const char *region, uint32_t kind, size_t room) {
     fill();
     memset(&number, 0x55, sizeof number);
     return phone_example(h, phone_text(region, strlen(region)), strlen(region), kind, &number, out, room, &wrote);
 }
-static phone_status find(const phone_handle *h, const char *hint, uint32_t leniency, const void *text, size_t len, size_t room) {
+static phone_status find(phone_handle *h, const char *hint, uint32_t leniency, const void *text, size_t len, size_t room) {
     fill();
     return phone_find(h, phone_text(hint, strlen(hint)), strlen(hint), leniency, phone_text(text, len), len,
                          (phone_place *)out, room, &wrote);

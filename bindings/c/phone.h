@@ -4,7 +4,7 @@
  * What a caller owes, and nothing checks:
  *   - A handle begins as PHONE_CLOSED, and only these calls write it. It is not copied: two copies
  *     would own one thing; phone_share makes a second. So with a table of prefixes.
- *   - One call at a time on a handle, also of those that take it as const, which don't write it. It is of
+ *   - One call at a time on a handle, which each call writes: those that ask leave it as it was. It is of
  *     no thread: one thread opens it, others use it in turn, any closes it, with a lock or a join between
  *     two calls. Threads that read at once have handles of their own: those made by phone_share stand on
  *     one table, of the world some 6 MB, and calls on different handles may run at once, any number of
@@ -190,10 +190,10 @@ const uint8_t *phone_world_text(size_t *text_len);
  * bytes and copies no database. The handles are two variables. What `mine` had open is closed first,
  * whatever comes. PHONE_OK: it is open. PHONE_IS_CLOSED exactly where `world` is closed; PHONE_MEMORY.
  * For each but PHONE_OK `mine` is closed. The database is freed with the last handle on it. */
-phone_status phone_share(const phone_handle *world, phone_handle *mine);
+phone_status phone_share(phone_handle *world, phone_handle *mine);
 
 /* The same, to be asked by these rules. PHONE_NO_RULES exactly where they are above 1, before all else. */
-phone_status phone_share_by(const phone_handle *world, uint32_t rules, phone_handle *mine);
+phone_status phone_share_by(phone_handle *world, uint32_t rules, phone_handle *mine);
 
 /* Closes a handle; nothing where it is closed. The last one on a database frees it. */
 void phone_close(phone_handle *handle);
@@ -206,7 +206,7 @@ void phone_close(phone_handle *handle);
  * where `out` is shorter than the answer: `wrote` is then the length that it needs; PHONE_MEMORY.
  * For each but PHONE_OK `out` is as it was, and for each but PHONE_OK and PHONE_TOO_SMALL `wrote` is
  * 0. */
-phone_status phone_report(const phone_handle *handle, const uint8_t *hint, size_t hint_len,
+phone_status phone_report(phone_handle *handle, const uint8_t *hint, size_t hint_len,
                           const uint8_t *line, size_t line_len, uint8_t *out, size_t out_len,
                           size_t *wrote);
 
@@ -215,7 +215,7 @@ phone_status phone_report(const phone_handle *handle, const uint8_t *hint, size_
  * as the text is seldom too short; PHONE_TOO_SMALL tells the length. PHONE_IS_CLOSED, PHONE_NO_REGION
  * and PHONE_MEMORY as phone_report has them; else PHONE_NOT_UTF8 exactly where the text isn't UTF-8;
  * 1 to 6: why it is no number. For each but PHONE_OK `number` and `out` are as they were. */
-phone_status phone_parse(const phone_handle *handle, const uint8_t *hint, size_t hint_len,
+phone_status phone_parse(phone_handle *handle, const uint8_t *hint, size_t hint_len,
                          const uint8_t *text, size_t text_len, phone_number *number, uint8_t *out,
                          size_t out_len, size_t *wrote);
 
@@ -226,37 +226,37 @@ phone_status phone_parse(const phone_handle *handle, const uint8_t *hint, size_t
  * PHONE_UNKNOWN_CODE only where no territory has the calling code. PHONE_TOO_SMALL and PHONE_MEMORY as
  * phone_report has them. By the rules of libphonenumber a number is printed without its carrier's code;
  * its texts are looked at all the same. */
-phone_status phone_format(const phone_handle *handle, const phone_number *number, const uint8_t *bytes,
+phone_status phone_format(phone_handle *handle, const phone_number *number, const uint8_t *bytes,
                           size_t bytes_len, uint32_t mode, uint8_t *out, size_t out_len, size_t *wrote);
 
 /* Tells the kind of a number: PHONE_KIND_FIXED_LINE .. PHONE_IS_CLOSED exactly where nothing is open, else
  * PHONE_BAD_NUMBER exactly where source or value is out of range; PHONE_MEMORY. The number's texts are
  * not looked at. For each but PHONE_OK `told` is as it was. */
-phone_status phone_kind(const phone_handle *handle, const phone_number *number, uint32_t *told);
+phone_status phone_kind(phone_handle *handle, const phone_number *number, uint32_t *told);
 
 /* Writes the id of a number's region, as "NZ", or no byte where it has none. Its statuses are those of
  * phone_kind, and PHONE_TOO_SMALL. */
-phone_status phone_region(const phone_handle *handle, const phone_number *number, uint8_t *out,
+phone_status phone_region(phone_handle *handle, const phone_number *number, uint8_t *out,
                           size_t out_len, size_t *wrote);
 
 /* Tells whether a number is valid: 1, else 0. Its statuses are those of phone_kind. */
-phone_status phone_is_valid(const phone_handle *handle, const phone_number *number, uint8_t *told);
+phone_status phone_is_valid(phone_handle *handle, const phone_number *number, uint8_t *told);
 
 /* Tells whether the count of a number's digits is possible: PHONE_LENGTH_POSSIBLE .. Its
  * statuses are those of phone_kind. */
-phone_status phone_possibility(const phone_handle *handle, const phone_number *number, uint32_t *told);
+phone_status phone_possibility(phone_handle *handle, const phone_number *number, uint32_t *told);
 
 /* The same of a text, which may not be whole yet, under a hint as phone_report takes it. A text that is
  * refused for its length or its calling code is told of by PHONE_LENGTH_TOO_SHORT and its like.
  * PHONE_IS_CLOSED, PHONE_NO_REGION and PHONE_NOT_UTF8 as phone_parse has them; else
  * PHONE_NO_NUMBER or PHONE_MALFORMED_INTEGER; PHONE_MEMORY. */
-phone_status phone_text_possibility(const phone_handle *handle, const uint8_t *hint, size_t hint_len,
+phone_status phone_text_possibility(phone_handle *handle, const uint8_t *hint, size_t hint_len,
                                     const uint8_t *text, size_t text_len, uint32_t *told);
 
 /* Tells how like the numbers of two texts are, each perhaps without its calling code: PHONE_MATCH_EXACT ..
  * PHONE_IS_CLOSED; else PHONE_NOT_UTF8 exactly where one of the texts isn't UTF-8; 1 to
  * 6: why the first text is no number, else why the second is none; PHONE_MEMORY. */
-phone_status phone_compare(const phone_handle *handle, const uint8_t *first, size_t first_len,
+phone_status phone_compare(phone_handle *handle, const uint8_t *first, size_t first_len,
                            const uint8_t *second, size_t second_len, uint32_t *told);
 
 /* Writes how a number is dialled from a region, whose id is as "NZ": its national text there, and else
@@ -265,7 +265,7 @@ phone_status phone_compare(const phone_handle *handle, const uint8_t *first, siz
  * region is no id, else PHONE_BAD_NUMBER as phone_format has it. PHONE_NO_TERRITORY only where the
  * table has no territory of the region, PHONE_UNKNOWN_CODE only where none has the calling code;
  * PHONE_TOO_SMALL, PHONE_MEMORY. */
-phone_status phone_dialled_from(const phone_handle *handle, const uint8_t *region, size_t region_len,
+phone_status phone_dialled_from(phone_handle *handle, const uint8_t *region, size_t region_len,
                                 const phone_number *number, const uint8_t *bytes, size_t bytes_len,
                                 uint8_t *out, size_t out_len, size_t *wrote);
 
@@ -273,24 +273,24 @@ phone_status phone_dialled_from(const phone_handle *handle, const uint8_t *regio
  * writes a number. PHONE_IS_CLOSED, PHONE_NO_REGION, PHONE_NO_KIND, and
  * PHONE_NO_EXAMPLE exactly where so, in this order; 1 to 6: why the example is no number;
  * PHONE_TOO_SMALL, PHONE_MEMORY. */
-phone_status phone_example(const phone_handle *handle, const uint8_t *region, size_t region_len,
+phone_status phone_example(phone_handle *handle, const uint8_t *region, size_t region_len,
                            uint32_t kind, phone_number *number, uint8_t *out, size_t out_len,
                            size_t *wrote);
 
 /* Writes the ids of the table's regions, by the alphabet, two bytes each with nothing between them.
  * PHONE_IS_CLOSED exactly where nothing is open; PHONE_TOO_SMALL, PHONE_MEMORY. */
-phone_status phone_regions(const phone_handle *handle, uint8_t *out, size_t out_len, size_t *wrote);
+phone_status phone_regions(phone_handle *handle, uint8_t *out, size_t out_len, size_t *wrote);
 
 /* Writes the table's calling codes, ascending. Its statuses are those of phone_regions. Here `out_len`
  * and `wrote` count codes, and not bytes. */
-phone_status phone_codes(const phone_handle *handle, uint16_t *out, size_t out_len, size_t *wrote);
+phone_status phone_codes(phone_handle *handle, uint16_t *out, size_t out_len, size_t *wrote);
 
 /* Writes where numbers stand in a text, from its front on; they don't overlap. phone_parse reads each of
  * these pieces, under the same handle and hint, as the number that was found. `out_len` and `wrote`
  * count places: no text has more than bytes. PHONE_IS_CLOSED,
  * PHONE_NO_LENIENCY, PHONE_NO_REGION, PHONE_NOT_UTF8 exactly where so, in this order; PHONE_TOO_SMALL,
  * PHONE_MEMORY. */
-phone_status phone_find(const phone_handle *handle, const uint8_t *hint, size_t hint_len,
+phone_status phone_find(phone_handle *handle, const uint8_t *hint, size_t hint_len,
                         uint32_t leniency, const uint8_t *text, size_t text_len, phone_place *out,
                         size_t out_len, size_t *wrote);
 
@@ -302,7 +302,7 @@ phone_status phone_find(const phone_handle *handle, const uint8_t *hint, size_t 
  * without a plus sign are dialled in, as phone_report takes it. A handle holds nothing of what is
  * typed: each call is given all of it. PHONE_IS_CLOSED, PHONE_NO_REGION, PHONE_TOO_SMALL and
  * PHONE_MEMORY as phone_report has them; else PHONE_NOT_UTF8 exactly where the keys aren't UTF-8. */
-phone_status phone_typing_shown(const phone_handle *handle, const uint8_t *hint, size_t hint_len,
+phone_status phone_typing_shown(phone_handle *handle, const uint8_t *hint, size_t hint_len,
                                 const uint8_t *keys, size_t keys_len, uint8_t *out, size_t out_len,
                                 size_t *wrote);
 
@@ -310,7 +310,7 @@ phone_status phone_typing_shown(const phone_handle *handle, const uint8_t *hint,
  * counted from 1: where the caret stands after it. 0 for no key, all characters from the last key on.
  * Each character that is shown is one byte. Its statuses are those of phone_typing_shown, but for
  * PHONE_TOO_SMALL. For each but PHONE_OK `told` is as it was. */
-phone_status phone_typing_caret(const phone_handle *handle, const uint8_t *hint, size_t hint_len,
+phone_status phone_typing_caret(phone_handle *handle, const uint8_t *hint, size_t hint_len,
                                 const uint8_t *keys, size_t keys_len, size_t n, size_t *told);
 
 /* Tells what is known of a text as a short number of a region, under a handle that was opened on a
@@ -318,7 +318,7 @@ phone_status phone_typing_caret(const phone_handle *handle, const uint8_t *hint,
  * PHONE_IS_CLOSED exactly where nothing is open, else PHONE_NO_REGION exactly where the region is no
  * id, else PHONE_NOT_UTF8 exactly where the text isn't UTF-8; PHONE_MEMORY. For each but PHONE_OK
  * `facts` is as it was. */
-phone_status phone_short(const phone_handle *handle, const uint8_t *region, size_t region_len,
+phone_status phone_short(phone_handle *handle, const uint8_t *region, size_t region_len,
                          const uint8_t *text, size_t text_len, phone_short_facts *facts);
 
 /* Opens the table of prefixes that a text is: each line a prefix of 1 to 15 digits, a tab, and a text
@@ -331,7 +331,7 @@ phone_status phone_prefixes_open(const uint8_t *text, size_t text_len, phone_pre
 
 /* Opens behind `mine` the table of prefixes that is open behind `prefixes`, as phone_share does with
  * databases, and with its statuses. */
-phone_status phone_prefixes_share(const phone_prefixes *prefixes, phone_prefixes *mine);
+phone_status phone_prefixes_share(phone_prefixes *prefixes, phone_prefixes *mine);
 
 /* Closes a handle of a table of prefixes; nothing where it is closed. The last one on a table frees it. */
 void phone_prefixes_close(phone_prefixes *prefixes);
@@ -342,7 +342,7 @@ void phone_prefixes_close(phone_prefixes *prefixes);
  * digits aren't UTF-8, else PHONE_NO_PREFIX exactly where no prefix begins them; PHONE_TOO_SMALL as
  * phone_report has it. It takes no memory. For each but PHONE_OK `out` and `prefix_len` are as they
  * were, and for each but PHONE_OK and PHONE_TOO_SMALL `wrote` is 0. */
-phone_status phone_prefixes_longest(const phone_prefixes *prefixes, const uint8_t *digits,
+phone_status phone_prefixes_longest(phone_prefixes *prefixes, const uint8_t *digits,
                                     size_t digits_len, uint8_t *out, size_t out_len, size_t *wrote,
                                     size_t *prefix_len);
 

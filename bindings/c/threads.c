@@ -42,7 +42,7 @@ static void open_both(phone_handle *world, phone_prefixes *prefixes) {
     CHECK(2, phone_prefixes_open((const uint8_t *)PREFIXES, sizeof PREFIXES - 1, prefixes, &line) == PHONE_OK);
 }
 
-static void share_both(const phone_handle *world, const phone_prefixes *prefixes, phone_handle *mine, phone_prefixes *own) {
+static void share_both(phone_handle *world, phone_prefixes *prefixes, phone_handle *mine, phone_prefixes *own) {
     CHECK(15, phone_share(world, mine) == PHONE_OK);
     CHECK(16, phone_prefixes_share(prefixes, own) == PHONE_OK);
 }
@@ -59,7 +59,7 @@ static void close_both(phone_handle *world, phone_prefixes *prefixes) {
 
 /* What is told of a line behind them: its reports by both rules, what is shown while it is typed, where a number stands in it;
  * and the longest prefix of some digits. */
-static void ask(const phone_handle *world, const phone_prefixes *prefixes, const char *line, char *told) {
+static void ask(phone_handle *world, phone_prefixes *prefixes, const char *line, char *told) {
     uint8_t out[ROOM];
     size_t wrote, prefix_len = 0, len = strlen(line);
     const uint8_t *text = phone_text(line, len), *hint = phone_text("NZ", 2);
@@ -86,7 +86,7 @@ static void ask(const phone_handle *world, const phone_prefixes *prefixes, const
 }
 
 /* All lines, often; what is told of each is what was wanted. */
-static void ask_all(const phone_handle *world, const phone_prefixes *prefixes, pthread_mutex_t *lock, char wanted[LINES][LINE]) {
+static void ask_all(phone_handle *world, phone_prefixes *prefixes, pthread_mutex_t *lock, char wanted[LINES][LINE]) {
     for (int round = 0; round < ROUNDS; round++) {
         for (int i = 0; i < LINES; i++) {
             char told[LINE];

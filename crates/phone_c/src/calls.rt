@@ -3,14 +3,14 @@ ghost use Rattle.std.specs.Prelude.{◌≡◌, ◌⊎◌, ◌↔◌, ◌<◌, No
 ghost use Rattle.phone_c_base.specs.Answers.{IsKey, IsKind, IsPrinted, IsRegion, IsUnprinted};
 ghost use Rattle.phone_c_base.specs.Answers.{IsValidity};
 ghost use Rattle.phone_c_base.specs.Buffers.{IsTooLongA, IsWrittenA};
-ghost use Rattle.phone_c_base.specs.Handles.{IsClosed};
+ghost use Rattle.phone_c_base.specs.Handles.{IsClosed, IsKept};
 ghost use Rattle.phone_c_base.specs.Hints.{UnderHint, hint_of};
 ghost use Rattle.phone_c_base.specs.Numbers.{AreNoNumber, AreNone};
 ghost use Rattle.phone_c_base.specs.Parses.{IsParsed, IsParsedTooLong, IsRefusedAs};
 
 use phone_c_base::asked::{key, kind, region, validity};
-use phone_c_base::engines::under;
-use phone_c_base::handle::Handle;
+use phone_c_base::engines::{engine_of, under};
+use phone_c_base::handle::{Handle, put, take};
 use phone_c_base::number::Number;
 use phone_c_base::parse::parse;
 use phone_c_base::print::print;
@@ -29,37 +29,41 @@ use std::alloc::Global;
 /// `OK` `number` and `out` are as they were.
 #[unsafe(no_mangle)]
 pub extern "C" fn phone_parse(
-    handle: &Handle,
+    alloc: Global,
+    handle: &mut Handle,
     hint: &[u8],
     text: &[u8],
     number: &mut Number,
     out: &mut [u8],
     wrote: &mut usize,
 ) -> u32
-    ensures read { result ≡ OK → UnderHint hint.now (λ h. IsParsed handle.now.rules
-        handle.now.records h text.now number.new out.old out.new wrote.new) }
+    ensures read { result ≡ OK → UnderHint hint.now (λ h. IsParsed handle.old.rules
+        handle.old.records h text.now number.new out.old out.new wrote.new) }
     ensures too_small { result ≡ TOO_SMALL → UnderHint hint.now (λ h. IsParsedTooLong
-        handle.now.rules handle.now.records h text.now out.old out.new wrote.new) }
-    ensures closed { (result ≡ CLOSED) ↔ IsClosed handle.now }
+        handle.old.rules handle.old.records h text.now out.old out.new wrote.new) }
+    ensures closed { (result ≡ CLOSED) ↔ IsClosed handle.old }
     ensures no_region { (result ≡ NO_REGION) ↔
-        (¬ (IsClosed handle.now) × (hint_of hint.now ≡ None)) }
+        (¬ (IsClosed handle.old) × (hint_of hint.now ≡ None)) }
     ensures not_utf8 { (result ≡ NOT_UTF8) ↔
-        (¬ (IsClosed handle.now) × ¬ (hint_of hint.now ≡ None) × ¬ (IsUtf8 text.now)) }
+        (¬ (IsClosed handle.old) × ¬ (hint_of hint.now ≡ None) × ¬ (IsUtf8 text.now)) }
     ensures refused { ¬ (result ≡ OK) → ¬ (result ≡ TOO_SMALL) → ¬ (result ≡ CLOSED) →
         ¬ (result ≡ NO_REGION) → ¬ (result ≡ NOT_UTF8) →
-        (result ≡ MEMORY) ⊎ UnderHint hint.now (λ h. IsRefusedAs handle.now.rules
-        handle.now.records h text.now result) }
+        (result ≡ MEMORY) ⊎ UnderHint hint.now (λ h. IsRefusedAs handle.old.rules
+        handle.old.records h text.now result) }
     ensures untouched { ¬ (result ≡ OK) → (number.new ≡ number.old) × (out.new ≡ out.old) }
     ensures no_length { ¬ (result ≡ OK) → ¬ (result ≡ TOO_SMALL) → wrote.new ≡ 0 }
+    ensures kept { IsKept handle.old handle.new }
 {
     *wrote = 0;
-    let Some(engine) = handle.engine() else {
+    let Some(opened) = take(alloc, handle) else {
         return CLOSED;
     };
-    match under(engine, hint) {
+    let status = match under(engine_of(&opened), hint) {
         Some(engine) => parse(engine, text, number, out, wrote),
         None => NO_REGION,
-    }
+    };
+    put(alloc, handle, opened);
+    status
 }
 
 /// Writes the text of a number in a mode, as the rules of the handle print it: by those of
@@ -74,7 +78,8 @@ pub extern "C" fn phone_parse(
 /// it or `MEMORY`. For each but `OK` `out` is as it was.
 #[unsafe(no_mangle)]
 pub extern "C" fn phone_format(
-    handle: &Handle,
+    alloc: Global,
+    handle: &mut Handle,
     number: &Number,
     bytes: &[u8],
     mode: u32,
@@ -82,28 +87,31 @@ pub extern "C" fn phone_format(
     wrote: &mut usize,
 ) -> u32
     ensures written { result ≡ OK → IsWrittenA
-        (IsPrinted handle.now.rules handle.now.records number.now bytes.now mode)
+        (IsPrinted handle.old.rules handle.old.records number.now bytes.now mode)
         out.old out.new wrote.new }
     ensures too_small { result ≡ TOO_SMALL → IsTooLongA
-        (IsPrinted handle.now.rules handle.now.records number.now bytes.now mode)
+        (IsPrinted handle.old.rules handle.old.records number.now bytes.now mode)
         out.old out.new wrote.new }
-    ensures closed { (result ≡ CLOSED) ↔ IsClosed handle.now }
-    ensures no_mode { (result ≡ NO_MODE) ↔ (¬ (IsClosed handle.now) × (3 < mode)) }
+    ensures closed { (result ≡ CLOSED) ↔ IsClosed handle.old }
+    ensures no_mode { (result ≡ NO_MODE) ↔ (¬ (IsClosed handle.old) × (3 < mode)) }
     ensures bad { (result ≡ BAD_NUMBER) ↔
-        (¬ (IsClosed handle.now) × ¬ (3 < mode) × AreNoNumber number.now bytes.now) }
+        (¬ (IsClosed handle.old) × ¬ (3 < mode) × AreNoNumber number.now bytes.now) }
     ensures unknown { result ≡ UNKNOWN_CODE →
-        IsUnprinted handle.now.rules handle.now.records number.now bytes.now mode }
+        IsUnprinted handle.old.rules handle.old.records number.now bytes.now mode }
     ensures other { ¬ (result ≡ OK) → ¬ (result ≡ TOO_SMALL) → ¬ (result ≡ CLOSED) →
         ¬ (result ≡ NO_MODE) → ¬ (result ≡ BAD_NUMBER) → ¬ (result ≡ UNKNOWN_CODE) →
         result ≡ MEMORY }
     ensures untouched { ¬ (result ≡ OK) → out.new ≡ out.old }
     ensures no_length { ¬ (result ≡ OK) → ¬ (result ≡ TOO_SMALL) → wrote.new ≡ 0 }
+    ensures kept { IsKept handle.old handle.new }
 {
     *wrote = 0;
-    let Some(engine) = handle.engine() else {
+    let Some(opened) = take(alloc, handle) else {
         return CLOSED;
     };
-    print(engine, number, bytes, mode, out, wrote)
+    let status = print(engine_of(&opened), number, bytes, mode, out, wrote);
+    put(alloc, handle, opened);
+    status
 }
 
 /// Tells the kind of a number that is given as plain numbers, by the kind's number: 0 a fixed line,
@@ -114,18 +122,26 @@ pub extern "C" fn phone_format(
 /// `CLOSED` exactly where the handle is closed, else `BAD_NUMBER` exactly where the plain numbers
 /// are no number's; `MEMORY`. For each but `OK` `told` is as it was.
 #[unsafe(no_mangle)]
-pub extern "C" fn phone_kind(handle: &Handle, number: &Number, told: &mut u32) -> u32
-    ensures told { result ≡ OK → IsKind handle.now.rules handle.now.records number.now told.new }
-    ensures closed { (result ≡ CLOSED) ↔ IsClosed handle.now }
-    ensures bad { (result ≡ BAD_NUMBER) ↔ (¬ (IsClosed handle.now) × AreNone number.now) }
+pub extern "C" fn phone_kind(
+    alloc: Global,
+    handle: &mut Handle,
+    number: &Number,
+    told: &mut u32,
+) -> u32
+    ensures told { result ≡ OK → IsKind handle.old.rules handle.old.records number.now told.new }
+    ensures closed { (result ≡ CLOSED) ↔ IsClosed handle.old }
+    ensures bad { (result ≡ BAD_NUMBER) ↔ (¬ (IsClosed handle.old) × AreNone number.now) }
     ensures other { ¬ (result ≡ OK) → ¬ (result ≡ CLOSED) → ¬ (result ≡ BAD_NUMBER) →
         result ≡ MEMORY }
     ensures untouched { ¬ (result ≡ OK) → told.new ≡ told.old }
+    ensures kept { IsKept handle.old handle.new }
 {
-    let Some(engine) = handle.engine() else {
+    let Some(opened) = take(alloc, handle) else {
         return CLOSED;
     };
-    kind(engine, number, told)
+    let status = kind(engine_of(&opened), number, told);
+    put(alloc, handle, opened);
+    status
 }
 
 /// Writes the id of the region of a number that is given as plain numbers; no byte where it has
@@ -135,45 +151,57 @@ pub extern "C" fn phone_kind(handle: &Handle, number: &Number, told: &mut u32) -
 /// where the plain numbers are no number's.
 #[unsafe(no_mangle)]
 pub extern "C" fn phone_region(
-    handle: &Handle,
+    alloc: Global,
+    handle: &mut Handle,
     number: &Number,
     out: &mut [u8],
     wrote: &mut usize,
 ) -> u32
     ensures written { result ≡ OK → IsWrittenA
-        (IsRegion handle.now.rules handle.now.records number.now) out.old out.new wrote.new }
+        (IsRegion handle.old.rules handle.old.records number.now) out.old out.new wrote.new }
     ensures too_small { result ≡ TOO_SMALL → IsTooLongA
-        (IsRegion handle.now.rules handle.now.records number.now) out.old out.new wrote.new }
-    ensures closed { (result ≡ CLOSED) ↔ IsClosed handle.now }
-    ensures bad { (result ≡ BAD_NUMBER) ↔ (¬ (IsClosed handle.now) × AreNone number.now) }
+        (IsRegion handle.old.rules handle.old.records number.now) out.old out.new wrote.new }
+    ensures closed { (result ≡ CLOSED) ↔ IsClosed handle.old }
+    ensures bad { (result ≡ BAD_NUMBER) ↔ (¬ (IsClosed handle.old) × AreNone number.now) }
     ensures other { ¬ (result ≡ OK) → ¬ (result ≡ TOO_SMALL) → ¬ (result ≡ CLOSED) →
         ¬ (result ≡ BAD_NUMBER) → result ≡ MEMORY }
     ensures untouched { ¬ (result ≡ OK) → out.new ≡ out.old }
     ensures no_length { ¬ (result ≡ OK) → ¬ (result ≡ TOO_SMALL) → wrote.new ≡ 0 }
+    ensures kept { IsKept handle.old handle.new }
 {
     *wrote = 0;
-    let Some(engine) = handle.engine() else {
+    let Some(opened) = take(alloc, handle) else {
         return CLOSED;
     };
-    region(engine, number, out, wrote)
+    let status = region(engine_of(&opened), number, out, wrote);
+    put(alloc, handle, opened);
+    status
 }
 
 /// Tells whether a number that is given as plain numbers is valid: 1, else 0. Its statuses are
 /// those of `phone_kind`.
 #[unsafe(no_mangle)]
-pub extern "C" fn phone_is_valid(handle: &Handle, number: &Number, told: &mut u8) -> u32
+pub extern "C" fn phone_is_valid(
+    alloc: Global,
+    handle: &mut Handle,
+    number: &Number,
+    told: &mut u8,
+) -> u32
     ensures told { result ≡ OK →
-        IsValidity handle.now.rules handle.now.records number.now told.new }
-    ensures closed { (result ≡ CLOSED) ↔ IsClosed handle.now }
-    ensures bad { (result ≡ BAD_NUMBER) ↔ (¬ (IsClosed handle.now) × AreNone number.now) }
+        IsValidity handle.old.rules handle.old.records number.now told.new }
+    ensures closed { (result ≡ CLOSED) ↔ IsClosed handle.old }
+    ensures bad { (result ≡ BAD_NUMBER) ↔ (¬ (IsClosed handle.old) × AreNone number.now) }
     ensures other { ¬ (result ≡ OK) → ¬ (result ≡ CLOSED) → ¬ (result ≡ BAD_NUMBER) →
         result ≡ MEMORY }
     ensures untouched { ¬ (result ≡ OK) → told.new ≡ told.old }
+    ensures kept { IsKept handle.old handle.new }
 {
-    let Some(engine) = handle.engine() else {
+    let Some(opened) = take(alloc, handle) else {
         return CLOSED;
     };
-    validity(engine, number, told)
+    let status = validity(engine_of(&opened), number, told);
+    put(alloc, handle, opened);
+    status
 }
 
 /// Writes the E.164 text of a number that is given as plain numbers: equal texts mean equal calling

@@ -2,13 +2,14 @@
 ghost use Rattle.std.specs.Prelude.{◌≡◌, ◌↔◌, ◌<◌, None, IsUtf8};
 ghost use Rattle.phone_c_base.specs.Buffers.{IsTooLongA, IsWrittenA};
 ghost use Rattle.phone_c_base.specs.Found.{ArePlaces, UnderLeniency};
-ghost use Rattle.phone_c_base.specs.Handles.{IsClosed};
+ghost use Rattle.phone_c_base.specs.Handles.{IsClosed, IsKept};
 ghost use Rattle.phone_c_base.specs.Hints.{UnderHint, hint_of};
 
-use phone_c_base::engines::under;
+use phone_c_base::engines::{engine_of, under};
 use phone_c_base::found::{Place, find, leniency_of};
-use phone_c_base::handle::Handle;
+use phone_c_base::handle::{Handle, put, take};
 use phone_c_base::status::{CLOSED, MEMORY, NO_LENIENCY, NO_REGION, NOT_UTF8, OK, TOO_SMALL};
+use std::alloc::Global;
 
 /// Writes where the numbers of a running text stand, in their order, under the hint that
 /// `phone_report` takes, as `phone_find::find_numbers_with` finds them: those that are possible,
@@ -22,7 +23,8 @@ use phone_c_base::status::{CLOSED, MEMORY, NO_LENIENCY, NO_REGION, NOT_UTF8, OK,
 /// them. For each but `OK` `out` is as it was.
 #[unsafe(no_mangle)]
 pub extern "C" fn phone_find(
-    handle: &Handle,
+    alloc: Global,
+    handle: &mut Handle,
     hint: &[u8],
     leniency: u32,
     text: &[u8],
@@ -31,32 +33,35 @@ pub extern "C" fn phone_find(
 ) -> u32
     ensures written { result ≡ OK → UnderHint hint.now (λ h.
         UnderLeniency leniency (λ l. IsWrittenA
-        (ArePlaces handle.now.rules handle.now.records h l text.now) out.old out.new wrote.new)) }
+        (ArePlaces handle.old.rules handle.old.records h l text.now) out.old out.new wrote.new)) }
     ensures too_small { result ≡ TOO_SMALL → UnderHint hint.now (λ h.
         UnderLeniency leniency (λ l. IsTooLongA
-        (ArePlaces handle.now.rules handle.now.records h l text.now) out.old out.new wrote.new)) }
-    ensures closed { (result ≡ CLOSED) ↔ IsClosed handle.now }
+        (ArePlaces handle.old.rules handle.old.records h l text.now) out.old out.new wrote.new)) }
+    ensures closed { (result ≡ CLOSED) ↔ IsClosed handle.old }
     ensures no_leniency { (result ≡ NO_LENIENCY) ↔
-        (¬ (IsClosed handle.now) × (1 < leniency)) }
-    ensures no_region { (result ≡ NO_REGION) ↔ (¬ (IsClosed handle.now) ×
+        (¬ (IsClosed handle.old) × (1 < leniency)) }
+    ensures no_region { (result ≡ NO_REGION) ↔ (¬ (IsClosed handle.old) ×
         ¬ (1 < leniency) × (hint_of hint.now ≡ None)) }
-    ensures not_utf8 { (result ≡ NOT_UTF8) ↔ (¬ (IsClosed handle.now) ×
+    ensures not_utf8 { (result ≡ NOT_UTF8) ↔ (¬ (IsClosed handle.old) ×
         ¬ (1 < leniency) × ¬ (hint_of hint.now ≡ None) × ¬ (IsUtf8 text.now)) }
     ensures other { ¬ (result ≡ OK) → ¬ (result ≡ TOO_SMALL) → ¬ (result ≡ CLOSED) →
         ¬ (result ≡ NO_LENIENCY) → ¬ (result ≡ NO_REGION) → ¬ (result ≡ NOT_UTF8) →
         result ≡ MEMORY }
     ensures untouched { ¬ (result ≡ OK) → out.new ≡ out.old }
     ensures no_length { ¬ (result ≡ OK) → ¬ (result ≡ TOO_SMALL) → wrote.new ≡ 0 }
+    ensures kept { IsKept handle.old handle.new }
 {
     *wrote = 0;
-    let Some(engine) = handle.engine() else {
+    let Some(opened) = take(alloc, handle) else {
         return CLOSED;
     };
-    match leniency_of(leniency) {
-        Some(leniency) => match under(engine, hint) {
+    let status = match leniency_of(leniency) {
+        Some(leniency) => match under(engine_of(&opened), hint) {
             Some(engine) => find(engine, leniency, text, out, wrote),
             None => NO_REGION,
         },
         None => NO_LENIENCY,
-    }
+    };
+    put(alloc, handle, opened);
+    status
 }

@@ -3,15 +3,15 @@
 //!
 //! C's variable holds a handle, a struct of one pointer that begins as null; only these calls write
 //! it. Behind it stand a database and the rules by which it is asked, which are chosen where it is
-//! opened. The calls that open and close take the handle alone; those that ask only read it, and
-//! any number of threads may make them at once. Several handles may stand on one database.
+//! opened. A handle serves one call at a time: a call that asks takes what is open out of it and
+//! puts it back. Several handles may stand on one database, each asked in a thread of its own.
 #![tactic(auto)]
 
 ghost use Rattle.std.specs.Prelude.{◌≡◌, ◌⊎◌, ◌↔◌, ◌<◌, None, Some, IsUtf8, chars, codes};
 ghost use Rattle.phone_chars.specs.Viable.{IsViable};
 ghost use Rattle.phone_engine.specs.ReportLines.{IsReportLine};
 ghost use Rattle.phone_c_base.specs.Buffers.{IsTooLong, IsTooLongA, IsWritten, IsWrittenA};
-ghost use Rattle.phone_c_base.specs.Handles.{IsClosed, IsOpen, IsOpenOf, IsOpenedBy};
+ghost use Rattle.phone_c_base.specs.Handles.{IsClosed, IsKept, IsOpen, IsOpenOf, IsOpenedBy};
 ghost use Rattle.phone_c_base.specs.Hints.{UnderHint, hint_of};
 ghost use Rattle.phone_c_base.specs.Openings.{HasForm, IsRefusalOf};
 ghost use Rattle.phone_c_base.specs.Words.{status_words, word_of};
@@ -25,8 +25,8 @@ mod typing;
 mod util;
 
 use phone_c_base::buffer::give;
-use phone_c_base::engines::under;
-use phone_c_base::handle::{Handle, close, open};
+use phone_c_base::engines::{engine_of, under};
+use phone_c_base::handle::{Handle, close, put, take};
 use phone_c_base::opening::open_database;
 use phone_c_base::report::report;
 use phone_c_base::rules::rules_of;
@@ -60,7 +60,7 @@ pub extern "C" fn phone_open(alloc: Global, text: &[u8], rules: u32, handle: &mu
     };
     match open_database(alloc, text, rules) {
         Ok(opened) => {
-            open(alloc, handle, opened);
+            put(alloc, handle, opened);
             OK
         }
         Err(status) => status,
@@ -74,11 +74,12 @@ pub extern "C" fn phone_open(alloc: Global, text: &[u8], rules: u32, handle: &mu
 /// `OK`: the database is open behind `mine`. `CLOSED` exactly where `world` is closed. `MEMORY`:
 /// memory was refused. For each but `OK` `mine` is closed.
 #[unsafe(no_mangle)]
-pub extern "C" fn phone_share(alloc: Global, world: &Handle, mine: &mut Handle) -> u32
-    ensures shared { result ≡ OK → IsOpen mine.new world.now.records world.now.rules }
-    ensures closed { (result ≡ CLOSED) ↔ IsClosed world.now }
+pub extern "C" fn phone_share(alloc: Global, world: &mut Handle, mine: &mut Handle) -> u32
+    ensures shared { result ≡ OK → IsOpen mine.new world.old.records world.old.rules }
+    ensures closed { (result ≡ CLOSED) ↔ IsClosed world.old }
     ensures status { (result ≡ OK) ⊎ (result ≡ CLOSED) ⊎ (result ≡ MEMORY) }
     ensures refused { ¬ (result ≡ OK) → IsClosed mine.new }
+    ensures kept { IsKept world.old world.new }
 {
     share(alloc, world, mine)
 }
@@ -86,18 +87,20 @@ pub extern "C" fn phone_share(alloc: Global, world: &Handle, mine: &mut Handle) 
 /// The same, asked by the rules of this number, as `phone_open` takes them: two handles on one
 /// database may be asked by both. `NO_RULES` exactly where the rules are above 1, before all else.
 #[unsafe(no_mangle)]
+#[tactic(auto, using(crate::proofs::Kept::kept))]
 pub extern "C" fn phone_share_by(
     alloc: Global,
-    world: &Handle,
+    world: &mut Handle,
     rules: u32,
     mine: &mut Handle,
 ) -> u32
-    ensures shared { result ≡ OK → IsOpenOf mine.new world.now.records rules }
+    ensures shared { result ≡ OK → IsOpenOf mine.new world.old.records rules }
     ensures no_rules { (result ≡ NO_RULES) ↔ (1 < rules) }
-    ensures closed { (result ≡ CLOSED) ↔ (¬ (1 < rules) × IsClosed world.now) }
+    ensures closed { (result ≡ CLOSED) ↔ (¬ (1 < rules) × IsClosed world.old) }
     ensures other { ¬ (result ≡ OK) → ¬ (result ≡ NO_RULES) → ¬ (result ≡ CLOSED) →
         result ≡ MEMORY }
     ensures refused { ¬ (result ≡ OK) → IsClosed mine.new }
+    ensures kept { IsKept world.old world.new }
 {
     let Some(rules) = rules_of(rules) else {
         close(alloc, mine);
@@ -125,32 +128,36 @@ pub extern "C" fn phone_close(alloc: Global, handle: &mut Handle)
 /// was, and for each but these two `wrote` is 0.
 #[unsafe(no_mangle)]
 pub extern "C" fn phone_report(
-    handle: &Handle,
+    alloc: Global,
+    handle: &mut Handle,
     hint: &[u8],
     line: &[u8],
     out: &mut [u8],
     wrote: &mut usize,
 ) -> u32
     ensures written { result ≡ OK → UnderHint hint.now (λ h. IsWrittenA
-        (IsReportLine handle.now.rules handle.now.records h line.now) out.old out.new wrote.new) }
+        (IsReportLine handle.old.rules handle.old.records h line.now) out.old out.new wrote.new) }
     ensures too_small { result ≡ TOO_SMALL → UnderHint hint.now (λ h. IsTooLongA
-        (IsReportLine handle.now.rules handle.now.records h line.now) out.old out.new wrote.new) }
-    ensures closed { (result ≡ CLOSED) ↔ IsClosed handle.now }
+        (IsReportLine handle.old.rules handle.old.records h line.now) out.old out.new wrote.new) }
+    ensures closed { (result ≡ CLOSED) ↔ IsClosed handle.old }
     ensures no_region { (result ≡ NO_REGION) ↔
-        (¬ (IsClosed handle.now) × (hint_of hint.now ≡ None)) }
+        (¬ (IsClosed handle.old) × (hint_of hint.now ≡ None)) }
     ensures other { ¬ (result ≡ OK) → ¬ (result ≡ TOO_SMALL) → ¬ (result ≡ CLOSED) →
         ¬ (result ≡ NO_REGION) → result ≡ MEMORY }
     ensures untouched { ¬ (result ≡ OK) → out.new ≡ out.old }
     ensures no_length { ¬ (result ≡ OK) → ¬ (result ≡ TOO_SMALL) → wrote.new ≡ 0 }
+    ensures kept { IsKept handle.old handle.new }
 {
     *wrote = 0;
-    let Some(engine) = handle.engine() else {
+    let Some(opened) = take(alloc, handle) else {
         return CLOSED;
     };
-    match under(engine, hint) {
+    let status = match under(engine_of(&opened), hint) {
         Some(engine) => report(engine, line, out, wrote),
         None => NO_REGION,
-    }
+    };
+    put(alloc, handle, opened);
+    status
 }
 
 /// Tells whether a text may be a number at all, as `is_viable` does: 1, else 0. It needs no

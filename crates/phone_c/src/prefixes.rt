@@ -3,13 +3,13 @@ ghost use Rattle.std.specs.Prelude.{◌≡◌, ◌⊎◌, ◌↔◌, IsUtf8, len
 ghost use Rattle.phone_prefixes.specs.Tables.{NoneBegins};
 ghost use Rattle.phone_c_base.specs.Buffers.{IsTooLongA, IsWrittenA};
 ghost use Rattle.phone_c_base.specs.PrefixTables.{IsLineRefusedAs, IsTableClosed};
-ghost use Rattle.phone_c_base.specs.PrefixTables.{IsTableOpen, IsTableOpenedBy};
+ghost use Rattle.phone_c_base.specs.PrefixTables.{IsTableKept, IsTableOpen, IsTableOpenedBy};
 ghost use Rattle.phone_c_base.specs.PrefixTables.{IsTextFor, IsTextOfLongest};
 
 use phone_c_base::prefixes::{longest, open_table};
 use phone_c_base::sharing::share_table;
 use phone_c_base::status::{CLOSED, MEMORY, NO_PREFIX, NOT_UTF8, OK, TOO_SMALL};
-use phone_c_base::table::{PrefixTable, close_table, open_behind};
+use phone_c_base::table::{PrefixTable, close_table, put_table, take_table};
 use std::alloc::Global;
 
 /// Opens the table of prefixes that a text is, as `Prefixes::of` reads it: lines of a prefix of 1
@@ -37,7 +37,7 @@ pub extern "C" fn phone_prefixes_open(
     close_table(alloc, table);
     match open_table(alloc, text) {
         Ok(prefixes) => {
-            open_behind(alloc, table, prefixes);
+            put_table(alloc, table, prefixes);
             OK
         }
         Err((status, at)) => {
@@ -55,13 +55,14 @@ pub extern "C" fn phone_prefixes_open(
 #[unsafe(no_mangle)]
 pub extern "C" fn phone_prefixes_share(
     alloc: Global,
-    table: &PrefixTable,
+    table: &mut PrefixTable,
     mine: &mut PrefixTable,
 ) -> u32
-    ensures shared { result ≡ OK → IsTableOpen mine.new table.now.entries }
-    ensures closed { (result ≡ CLOSED) ↔ IsTableClosed table.now }
+    ensures shared { result ≡ OK → IsTableOpen mine.new table.old.entries }
+    ensures closed { (result ≡ CLOSED) ↔ IsTableClosed table.old }
     ensures status { (result ≡ OK) ⊎ (result ≡ CLOSED) ⊎ (result ≡ MEMORY) }
     ensures refused { ¬ (result ≡ OK) → IsTableClosed mine.new }
+    ensures kept { IsTableKept table.old table.new }
 {
     share_table(alloc, table, mine)
 }
@@ -86,30 +87,34 @@ pub extern "C" fn phone_prefixes_close(alloc: Global, table: &mut PrefixTable)
 /// and `TOO_SMALL` `wrote` is 0.
 #[unsafe(no_mangle)]
 pub extern "C" fn phone_prefixes_longest(
-    table: &PrefixTable,
+    alloc: Global,
+    table: &mut PrefixTable,
     digits: &[u8],
     out: &mut [u8],
     wrote: &mut usize,
     prefix_len: &mut usize,
 ) -> u32
-    ensures written { result ≡ OK → IsWrittenA (λ text. IsTextOfLongest table.now.entries
+    ensures written { result ≡ OK → IsWrittenA (λ text. IsTextOfLongest table.old.entries
         digits.now text prefix_len.new) out.old out.new wrote.new }
     ensures too_small { result ≡ TOO_SMALL →
-        IsTooLongA (IsTextFor table.now.entries digits.now) out.old out.new wrote.new }
-    ensures closed { (result ≡ CLOSED) ↔ IsTableClosed table.now }
+        IsTooLongA (IsTextFor table.old.entries digits.now) out.old out.new wrote.new }
+    ensures closed { (result ≡ CLOSED) ↔ IsTableClosed table.old }
     ensures not_utf8 { (result ≡ NOT_UTF8) ↔
-        (¬ (IsTableClosed table.now) × ¬ (IsUtf8 digits.now)) }
+        (¬ (IsTableClosed table.old) × ¬ (IsUtf8 digits.now)) }
     ensures none { ¬ (result ≡ CLOSED) → ¬ (result ≡ NOT_UTF8) →
-        (result ≡ NO_PREFIX) ↔ NoneBegins table.now.entries digits.now }
+        (result ≡ NO_PREFIX) ↔ NoneBegins table.old.entries digits.now }
     ensures status { ¬ (result ≡ OK) → ¬ (result ≡ TOO_SMALL) → ¬ (result ≡ CLOSED) →
         ¬ (result ≡ NOT_UTF8) → result ≡ NO_PREFIX }
     ensures untouched { ¬ (result ≡ OK) → out.new ≡ out.old }
     ensures no_prefix { ¬ (result ≡ OK) → prefix_len.new ≡ prefix_len.old }
     ensures no_length { ¬ (result ≡ OK) → ¬ (result ≡ TOO_SMALL) → wrote.new ≡ 0 }
+    ensures kept { IsTableKept table.old table.new }
 {
     *wrote = 0;
-    let Some(prefixes) = table.prefixes() else {
+    let Some(owner) = take_table(alloc, table) else {
         return CLOSED;
     };
-    longest(prefixes, digits, out, wrote, prefix_len)
+    let status = longest(owner.thing(), digits, out, wrote, prefix_len);
+    put_table(alloc, table, owner);
+    status
 }

@@ -1,17 +1,13 @@
--- The handle of a database: what is owned behind it, and what a `&` to one shows. Assumes `Logic`.
-use Rattle.std.proofs.Common.{◌≡◌, ℕ, ◌+◌, List, [], ◌∷◌, ◌++◌, refl, subst}
+-- The machine values of the handle of a database, and what is owned behind it. Assumes `Logic`.
+use Rattle.std.proofs.Common.{◌≡◌, List, [], ◌∷◌, ◌++◌, refl, subst}
 use seplogic.Ra.Ura.{Ura}
 use mir.Val.{Val, vstruct, of_list}
-use base.Fml.{Lft, Fml}
-use base.Logic.{ent, sep}
-use types.Logic.{Logic, sem}
-use types.Kit.{Item, Goal, Seq, Step, step, ‵, ◌$◌, ◌∵◌, !, qed, drop, keep, fsplit, fjoin, fpick, fpack, feq_i, feq_l, done}
-use denote.Memory.{hidden_shr}
-use denote.Opens.{shr_dup, unhide, hide}
-use denote.RattleType.{RattleType, RowLaws, Valss}
-use denote.RawPtr.{Ptr, RawPtr, ptr_row_laws, ptr_val}
+use types.Logic.{Logic}
+use types.Kit.{Item, Goal, Seq, Step, step, ‵, ◌$◌, drop, fsplit, fjoin, fpick, fpack, feq_i, feq_l}
+use denote.RattleType.{RattleType, Valss}
+use denote.RawPtr.{Ptr, RawPtr, ptr_val}
 use denote.Steps.{nothing}
-use denote.Struct.Struct.{Struct, Struct-row_laws, within}
+use denote.Struct.Struct.{within}
 use denote.Struct.Owning.{shape}
 use Rattle.std_alloc.proofs.BoxSteps.Form.{Bx}
 use Rattle.phone_records.specs.declared.loader.Metadata.{Metadata}
@@ -29,20 +25,6 @@ behind = opened.the_row
 -- a box of that
 abbrev pub E : Bx
 E = box_of behind laws_of.the_row_laws
-
-abbrev pub Words : RattleType
-Words = Struct (shape handle.the_type)
-
-module _ {M : Type 1} {𝓤 : Ura M} (𝓛 : Logic 𝓤) (κ : Lft) (b o : ℕ) (h : handle.the_row.Denot) where
-  abbrev S : Fml
-  S = hidden_shr Words κ (h.at, tt) b o
-
-  laws : RowLaws Words
-  laws = Struct-row_laws (shape handle.the_type) (ptr_row_laws, tt)
-
-  -- a `&` to the handle shows one to its pointer
-  pub shows_at : ent 𝓤 (sem 𝓛 S) (sep 𝓤 (sem 𝓛 (hidden_shr RawPtr κ h.at b (o + 0))) (sem 𝓛 S))
-  shows_at = qed 𝓛 (‵ S ∷ []) ∵ shr_dup ! Words laws (h.at, tt) b o κ $ unhide ! $ fsplit ! $ fsplit ! $ hide ! $ keep ! (0 ∷ 3 ∷ []) $ done !
 
 module _ {M : Type 1} {𝓤 : Ura M} {𝓛 : Logic 𝓤} {K : Type 0} {Γ : List (Item 𝓤)} {G : Goal 𝓤 𝓛.H} where
   -- what is owned at the pointer becomes the handle's

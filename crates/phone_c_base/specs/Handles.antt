@@ -23,3 +23,8 @@ IsOpenOf h db rules = InBlock h.at × (h.records ≡ db) × (rules ≡ rules_num
 abbrev pub IsOpenedBy : List ℕ → (rules : ℕ) → Handle → Type 0
 IsOpenedBy text rules h =
     InBlock h.at × IsDatabaseOf text h.records × (rules ≡ rules_number h.rules)
+
+-- the handle is as it was: closed, or the same database is open behind it, asked by the same rules
+abbrev pub IsKept : (before after : Handle) → Type 0
+IsKept before after = (IsClosed before → IsClosed after) ×
+    (¬ (IsClosed before) → IsOpen after before.records before.rules)

@@ -1,9 +1,8 @@
--- What a handle owns, and what a `&` to one holds.
+-- What a handle owns.
 use Rattle.std.specs.Prelude.{List}
-use base.Fml.{Fml, Lft, fex, fsep, ftrue}
+use base.Fml.{Fml}
 use denote.RattleType.{RattleType}
-use denote.RawPtr.{Ptr, Testable}
-use denote.Struct.Lending.{lent_at}
+use denote.RawPtr.{Ptr}
 use Rattle.core.specs.Ptr.{if_non_null}
 use Rattle.std.specs.declared.alloc.Global.{Global}
 use Rattle.std.specs.contracts.impls.GlobalAllocator.TheImpl.{ghosts}
@@ -19,34 +18,18 @@ use Rattle.phone_values.specs.declared.rules.Rules.{Rules}
 abbrev pub c_heap : Global
 c_heap = record { memory = record { seal = tt } }
 
--- the pointer may be compared with null
-abbrev pub testable : Ptr → Fml
-testable p = fex (Testable p) (λ _. ftrue)
-
 -- at p lies a value, with the right to free its block
 abbrev pub boxed_at : (R : RattleType) → Ptr → R.Denot → Fml
 boxed_at R p x = box_owns (ghosts.dealloc_token c_heap) R p x
 
--- nothing at null, else the value that is boxed at p, which may be compared with null
+-- nothing at null, else the value that is boxed at p
 abbrev pub pointer_owns : (R : RattleType) → Ptr → R.Denot → Fml
-pointer_owns R p x = if_non_null p (fsep (testable p) (boxed_at R p x))
-
--- for a lifetime nothing at null, else a `&` to the value at p, which may be compared with null
-abbrev pub pointer_lends : (R : RattleType) → Ptr → R.Denot → Lft → Fml
-pointer_lends R p x κ = if_non_null p (fsep (testable p) (lent_at R p x κ))
+pointer_owns R p x = if_non_null p (boxed_at R p x)
 
 -- the handle of a database: one of the owners of the database of these records, and these rules
 abbrev pub handle_owns : Ptr → List Metadata × Rules → Fml
 handle_owns = pointer_owns opened.the_row
 
--- a `&` to such a handle
-abbrev pub handle_lends : Ptr → List Metadata × Rules → Lft → Fml
-handle_lends = pointer_lends opened.the_row
-
 -- the handle of a table of prefixes: one of the owners of the table of these entries
 abbrev pub table_owns : Ptr → List Entry → Fml
 table_owns = pointer_owns (owner.the_row prefixes.the_row)
-
--- a `&` to such a handle
-abbrev pub table_lends : Ptr → List Entry → Lft → Fml
-table_lends = pointer_lends (owner.the_row prefixes.the_row)

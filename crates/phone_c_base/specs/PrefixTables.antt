@@ -31,6 +31,11 @@ IsTableOpen t entries = InBlock t.at × (t.entries ≡ entries)
 abbrev pub IsTableOpenedBy : List ℕ → PrefixTable → Type 0
 IsTableOpenedBy text t = InBlock t.at × IsTable text t.entries
 
+-- the handle is as it was: closed, or the same table is open behind it
+abbrev pub IsTableKept : (before after : PrefixTable) → Type 0
+IsTableKept before after = (IsTableClosed before → IsTableClosed after) ×
+    (¬ (IsTableClosed before) → IsTableOpen after before.entries)
+
 -- the line of this number is the first that is no entry's, and the status says what is wrong
 abbrev pub IsLineRefusedAs : List ℕ → (line status : ℕ) → Type 0
 IsLineRefusedAs text line status =

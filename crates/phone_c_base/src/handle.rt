@@ -1,13 +1,11 @@
 //! A handle: the pointer by which C keeps a database, and by whose rules it is asked.
-ghost use Rattle.std.specs.Prelude.{◌≡◌, List, MatchOption, None};
+ghost use Rattle.std.specs.Prelude.{◌≡◌, List, MatchOption};
 ghost use denote.RawPtr.{null_ptr, InBlock};
 ghost use Rattle.phone_records.specs.declared.loader.Metadata.{Metadata};
 ghost use Rattle.phone_values.specs.declared.rules.Rules.{Rules};
 
 use crate::opened::Opened;
 use crate::raw_box::RawBox;
-use phone_engine::Engine;
-use phone_plans::Plans;
 use std::alloc::Global;
 use std::marker::Model;
 
@@ -22,11 +20,9 @@ pub struct Handle {
 }
 
 impl Model for Handle {
-    ghost use Rattle.phone_c_base.specs.Owned.{handle_lends, handle_owns};
+    ghost use Rattle.phone_c_base.specs.Owned.{handle_owns};
 
     ghost also_owns = { λ h. handle_owns h.at (h.records, h.rules) };
-
-    ghost also_shares = { λ h _ κ. handle_lends h.at (h.records, h.rules) κ };
 }
 
 /// A handle, closed or open, may be passed to another thread: several threads may read a database.
@@ -67,60 +63,23 @@ impl Handle {
             })
         }
     }
-
-    /// What is open behind the handle, which is only read.
-    pub(crate) fn opened(&self) -> Option<&Opened>
-        ensures { MatchOption result (self.now.at ≡ null_ptr) (λ o. InBlock self.now.at ×
-            (o.now.0 ≡ self.now.records) × (o.now.1 ≡ self.now.rules)) }
-    {
-        let at = self.at as *const Opened;
-        if at.is_null() {
-            None
-        } else {
-            Some(unsafe { &*at })
-        }
-    }
-
-    /// The database that is open behind the handle.
-    pub fn database(&self) -> Option<&Plans>
-        ensures { MatchOption result (self.now.at ≡ null_ptr)
-            (λ d. InBlock self.now.at × (d.now ≡ self.now.records)) }
-    {
-        match self.opened() {
-            Some(opened) => Some(opened.database()),
-            None => None,
-        }
-    }
-
-    /// The engine that a call asks: of the database that is open behind the handle, by the rules by
-    /// which it is asked, without a hint.
-    pub fn engine(&self) -> Option<Engine<'_>>
-        ensures { MatchOption result (self.now.at ≡ null_ptr) (λ e. InBlock self.now.at ×
-            (e.rules ≡ self.now.rules) × (e.database.now ≡ self.now.records) × (e.hint ≡ None)) }
-    {
-        match self.opened() {
-            Some(opened) => Some(Engine {
-                database: opened.database(),
-                rules: opened.rules(),
-                hint: None,
-            }),
-            None => None,
-        }
-    }
 }
 
-/// Closes a handle: what it held is dropped.
-pub fn close(alloc: Global, handle: &mut Handle)
-    ensures { handle.new.at ≡ null_ptr }
+/// Takes what is open behind a handle out of it; the handle is closed then.
+pub fn take(alloc: Global, handle: &mut Handle) -> Option<Box<Opened>>
+    ensures opened { MatchOption result (handle.old.at ≡ null_ptr) (λ o. InBlock handle.old.at ×
+        (o.value.0 ≡ handle.old.records) × (o.value.1 ≡ handle.old.rules)) }
+    ensures closed { handle.new.at ≡ null_ptr }
 {
     let whole = std::mem::replace(handle, Handle::empty());
-    if let Some(loose) = whole.into_raw(alloc) {
-        drop(loose.into_box());
+    match whole.into_raw(alloc) {
+        Some(loose) => Some(loose.into_box()),
+        None => None,
     }
 }
 
-/// Opens what is boxed behind a handle; what the handle held is dropped.
-pub fn open(alloc: Global, handle: &mut Handle, opened: Box<Opened>)
+/// Puts what is open behind a handle; what the handle held is dropped.
+pub fn put(alloc: Global, handle: &mut Handle, opened: Box<Opened>)
     ensures open { InBlock handle.new.at }
     ensures records { handle.new.records ≡ opened.value.0 }
     ensures rules { handle.new.rules ≡ opened.value.1 }
@@ -128,5 +87,14 @@ pub fn open(alloc: Global, handle: &mut Handle, opened: Box<Opened>)
     let before = std::mem::replace(handle, Handle::of_raw(RawBox::of(opened)));
     if let Some(loose) = before.into_raw(alloc) {
         drop(loose.into_box());
+    }
+}
+
+/// Closes a handle: what it held is dropped.
+pub fn close(alloc: Global, handle: &mut Handle)
+    ensures { handle.new.at ≡ null_ptr }
+{
+    if let Some(opened) = take(alloc, handle) {
+        drop(opened);
     }
 }

@@ -1,79 +1,94 @@
 //! A second handle of what is open behind a first.
-ghost use Rattle.std.specs.Prelude.{◌≡◌, ◌⊎◌, ◌↔◌};
-ghost use Rattle.phone_c_base.specs.Handles.{IsClosed, IsOpen};
-ghost use Rattle.phone_c_base.specs.PrefixTables.{IsTableClosed, IsTableOpen};
+ghost use Rattle.std.specs.Prelude.{◌≡◌, ◌⊎◌, ◌↔◌, IfOk};
+ghost use Rattle.phone_c_base.specs.Handles.{IsClosed, IsKept, IsOpen};
+ghost use Rattle.phone_c_base.specs.PrefixTables.{IsTableClosed, IsTableKept, IsTableOpen};
 
-use crate::handle::{Handle, close, open};
+use crate::handle::{Handle, close, put, take};
 use crate::opened::Opened;
+use crate::shared::Owner;
 use crate::status::{CLOSED, MEMORY, OK};
-use crate::table::{PrefixTable, close_table, open_behind};
+use crate::table::{PrefixTable, close_table, put_table, take_table};
 use phone_engine::Rules;
-use std::alloc::Global;
+use phone_prefixes::Prefixes;
+use std::alloc::{AllocError, Global};
 
-/// Opens behind `mine` the database that is open behind `world`, asked by the same rules. What
-/// `mine` had open is closed first, whatever comes.
-pub fn share(alloc: Global, world: &Handle, mine: &mut Handle) -> u32
-    ensures shared { result ≡ OK → IsOpen mine.new world.now.records world.now.rules }
-    ensures closed { (result ≡ CLOSED) ↔ IsClosed world.now }
+/// Opens behind `mine` the database that is open behind `world`, asked by the same rules; `world`
+/// stays as it was. What `mine` had open is closed first, whatever comes.
+pub fn share(alloc: Global, world: &mut Handle, mine: &mut Handle) -> u32
+    ensures shared { result ≡ OK → IsOpen mine.new world.old.records world.old.rules }
+    ensures closed { (result ≡ CLOSED) ↔ IsClosed world.old }
     ensures status { (result ≡ OK) ⊎ (result ≡ CLOSED) ⊎ (result ≡ MEMORY) }
     ensures refused { ¬ (result ≡ OK) → IsClosed mine.new }
+    ensures kept { IsKept world.old world.new }
 {
     close(alloc, mine);
-    match world.opened() {
-        Some(opened) => share_opened(alloc, opened, opened.rules(), mine),
-        None => CLOSED,
-    }
+    let Some(opened) = take(alloc, world) else {
+        return CLOSED;
+    };
+    let again = opened.again(alloc, opened.rules());
+    put(alloc, world, opened);
+    put_again(alloc, again, mine)
 }
 
 /// The same, asked by these rules.
-pub fn share_by(alloc: Global, world: &Handle, rules: Rules, mine: &mut Handle) -> u32
-    ensures shared { result ≡ OK → IsOpen mine.new world.now.records rules }
-    ensures closed { (result ≡ CLOSED) ↔ IsClosed world.now }
+pub fn share_by(alloc: Global, world: &mut Handle, rules: Rules, mine: &mut Handle) -> u32
+    ensures shared { result ≡ OK → IsOpen mine.new world.old.records rules }
+    ensures closed { (result ≡ CLOSED) ↔ IsClosed world.old }
     ensures status { (result ≡ OK) ⊎ (result ≡ CLOSED) ⊎ (result ≡ MEMORY) }
     ensures refused { ¬ (result ≡ OK) → IsClosed mine.new }
+    ensures kept { IsKept world.old world.new }
 {
     close(alloc, mine);
-    match world.opened() {
-        Some(opened) => share_opened(alloc, opened, rules, mine),
-        None => CLOSED,
-    }
+    let Some(opened) = take(alloc, world) else {
+        return CLOSED;
+    };
+    let again = opened.again(alloc, rules);
+    put(alloc, world, opened);
+    put_again(alloc, again, mine)
 }
 
-/// Opens behind a closed handle what is open behind another, asked by these rules.
-fn share_opened(alloc: Global, opened: &Opened, rules: Rules, mine: &mut Handle) -> u32
-    ensures shared { result ≡ OK → IsOpen mine.new opened.now.0 rules }
+/// Puts one owner more, where memory was given for it, behind a handle.
+fn put_again(alloc: Global, again: Result<Box<Opened>, AllocError>, mine: &mut Handle) -> u32
+    ensures shared { result ≡ OK → IfOk again (λ o. IsOpen mine.new o.value.0 o.value.1) }
     ensures status { (result ≡ OK) ⊎ (result ≡ MEMORY) }
     ensures refused { ¬ (result ≡ OK) → mine.new ≡ mine.old }
 {
-    match opened.again(alloc, rules) {
+    match again {
         Ok(again) => {
-            open(alloc, mine, again);
+            put(alloc, mine, again);
             OK
         }
         Err(_) => MEMORY,
     }
 }
 
-/// Opens behind `mine` the table of prefixes that is open behind `table`. What `mine` had open is
-/// closed first, whatever comes.
-pub fn share_table(alloc: Global, table: &PrefixTable, mine: &mut PrefixTable) -> u32
-    ensures shared { result ≡ OK → IsTableOpen mine.new table.now.entries }
-    ensures closed { (result ≡ CLOSED) ↔ IsTableClosed table.now }
+/// Opens behind `mine` the table of prefixes that is open behind `table`, which stays as it was.
+/// What `mine` had open is closed first, whatever comes.
+pub fn share_table(alloc: Global, table: &mut PrefixTable, mine: &mut PrefixTable) -> u32
+    ensures shared { result ≡ OK → IsTableOpen mine.new table.old.entries }
+    ensures closed { (result ≡ CLOSED) ↔ IsTableClosed table.old }
     ensures status { (result ≡ OK) ⊎ (result ≡ CLOSED) ⊎ (result ≡ MEMORY) }
     ensures refused { ¬ (result ≡ OK) → IsTableClosed mine.new }
+    ensures kept { IsTableKept table.old table.new }
 {
     close_table(alloc, mine);
-    let Some(owner) = table.opened() else {
+    let Some(owner) = take_table(alloc, table) else {
         return CLOSED;
     };
-    let Ok(again) = owner.again() else {
-        return MEMORY;
-    };
-    match again.boxed(alloc) {
+    let again = again_boxed(alloc, &owner);
+    put_table(alloc, table, owner);
+    match again {
         Ok(again) => {
-            open_behind(alloc, mine, again);
+            put_table(alloc, mine, again);
             OK
         }
         Err(_) => MEMORY,
     }
+}
+
+/// One owner more of a table, in a box. Refused only for memory.
+fn again_boxed(alloc: Global, owner: &Owner<Prefixes>) -> Result<Box<Owner<Prefixes>>, AllocError>
+    ensures { IfOk result (λ again. again.value ≡ owner.now) }
+{
+    owner.again()?.boxed(alloc)
 }

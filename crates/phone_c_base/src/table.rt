@@ -19,11 +19,9 @@ pub struct PrefixTable {
 }
 
 impl Model for PrefixTable {
-    ghost use Rattle.phone_c_base.specs.Owned.{table_lends, table_owns};
+    ghost use Rattle.phone_c_base.specs.Owned.{table_owns};
 
     ghost also_owns = { λ t. table_owns t.at t.entries };
-
-    ghost also_shares = { λ t _ κ. table_lends t.at t.entries κ };
 }
 
 /// A handle, closed or open, may be passed to another thread: a table is plain data.
@@ -63,29 +61,29 @@ impl PrefixTable {
             })
         }
     }
+}
 
-    /// What is open behind the handle, which is only read.
-    pub(crate) fn opened(&self) -> Option<&Owner<Prefixes>>
-        ensures { MatchOption result (self.now.at ≡ null_ptr)
-            (λ o. InBlock self.now.at × (o.now ≡ self.now.entries)) }
-    {
-        let at = self.at as *const Owner<Prefixes>;
-        if at.is_null() {
-            None
-        } else {
-            Some(unsafe { &*at })
-        }
+/// Takes what is open behind the handle of a table out of it; the handle is closed then.
+pub fn take_table(alloc: Global, table: &mut PrefixTable) -> Option<Box<Owner<Prefixes>>>
+    ensures entries { MatchOption result (table.old.at ≡ null_ptr)
+        (λ owner. InBlock table.old.at × (owner.value ≡ table.old.entries)) }
+    ensures closed { table.new.at ≡ null_ptr }
+{
+    let whole = std::mem::replace(table, PrefixTable::empty());
+    match whole.into_raw(alloc) {
+        Some(loose) => Some(loose.into_box()),
+        None => None,
     }
+}
 
-    /// The table that is open behind the handle.
-    pub fn prefixes(&self) -> Option<&Prefixes>
-        ensures { MatchOption result (self.now.at ≡ null_ptr)
-            (λ p. InBlock self.now.at × (p.now ≡ self.now.entries)) }
-    {
-        match self.opened() {
-            Some(owner) => Some(owner.thing()),
-            None => None,
-        }
+/// Puts an owner of a table behind a handle; what the handle held is dropped.
+pub fn put_table(alloc: Global, table: &mut PrefixTable, prefixes: Box<Owner<Prefixes>>)
+    ensures open { InBlock table.new.at }
+    ensures entries { table.new.entries ≡ prefixes.value }
+{
+    let before = std::mem::replace(table, PrefixTable::of_raw(RawBox::of(prefixes)));
+    if let Some(loose) = before.into_raw(alloc) {
+        drop(loose.into_box());
     }
 }
 
@@ -93,19 +91,7 @@ impl PrefixTable {
 pub fn close_table(alloc: Global, table: &mut PrefixTable)
     ensures { table.new.at ≡ null_ptr }
 {
-    let whole = std::mem::replace(table, PrefixTable::empty());
-    if let Some(loose) = whole.into_raw(alloc) {
-        drop(loose.into_box());
-    }
-}
-
-/// Opens a table behind a handle; what the handle held is dropped.
-pub fn open_behind(alloc: Global, table: &mut PrefixTable, prefixes: Box<Owner<Prefixes>>)
-    ensures open { InBlock table.new.at }
-    ensures entries { table.new.entries ≡ prefixes.value }
-{
-    let before = std::mem::replace(table, PrefixTable::of_raw(RawBox::of(prefixes)));
-    if let Some(loose) = before.into_raw(alloc) {
-        drop(loose.into_box());
+    if let Some(owner) = take_table(alloc, table) {
+        drop(owner);
     }
 }

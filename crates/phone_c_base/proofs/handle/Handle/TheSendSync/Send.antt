@@ -19,11 +19,8 @@ use Rattle.std.proofs.Common.{List}
 owned : (p : Ptr) (known : List Metadata × Rules) → Keyless (handle_owns p known)
 owned null_ptr known = tt
 owned (block_ptr b o) known = (
-  (λ may. tt),
-  (
-    lies behind Opened-send (block_ptr b o) known,
-    heap.frees.frees c_heap (raw (lone behind.mir)) (block_ptr b o),
-  ),
+  lies behind Opened-send (block_ptr b o) known,
+  heap.frees.frees c_heap (raw (lone behind.mir)) (block_ptr b o),
 )
 
 pub send : IsSend the_row

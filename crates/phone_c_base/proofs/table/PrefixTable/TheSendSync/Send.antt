@@ -18,11 +18,8 @@ use Rattle.phone_c_base.proofs.Crossing.{Prefixes-owner-send}
 owned : (p : Ptr) (entries : List Entry) → Keyless (table_owns p entries)
 owned null_ptr entries = tt
 owned (block_ptr b o) entries = (
-  (λ may. tt),
-  (
-    lies behind Prefixes-owner-send (block_ptr b o) entries,
-    heap.frees.frees c_heap (raw (lone behind.mir)) (block_ptr b o),
-  ),
+  lies behind Prefixes-owner-send (block_ptr b o) entries,
+  heap.frees.frees c_heap (raw (lone behind.mir)) (block_ptr b o),
 )
 
 pub send : IsSend the_row
