@@ -25,9 +25,8 @@ pub fn share(alloc: Global, world: &mut Handle, mine: &mut Handle) -> u32
     let Some(opened) = take(alloc, world) else {
         return CLOSED;
     };
-    let again = opened.again(alloc, opened.rules());
-    put(alloc, world, opened);
-    put_again(alloc, again, mine)
+    let rules = opened.rules();
+    share_taken(alloc, world, opened, rules, mine)
 }
 
 /// The same, asked by these rules.
@@ -42,17 +41,25 @@ pub fn share_by(alloc: Global, world: &mut Handle, rules: Rules, mine: &mut Hand
     let Some(opened) = take(alloc, world) else {
         return CLOSED;
     };
-    let again = opened.again(alloc, rules);
-    put(alloc, world, opened);
-    put_again(alloc, again, mine)
+    share_taken(alloc, world, opened, rules, mine)
 }
 
-/// Puts one owner more, where memory was given for it, behind a handle.
-fn put_again(alloc: Global, again: Result<Box<Opened>, AllocError>, mine: &mut Handle) -> u32
-    ensures shared { result ≡ OK → IfOk again (λ o. IsOpen mine.new o.value.0 o.value.1) }
+/// Puts what was taken out of `world` back, and behind `mine` the same database, asked by these
+/// rules.
+fn share_taken(
+    alloc: Global,
+    world: &mut Handle,
+    opened: Box<Opened>,
+    rules: Rules,
+    mine: &mut Handle,
+) -> u32
+    ensures shared { result ≡ OK → IsOpen mine.new opened.value.0 rules }
     ensures status { (result ≡ OK) ⊎ (result ≡ MEMORY) }
     ensures refused { ¬ (result ≡ OK) → mine.new ≡ mine.old }
+    ensures back { IsOpen world.new opened.value.0 opened.value.1 }
 {
+    let again = opened.again(alloc, rules);
+    put(alloc, world, opened);
     match again {
         Ok(again) => {
             put(alloc, mine, again);
