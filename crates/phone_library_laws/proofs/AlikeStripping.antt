@@ -101,7 +101,7 @@ module _ (m : Metadata) (digits : List ℕ) where
 
   second_stays : (pattern : List ℕ) (o : Option Seen) → option_map_or (λ (s : Seen). s.0 == 0) o false ≡ false →
       option_map_or (λ (found : Captured).
-          if found.span.0 == 0 then left_by_match pattern m.national_prefix_transform_rule digits found found.last else untouched digits)
+      if found.span.0 == 0 then left_by_match pattern m.national_prefix_transform_rule digits found found.last else untouched digits)
       (option_map (captured_by (last_group pattern)) o) (untouched digits) ≡ untouched digits
   second_stays pattern None h = refl
   second_stays pattern (Some s) h = cond-false _ _ _ h
