@@ -16,4 +16,4 @@ returns-in-Some-clause-digits c =
     ok_again c.digit_values.result _ _ (λ s h. ap (list_all is_digit) h ∙ values_digits (chars c.in-Some.core.now)) c.digit_values.ensures
 
 pub returns-in-None-clause-values : goal.returns-in-None-clause-values
-returns-in-None-clause-values c = sym (no_core_digits (chars c.args.text.now) c.in-None.ensures.core)
+returns-in-None-clause-values c = c.new.ensures.bytes ∙ sym (no_core_digits (chars c.args.text.now) c.in-None.ensures.core)
