@@ -1,0 +1,92 @@
+-- That the beginning of a plain number is shown as it stands in the printed text.
+use Rattle.std.proofs.Common.{◌≡◌, ℕ, suc, ◌+◌, ◌≤◌, ◌==◌, ◌&&◌, ◌||◌, Bool, true, false, is_some, cond, List, [], ◌∷◌, ◌++◌, map, take, drop, length, filter, Option, None, Some, unwrap_or, append-nil, refl, ap, ap₂, sym, subst, ◌∙◌, arith, true≢false}
+use Rattle.std.proofs.Math.Seq.{drop-append_seam, take-append_seam}
+use Rattle.std.proofs.lemmas.Bool.{and_from, and_parts, cond-true}
+use Rattle.std.proofs.lemmas.List.{length-append}
+use Rattle.std.proofs.lemmas.List.Folds.{list_all-append}
+use Rattle.std.specs.List.{find, list_all}
+use Rattle.std.specs.Option.{option_or}
+use Rattle.phone_values.specs.Numbers.{text_of}
+use Rattle.phone_values.specs.declared.mode.Mode.{Mode}
+use Rattle.phone_values.specs.declared.reading.Reading.{Reading}
+use Rattle.phone_print.specs.Layouts.{layouts_for, template_for}
+use Rattle.phone_print.specs.Texts.{laid_out}
+use Rattle.phone_records.specs.declared.loader.Format.{Format}
+use Rattle.phone_records.specs.declared.loader.Metadata.{Metadata}
+use Rattle.phone_territory.specs.First.{is_whole_match}
+use Rattle.phone_territory.specs.Layouts.{laid_by, layout_pattern}
+use Rattle.phone_typed.specs.Beginnings.{IsBegun, partial_layout, serves}
+use Rattle.phone_typed.specs.Keys.{is_key, shows, up_to_key}
+use Rattle.phone_typed.specs.Printed.{IsPlain}
+use Rattle.phone_typed.specs.Typed.{first_complete, first_partial, if_shows, is_short, lays_out, nines, partial_text, text_of_keys, with_nines}
+use Rattle.phone_typed.proofs.BlankTexts.{blanks, same_front}
+use Rattle.phone_typed.proofs.LaidAlike.{all-drop, laid_alike}
+use Rattle.phone_typed.proofs.PrintedTexts.{first_by, found_passes, laid_text}
+use Rattle.phone_typed.proofs.TypedKeys.{Shows-shows}
+
+-- nines after keys are keys
+with_nines_keys : (digits : List ℕ) → list_all is_key digits ≡ true → list_all is_key (with_nines digits) ≡ true
+with_nines_keys digits are = list_all-append is_key digits (drop (length digits) nines) ∙ and_from _ _ are (all-drop (length digits) nines refl)
+
+-- where a layout serves a beginning, it lays it out, and its text shows the keys
+served : (b : Bool) (keys text : List ℕ) → is_some (cond b (if_shows keys text) None) ≡ true →
+    (b ≡ true) × (shows keys text ≡ true) × (cond b (if_shows keys text) None ≡ Some text)
+served false keys text h = absurd (cc)
+served true keys text h = at (shows keys text) refl h
+  where
+    at : (x : Bool) → shows keys text ≡ x → is_some (cond x (Some text) None) ≡ true →
+        (true ≡ true) × (shows keys text ≡ true) × (cond (shows keys text) (Some text) None ≡ Some text)
+    at true e h = (refl, e, ap (λ x. cond x (Some text) None) e)
+    at false e h = absurd (cc)
+
+unserved : (o : Option (List ℕ)) → is_some o ≡ false → o ≡ None
+unserved None h = refl
+unserved (Some t) h = absurd (cc)
+
+none_complete : (o : Option (List ℕ)) (found : Option Format) (f : Format) → cond (is_some o) None found ≡ Some f → (o ≡ None) × (found ≡ Some f)
+none_complete None found f h = (refl, h)
+none_complete (Some t) found f h = absurd (cc)
+
+module _ (m : Metadata) (mode : Mode) (n : Reading) (all national keys rest : List ℕ) (plain : IsPlain m mode n all) (h : IsBegun m mode n national keys) where
+  abbrev text : List ℕ
+  text = laid_out m mode None n
+
+  abbrev begun_text : List ℕ
+  begun_text = laid_by h.layout (template_for h.layout m mode None) (with_nines national)
+
+  parts : (first_complete m mode national keys ≡ None) × (find (serves m mode national keys) (layouts_for m mode) ≡ Some h.layout)
+  parts = none_complete (first_complete m mode national keys) (find (serves m mode national keys) (layouts_for m mode)) h.layout h.begun
+
+  told : (lays_out (length national) (with_nines national) h.layout ≡ true) × (shows keys (up_to_key (length keys) begun_text) ≡ true)
+      × (partial_text m mode (length national) (with_nines national) keys h.layout ≡ Some (up_to_key (length keys) begun_text))
+  told = served (lays_out (length national) (with_nines national) h.layout) keys (up_to_key (length keys) begun_text)
+      (found_passes (serves m mode national keys) (layouts_for m mode) h.layout parts.1)
+
+  -- what is shown is what the layout prints, up to the last key
+  by_layout : text_of_keys m mode national keys ≡ up_to_key (length keys) begun_text
+  by_layout =
+      ap (λ b. cond b keys (unwrap_or (option_or (first_complete m mode national keys) (first_partial m mode national keys)) keys)) h.long_enough
+      ∙ ap (λ o. unwrap_or (option_or o (first_partial m mode national keys)) keys) parts.0
+      ∙ ap (λ o. unwrap_or o keys)
+      (first_by (serves m mode national keys) (partial_text m mode (length national) (with_nines national) keys) (layouts_for m mode) h.layout (up_to_key (length keys) begun_text)
+      (λ g e. unserved (partial_text m mode (length national) (with_nines national) keys g) e) parts.1 told.2)
+
+  same_layout : plain.layout ≡ h.layout
+  same_layout = let same : Some plain.layout ≡ Some h.layout = sym plain.first ∙ h.complete in cc
+
+  printed : laid_by h.layout (template_for h.layout m mode None) (text_of n.national) ≡ text
+  printed = subst (λ f. laid_by f (template_for f m mode None) (text_of n.national) ≡ text) same_layout (laid_text m mode n all plain)
+
+  pub text_of_begun : all ≡ keys ++ rest → list_all is_key (text_of n.national) ≡ true → list_all is_key national ≡ true →
+      text_of_keys m mode national keys ≡ up_to_key (length keys) text
+  text_of_begun split digits are =
+      let whole = subst (λ f. is_whole_match (layout_pattern f) (text_of n.national) ≡ true) same_layout plain.whole in
+      let laid = laid_alike h.layout (template_for h.layout m mode None) (text_of n.national) (with_nines national) (length national)
+      digits (with_nines_keys national are) h.alike whole told.0 in
+      let shown : filter is_key text ≡ keys ++ rest = (Shows-shows all text plain.shown).0 ∙ split in
+      let some : length keys ≤ length (filter is_key text) = omega (arith, ap length shown, length-append keys rest) in
+      let begun : filter is_key (up_to_key (length keys) begun_text) ≡ keys = (Shows-shows keys _ told.1).0 in
+      by_layout
+      ∙ ap (up_to_key (length keys)) laid.2
+      ∙ same_front (length keys) text laid.0 laid.1 (laid.3 ∙ ap blanks printed) some
+      (ap (λ t. filter is_key (up_to_key (length keys) t)) (sym laid.2) ∙ begun ∙ sym (ap (take (length keys)) shown ∙ take-append_seam keys rest))
