@@ -1,5 +1,5 @@
 -- That the beginnings of plain numbers are shown as they stand in the printed texts.
-use Rattle.std.proofs.Common.{◌≡◌, ℕ, suc, zero, ◌+◌, ◌/◌, ◌%◌, ◌<◌, ◌==◌, ◌||◌, nat_lt, nat_le, Bool, true, false, if◌then◌else◌, cond, List, [], ◌∷◌, ◌++◌, take, drop, length, replicate, Option, None, Some, append-nil, refl, ap, ap₂, sym, subst, ◌∙◌, arith, true≢false, lt-ltb}
+use Rattle.std.proofs.Common.{◌≡◌, ℕ, suc, zero, ◌+◌, ◌/◌, ◌%◌, ◌<◌, ◌==◌, ◌||◌, nat_le, true, false, if◌then◌else◌, List, [], ◌∷◌, ◌++◌, take, drop, length, replicate, Option, None, append-nil, refl, ap, ap₂, sym, ◌∙◌, arith, true≢false, lt-ltb}
 use Rattle.std.proofs.Math.Seq.{drop-append_seam, take-append_seam}
 use Rattle.std.proofs.lemmas.Bool.{and_from, and_parts, cond_both, le-leb, or_left}
 use Rattle.std.proofs.lemmas.List.{length-append}
@@ -83,8 +83,7 @@ begun_abroad db hint m n front rest plain split begun =
     ∙ ap₂ (λ front back. 43 ∷ (front ++ 32 ∷ text_of_keys m International back back)) (take-append_seam code front) (drop-append_seam code front)
     ∙ ap (λ t. 43 ∷ (code ++ 32 ∷ t)) (shown ∙ ap (up_to_key (length front)) (sym (nothing_follows m International n plain.plain.no_extension)))
     ∙ ap (λ t. 43 ∷ (code ++ t)) (sym (space front whole begun.long_enough))
-    ∙ ap (λ t. 43 ∷ t) (sym (up_to_key-keys code (32 ∷ whole) (length front) (digits_keys code (decimal_digits n.code.value))))
-    ∙ ap (λ i. 43 ∷ up_to_key i (code ++ 32 ∷ whole)) (sym (length-append code front))
+    ∙ ap (λ t. 43 ∷ t) (sym (up_to_key-keys code (32 ∷ whole) (length front) (length (code ++ front)) (digits_keys code (decimal_digits n.code.value)) (length-append code front)))
 
 -- a front of keys that don't begin with a plus sign doesn't begin with one
 unsigned_front : (keys rest : List ℕ) (first : ℕ) (others : List ℕ) → (first == 43) ≡ false → keys ++ rest ≡ first ∷ others → HasNoPlus keys

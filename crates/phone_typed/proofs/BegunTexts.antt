@@ -1,7 +1,7 @@
 -- That the beginning of a plain number is shown as it stands in the printed text.
-use Rattle.std.proofs.Common.{◌≡◌, ℕ, suc, ◌+◌, ◌≤◌, ◌==◌, ◌&&◌, ◌||◌, Bool, true, false, is_some, cond, List, [], ◌∷◌, ◌++◌, map, take, drop, length, filter, Option, None, Some, unwrap_or, append-nil, refl, ap, ap₂, sym, subst, ◌∙◌, arith, true≢false}
-use Rattle.std.proofs.Math.Seq.{drop-append_seam, take-append_seam}
-use Rattle.std.proofs.lemmas.Bool.{and_from, and_parts, cond-true}
+use Rattle.std.proofs.Common.{◌≡◌, ℕ, ◌+◌, ◌≤◌, Bool, true, false, is_some, cond, List, ◌++◌, take, drop, length, filter, Option, None, Some, unwrap_or, refl, ap, sym, subst, ◌∙◌, arith}
+use Rattle.std.proofs.Math.Seq.{take-append_seam}
+use Rattle.std.proofs.lemmas.Bool.{and_from}
 use Rattle.std.proofs.lemmas.List.{length-append}
 use Rattle.std.proofs.lemmas.List.Folds.{list_all-append}
 use Rattle.std.specs.List.{find, list_all}
@@ -15,10 +15,10 @@ use Rattle.phone_records.specs.declared.loader.Format.{Format}
 use Rattle.phone_records.specs.declared.loader.Metadata.{Metadata}
 use Rattle.phone_territory.specs.First.{is_whole_match}
 use Rattle.phone_territory.specs.Layouts.{laid_by, layout_pattern}
-use Rattle.phone_typed.specs.Beginnings.{IsBegun, partial_layout, serves}
+use Rattle.phone_typed.specs.Beginnings.{IsBegun, serves}
 use Rattle.phone_typed.specs.Keys.{is_key, shows, up_to_key}
 use Rattle.phone_typed.specs.Printed.{IsPlain}
-use Rattle.phone_typed.specs.Typed.{first_complete, first_partial, if_shows, is_short, lays_out, nines, partial_text, text_of_keys, with_nines}
+use Rattle.phone_typed.specs.Typed.{first_complete, first_partial, if_shows, lays_out, nines, partial_text, text_of_keys, with_nines}
 use Rattle.phone_typed.proofs.BlankTexts.{blanks, same_front}
 use Rattle.phone_typed.proofs.LaidAlike.{all-drop, laid_alike}
 use Rattle.phone_typed.proofs.PrintedTexts.{first_by, found_passes, laid_text}
@@ -85,7 +85,7 @@ module _ (m : Metadata) (mode : Mode) (n : Reading) (all national keys rest : Li
       digits (with_nines_keys national are) h.alike whole told.0 in
       let shown : filter is_key text ≡ keys ++ rest = (Shows-shows all text plain.shown).0 ∙ split in
       let some : length keys ≤ length (filter is_key text) = omega (arith, ap length shown, length-append keys rest) in
-      let begun : filter is_key (up_to_key (length keys) begun_text) ≡ keys = (Shows-shows keys _ told.1).0 in
+      let begun : filter is_key (up_to_key (length keys) begun_text) ≡ keys = (Shows-shows keys (up_to_key (length keys) begun_text) told.1).0 in
       by_layout
       ∙ ap (up_to_key (length keys)) laid.2
       ∙ same_front (length keys) text laid.0 laid.1 (laid.3 ∙ ap blanks printed) some

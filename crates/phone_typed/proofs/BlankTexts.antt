@@ -86,11 +86,15 @@ up_to_key-front (suc n) (c ∷ text) more some = at (is_key c) some (λ k. up_to
     at false some fewer same = ap (λ t. c ∷ t) (same some)
 
 -- past keys fewer are to come
-pub up_to_key-keys : (keys text : List ℕ) (n : ℕ) → list_all is_key keys ≡ true → up_to_key (length keys + n) (keys ++ text) ≡ keys ++ up_to_key n text
-up_to_key-keys [] text n are = refl
-up_to_key-keys (k ∷ keys) text n are =
+pub up_to_key-keys : (keys text : List ℕ) (n total : ℕ) → list_all is_key keys ≡ true → total ≡ length keys + n →
+    up_to_key total (keys ++ text) ≡ keys ++ up_to_key n text
+up_to_key-keys [] text n total are e = (let same : total ≡ n = omega (arith, e) in ap (λ i. up_to_key i text) same)
+up_to_key-keys (k ∷ keys) text n total are e =
     let parts = and_parts (is_key k) (list_all is_key keys) are in
-    ap (λ b. k ∷ up_to_key (if b then length keys + n else suc (length keys + n)) (keys ++ text)) parts.0 ∙ ap (λ t. k ∷ t) (up_to_key-keys keys text n parts.1)
+    let next : total ≡ suc (length keys + n) = omega (arith, e) in
+    ap (λ i. up_to_key i (k ∷ (keys ++ text))) next
+    ∙ ap (λ b. k ∷ up_to_key (if b then length keys + n else suc (length keys + n)) (keys ++ text)) parts.0
+    ∙ ap (λ t. k ∷ t) (up_to_key-keys keys text n (length keys + n) parts.1 refl)
 
 -- as many zeros as keys
 length-filter-blanks : (text : List ℕ) → length (filter is_key (blanks text)) ≡ length (filter is_key text)

@@ -1,5 +1,5 @@
 -- That a layout sets the same marks where it parts digits alike.
-use Rattle.std.proofs.Common.{◌≡◌, ℕ, suc, zero, ◌==◌, ◌&&◌, nat_le, not, Bool, true, false, cond, List, [], ◌∷◌, ◌++◌, map, take, drop, length, slice_index, Option, None, Some, option_map, append-nil, eqb-true, refl, ap, ap₂, sym, ◌∙◌}
+use Rattle.std.proofs.Common.{◌≡◌, ℕ, suc, zero, ◌==◌, ◌&&◌, nat_le, not, Bool, true, false, cond, List, [], ◌∷◌, ◌++◌, take, drop, length, slice_index, Option, None, Some, option_map, append-nil, eqb-true, refl, ap, ap₂, sym, ◌∙◌}
 use Rattle.std.proofs.Math.Seq.{drop-length}
 use Rattle.std.proofs.lemmas.Bool.{and_parts}
 use Rattle.std.proofs.lemmas.List.{map-append, take-append-drop}
@@ -99,8 +99,7 @@ laid_alike f template a b n ka kb alike whole out =
     let names = names_in pattern in
     let behind = front_written names template b n (first_match pattern b) (and_parts _ _ out).1 in
     let looks : (group : ℕ) → blanks (taken_by f b group) ≡ blanks (taken_by f a group) =
-    λ group. keys_blank _ _ (all-taken f b group kb) (all-taken f a group ka) (sym (alike group)) in
-    (
+    λ group. keys_blank _ _ (all-taken f b group kb) (all-taken f a group ka) (sym (alike group)) in (
       written_at names template b (first_match pattern b),
       behind.0,
       behind.1,

@@ -65,8 +65,8 @@ pub fn beginning_is_international()
         (front rest : List ℕ) → IsPlainAbroad db m n → text_of n.national ≡ front ++ rest →
         IsBegun m mode.International n front front →
         typed db hint (43 ∷ (decimal n.code.value ++ front)) ≡
-            up_to_key (length (43 ∷ (decimal n.code.value ++ front)))
-            (international_text m None n) }
+        up_to_key (length (43 ∷ (decimal n.code.value ++ front)))
+        (international_text m None n) }
 {}
 
 /// The same of a plain number that is typed as the digits of its national text: the front of the
