@@ -39,10 +39,10 @@ PartsAlike f a b = (group : ℕ) → length (taken_by f a group) ≡ length (tak
 -- of keys that leave these national digits, three or more: the layout that prints the number is
 -- that of the beginning too, and parts the number's digits as it parts those of the beginning with
 -- the nines after them
-pub record IsBegun (m : Metadata) (mode : Mode) (n : Reading) (national keys : List ℕ) : Type 0
-  where
-    pub long_enough : (is_short national || is_short keys) ≡ false
-    pub layout : Format
-    pub complete : find (suits (text_of n.national)) (layouts_for m mode) ≡ Some layout
-    pub begun : partial_layout m mode national keys ≡ Some layout
-    pub alike : PartsAlike layout (text_of n.national) (with_nines national)
+pub record IsBegun (m : Metadata) (mode : Mode) (n : Reading) (national keys : List ℕ) :
+    Type 0 where
+  pub long_enough : (is_short national || is_short keys) ≡ false
+  pub layout : Format
+  pub complete : find (suits (text_of n.national)) (layouts_for m mode) ≡ Some layout
+  pub begun : partial_layout m mode national keys ≡ Some layout
+  pub alike : PartsAlike layout (text_of n.national) (with_nines national)

@@ -57,8 +57,8 @@ pub fn last_is_national()
         typed db hint (national_keys m n) ≡ national_text m None n }
 {}
 
-/// A beginning is shown as it stands in the last text, up to the last key: of a plain number that is
-/// typed as its E.164 text, where the layout that prints the number serves the beginning too and
+/// A beginning is shown as it stands in the last text, up to the last key: of a plain number that
+/// is typed as its E.164 text, where the layout that prints the number serves the beginning too and
 /// parts the digits of both alike, the front of the international text.
 pub fn beginning_is_international()
     ensures { (db : List loader.Metadata) (hint : Option Id) (m : loader.Metadata) (n : Reading)
