@@ -1,4 +1,5 @@
 pub mod Announcing
+pub mod BehindPrefix
 pub mod CodedNumbers
 pub mod DialledInside
 pub mod Exactly
@@ -10,6 +11,7 @@ pub mod NationalBack
 pub mod OwnDigits
 pub mod Prefixes
 pub mod PrintedTexts
+pub mod ReadByEither
 pub mod ReadSigned
 pub mod Rfc3966Back
 pub mod ScriptDigits
@@ -17,4 +19,5 @@ pub mod Silent
 pub mod Tails
 pub mod ToldAlike
 pub mod WithoutLayouts
+pub mod WrittenDigits
 pub mod WrittenLaidOut
