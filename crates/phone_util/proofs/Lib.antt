@@ -1,5 +1,4 @@
 pub mod CodesBelow
-pub mod DialledAgain
 pub mod DialledParts
 pub mod DialledReads
 pub mod DialledTexts

@@ -1,6 +1,5 @@
 pub mod Back
 pub mod Dialled
-pub mod LibraryBack
 pub mod Listed
 pub mod Possibilities
 pub mod Sameness
