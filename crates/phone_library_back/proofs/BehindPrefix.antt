@@ -1,7 +1,7 @@
 -- A number behind an international prefix, with its code, is read as the number.
 use Rattle.std.proofs.Common.{◌≡◌, ℕ, ◌<◌, ◌≤◌, ◌^◌, ◌==◌, not, true, false, List, [], ◌∷◌, ◌++◌}
 use Rattle.std.proofs.Common.{drop, get_or, length, length-append, chars, Option, Some, Ok}
-use Rattle.std.proofs.Common.{ap, ap₂, sym, subst, ◌∙◌, append_assoc, arith, ne_eqb}
+use Rattle.std.proofs.Common.{refl, ap, ap₂, sym, subst, ◌∙◌, append_assoc, arith, ne_eqb}
 use Rattle.std.proofs.Common.{None}
 use Rattle.std.proofs.Math.Seq.{drop-append_seam}
 use Rattle.std.proofs.lemmas.Bool.{and_from, cond-false, cond-true, le-ltb, or_left}

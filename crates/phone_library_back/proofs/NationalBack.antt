@@ -1,7 +1,7 @@
 -- The national text of a number is read, inside a territory, as the number exactly where its digits
 -- are dialled inside that.
 use Rattle.std.proofs.Common.{◌≡◌, ℕ, ◌≤◌, true, List, [], ◌++◌, length, chars, All, Option}
-use Rattle.std.proofs.Common.{None, Some, IfSome, Ok, ap, sym, subst, ◌∙◌}
+use Rattle.std.proofs.Common.{None, Some, IfSome, Ok, refl, ap, sym, subst, ◌∙◌}
 use Rattle.std.proofs.lemmas.List.Sums.{AllPass-from_list_all}
 use Rattle.std.proofs.lemmas.Str.{chars-append}
 use Rattle.phone_chars.specs.Characters.{is_digit}

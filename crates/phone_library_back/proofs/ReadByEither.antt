@@ -32,9 +32,10 @@ use Rattle.phone_print.specs.Texts.{e164_text}
 use Rattle.phone_read.proofs.ListedFronts.{shortest-listed}
 use Rattle.phone_read.proofs.ReadNumbers.{number-listed, read_from}
 use Rattle.phone_read.specs.Hints.{Coded, hinted}
+use Rattle.phone_read.specs.Readings.{stripping_territory as by_crate_territory}
 use Rattle.phone_records.specs.declared.loader.Metadata.{Metadata}
 use Rattle.phone_rules.specs.Dialling.{after_match, found_in}
-use Rattle.phone_rules.specs.Strips.{Stripped}
+use Rattle.phone_rules.specs.Strips.{Stripped, stripped as stripped_by_crate}
 use Rattle.phone_territory.specs.Records.{code_of}
 use Rattle.phonenumber.proofs.Keys.{same_key}
 use Rattle.phone_library_back.specs.Keys
@@ -164,7 +165,8 @@ module _ (db : List Metadata) where
       let from = read_from db hint t n h in
       record {
         listed = number-listed db hint t n h;
-        held = held_by_crate _ n.national from.national;
+        held = held_by_crate (stripped_by_crate (by_crate_territory db hint from.code)
+            from.code.rest).national n.national from.national;
       }
   keyed_if_read n (Keys.by_library hint t h) = keyed_reading hint t (Ok n) h
 
