@@ -1,5 +1,4 @@
 pub mod Announcing
-pub mod BehindPrefix
 pub mod CodedNumbers
 pub mod DialledInside
 pub mod Exactly
