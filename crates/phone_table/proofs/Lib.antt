@@ -1,6 +1,7 @@
 pub mod ColumnLemmas
 pub mod RecordLemmas
 pub mod AnswerLemmas
+pub mod EndsWeaker
 pub mod Kept
 pub mod TableLemmas
 pub mod Told
