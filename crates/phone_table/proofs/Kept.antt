@@ -13,7 +13,7 @@ use Rattle.phone_lines.specs.Ends.{Devices}
 use Rattle.phone_table.specs.Answers.{IsAnswer, IsOfOtherWidth}
 use Rattle.phone_table.specs.Ends.{Ends}
 use Rattle.phone_table.proofs.EndsWeaker.{ends_weaker}
-use Rattle.phone_table.proofs.Told.{some_told, told}
+use Rattle.phone_table.proofs.Writing.{some_told, told}
 use Rattle.phone_table.specs.Counts.{no_counts}
 use Rattle.phone_table.specs.Rows.{AreAnswered, AreKept, WritesKept, WritesSome, is_repeated, number_of}
 use Rattle.phone_table.specs.Rows.AreAnswered.{none as none_answered, next as next_answered}

@@ -4,7 +4,7 @@ pub mod AnswerLemmas
 pub mod EndsWeaker
 pub mod Kept
 pub mod TableLemmas
-pub mod Told
+pub mod Writing
 pub mod EndLemmas
 pub mod ExtraLemmas
 pub mod RunLemmas

@@ -5,7 +5,7 @@ use Rattle.phone_csv.specs.Formats.{format_after, state_behind}
 use Rattle.phone_csv.specs.Runs.{OfRead}
 use Rattle.phone_table.specs.Extras.{added_names}
 use Rattle.phone_table.specs.Tables.{IsHeader, head_text}
-use Rattle.phone_table.proofs.Told.{nothing_told, some_told, told, writes_nothing_by}
+use Rattle.phone_table.proofs.Writing.{nothing_told, some_told, told, writes_nothing_by}
 use Rattle.phone_table.proofs.EndLemmas.{header_ends, header_refused, only_ends, only_held, rows_end}
 use Rattle.phone_table.proofs.rows.write_rows.Goals as goal
 
