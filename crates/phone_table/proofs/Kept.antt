@@ -37,12 +37,12 @@ or_swap false true = refl
 or_swap false false = refl
 
 -- the rows so far, those that are kept, and what the table has kept of them
-record Stands (first : Table) (all rows : List Record) (now : Table) : Type 0 where
-  engine : now.engine ≡ first.engine
-  asked : now.asked ≡ first.asked
-  columns : now.columns ≡ first.columns
-  kept : AreKept first.asked.is_unique all rows now.counts
-  numbers : (text : List ℕ) → first.asked.is_unique ≡ true → (length text == 0) ≡ false →
+pub record Stands (first : Table) (all rows : List Record) (now : Table) : Type 0 where
+  pub engine : now.engine ≡ first.engine
+  pub asked : now.asked ≡ first.asked
+  pub columns : now.columns ≡ first.columns
+  pub kept : AreKept first.asked.is_unique all rows now.counts
+  pub numbers : (text : List ℕ) → first.asked.is_unique ≡ true → (length text == 0) ≡ false →
       has now text ≡ list_any (λ other. bytes_eq text (number_of other)) all
 
 module _ (first : Table) where

@@ -3,6 +3,7 @@ pub mod RecordLemmas
 pub mod AnswerLemmas
 pub mod EndsWeaker
 pub mod Kept
+pub mod Numbers
 pub mod TableLemmas
 pub mod Writing
 pub mod EndLemmas

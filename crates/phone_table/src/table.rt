@@ -1,5 +1,7 @@
 //! What answers the records of a table.
-ghost use Rattle.std.specs.Prelude.{◌≡◌, ◌++◌, ◌&&◌, [], not, true, false, codes};
+ghost use Rattle.std.specs.Prelude.{◌≡◌, ◌++◌, ◌&&◌, ◌||◌, ℕ, List, [], not, true, false, codes};
+ghost use Rattle.std.specs.List.{list_any};
+ghost use Rattle.std.specs.Str.{bytes_eq};
 ghost use Rattle.std.specs.Prelude.{Err, IfErr, IfOk, None, OnOk};
 ghost use Rattle.csv.specs.Records.{fields_of, partial_of};
 ghost use Rattle.phone_csv.specs.Formats.{Record};
@@ -173,12 +175,24 @@ impl<'d> Table<'d> {
         if !self.asked.is_unique || number.is_empty() {
             return Ok(true);
         }
-        let text = number.to_vec(self.engine.database.allocator())?;
-        match self.numbers.insert(text) {
-            Ok(is_new) => Ok(is_new),
-            Err(_) => Err(AllocError),
-        }
+        let mut text = Vec::new(self.engine.database.allocator());
+        text.extend_from_slice(number)?;
+        add(&mut self.numbers, text)
     }
+}
+
+/// Puts a text among others, and says whether it is new. Refused only for memory.
+fn add(texts: &mut HashSet<Vec<u8>>, text: Vec<u8>) -> Result<bool, AllocError>
+    ensures new { IfOk result (λ is_new.
+        list_any (λ k. bytes_eq text.items k.items) texts.old.keys ≡ not is_new) }
+    ensures added { OnOk result ((t : List ℕ) →
+        list_any (λ k. bytes_eq t k.items) texts.new.keys ≡
+        (bytes_eq t text.items || list_any (λ k. bytes_eq t k.items) texts.old.keys)) }
+{
+    let Ok(is_new) = texts.insert(text) else {
+        return Err(AllocError);
+    };
+    Ok(is_new)
 }
 
 impl<'d> Answers for Table<'d> {

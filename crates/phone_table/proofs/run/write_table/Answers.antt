@@ -34,19 +34,19 @@ returns-in-Ok-write_rows g c =
     let first = c.in-Ok.first in
     let n = c.new-table.ensures in
     let ends = ends_from f.no_fault (c.in-Ok-write_rows.ensures.ends (g.S.ByteSource.to_come c.args.source.now)
-        (header_read c.args.asked.delimiter (fields_of first.fields) first.rest first.has_mark _ _ f.ended f.only)) in
+    (header_read c.args.asked.delimiter (fields_of first.fields) first.rest first.has_mark _ _ f.ended f.only)) in
     record {
       ends = whole (fields_of first.fields) c.in-Ok-columns_of.columns c.write_rows.new.answers.counts (search rules) c.in-Ok-columns_of.ensures.found
           (rw (n.engine, n.columns, n.asked) at (table_ends c.new-table.result n.counts n.numbers c.write_rows.new.answers (fields_of first.fields) _ c.args.asked.delimiter _ _ _ ends));
     }
 
-pub returns-in-Err-write_rows : goal.returns-in-Err-write_rows
-returns-in-Err-write_rows g c =
+pub returns : goal.returns
+returns g c =
     let f = c.in-Ok.ensures in
     let first = c.in-Ok.first in
     let n = c.new-table.ensures in
     let ends = ends_from f.no_fault (c.in-Err-write_rows.ensures.ends (g.S.ByteSource.to_come c.args.source.now)
-        (header_read c.args.asked.delimiter (fields_of first.fields) first.rest first.has_mark _ _ f.ended f.only)) in
+    (header_read c.args.asked.delimiter (fields_of first.fields) first.rest first.has_mark _ _ f.ended f.only)) in
     record {
       ends = broken_off (fields_of first.fields) c.in-Ok-columns_of.columns c.write_rows.new.answers.counts c.in-Err-write_rows.error (search rules) c.in-Ok-columns_of.ensures.found
           (rw (n.engine, n.columns, n.asked) at (table_ends c.new-table.result n.counts n.numbers c.write_rows.new.answers (fields_of first.fields) _ c.args.asked.delimiter _ _ _ ends));
