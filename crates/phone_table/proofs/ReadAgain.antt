@@ -65,8 +65,8 @@ pub read_back : (gives : Record → Record → Type 0) (once : Bool) (counts : C
     (headings ++ name ∷ names) bytes text
 read_back gives once counts header headings name names bytes text t =
     let first = header ++ (headings ++ name ∷ names) in
-    let (records, read, (all, rows, answers, kept, is)) = t.answered in
-    let full = kept_full once all rows counts kept (all_full gives records all answers (csv.all_full 44 t.after t.rest records read)) in
+    let (records, read, (all, rows, answers, keep, is)) = t.answered in
+    let full = kept_full once all rows counts keep (all_full gives records all answers (csv.all_full 44 t.after t.rest records read)) in
     let end = line_end_in t.after in
     let marked = begins_with_mark bytes in
     let split = t.whole ∙ append_assoc (mark_text marked) _ t.body in
@@ -80,7 +80,7 @@ read_back gives once counts header headings name names bytes text t =
       begins = t.begins;
       read = read;
       answered = answers;
-      kept = kept;
+      kept = keep;
       whole = split;
       again = subst (λ body. AreRecords (reading 44) StartRecord (record_text (commas end) first ++ body) (first ∷ rows)) (sym is)
           (first_read_again end first rows (no_names header headings name names) full);

@@ -118,8 +118,8 @@ pub fn some_object(line: &[u8])
 }
 
 /// What a run writes for a whole table with commas, read again, is the byte-order mark that the
-/// table begins with, if it does, the header with the added names, and the rows that are kept of the
-/// table's records, each with its answer.
+/// table begins with, if it does, the header with the added names, and the rows that are kept of
+/// the table's records, each with its answer.
 pub fn read_again()
     ensures { (rules : Rules) (db : List loader.Metadata) (hint : Option Id)
         (columns : header.Columns) (asked : run.Asked) (counts : Counts) (header : Record)

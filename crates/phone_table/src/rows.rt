@@ -17,8 +17,8 @@ use std::alloc::Global;
 
 /// Writes a header that was read with the seven names behind it, and then the records that follow
 /// it, each with its answer, unless it is left out. Begins with a byte-order mark where the table
-/// does, and ends each record as the header ends. Refused as `answer_records` refuses; where memory is
-/// refused for the header nothing is written.
+/// does, and ends each record as the header ends. Refused as `answer_records` refuses; where
+/// memory is refused for the header nothing is written.
 pub(crate) fn write_rows<A: Answers, S: ByteSource, W: ByteSink>(
     alloc: Global,
     answers: &mut A,

@@ -56,8 +56,8 @@ pub enum TableError {
 /// and a line feed where a carriage return ended the header, else by a line feed. What is read and
 /// written is CSV as the kit's `csv` has it, with this delimiter. Nothing in memory grows with the
 /// number of records, but with `is_unique`, where the E.164 texts are kept: then a record whose
-/// number an earlier one has is left out. It gives how many records there were, how many of them were
-/// answered otherwise than by a valid number, and how many were left out.
+/// number an earlier one has is left out. It gives how many records there were, how many of
+/// them were answered otherwise than by a valid number, and how many were left out.
 ///
 /// The answer to a number, which is read and described by the engine: what each column that is
 /// asked for tells of it, empty where its table has nothing; its texts in three modes, its kind,

@@ -15,7 +15,8 @@ const ROOM: usize = 4096;
 
 /// How a table is given back, and what was written, parted by a tab; none for any other call. The
 /// line has the column of the numbers, that of the regions or a hyphen, the hint, `mark` where bad
-/// records are marked, `unique` where each number is kept once, and the table. An error where memory is refused.
+/// records are marked, `unique` where each number is kept once, and the table. An error where
+/// memory is refused.
 pub fn answer(alloc: Global, row: &Row, db: &Database) -> Result<Option<String>> {
     match by_rules(row) {
         (rules, "given-table") => Ok(Some(given(alloc, row, hinted(rules, db, row.argument(3))?)?)),

@@ -7,8 +7,7 @@ use Rattle.phone_csv.proofs.pending_output.PendingOutput.answer_record.Goals as 
 
 pub returns-then-not-is_written-clause-added : goal.returns-then-not-is_written-clause-added
 returns-then-not-is_written-clause-added g c =
-    let fields = fields_of c.args.self.now.cutter.fields in
-    (
+    let fields = fields_of c.args.self.now.cutter.fields in (
       [],
       sym (append-nil c.args.self.now.answers.items),
       λ first. adds_nothing g.A.Answers.gives c.args.self.now.cutter.format first c.args.answers.now c.answer.new.self fields (c.in_ok-is_written.ensures.left_out (search rules)),
