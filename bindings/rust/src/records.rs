@@ -1,4 +1,5 @@
 //! What is open, which any number of threads may use at once: each call is on a handle of its own.
+use crate::database::Rules;
 use crate::error::Error;
 use crate::ffi;
 use std::sync::atomic::{AtomicUsize, Ordering};
@@ -9,7 +10,7 @@ pub(crate) trait Kind: Sized {
     const CLOSED: Self;
 
     /// Opens a second handle on what is open behind this one, and gives the status.
-    fn share(&mut self, mine: &mut Self) -> u32;
+    fn share(&self, mine: &mut Self) -> u32;
 
     fn close(&mut self);
 }
@@ -17,7 +18,7 @@ pub(crate) trait Kind: Sized {
 impl Kind for ffi::Handle {
     const CLOSED: Self = ffi::Handle { at: std::ptr::null_mut() };
 
-    fn share(&mut self, mine: &mut Self) -> u32 {
+    fn share(&self, mine: &mut Self) -> u32 {
         // SAFETY: both handles are lent to the call alone.
         unsafe { ffi::phone_share(self, mine) }
     }
@@ -31,7 +32,7 @@ impl Kind for ffi::Handle {
 impl Kind for ffi::Prefixes {
     const CLOSED: Self = ffi::Prefixes { at: std::ptr::null_mut() };
 
-    fn share(&mut self, mine: &mut Self) -> u32 {
+    fn share(&self, mine: &mut Self) -> u32 {
         // SAFETY: both handles are lent to the call alone.
         unsafe { ffi::phone_prefixes_share(self, mine) }
     }
@@ -108,12 +109,12 @@ impl<H: Kind> Shared<H> {
     }
 
     /// The status of a call on a handle, which is open, and lent to the call alone; `MEMORY` where none can be made for it.
-    pub(crate) fn with(&self, call: impl FnOnce(&mut H) -> u32) -> u32 {
+    pub(crate) fn with(&self, call: impl FnOnce(&H) -> u32) -> u32 {
         let idle = &self.0.idle[place()].0;
         let known = locked(idle).pop();
         match known.map_or_else(|| self.another(), Ok) {
-            Ok(mut handle) => {
-                let status = call(&mut handle.0);
+            Ok(handle) => {
+                let status = call(&handle.0);
                 locked(idle).push(handle);
                 status
             }
@@ -127,18 +128,26 @@ impl<H: Kind> Shared<H> {
     }
 }
 
-/// The records that a JSON text has.
+/// The records that a JSON text has, and the rules by which they are asked.
 pub(crate) type Records = Shared<ffi::Handle>;
 
 impl Records {
     pub(crate) fn open(text: &[u8]) -> Result<Records, Error> {
+        let (at, len, rules) = (text.as_ptr(), text.len(), Rules::Library as u32);
         // SAFETY: the slice is valid for its length, and the handle is closed and lent to the call alone.
-        Shared::by(|handle| unsafe { ffi::phone_open(text.as_ptr(), text.len(), handle) }).map_err(Error::of_database)
+        Shared::by(|handle| unsafe { ffi::phone_open(at, len, rules, handle) }).map_err(Error::of)
     }
 
     /// The table of the world that stands in the library.
     pub(crate) fn world() -> Result<Records, Error> {
         // SAFETY: the handle is closed and lent to the call alone.
-        Shared::by(|handle| unsafe { ffi::phone_open_world(handle) }).map_err(Error::of_database)
+        Shared::by(|handle| unsafe { ffi::phone_open_world(handle, Rules::Library as u32) }).map_err(Error::of)
+    }
+
+    /// The same records, asked by these rules.
+    pub(crate) fn asked_by(&self, rules: Rules) -> Result<Records, Error> {
+        let first = locked(&self.0.first);
+        // SAFETY: both handles are lent to the call alone.
+        Shared::by(|mine| unsafe { ffi::phone_share_by(&first.0, rules as u32, mine) }).map_err(Error::of)
     }
 }

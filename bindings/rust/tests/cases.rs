@@ -333,7 +333,7 @@ const WORDS: [(Error, &str); 12] = [
     (Error::MalformedInteger, "malformed integer part in phone number"),
     (Error::Memory, "out of memory"),
     (Error::UnknownCode, "unknown calling code"),
-    (Error::Database(3), "malformed JSON"),
+    (Error::Database(10), "malformed JSON"),
     (Error::Line(2, LineFault::NoTab), "line 2: the line has no tab"),
     (Error::NoRegion, "unknown region"),
     (Error::Other(99), "status 99 of the library"),
