@@ -149,10 +149,10 @@ static void sql_ask(const phone_handle *world, const sql_call *call, sql_answer 
     if (status == PHONE_OK && call->mode.at && !sql_mode(call->mode, &mode)) status = PHONE_NO_MODE;
     if (status == PHONE_OK) status = sql_describe(world, call, &number, &texts, mode, answer);
     if (status == PHONE_MEMORY) answer->kind = SQL_NO_MEMORY;
-    else if (status != PHONE_OK) answer->kind = SQL_NOTHING;
-    if (answer->kind == SQL_NOTHING && status != PHONE_OK && call->question == SQL_REFUSAL &&
-        phone_status_words(status, sql_at(out), out->room, &out->len) == PHONE_OK) {
-        answer->kind = SQL_TEXT;
+    else if (status != PHONE_OK) {
+        int has_words = call->question == SQL_REFUSAL &&
+                        phone_status_words(status, sql_at(out), out->room, &out->len) == PHONE_OK;
+        answer->kind = has_words ? SQL_TEXT : SQL_NOTHING;
         answer->text = (sql_text){(const char *)sql_at(out), out->len};
     }
     sql_forget(texts.many);

@@ -23,8 +23,7 @@
 
 /* A line of the file, and where its region and its text stand. */
 typedef struct { const uint8_t *hint, *text; size_t hint_len, text_len; } line;
-/* What one thread or process found, and a thread's handle, which each call writes. Neither shares a line of the processor's cache
- * with another thread's. */
+/* What one thread or process found, and a thread's handle. Neither shares a line of the processor's cache with another thread's. */
 typedef struct { _Alignas(128) uint64_t numbers, sum; } found;
 typedef struct { _Alignas(128) phone_handle handle; int place; } worker;
 /* What processes share with the one that forked them. */
@@ -65,21 +64,21 @@ static void cut(const uint8_t *text, size_t len) {
 }
 
 /* The lines from a place to before another, where those of the file come again and again. */
-static found go(phone_handle *handle, size_t from, size_t to) {
+static found go(const phone_handle *handle, size_t from, size_t to) {
     found it = {0, 0};
     uint8_t out[1024] = {0};
     phone_number number = {0};
     for (size_t at = from, place = from % line_count; at < to; at++) {
         const line *this = &lines[place];
         size_t wrote = 0;
-        uint32_t status;
+        phone_status status;
         if (reports) {
-            status = phone_report_by(handle, rules, this->hint, this->hint_len, this->text, this->text_len, out, sizeof out, &wrote);
+            status = phone_report(handle, this->hint, this->hint_len, this->text, this->text_len, out, sizeof out, &wrote);
             OUGHT(status == PHONE_OK);
             if (*out == 'o') it.numbers++;
             it.sum += wrote * 31 + out[wrote / 2];
         } else {
-            status = phone_parse_by(handle, rules, this->hint, this->hint_len, this->text, this->text_len, &number, out, sizeof out, &wrote);
+            status = phone_parse(handle, this->hint, this->hint_len, this->text, this->text_len, &number, out, sizeof out, &wrote);
             if (status == PHONE_OK) it.numbers++, it.sum += number.value * 31 + number.code;
             it.sum += status;
         }
@@ -89,7 +88,7 @@ static found go(phone_handle *handle, size_t from, size_t to) {
 }
 
 /* A part of all lines, once everybody is there. */
-static void work(phone_handle *handle, int place) {
+static void work(const phone_handle *handle, int place) {
     pthread_barrier_wait(&all->start);
     all->found[place] = go(handle, total * (size_t)place / count, total * ((size_t)place + 1) / count);
     pthread_barrier_wait(&all->end);
@@ -102,7 +101,7 @@ static void *in_thread(void *it) {
 }
 static void in_process(int place) {
     phone_handle handle = PHONE_CLOSED;
-    OUGHT(phone_open(table, table_len, &handle) == PHONE_OK);
+    OUGHT(phone_open(table, table_len, rules, &handle) == PHONE_OK);
     work(&handle, place);
     _exit(0);
 }
@@ -121,7 +120,7 @@ static void make_barriers(void) {
 }
 
 /* By threads whose handles are made of this one. */
-static double by_threads(phone_handle *world) {
+static double by_threads(const phone_handle *world) {
     static worker workers[MOST];
     pthread_t threads[MOST];
     double took;
@@ -187,7 +186,7 @@ int main(int argc, char **words) {
         took = by_processes();
         return tell(now() - start, took), 0;
     }
-    OUGHT(phone_open(table, table_len, &world) == PHONE_OK);
+    OUGHT(phone_open(table, table_len, rules, &world) == PHONE_OK);
     if (!strcmp(words[5], "once")) {
         all->found[0] = go(&world, 0, total);
         count = 1;
