@@ -252,6 +252,7 @@ fn threads_use_one_table_at_once() {
                     let number = world.parse(None, text).unwrap();
                     assert_eq!(world.region(&number).unwrap().as_deref(), *region, "{text}");
                     assert_eq!(world.number_type(&number).unwrap(), *kind, "{text}");
+                    assert_eq!(world.by(Rules::Crate).parse(None, text).unwrap(), number, "{text}");
                     let has_zone = zones.longest(&number.to_string()[1..]).unwrap().is_some();
                     assert_eq!(has_zone, region.is_some(), "{text}");
                 }
