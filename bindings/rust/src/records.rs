@@ -64,7 +64,7 @@ impl<H: Kind> Drop for Open<H> {
 }
 
 // SAFETY: a handle is of no thread. The crate phone_c_base proves that of a database and of a table of prefixes (`Handle`
-// and `Table`, by `Send`), and phone.h lets one thread after another use and close it, by one call at a time.
+// and `PrefixTable`, by `Send`), and phone.h lets one thread after another use and close it, by one call at a time.
 unsafe impl<H: Kind> Send for Open<H> {}
 
 /// What is open behind handles, of which each call has one to itself. A clone shares it; the last one closes it.
