@@ -127,7 +127,7 @@ def _declare(lib: Library) -> None:
 
 
 def _library(kind: Type[Library]) -> Library:
-    """The shared library, once its version is seen to be that of the declarations, or a later one."""
+    """The shared library, once its version is seen to be at least that of the declarations."""
     places = [_HERE / "libphone.so", _HERE.parents[1] / "c" / "out" / "libphone.so"]
     named = os.environ.get("PHONE_LIBRARY")
     path = named or next((str(place) for place in places if place.exists()), None)

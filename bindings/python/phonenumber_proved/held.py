@@ -71,7 +71,7 @@ class Held:
         return status
 
     def _call(self, call: Callable[..., Any], *args: Any, rules: int = 0) -> Any:
-        """What a call gives on a handle that no other call is on, and that is asked by these rules."""
+        """What a call gives on a handle by these rules that no other call is on."""
         idle = self._idle[rules]
         try:
             handle = idle.pop()
