@@ -138,7 +138,7 @@ def _library(kind: Type[Library]) -> Library:
         lib.phone_version.argtypes, lib.phone_version.restype = [], ctypes.c_uint32
         version = lib.phone_version()
         if version < VERSION:
-            raise ImportError(f"{path} has version {version} of these calls, not {VERSION}")
+            raise ImportError(f"{path} has version {version} of these calls, not {VERSION} or later")
         _declare(lib)
     except (OSError, AttributeError) as error:
         raise ImportError(f"{path} is not the library: {error}") from error
