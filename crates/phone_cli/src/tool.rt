@@ -414,8 +414,6 @@ fn customers<R: Files + AllocGlobal, S: ByteSource, W: Outlet, E: ByteSink>(
     let mut job = Customers {
         engine: reader.engine,
         asked: asked(table, reader, extra.as_slice()),
-        is_unique: table.is_unique,
-        left_out: 0,
         counts: Counts::new(),
     };
     run_table(rt, reading, &mut job, input, output, errors)
@@ -448,6 +446,7 @@ fn asked<'t>(table: Table<'t>, reader: Reader<'t>, extra: &'t [Extra<'t>]) -> As
         delimiter: table.delimiter,
         else_hint: table.fallback_region,
         mark_bad: table.mark_bad,
+        is_unique: table.is_unique,
         extra,
         short: reader.short,
     }

@@ -38,14 +38,3 @@ abbrev pub AnswersTable : Rules → List Metadata → Option Id → Asked → De
     Result ⊤ JobError → Type 0
 AnswersTable rules db hint asked before after counts result = (run : Result Counts TableError) ×
     RunEnds rules db hint asked before after run × IsTableEnd counts run result
-
--- the same where another sink stands in front of that of the devices, about which nothing is told
-pub record AnswersBehind (rules : Rules) (db : List Metadata) (hint : Option Id) (asked : Asked)
-    (before after : Devices) (counts : Counts) (result : Result ⊤ JobError) : Type 0 where
-  pub front_before : Devices
-  pub front_after : Devices
-  pub to_come_before : front_before.to_come ≡ before.to_come
-  pub to_come_after : front_after.to_come ≡ after.to_come
-  pub faults_before : front_before.source_faults ≡ before.source_faults
-  pub faults_after : front_after.source_faults ≡ after.source_faults
-  pub answers : AnswersTable rules db hint asked front_before front_after counts result

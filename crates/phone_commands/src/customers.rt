@@ -1,9 +1,7 @@
 //! What a call does with a table of customers.
-ghost use Rattle.std.specs.Prelude.{◌≡◌};
 ghost use Rattle.phone_commands.specs.TableJobs.{AnswersTable, table_error};
 ghost use Rattle.phone_lines.specs.Ends.{seen};
 
-use crate::firsts::FirstRecords;
 use crate::jobs::{Job, JobError};
 use phone_csv::FirstError;
 use phone_device::{ByteSink, ByteSource};
@@ -18,11 +16,7 @@ pub struct Customers<'d, 'w> {
     pub engine: Engine<'d>,
     /// What is asked of it.
     pub asked: Asked<'w>,
-    /// Whether the first record of each number is kept alone.
-    pub is_unique: bool,
-    /// How many records were left out.
-    pub left_out: u64,
-    /// How many records there were, and how many of them gave what.
+    /// How many records there were, how many of them gave what, and how many were left out.
     pub counts: Counts,
 }
 
@@ -54,7 +48,6 @@ impl<'d, 'w> Customers<'d, 'w> {
             (seen (S.to_come source.new) (S.faults source.new) (W.taken sink.new)
             (W.faults sink.new) (W.unflushed sink.new))
             self.new.counts result }
-        ensures left_out { self.new.left_out ≡ self.old.left_out }
     {
         match write_table(self.engine, self.asked, source, sink) {
             Ok(counts) => {
@@ -67,30 +60,17 @@ impl<'d, 'w> Customers<'d, 'w> {
 }
 
 impl<'d, 'w> Job for Customers<'d, 'w> {
-    ghost use Rattle.std.specs.Prelude.{◌≡◌, true, false};
-    ghost use Rattle.phone_commands.specs.TableJobs.{AnswersBehind, AnswersTable};
+    ghost use Rattle.phone_commands.specs.TableJobs.{AnswersTable};
 
-    // Of the table in which the first record of each number is kept alone nothing is told but what
-    // is read, and how it ends.
-    ghost acts = { λ c before after c' result. (c.is_unique ≡ false →
-        AnswersTable c.engine.rules c.engine.database.now c.engine.hint c.asked before after
-        c'.counts result) ×
-        (c.is_unique ≡ true →
-        AnswersBehind c.engine.rules c.engine.database.now c.engine.hint c.asked before after
-        c'.counts result) };
+    ghost acts = { λ c before after c' result. AnswersTable c.engine.rules c.engine.database.now
+        c.engine.hint c.asked before after c'.counts result };
 
     fn answer<S: ByteSource, W: ByteSink>(
         &mut self,
-        alloc: Global,
+        _alloc: Global,
         source: &mut S,
         sink: &mut W,
     ) -> Result<(), JobError> {
-        if !self.is_unique {
-            return self.write(source, sink);
-        }
-        let mut firsts = FirstRecords::new(alloc, self.asked.delimiter, sink);
-        let end = self.write(source, &mut firsts);
-        self.left_out = firsts.left_out();
-        end
+        self.write(source, sink)
     }
 }

@@ -6,7 +6,6 @@
 mod columns;
 mod customers;
 mod finder;
-mod firsts;
 mod inputs;
 mod jobs;
 mod pairs;

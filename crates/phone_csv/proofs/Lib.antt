@@ -3,7 +3,6 @@ pub mod FeedLemmas
 pub mod AnswerLemmas
 pub mod QuoteLemmas
 pub mod Progress
-pub mod Counted
 pub mod Ends
 pub mod KitRecords
 pub mod FirstLemmas

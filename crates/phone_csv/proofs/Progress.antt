@@ -13,16 +13,13 @@ use Rattle.csv.specs.declared.parser.State.{State}
 use Rattle.std.specs.Bool.{MatchBool}
 use Rattle.csv.proofs.ReadFacts.{feeds-push}
 use Rattle.phone_csv.specs.Feeds.{counted, feeds_before}
-use Rattle.phone_csv.specs.Formats.{Record, reading, record_text, state_of}
+use Rattle.phone_csv.specs.Formats.{Record, reading, state_of}
 use Rattle.phone_csv.specs.Quotes.{opens_quote}
 use Rattle.phone_csv.specs.Records.{IsEnded, in_quotes}
-use Rattle.phone_csv.specs.RecordReports.{AreAnswers, Gives, IsBeginning, IsReport, IsReportBefore, IsReportBeforeQuote, IsReportOnEnded, IsReportOnFirst, last_record}
-use Rattle.phone_csv.specs.RecordReports.AreAnswers.{none as unanswered}
+use Rattle.phone_csv.specs.RecordReports.{IsBeginning, IsReport, IsReportBefore, IsReportBeforeQuote, IsReportOnEnded, IsReportOnFirst, last_record, Writes}
 use Rattle.phone_csv.specs.Records.AreCut.{none as uncut}
-use Rattle.phone_csv.specs.Runs.{BreaksOff, IsSoFar, Stands, TakesA}
+use Rattle.phone_csv.specs.Runs.{Adds, BreaksOff, IsSoFar, Stands, TakesA}
 use Rattle.phone_csv.specs.declared.cutter.Cutter.{Cutter}
-use Rattle.phone_csv.specs.declared.format.Format.{Format}
-use Rattle.phone_csv.proofs.AnswerLemmas.{AreAnswers-then}
 use Rattle.phone_csv.proofs.CutLemmas.{AreCut-ended, AreCut-grown}
 use Rattle.phone_csv.proofs.FeedLemmas.{Counts-ended, Counts-grown, Counts-next, Counts-nothing, counted-more, counted-more-first, ends_closed, from_none}
 use Rattle.phone_csv.proofs.QuoteLemmas.{Quotes-next, closed_in_quotes, closed_quotes, ends_in_quotes}
@@ -62,9 +59,9 @@ at_end cfg s f p true e = rw e refl
 at_end cfg s f p false e = rw e refl
 
 -- the last record, where one stands behind the last line end, or none does
-pub IsSoFar-last : (gives : Gives) (start : State) (bytes : List ℕ) (c : Cutter) (answers : List ℕ) (s : IsSoFar gives start bytes c answers) (b : Bool) →
+pub IsSoFar-last : (writes : Writes) (start : State) (bytes : List ℕ) (c : Cutter) (answers : List ℕ) (s : IsSoFar writes start bytes c answers) (b : Bool) →
     ends_at_end (state_of c.place) ≡ b → last_record c.format.delimiter s.state s.rest ≡ if b then (fields_of c.fields ++ c.field.items ∷ []) ∷ [] else []
-IsSoFar-last gives start bytes c answers s b e =
+IsSoFar-last writes start bytes c answers s b e =
     ap (λ r. records_next (λ _ _. []) r) (feeds_rest (reading c.format.delimiter) s.state (state_of c.place) [] (fields_of c.fields) [] c.field.items s.rest s.fed)
     ∙ at_end (reading c.format.delimiter) (state_of c.place) (fields_of c.fields) c.field.items b e
 
@@ -79,9 +76,9 @@ pub record Steps (before after : Cutter) (x : ℕ) : Type 0 where
   pub feeds_to_quote : after.feeds_to_quote ≡ (if opens_quote (state_of before.place) x then before.feeds else before.feeds_to_quote)
 
 -- a byte that ends no record
-pub IsSoFar-grown : (gives : Gives) (start : State) (bytes : List ℕ) (c c' : Cutter) (answers : List ℕ) (x : ℕ) → IsSoFar gives start bytes c answers →
-    Steps c c' x → is_end (step (reading c.format.delimiter) (state_of c.place) x).1 ≡ false → IsSoFar gives start (bytes ++ x ∷ []) c' answers
-IsSoFar-grown gives start bytes c c' answers x s on e =
+pub IsSoFar-grown : (writes : Writes) (start : State) (bytes : List ℕ) (c c' : Cutter) (answers : List ℕ) (x : ℕ) → IsSoFar writes start bytes c answers →
+    Steps c c' x → is_end (step (reading c.format.delimiter) (state_of c.place) x).1 ≡ false → IsSoFar writes start (bytes ++ x ∷ []) c' answers
+IsSoFar-grown writes start bytes c c' answers x s on e =
     let fed = feeds-push (reading c.format.delimiter) s.state (state_of c.place) [] (fields_of c.fields) [] c.field.items s.rest x s.fed in
     record {
       records = s.records;
@@ -101,14 +98,14 @@ IsSoFar-grown gives start bytes c c' answers x s on e =
         fed = s.fed;
         begins = begins;
       }) s.counts.feeds on.format on.place on.feeds_to_quote;
-      answered = rw on.format s.answered;
+      answered = s.answered;
     }
 
 -- a byte that ends the record
-pub IsSoFar-is_ended : (gives : Gives) (start : State) (bytes : List ℕ) (c c' : Cutter) (answers : List ℕ) (x : ℕ) (s : IsSoFar gives start bytes c answers) →
+pub IsSoFar-is_ended : (writes : Writes) (start : State) (bytes : List ℕ) (c c' : Cutter) (answers : List ℕ) (x : ℕ) (s : IsSoFar writes start bytes c answers) →
     Steps c c' x → is_end (step (reading c.format.delimiter) (state_of c.place) x).1 ≡ true →
     IsEnded c.format.delimiter s.state (s.rest ++ x ∷ []) (fields_of c'.fields) (state_of c'.place)
-IsSoFar-is_ended gives start bytes c c' answers x s on e =
+IsSoFar-is_ended writes start bytes c c' answers x s on e =
     let fed = feeds-push (reading c.format.delimiter) s.state (state_of c.place) [] (fields_of c.fields) [] c.field.items s.rest x s.fed in
     (field_after (step (reading c.format.delimiter) (state_of c.place) x).1 x c.field.items, rw (on.place, on.fields) (rw e at fed))
 
@@ -125,38 +122,37 @@ unfolding Feeds
 at_start d s s' fields field e f g = (e, f, g, refl)
 
 -- and the answer to it
-pub IsSoFar-ended : (gives : Gives) (start : State) (bytes : List ℕ) (c m c' : Cutter) (written held : List ℕ) (given : Record) (x : ℕ) →
-    IsSoFar gives start bytes c (written ++ held) → Steps c m x → is_end (step (reading c.format.delimiter) (state_of c.place) x).1 ≡ true →
-    gives (fields_of m.fields) given →
+pub IsSoFar-ended : (writes writes' : Writes) (start : State) (bytes : List ℕ) (c m c' : Cutter) (written held added : List ℕ) (x : ℕ) →
+    IsSoFar writes start bytes c (written ++ held) → Steps c m x → is_end (step (reading c.format.delimiter) (state_of c.place) x).1 ≡ true →
+    Adds writes writes' (fields_of m.fields) added →
     c'.format ≡ c.format → c'.place ≡ m.place → fields_of c'.fields ≡ [] → c'.field.items ≡ m.field.items → c'.feeds ≡ m.feeds →
-    IsSoFar gives start (bytes ++ x ∷ []) c' (written ++ (held ++ record_text m.format (fields_of m.fields ++ given)))
-IsSoFar-ended gives start bytes c m c' written held given x s on e is same place bare empty feeds =
+    IsSoFar writes' start (bytes ++ x ∷ []) c' (written ++ (held ++ added))
+IsSoFar-ended writes writes' start bytes c m c' written held added x s on e is same place bare empty feeds =
     record {
       records = s.records ++ fields_of m.fields ∷ [];
       state = state_of m.place;
       rest = [];
       cut = rw same (AreCut-ended c.format.delimiter start s.state (state_of m.place) (bytes ++ x ∷ []) (s.rest ++ x ∷ []) s.records (fields_of m.fields)
-          (AreCut-grown c.format.delimiter start s.state bytes s.rest (x ∷ []) s.records s.cut) (IsSoFar-is_ended gives start bytes c m (written ++ held) x s on e));
+          (AreCut-grown c.format.delimiter start s.state bytes s.rest (x ∷ []) s.records s.cut) (IsSoFar-is_ended writes start bytes c m (written ++ held) x s on e));
       fed = at_start c'.format.delimiter (state_of m.place) (state_of c'.place) (fields_of c'.fields) c'.field.items (ap state_of place) bare
           (empty ∙ on.field ∙ field_ended _ x c.field.items e);
       counts = Counts-next c m s.state bytes s.rest x s.counts on.place on.feeds on.feeds_before c' e place feeds;
       quotes = λ closed. closed_quotes c' start (bytes ++ x ∷ []) (ap (λ p. ends_at_end (state_of p)) place ∙ ap ends_at_end on.place ∙ ends_closed c.format.delimiter c.place x e);
-      answered = rw (same, on.format, sym (append_assoc written held (record_text c.format (fields_of m.fields ++ given))))
-          (AreAnswers-then gives c.format s.records (written ++ held) (fields_of m.fields) given s.answered is);
+      answered = subst (λ t. writes' (s.records ++ fields_of m.fields ∷ []) t) (append_assoc written held added) (is s.records (written ++ held) s.answered);
     }
 
 -- and that it is refused
-pub IsSoFar-refused : (gives : Gives) (refuses : Record → Type 0) (start : State) (bytes : List ℕ) (c m : Cutter) (answers : List ℕ) (x : ℕ) →
-    IsSoFar gives start bytes c answers → Steps c m x → is_end (step (reading c.format.delimiter) (state_of c.place) x).1 ≡ true →
+pub IsSoFar-refused : (writes : Writes) (refuses : Record → Type 0) (start : State) (bytes : List ℕ) (c m : Cutter) (answers : List ℕ) (x : ℕ) →
+    IsSoFar writes start bytes c answers → Steps c m x → is_end (step (reading c.format.delimiter) (state_of c.place) x).1 ≡ true →
     refuses (fields_of m.fields) → (feeds : ℕ) → feeds ≡ m.feeds_before → (to_come : Option (List ℕ)) (more : List ℕ) →
-    IsReportBefore gives refuses c.format start 0 feeds to_come (bytes ++ x ∷ more) answers
-IsSoFar-refused gives refuses start bytes c m answers x s on e is feeds counts to_come more = (
+    IsReportBefore writes refuses c.format.delimiter start 0 feeds to_come (bytes ++ x ∷ more) answers
+IsSoFar-refused writes refuses start bytes c m answers x s on e is feeds counts to_come more = (
   s.records,
   s.state,
   s.rest ++ x ∷ more,
   fields_of m.fields,
   AreCut-grown c.format.delimiter start s.state bytes s.rest (x ∷ more) s.records s.cut,
-  inl (s.rest ++ x ∷ [], more, state_of m.place, sym (append_assoc s.rest (x ∷ []) more), IsSoFar-is_ended gives start bytes c m answers x s on e),
+  inl (s.rest ++ x ∷ [], more, state_of m.place, sym (append_assoc s.rest (x ∷ []) more), IsSoFar-is_ended writes start bytes c m answers x s on e),
   counts ∙ Counts-ended c m s.state bytes s.rest x s.counts on.place on.feeds on.feeds_before e (x ∷ more),
   is,
   s.answered,
@@ -178,35 +174,35 @@ takes_then None b c x y p q = subst (λ b. Takes b y c) p q
 takes_then (Some all) b c x y p q = let e : Takes (Some (all ++ x)) y c = subst (λ b. Takes b y c) p q in e ∙ ap (λ t. Some t) (append_assoc all x y)
 
 -- how one byte changes what is so far
-abbrev pub Advances : Gives → State → ℕ → (c c' : Cutter) (held held' : List ℕ) → Type 0
-Advances gives start x c c' held held' = (bytes : List ℕ) (written : List ℕ) → IsSoFar gives start bytes c (written ++ held) →
-    IsSoFar gives start (bytes ++ x ∷ []) c' (written ++ held')
+abbrev pub Advances : (before after : Writes) → State → ℕ → (c c' : Cutter) (held held' : List ℕ) → Type 0
+Advances before after start x c c' held held' = (bytes : List ℕ) (written : List ℕ) → IsSoFar before start bytes c (written ++ held) →
+    IsSoFar after start (bytes ++ x ∷ []) c' (written ++ held')
 
 -- one more byte was taken
-pub Stands-advanced : (gives : Gives) (start : State) (bytes : List ℕ) (c c' : Cutter) (held held' : List ℕ) (x : ℕ) (before after : Option (List ℕ)) →
-    Stands gives start bytes c held before after → Advances gives start x c c' held held' → Stands gives start (bytes ++ x ∷ []) c' held' before after
-Stands-advanced gives start bytes c c' held held' x before after s on = record { written = s.written; taken = s.taken; so_far = on bytes s.written s.so_far }
+pub Stands-advanced : (writes writes' : Writes) (start : State) (bytes : List ℕ) (c c' : Cutter) (held held' : List ℕ) (x : ℕ) (before after : Option (List ℕ)) →
+    Stands writes start bytes c held before after → Advances writes writes' start x c c' held held' → Stands writes' start (bytes ++ x ∷ []) c' held' before after
+Stands-advanced writes writes' start bytes c c' held held' x before after s on = record { written = s.written; taken = s.taken; so_far = on bytes s.written s.so_far }
 
 -- the sink took some of the answers that were held
-pub Stands-handed : (gives : Gives) (start : State) (bytes : List ℕ) (c : Cutter) (held more held' : List ℕ) (before middle after : Option (List ℕ)) →
-    Stands gives start bytes c held before middle → held ≡ more ++ held' → Takes middle more after → Stands gives start bytes c held' before after
-Stands-handed gives start bytes c held more held' before middle after s e t = record {
+pub Stands-handed : (writes : Writes) (start : State) (bytes : List ℕ) (c : Cutter) (held more held' : List ℕ) (before middle after : Option (List ℕ)) →
+    Stands writes start bytes c held before middle → held ≡ more ++ held' → Takes middle more after → Stands writes start bytes c held' before after
+Stands-handed writes start bytes c held more held' before middle after s e t = record {
   written = s.written ++ more;
   taken = takes_then before middle after s.written more s.taken t;
-  so_far = subst (λ r. IsSoFar gives start bytes c r) (ap (λ r. s.written ++ r) e ∙ sym (append_assoc s.written more held')) s.so_far;
+  so_far = subst (λ r. IsSoFar writes start bytes c r) (ap (λ r. s.written ++ r) e ∙ sym (append_assoc s.written more held')) s.so_far;
 }
 
 -- where a run stops, this holds of what it answered
-pub Stands-holds : (gives : Gives) (start : State) (bytes : List ℕ) (c : Cutter) (held : List ℕ) (before after : Option (List ℕ)) (is_text : List ℕ → Type 0) →
-    Stands gives start bytes c held before after → ((written : List ℕ) → IsSoFar gives start bytes c (written ++ held) → is_text (written ++ held)) →
+pub Stands-holds : (writes : Writes) (start : State) (bytes : List ℕ) (c : Cutter) (held : List ℕ) (before after : Option (List ℕ)) (is_text : List ℕ → Type 0) →
+    Stands writes start bytes c held before after → ((written : List ℕ) → IsSoFar writes start bytes c (written ++ held) → is_text (written ++ held)) →
     Holds is_text held before after
-Stands-holds gives start bytes c held before after is_text s on = record { written = s.written; taken = s.taken; text = on s.written s.so_far }
+Stands-holds writes start bytes c held before after is_text s on = record { written = s.written; taken = s.taken; text = on s.written s.so_far }
 
 -- in front of the rest of the bytes it has answered some first records
-pub Stands-first : (gives : Gives) (start : State) (bytes rest : List ℕ) (c : Cutter) (held : List ℕ) (before after : Option (List ℕ)) →
-    Stands gives start bytes c held before after → Holds (IsReportOnFirst gives c.format start (bytes ++ rest)) held before after
-Stands-first gives start bytes rest c held before after s =
-    Stands-holds gives start bytes c held before after (IsReportOnFirst gives c.format start (bytes ++ rest)) s
+pub Stands-first : (writes : Writes) (start : State) (bytes rest : List ℕ) (c : Cutter) (held : List ℕ) (before after : Option (List ℕ)) →
+    Stands writes start bytes c held before after → Holds (IsReportOnFirst writes c.format.delimiter start (bytes ++ rest)) held before after
+Stands-first writes start bytes rest c held before after s =
+    Stands-holds writes start bytes c held before after (IsReportOnFirst writes c.format.delimiter start (bytes ++ rest)) s
     (λ written f. (f.records, f.state, f.rest ++ rest, AreCut-grown c.format.delimiter start f.state bytes f.rest rest f.records f.cut, f.answered))
 
 front_then : (before middle after : Option (List ℕ)) (written held : List ℕ) → Takes before written middle → TakesFront middle held after →
@@ -219,9 +215,9 @@ front_then before middle after written held t f = record {
 }
 
 -- where a sink fails in the middle of what is held
-pub Holds-breaks : (gives : Gives) (d : Format) (start : State) (bytes held : List ℕ) (before middle after : Option (List ℕ)) →
-    Holds (IsReportOnFirst gives d start bytes) held before middle → TakesFront middle held after → BreaksOff gives d start bytes before after
-Holds-breaks gives d start bytes held before middle after h f = (h.written ++ held, h.text, front_then before middle after h.written held h.taken f)
+pub Holds-breaks : (writes : Writes) (d : ℕ) (start : State) (bytes held : List ℕ) (before middle after : Option (List ℕ)) →
+    Holds (IsReportOnFirst writes d start bytes) held before middle → TakesFront middle held after → BreaksOff writes d start bytes before after
+Holds-breaks writes d start bytes held before middle after h f = (h.written ++ held, h.text, front_then before middle after h.written held h.taken f)
 
 -- the bytes of a block up to a place, and those from there on
 pub at_place : (bytes block : List ℕ) (i : ℕ) → (bytes ++ take i block) ++ drop i block ≡ bytes ++ block
@@ -242,10 +238,10 @@ pub Holds-out : (is_text : List ℕ → Type 0) (held : List ℕ) (before middle
 Holds-out is_text held before middle after h t = (h.written ++ held, h.text, takes_then before middle after h.written held h.taken t)
 
 -- the whole report, where nothing stands behind the last line end
-pub Stands-whole : (gives : Gives) (start : State) (bytes : List ℕ) (c : Cutter) (held : List ℕ) (before after : Option (List ℕ)) →
-    ends_at_end (state_of c.place) ≡ false → Stands gives start bytes c held before after → Holds (IsReport gives c.format start bytes) held before after
-Stands-whole gives start bytes c held before after e s =
-    Stands-holds gives start bytes c held before after (IsReport gives c.format start bytes) s (λ written f. (
+pub Stands-whole : (writes : Writes) (start : State) (bytes : List ℕ) (c : Cutter) (held : List ℕ) (before after : Option (List ℕ)) →
+    ends_at_end (state_of c.place) ≡ false → Stands writes start bytes c held before after → Holds (IsReport writes c.format.delimiter start bytes) held before after
+Stands-whole writes start bytes c held before after e s =
+    Stands-holds writes start bytes c held before after (IsReport writes c.format.delimiter start bytes) s (λ written f. (
       f.records,
       (
         f.records,
@@ -253,16 +249,16 @@ Stands-whole gives start bytes c held before after e s =
         f.rest,
         f.cut,
         (state_of c.place, fields_of c.fields, c.field.items, f.fed, closed_in_quotes (state_of c.place) e),
-        sym (ap (λ l. f.records ++ l) (IsSoFar-last gives start bytes c (written ++ held) f false e) ∙ append-nil f.records),
+        sym (ap (λ l. f.records ++ l) (IsSoFar-last writes start bytes c (written ++ held) f false e) ∙ append-nil f.records),
       ),
       f.answered,
     ))
 
 -- and where one record does, and was answered
-pub Stands-last : (gives : Gives) (start : State) (bytes : List ℕ) (c : Cutter) (held : List ℕ) (fields given : Record) (before after : Option (List ℕ)) →
+pub Stands-last : (writes writes' : Writes) (start : State) (bytes : List ℕ) (c : Cutter) (held added : List ℕ) (fields : Record) (before after : Option (List ℕ)) →
     ends_at_end (state_of c.place) ≡ true → in_quotes (state_of c.place) ≡ false → fields ≡ fields_of c.fields ++ c.field.items ∷ [] →
-    Stands gives start bytes c held before after → gives fields given → Holds (IsReport gives c.format start bytes) (held ++ record_text c.format (fields ++ given)) before after
-Stands-last gives start bytes c held fields given before after e unquoted is s on =
+    Stands writes start bytes c held before after → Adds writes writes' fields added → Holds (IsReport writes' c.format.delimiter start bytes) (held ++ added) before after
+Stands-last writes writes' start bytes c held added fields before after e unquoted is s on =
     let f = s.so_far in record {
       written = s.written;
       taken = s.taken;
@@ -274,35 +270,34 @@ Stands-last gives start bytes c held fields given before after e unquoted is s o
           f.rest,
           f.cut,
           (state_of c.place, fields_of c.fields, c.field.items, f.fed, unquoted),
-          sym (ap (λ l. f.records ++ l) (IsSoFar-last gives start bytes c (s.written ++ held) f true e ∙ ap (λ r. r ∷ []) (sym is))),
+          sym (ap (λ l. f.records ++ l) (IsSoFar-last writes start bytes c (s.written ++ held) f true e ∙ ap (λ r. r ∷ []) (sym is))),
         ),
-        subst (λ t. AreAnswers gives c.format (f.records ++ fields ∷ []) t) (append_assoc s.written held (record_text c.format (fields ++ given)))
-            (AreAnswers-then gives c.format f.records (s.written ++ held) fields given f.answered on),
+        subst (λ t. writes' (f.records ++ fields ∷ []) t) (append_assoc s.written held added) (on f.records (s.written ++ held) f.answered),
       );
     }
 
 -- and where it is refused
-pub Stands-last-refused : (gives : Gives) (refuses : Record → Type 0) (start : State) (bytes : List ℕ) (c : Cutter) (held : List ℕ) (fields : Record)
+pub Stands-last-refused : (writes : Writes) (refuses : Record → Type 0) (start : State) (bytes : List ℕ) (c : Cutter) (held : List ℕ) (fields : Record)
     (before after to_come : Option (List ℕ)) (feeds : ℕ) → ends_at_end (state_of c.place) ≡ true → fields ≡ fields_of c.fields ++ c.field.items ∷ [] → IsAtEnd to_come →
-    feeds ≡ c.feeds_before → Stands gives start bytes c held before after → refuses fields →
-    Holds (IsReportBefore gives refuses c.format start 0 feeds to_come bytes) held before after
-Stands-last-refused gives refuses start bytes c held fields before after to_come feeds e is end counts s on =
-    Stands-holds gives start bytes c held before after (IsReportBefore gives refuses c.format start 0 feeds to_come bytes) s (λ written f. (
+    feeds ≡ c.feeds_before → Stands writes start bytes c held before after → refuses fields →
+    Holds (IsReportBefore writes refuses c.format.delimiter start 0 feeds to_come bytes) held before after
+Stands-last-refused writes refuses start bytes c held fields before after to_come feeds e is end counts s on =
+    Stands-holds writes start bytes c held before after (IsReportBefore writes refuses c.format.delimiter start 0 feeds to_come bytes) s (λ written f. (
       f.records,
       f.state,
       f.rest,
       fields,
       f.cut,
-      inr (end, IsSoFar-last gives start bytes c (written ++ held) f true e ∙ ap (λ r. r ∷ []) (sym is)),
+      inr (end, IsSoFar-last writes start bytes c (written ++ held) f true e ∙ ap (λ r. r ∷ []) (sym is)),
       counts ∙ f.counts.before e ∙ from_none (feeds_before f.state bytes f.rest),
       on,
       f.answered,
     ))
 
 -- nothing was read yet
-pub Stands-nothing : (gives : Gives) (start : State) (c : Cutter) (held : List ℕ) (a : Option (List ℕ)) → state_of c.place ≡ start → fields_of c.fields ≡ [] →
-    c.field.items ≡ [] → c.feeds ≡ 0 → c.feeds_before ≡ 0 → held ≡ [] → Stands gives start [] c held a a
-Stands-nothing gives start c held a place fields field feeds feeds_before empty = record {
+pub Stands-nothing : (writes : Writes) → writes [] [] → (start : State) (c : Cutter) (held : List ℕ) (a : Option (List ℕ)) → state_of c.place ≡ start → fields_of c.fields ≡ [] →
+    c.field.items ≡ [] → c.feeds ≡ 0 → c.feeds_before ≡ 0 → held ≡ [] → Stands writes start [] c held a a
+Stands-nothing writes none start c held a place fields field feeds feeds_before empty = record {
   written = [];
   taken = takes_nothing a;
   so_far = record {
@@ -313,57 +308,67 @@ Stands-nothing gives start c held a place fields field feeds feeds_before empty 
     fed = at_start c.format.delimiter start (state_of c.place) (fields_of c.fields) c.field.items place fields field;
     counts = Counts-nothing c start place feeds feeds_before;
     quotes = λ closed. closed_quotes c start [] (ap ends_at_end place ∙ closed);
-    answered = rw empty unanswered;
+    answered = rw empty none;
   };
 }
 
 -- what was answered so far is the report on the records that are ended
-pub Stands-ended : (gives : Gives) (start : State) (bytes : List ℕ) (c : Cutter) (held : List ℕ) (before after : Option (List ℕ)) →
-    Stands gives start bytes c held before after → Holds (IsReportOnEnded gives c.format start bytes) held before after
-Stands-ended gives start bytes c held before after s =
-    Stands-holds gives start bytes c held before after (IsReportOnEnded gives c.format start bytes) s
+pub Stands-ended : (writes : Writes) (start : State) (bytes : List ℕ) (c : Cutter) (held : List ℕ) (before after : Option (List ℕ)) →
+    Stands writes start bytes c held before after → Holds (IsReportOnEnded writes c.format.delimiter start bytes) held before after
+Stands-ended writes start bytes c held before after s =
+    Stands-holds writes start bytes c held before after (IsReportOnEnded writes c.format.delimiter start bytes) s
     (λ written f. (f.records, f.state, f.rest, f.cut, (state_of c.place, fields_of c.fields, c.field.items, f.fed), f.answered))
 
 -- where a sink fails in the middle of what is held, it took a beginning of the report
-pub Holds-begins : (gives : Gives) (d : Format) (start : State) (to_come : Option (List ℕ)) (bytes held : List ℕ) (is_text : List ℕ → Type 0)
+pub Holds-begins : (writes : Writes) (d : ℕ) (start : State) (to_come : Option (List ℕ)) (bytes held : List ℕ) (is_text : List ℕ → Type 0)
     (before middle after : Option (List ℕ)) →
-    ((text : List ℕ) → is_text text → IsReportOnFirst gives d start bytes text ⊎ (IsAtEnd to_come × IsReport gives d start bytes text)) →
-    Holds is_text held before middle → TakesFront middle held after → TakesA (IsBeginning gives d start to_come bytes) before after
-Holds-begins gives d start to_come bytes held is_text before middle after on h t =
+    ((text : List ℕ) → is_text text → IsReportOnFirst writes d start bytes text ⊎ (IsAtEnd to_come × IsReport writes d start bytes text)) →
+    Holds is_text held before middle → TakesFront middle held after → TakesA (IsBeginning writes d start to_come bytes) before after
+Holds-begins writes d start to_come bytes held is_text before middle after on h t =
     let f = front_then before middle after h.written held h.taken t in (
       f.front,
       (
         f.rest,
-        subst (λ u. IsReportOnFirst gives d start bytes u ⊎ (IsAtEnd to_come × IsReport gives d start bytes u)) f.whole (on (h.written ++ held) h.text),
+        subst (λ u. IsReportOnFirst writes d start bytes u ⊎ (IsAtEnd to_come × IsReport writes d start bytes u)) f.whole (on (h.written ++ held) h.text),
       ),
       f.taken,
     )
 
 -- and so it did where it failed in the middle of the answers to some first records
-pub BreaksOff-begins : (gives : Gives) (d : Format) (start : State) (to_come : Option (List ℕ)) (bytes : List ℕ) (before after : Option (List ℕ)) →
-    BreaksOff gives d start bytes before after → TakesA (IsBeginning gives d start to_come bytes) before after
-BreaksOff-begins gives d start to_come bytes before after (text, first, f) =
-    (f.front, (f.rest, subst (λ u. IsReportOnFirst gives d start bytes u ⊎ (IsAtEnd to_come × IsReport gives d start bytes u)) f.whole (inl first)), f.taken)
+pub BreaksOff-begins : (writes : Writes) (d : ℕ) (start : State) (to_come : Option (List ℕ)) (bytes : List ℕ) (before after : Option (List ℕ)) →
+    BreaksOff writes d start bytes before after → TakesA (IsBeginning writes d start to_come bytes) before after
+BreaksOff-begins writes d start to_come bytes before after (text, first, f) =
+    (f.front, (f.rest, subst (λ u. IsReportOnFirst writes d start bytes u ⊎ (IsAtEnd to_come × IsReport writes d start bytes u)) f.whole (inl first)), f.taken)
 
 -- line feeds that stand in front of the bytes are counted too
-pub IsReportBefore-from : (gives : Gives) (refuses : Record → Type 0) (d : Format) (start : State) (earlier feeds all : ℕ) (to_come : Option (List ℕ)) (bytes text : List ℕ) →
-    all ≡ counted (earlier + feeds) → IsReportBefore gives refuses d start 0 feeds to_come bytes text → IsReportBefore gives refuses d start earlier all to_come bytes text
-IsReportBefore-from gives refuses d start earlier feeds all to_come bytes text is (records, state, rest, fields, cut, next, counts, refused, answers) =
+pub IsReportBefore-from : (writes : Writes) (refuses : Record → Type 0) (d : ℕ) (start : State) (earlier feeds all : ℕ) (to_come : Option (List ℕ)) (bytes text : List ℕ) →
+    all ≡ counted (earlier + feeds) → IsReportBefore writes refuses d start 0 feeds to_come bytes text → IsReportBefore writes refuses d start earlier all to_come bytes text
+IsReportBefore-from writes refuses d start earlier feeds all to_come bytes text is (records, state, rest, fields, cut, next, counts, refused, answers) =
     (records, state, rest, fields, cut, next, is ∙ ap (λ n. counted (earlier + n)) (counts ∙ sym (from_none (feeds_before state bytes rest))) ∙ counted-more earlier (feeds_before state bytes rest), refused, answers)
 
 -- and those are no more than can be counted
-pub IsReportBefore-counted : (gives : Gives) (refuses : Record → Type 0) (d : Format) (start : State) (earlier all feeds : ℕ) (to_come : Option (List ℕ)) (bytes text : List ℕ) →
-    earlier ≡ counted all → IsReportBefore gives refuses d start earlier feeds to_come bytes text → IsReportBefore gives refuses d start all feeds to_come bytes text
-IsReportBefore-counted gives refuses d start earlier all feeds to_come bytes text is (records, state, rest, fields, cut, next, counts, refused, answers) =
+pub IsReportBefore-counted : (writes : Writes) (refuses : Record → Type 0) (d : ℕ) (start : State) (earlier all feeds : ℕ) (to_come : Option (List ℕ)) (bytes text : List ℕ) →
+    earlier ≡ counted all → IsReportBefore writes refuses d start earlier feeds to_come bytes text → IsReportBefore writes refuses d start all feeds to_come bytes text
+IsReportBefore-counted writes refuses d start earlier all feeds to_come bytes text is (records, state, rest, fields, cut, next, counts, refused, answers) =
     let same = counts ∙ ap (λ n. counted (n + feeds_before state bytes rest)) is ∙ counted-more-first all (feeds_before state bytes rest) in
     (records, state, rest, fields, cut, next, same, refused, answers)
 
 -- where the bytes end between quotes, what was answered so far is the report in front of the quote
-pub Stands-quote : (gives : Gives) (start : State) (bytes : List ℕ) (c : Cutter) (held : List ℕ) (before after : Option (List ℕ)) (earlier line : ℕ) →
+pub Stands-quote : (writes : Writes) (start : State) (bytes : List ℕ) (c : Cutter) (held : List ℕ) (before after : Option (List ℕ)) (earlier line : ℕ) →
     in_quotes (state_of c.place) ≡ true → line ≡ counted (earlier + c.feeds_to_quote + 1) →
-    Stands gives start bytes c held before after → Holds (IsReportBeforeQuote gives c.format start earlier line bytes) held before after
-Stands-quote gives start bytes c held before after earlier line e is s =
-    Stands-holds gives start bytes c held before after (IsReportBeforeQuote gives c.format start earlier line bytes) s (λ written f. (
+    Stands writes start bytes c held before after → Holds (IsReportBeforeQuote writes c.format.delimiter start earlier line bytes) held before after
+Stands-quote writes start bytes c held before after earlier line e is s =
+    Stands-holds writes start bytes c held before after (IsReportBeforeQuote writes c.format.delimiter start earlier line bytes) s (λ written f. (
       (f.records, f.state, f.rest, f.cut, (state_of c.place, fields_of c.fields, c.field.items, f.fed), f.answered),
       λ closed. ends_in_quotes c start bytes earlier line (f.quotes closed) e is,
     ))
+
+-- whatever is kept last
+pub first_weaker : (writes writes' : Writes) → ((records : List Record) (text : List ℕ) → writes records text → writes' records text) →
+    (d : ℕ) (start : State) (bytes held : List ℕ) (before after : Option (List ℕ)) →
+    Holds (IsReportOnFirst writes d start bytes) held before after → Holds (IsReportOnFirst writes' d start bytes) held before after
+first_weaker writes writes' on d start bytes held before after h = record {
+  written = h.written;
+  taken = h.taken;
+  text = (h.text.0, h.text.1, h.text.2, h.text.3, on h.text.0 (h.written ++ held) h.text.4);
+}

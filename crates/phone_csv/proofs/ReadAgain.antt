@@ -15,14 +15,13 @@ use Rattle.phone_csv.specs.declared.format.LineEnd.{LineEnd}
 use Rattle.phone_csv.specs.declared.format.LineEnd.TheVariants as line_end
 use Rattle.phone_csv.specs.Records.{AreCut, IsEnded}
 use Rattle.phone_csv.specs.Records.AreCut.{none as uncut, next as cut}
-use Rattle.phone_csv.specs.RecordReports.{AreAll, AreAnswered, AreAnswers, Gives, last_record}
-use Rattle.phone_csv.specs.RecordReports.AreAnswers.{none, next}
-use Rattle.phone_csv.specs.RecordReports.AreAnswered.{none as none_answered, next as next_answered}
+use Rattle.phone_csv.specs.RecordReports.{AreAll, AreRows, Gives, WritesRows, last_record, rows_text}
+use Rattle.phone_csv.specs.RecordReports.AreRows.{none, answered, left_out}
 use Rattle.phone_csv.proofs.Progress.{feeds_then}
 use Rattle.std.specs.List.{AllByRecursion}
 
 -- a record has a field at least
-abbrev IsFull : Record → Type 0
+abbrev pub IsFull : Record → Type 0
 IsFull fields = fields ≢ []
 
 pushed_full : (fields : Record) (field : List ℕ) → IsFull (fields ++ field ∷ [])
@@ -65,18 +64,32 @@ last_full : (o : Option Read) → ((r : Read) → o ≡ Some r → IsFull r.0) �
 last_full None full = tt
 last_full (Some r) full = (full r refl, tt)
 
-all_append : (xs ys : List Record) → AllByRecursion IsFull xs → AllByRecursion IsFull ys → AllByRecursion IsFull (xs ++ ys)
+pub all_append : (xs ys : List Record) → AllByRecursion IsFull xs → AllByRecursion IsFull ys → AllByRecursion IsFull (xs ++ ys)
 all_append [] ys a b = b
 all_append (x ∷ xs) ys a b = (a.0, all_append xs ys a.1 b)
 
-all_full : (d : ℕ) (start : State) (bytes : List ℕ) (records : List Record) → AreAll d start bytes records → AllByRecursion IsFull records
+pub all_full : (d : ℕ) (start : State) (bytes : List ℕ) (records : List Record) → AreAll d start bytes records → AllByRecursion IsFull records
 all_full d start bytes records (first, state, rest, are, unended, is) =
     rw is (all_append first (last_record d state rest) (cut_full d start state bytes rest first are)
     (last_full (next_record (reading d) state [] [] rest) (next_full (reading d) state [] [] rest)))
 
-full_read_back : (fields answer : Record) → IsFull fields → read_back (fields ++ answer) ≡ fields ++ answer
-full_read_back [] answer full = absurd (full refl)
-full_read_back (f ∷ fs) answer full = refl
+pub more_full : (fields answer : Record) → IsFull fields → IsFull (fields ++ answer)
+more_full [] answer full e = absurd (full refl)
+more_full (f ∷ fs) answer full e = cc e
+
+pub first_all : (xs ys : List Record) → AllByRecursion IsFull (xs ++ ys) → AllByRecursion IsFull xs × AllByRecursion IsFull ys
+first_all [] ys all = (tt, all)
+first_all (x ∷ xs) ys all = let r = first_all xs ys all.1 in ((all.0, r.0), r.1)
+
+-- and so is each row for such records
+rows_full : {Kept : Type 0} (gives : Gives Kept) (first last : Kept) (records rows : List Record) → AreRows gives first records rows last →
+    AllByRecursion IsFull records → AllByRecursion IsFull rows
+rows_full gives first last records rows none full = tt
+rows_full gives first last records rows (answered some before kept fields answer after are given) full =
+    let parts = first_all some (fields ∷ []) full in
+    all_append before ((fields ++ answer) ∷ []) (rows_full gives first kept some before are parts.0) (more_full fields answer parts.1.0, tt)
+rows_full gives first last records rows (left_out some before kept fields after are given) full =
+    rows_full gives first kept some before are (first_all some (fields ∷ []) full).0
 
 read_full : (fields : Record) → IsFull fields → read_back fields ≡ fields
 read_full [] full = absurd (full refl)
@@ -86,33 +99,18 @@ read_full (f ∷ fs) full = refl
 kit_text : (fields : Record) → record_text (commas line_end.Feed) fields ≡ row_text default_writer fields
 kit_text fields = append_assoc (row_body default_writer fields) (if is_blank default_writer fields then 34 ∷ 34 ∷ [] else []) (10 ∷ [])
 
--- a first record that is read, and those after it
-reached_first : (cfg : Config) (s t : State) (first : Record) (text rest : List ℕ)
-    (rows : List Record) (last : State) (left : List ℕ) →
-    next_record cfg s [] [] text ≡ Some (first, t, rest) → Reached cfg t rest rows last left →
-    Reached cfg s text (first ∷ rows) last left
-unfolding Reached
-reached_first cfg s t first text rest rows last left e on = ((first, t, rest), e, refl, on)
-
 -- each record that was written is read again
-read_rows : (gives : Gives) (records : List Record) (text : List ℕ) → AllByRecursion IsFull records → AreAnswers gives (commas line_end.Feed) records text →
-    (rows : List Record) × AreAnswered gives records rows × Reached (reading 44) st.StartRecord text rows st.StartRecord []
+read_rows : (rows : List Record) → AllByRecursion IsFull rows → Reached (reading 44) st.StartRecord (rows_text (commas line_end.Feed) rows) rows st.StartRecord []
 unfolding Reached
-read_rows gives records text full none = ([], none_answered, (refl, refl))
-read_rows gives records text full (next fields answer others more given on) =
-    let r = read_rows gives others more full.1 on in
-    let e = ap (λ t. next_record (reading 44) st.StartRecord [] [] (t ++ more)) (kit_text (fields ++ answer)) ∙ read-write (fields ++ answer) more ∙ ap (λ row. Some (row, st.StartRecord, more)) (full_read_back fields answer full.0) in
-    ((fields ++ answer) ∷ r.0, next_answered fields answer others r.0 given r.1, ((fields ++ answer, st.StartRecord, more), e, refl, r.2))
+read_rows [] full = (refl, refl)
+read_rows (row ∷ rows) full =
+    let more = rows_text (commas line_end.Feed) rows in
+    let e = ap (λ t. next_record (reading 44) st.StartRecord [] [] (t ++ more)) (kit_text row) ∙ read-write row more ∙ ap (λ r. Some (r, st.StartRecord, more)) (read_full row full.0) in
+    ((row, st.StartRecord, more), e, refl, read_rows rows full.1)
 
 nothing_left : next_record (reading 44) st.StartRecord [] [] [] ≡ None
 unfolding next_record
 nothing_left = refl
-
-pub feeds_read_again : (gives : Gives) (start : State) (bytes : List ℕ) (records : List Record) (text : List ℕ) → AreAll 44 start bytes records →
-    AreAnswers gives (commas line_end.Feed) records text → (rows : List Record) × AreAnswered gives records rows × AreRecords (reading 44) st.StartRecord text rows
-feeds_read_again gives start bytes records text all are =
-    let r = read_rows gives records text (all_full 44 start bytes records all) are in
-    (r.0, r.1, (st.StartRecord, [], r.2, nothing_left))
 
 -- a read leaves no more bytes than stand behind the first one
 left_within : (cfg : Config) (s : State) (f : Record) (p : List ℕ) (c : ℕ) (x : List ℕ) (r : Read) → next_record cfg s f p (c ∷ x) ≡ Some r → length r.2 ≤ length x
@@ -206,45 +204,33 @@ unfolding Reached
 nothing_read true = (refl, refl)
 nothing_read false = (refl, refl)
 
-read_returns : (gives : Gives) (b : Bool) (records : List Record) (text : List ℕ) → AllByRecursion IsFull records → AreAnswers gives (commas line_end.ReturnFeed) records text →
-    (rows : List Record) × AreAnswered gives records rows × ((last : Bool) × Reached (reading 44) (place_at b) (to_come b ++ text) rows (place_at last) (to_come last))
+read_returns : (b : Bool) (rows : List Record) → AllByRecursion IsFull rows →
+    (last : Bool) × Reached (reading 44) (place_at b) (to_come b ++ rows_text (commas line_end.ReturnFeed) rows) rows (place_at last) (to_come last)
 unfolding Reached
-read_returns gives b records text full none = ([], none_answered, (b, nothing_read b))
-read_returns gives b records text full (next fields answer others more given on) =
-    let r = read_returns gives true others more full.1 on in
-    let e = skipped b (record_text (commas line_end.ReturnFeed) (fields ++ answer) ++ more) ∙ row_read (fields ++ answer) more
-    ∙ ap (λ row. Some (row, st.AfterCr, 10 ∷ more)) (full_read_back fields answer full.0) in
-    ((fields ++ answer) ∷ r.0, next_answered fields answer others r.0 given r.1, (r.2.0, ((fields ++ answer, st.AfterCr, 10 ∷ more), e, refl, r.2.1)))
+read_returns b [] full = (b, nothing_read b)
+read_returns b (row ∷ rows) full =
+    let more = rows_text (commas line_end.ReturnFeed) rows in
+    let r = read_returns true rows full.1 in
+    let e = skipped b (record_text (commas line_end.ReturnFeed) row ++ more) ∙ row_read row more ∙ ap (λ r. Some (r, st.AfterCr, 10 ∷ more)) (read_full row full.0) in
+    (r.0, ((row, st.AfterCr, 10 ∷ more), e, refl, r.1))
 
 -- whatever stands behind the records
-pub report_read_again : (gives : Gives) (end : LineEnd) (start : State) (bytes : List ℕ) (records : List Record) (text : List ℕ) → AreAll 44 start bytes records →
-    AreAnswers gives (commas end) records text → (rows : List Record) × AreAnswered gives records rows × AreRecords (reading 44) st.StartRecord text rows
-report_read_again gives line_end.Feed start bytes records text all are = feeds_read_again gives start bytes records text all are
-report_read_again gives line_end.ReturnFeed start bytes records text all are =
-    let r = read_returns gives false records text (all_full 44 start bytes records all) are in
-    (r.0, r.1, (place_at r.2.0, to_come r.2.0, r.2.1, nothing_at r.2.0))
+rows_read_again : (end : LineEnd) (rows : List Record) → AllByRecursion IsFull rows → AreRecords (reading 44) st.StartRecord (rows_text (commas end) rows) rows
+rows_read_again line_end.Feed rows full = (st.StartRecord, [], read_rows rows full, nothing_left)
+rows_read_again line_end.ReturnFeed rows full = let r = read_returns false rows full in (place_at r.0, to_come r.0, r.1, nothing_at r.0)
 
--- a first record that was written, and whatever stands behind the records that follow it
-pub table_read_again : (gives : Gives) (end : LineEnd) (start : State) (bytes : List ℕ)
-    (records : List Record) (first : Record) (body : List ℕ) → first ≢ [] →
-    AreAll 44 start bytes records → AreAnswers gives (commas end) records body →
-    (rows : List Record) × AreAnswered gives records rows ×
-    AreRecords (reading 44) st.StartRecord (record_text (commas end) first ++ body) (first ∷ rows)
-table_read_again gives line_end.Feed start bytes records first body full all are =
-    let text = record_text (commas line_end.Feed) first ++ body in
-    let r = read_rows gives records body (all_full 44 start bytes records all) are in
-    let read = next_record (reading 44) st.StartRecord [] [] in
-    let e = ap (λ t. read (t ++ body)) (kit_text first) ∙ read-write first body
-    ∙ ap (λ row. Some (row, st.StartRecord, body)) (read_full first full) in
-    let on = reached_first (reading 44) st.StartRecord st.StartRecord first text body r.0
-    st.StartRecord [] e r.2 in
-    (r.0, r.1, (st.StartRecord, [], on, nothing_left))
-table_read_again gives line_end.ReturnFeed start bytes records first body full all are =
-    let text = record_text (commas line_end.ReturnFeed) first ++ body in
-    let r = read_returns gives true records body (all_full 44 start bytes records all) are in
-    let last = r.2.0 in
-    let e = row_read first body
-    ∙ ap (λ row. Some (row, st.AfterCr, 10 ∷ body)) (read_full first full) in
-    let on = reached_first (reading 44) st.StartRecord st.AfterCr first text (10 ∷ body) r.0
-    (place_at last) (to_come last) e r.2.1 in
-    (r.0, r.1, (place_at last, to_come last, on, nothing_at last))
+-- and a first record that was written
+pub first_read_again : (end : LineEnd) (first : Record) (rows : List Record) → IsFull first → AllByRecursion IsFull rows →
+    AreRecords (reading 44) st.StartRecord (record_text (commas end) first ++ rows_text (commas end) rows) (first ∷ rows)
+first_read_again end first rows full all = rows_read_again end (first ∷ rows) (full, all)
+
+module _ {Kept : Type 0} (gives : Gives Kept) (kept last : Kept) (end : LineEnd) (start : State) (bytes : List ℕ) (records : List Record) where
+  pub report_read_again : (text : List ℕ) → AreAll 44 start bytes records → (w : WritesRows gives (commas end) kept last records text) →
+      AreRecords (reading 44) st.StartRecord text w.0
+  report_read_again text all (rows, are, is) = subst (λ t. AreRecords (reading 44) st.StartRecord t rows) (sym is)
+      (rows_read_again end rows (rows_full gives kept last records rows are (all_full 44 start bytes records all)))
+
+  pub table_read_again : (first : Record) (body : List ℕ) → first ≢ [] → AreAll 44 start bytes records → (w : WritesRows gives (commas end) kept last records body) →
+      AreRecords (reading 44) st.StartRecord (record_text (commas end) first ++ body) (first ∷ w.0)
+  table_read_again first body full all (rows, are, is) = subst (λ t. AreRecords (reading 44) st.StartRecord (record_text (commas end) first ++ t) (first ∷ rows)) (sym is)
+      (first_read_again end first rows full (rows_full gives kept last records rows are (all_full 44 start bytes records all)))

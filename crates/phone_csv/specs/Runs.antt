@@ -1,20 +1,18 @@
 -- How far a run over records is, and how it ends.
 use Rattle.std.specs.Prelude.{◌≡◌, ◌≢◌, ◌⊎◌, ℕ, ◌-◌, ◌^◌, Bool, List, [], ◌∷◌, ◌++◌, Option}
 use Rattle.std.specs.Prelude.{true, false}
-use Rattle.std.specs.List.{flat_map, fold}
 use Rattle.csv.specs.Machine.{Feeds, ends_at_end}
 use Rattle.csv.specs.Records.{fields_of}
 use Rattle.csv.specs.Writing.{escaped}
 use Rattle.csv.specs.declared.parser.State.{State}
 use Rattle.csv.specs.declared.parser.State.TheVariants as st
-use Rattle.phone_device.specs.Passing.{Holds, Passes, Takes, TakesFront}
+use Rattle.phone_device.specs.Passing.{Passes, Takes, TakesFront}
 use Rattle.phone_csv.specs.Feeds.{counted, feeds_before, line_feeds, past_line_ends}
-use Rattle.phone_csv.specs.Formats.{Record, reading, record_text, state_of, writing}
+use Rattle.phone_csv.specs.Formats.{Record, reading, state_of, writing}
 use Rattle.phone_csv.specs.Quotes.{IsBeforeField}
 use Rattle.phone_csv.specs.Records.{AreCut, in_quotes}
-use Rattle.phone_csv.specs.RecordReports.{AreAnswers, Gives, IsReportOnFirst}
+use Rattle.phone_csv.specs.RecordReports.{IsReportOnFirst, Writes}
 use Rattle.phone_csv.specs.declared.cutter.Cutter.{Cutter}
-use Rattle.phone_csv.specs.declared.format.Format.{Format}
 
 -- a record that isn't ended yet counts the line feeds of bytes, and, once it has begun, those in
 -- front of it; until then the rest of the bytes are line ends
@@ -50,7 +48,7 @@ pub record Quotes (cutter : Cutter) (start : State) (bytes : List ℕ) : Type 0 
 
 -- so far these bytes were read, of which the last record isn't ended yet, and these answers given
 -- to the other ones
-pub record IsSoFar (gives : Record → Record → Type 0) (start : State) (bytes : List ℕ)
+pub record IsSoFar (writes : List Record → List ℕ → Type 0) (start : State) (bytes : List ℕ)
     (cutter : Cutter) (answers : List ℕ) : Type 0 where
   pub records : List Record
   pub state : State
@@ -60,32 +58,24 @@ pub record IsSoFar (gives : Record → Record → Type 0) (start : State) (bytes
       (state_of cutter.place) (fields_of cutter.fields) cutter.field.items false
   pub counts : Counts cutter state bytes rest
   pub quotes : ends_at_end start ≡ false → Quotes cutter start bytes
-  pub answered : AreAnswers gives cutter.format records answers
+  pub answered : writes records answers
 
 -- of such answers these are held back, and the others were taken by the sink
-pub record Stands (gives : Record → Record → Type 0) (start : State) (bytes : List ℕ)
+pub record Stands (writes : List Record → List ℕ → Type 0) (start : State) (bytes : List ℕ)
     (cutter : Cutter) (held : List ℕ) (before after : Option (List ℕ)) : Type 0 where
   pub written : List ℕ
   pub taken : Takes before written after
-  pub so_far : IsSoFar gives start bytes cutter (written ++ held)
+  pub so_far : IsSoFar writes start bytes cutter (written ++ held)
 
--- a text is that of some rows, one after the other, each of which was counted
-pub record IsCounted {C : Type 0} (after : C → Record → C) (format : Format) (first : C)
-    (text : List ℕ) (now : C) : Type 0 where
-  pub rows : List Record
-  pub written : text ≡ flat_map (record_text format) rows
-  pub counted : now ≡ fold after first rows
-
--- what the sink took and what is held back is such a text
-abbrev pub HoldsCounted : {C : Type 0} → (C → Record → C) → Format → (first now : C) → List ℕ →
-    Option (List ℕ) → Option (List ℕ) → Type 0
-HoldsCounted after format first now held before taken =
-    Holds (λ text. IsCounted after format first text now) held before taken
+-- what is written for records, and then this for one more with these fields
+abbrev pub Adds : (before after : Writes) → Record → List ℕ → Type 0
+Adds before after fields added = (records : List Record) (text : List ℕ) → before records text →
+    after (records ++ fields ∷ []) (text ++ added)
 
 -- a sink took a beginning of the answers to some first records
-abbrev pub BreaksOff : Gives → Format → State → List ℕ → Option (List ℕ) → Option (List ℕ) → Type 0
-BreaksOff gives format start bytes before after = (answers : List ℕ) ×
-    IsReportOnFirst gives format start bytes answers × TakesFront before answers after
+abbrev pub BreaksOff : Writes → ℕ → State → List ℕ → Option (List ℕ) → Option (List ℕ) → Type 0
+BreaksOff writes delimiter start bytes before after = (answers : List ℕ) ×
+    IsReportOnFirst writes delimiter start bytes answers × TakesFront before answers after
 
 -- this holds of the bytes that a source gave
 abbrev pub OfRead : Option (List ℕ) → Option (List ℕ) → (List ℕ → Type 0) → Type 0
@@ -100,5 +90,5 @@ abbrev pub most_bytes : ℕ
 most_bytes = 2 ^ 64 - 1
 
 -- nothing is held yet, and nothing was read
-abbrev pub IsFresh : Gives → State → Cutter → List ℕ → Option (List ℕ) → Type 0
-IsFresh gives start cutter held taken = Stands gives start [] cutter held taken taken
+abbrev pub IsFresh : Writes → State → Cutter → List ℕ → Option (List ℕ) → Type 0
+IsFresh writes start cutter held taken = Stands writes start [] cutter held taken taken

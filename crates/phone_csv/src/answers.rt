@@ -1,5 +1,6 @@
 //! What answers records, and the text of a record with its answer.
-ghost use Rattle.std.specs.Prelude.{◌≡◌, List, [], ◌++◌, ℕ, Err, OnOk, OnErr};
+ghost use Rattle.std.specs.Prelude.{◌≡◌, List, [], ◌++◌, ℕ, Option, None, Some, Ok, Err, OnOk};
+ghost use Rattle.std.specs.Prelude.{OnErr, true, false};
 ghost use Rattle.csv.specs.Records.{fields_of, partial_of};
 ghost use Rattle.phone_csv.specs.Formats.{Record, record_text};
 ghost use Rattle.phone_csv.specs.declared.answers.Refusal.TheVariants as refusal;
@@ -18,32 +19,26 @@ pub enum Refusal {
     Memory,
 }
 
-/// What answers records, each by itself.
+/// What answers records in their turn: it may keep something from one to the next.
 pub trait Answers {
-    // What may be answered to a record.
-    ghost gives: { Self → List (List ℕ) → List (List ℕ) → Type 0 };
+    // What may be done with a record: what is kept before it, its fields, those of its answer, or
+    // none where it is left out, and what is kept after it.
+    ghost gives: { Self → List (List ℕ) → Option (List (List ℕ)) → Self → Type 0 };
 
     // Which records are refused.
     ghost refuses: { Self → List (List ℕ) → Type 0 };
 
-    /// Puts the fields of the answer behind those of a record. Refused by `Record` for a record
-    /// that is not answered, and by `Memory`.
-    fn answer(&self, alloc: Global, fields: &mut ByteRecord) -> Result<(), Refusal>
+    /// Puts the fields of the answer behind those of a record, or says that the record is left out.
+    /// Refused by `Record` for a record that is not answered, and by `Memory`.
+    fn answer(&mut self, alloc: Global, fields: &mut ByteRecord) -> Result<bool, Refusal>
         requires { partial_of fields.old ≡ [] }
-        ensures given { OnOk result ((answer : List (List ℕ)) ×
-            gives self.now (fields_of fields.old) answer ×
-            (fields_of fields.new ≡ fields_of fields.old ++ answer)) }
-        ensures refused { result ≡ Err refusal.Record → refuses self.now (fields_of fields.old) };
-}
-
-/// What counts rows, each a record with its answer, one after the other.
-pub trait Counter {
-    // The counter after one more row.
-    ghost after: { Self → List (List ℕ) → Self };
-
-    /// Counts one more row.
-    fn count(&mut self, row: &ByteRecord)
-        ensures { self.new ≡ after self.old (fields_of row.now) };
+        ensures answered { result ≡ Ok true → (answer : List (List ℕ)) ×
+            gives self.old (fields_of fields.old) (Some answer) self.new ×
+            (fields_of fields.new ≡ fields_of fields.old ++ answer) }
+        ensures left_out { result ≡ Ok false →
+            gives self.old (fields_of fields.old) None self.new }
+        ensures refused { result ≡ Err refusal.Record →
+            refuses self.old (fields_of fields.old) × (self.new ≡ self.old) };
 }
 
 /// Puts the text of a record behind a text. Refused only for memory; then the text is as it was.

@@ -9,14 +9,14 @@ ghost use Rattle.phone_csv.specs.Formats.{state_of};
 ghost use Rattle.phone_csv.specs.Feeds.{counted};
 ghost use Rattle.phone_csv.specs.RecordReports.{IsBeginning, IsReport, IsReportBefore};
 ghost use Rattle.phone_csv.specs.RecordReports.{IsReportBeforeQuote, IsReportOnEnded};
-ghost use Rattle.phone_csv.specs.RecordReports.{IsReportOnFirst};
-ghost use Rattle.phone_csv.specs.Runs.{BreaksOff, HoldsCounted, IsCounted, IsFresh};
+ghost use Rattle.phone_csv.specs.RecordReports.{IsReportOnFirst, WritesRows, WritesSomeRows};
+ghost use Rattle.phone_csv.specs.Runs.{BreaksOff, IsFresh};
 ghost use Rattle.phone_csv.specs.Runs.{OfRead, Stands, TakesA};
 ghost use Rattle.phone_csv.specs.Runs.{most_bytes};
 ghost use Rattle.phone_csv.specs.declared.blocks.End.TheVariants as end;
 ghost use Rattle.phone_csv.specs.declared.blocks.RunError.TheVariants as error;
 
-use crate::answers::{Answers, Counter, Refusal};
+use crate::answers::{Answers, Refusal};
 use crate::cutter::Start;
 use crate::format::Format;
 use crate::machine::in_quotes;
@@ -56,10 +56,9 @@ enum End {
 }
 
 /// Reads all blocks, and answers the records that are ended.
-fn take_blocks<A: Answers, C: Counter, S: ByteSource, W: ByteSink>(
+fn take_blocks<A: Answers, S: ByteSource, W: ByteSink>(
     alloc: Global,
-    answers: &A,
-    counter: &mut C,
+    answers: &mut A,
     source: &mut S,
     sink: &mut W,
     pending: &mut PendingOutput,
@@ -67,45 +66,45 @@ fn take_blocks<A: Answers, C: Counter, S: ByteSource, W: ByteSink>(
     requires partial { partial_of pending.old.cutter.fields ≡ [] }
     requires short { vec_len pending.old.answers < BLOCK_LENGTH }
     ensures end { result ≡ Ok end.Whole → IsAtEnd (S.to_come source.new) }
-    ensures counted { result ≡ Ok end.Whole → (first : C) →
-        HoldsCounted C.after pending.old.cutter.format first counter.old pending.old.answers.items
-        (W.taken sink.old) (W.taken sink.old) →
-        HoldsCounted C.after pending.old.cutter.format first counter.new pending.new.answers.items
-        (W.taken sink.old) (W.taken sink.new) }
     ensures partial { result ≡ Ok end.Whole → partial_of pending.new.cutter.fields ≡ [] }
     ensures format { pending.new.cutter.format ≡ pending.old.cutter.format }
-    ensures taken { result ≡ Ok end.Whole → (start : State) →
-        IsFresh (A.gives answers.now) start pending.old.cutter pending.old.answers.items
-        (W.taken sink.old) →
+    ensures taken { result ≡ Ok end.Whole → (first : A) (start : State) →
+        IsFresh (WritesRows A.gives pending.old.cutter.format first answers.old) start
+        pending.old.cutter pending.old.answers.items (W.taken sink.old) →
         OfRead (S.to_come source.old) (S.to_come source.new) (λ bytes. Stands
-        (A.gives answers.now) start bytes pending.new.cutter pending.new.answers.items
+        (WritesRows A.gives pending.old.cutter.format first answers.new)
+        start bytes pending.new.cutter pending.new.answers.items
         (W.taken sink.old) (W.taken sink.new)) }
-    ensures input { result ≡ Ok end.Input → (start : State) →
-        IsFresh (A.gives answers.now) start pending.old.cutter pending.old.answers.items
-        (W.taken sink.old) →
+    ensures input { result ≡ Ok end.Input → (first : A) (start : State) →
+        IsFresh (WritesRows A.gives pending.old.cutter.format first answers.old) start
+        pending.old.cutter pending.old.answers.items (W.taken sink.old) →
         OfRead (S.to_come source.old) (S.to_come source.new) (λ bytes. Holds (IsReportOnEnded
-        (A.gives answers.now) pending.old.cutter.format start bytes) pending.new.answers.items
+        (WritesRows A.gives pending.old.cutter.format first answers.new)
+        pending.old.cutter.format.delimiter start bytes) pending.new.answers.items
         (W.taken sink.old) (W.taken sink.new)) }
     ensures cause { result ≡ Ok end.Input → (S.faults source.new ≡ S.faults source.old + 1) ⊎
         OfRead (S.to_come source.old) (S.to_come source.new) (λ bytes. length bytes ≡ most_bytes) }
-    ensures refused { result ≡ Ok end.Record → (start : State) →
-        IsFresh (A.gives answers.now) start pending.old.cutter pending.old.answers.items
-        (W.taken sink.old) →
+    ensures refused { result ≡ Ok end.Record → (first : A) (start : State) →
+        IsFresh (WritesRows A.gives pending.old.cutter.format first answers.old) start
+        pending.old.cutter pending.old.answers.items (W.taken sink.old) →
         OfRead (S.to_come source.old) (S.to_come source.new) (λ bytes. Holds (IsReportBefore
-        (A.gives answers.now) (A.refuses answers.now) pending.old.cutter.format start
+        (WritesRows A.gives pending.old.cutter.format first answers.new)
+        (A.refuses answers.new) pending.old.cutter.format.delimiter start
         0 pending.new.cutter.feeds_before (S.to_come source.new) bytes) pending.new.answers.items
         (W.taken sink.old) (W.taken sink.new)) }
-    ensures memory { result ≡ Ok end.Memory → (start : State) →
-        IsFresh (A.gives answers.now) start pending.old.cutter pending.old.answers.items
-        (W.taken sink.old) →
+    ensures memory { result ≡ Ok end.Memory → (first : A) (start : State) →
+        IsFresh (WritesRows A.gives pending.old.cutter.format first answers.old) start
+        pending.old.cutter pending.old.answers.items (W.taken sink.old) →
         OfRead (S.to_come source.old) (S.to_come source.new) (λ bytes. Holds (IsReportOnFirst
-        (A.gives answers.now) pending.old.cutter.format start bytes) pending.new.answers.items
+        (WritesSomeRows A.gives pending.old.cutter.format first)
+        pending.old.cutter.format.delimiter start bytes) pending.new.answers.items
         (W.taken sink.old) (W.taken sink.new)) }
-    ensures broken { OnErr result ((start : State) →
-        IsFresh (A.gives answers.now) start pending.old.cutter pending.old.answers.items
-        (W.taken sink.old) →
+    ensures broken { OnErr result ((first : A) (start : State) →
+        IsFresh (WritesRows A.gives pending.old.cutter.format first answers.old) start
+        pending.old.cutter pending.old.answers.items (W.taken sink.old) →
         OfRead (S.to_come source.old) (S.to_come source.new) (λ bytes. BreaksOff
-        (A.gives answers.now) pending.old.cutter.format start bytes (W.taken sink.old)
+        (WritesSomeRows A.gives pending.old.cutter.format first)
+        pending.old.cutter.format.delimiter start bytes (W.taken sink.old)
         (W.taken sink.new))) }
     ensures no_fault { result ≡ Ok end.Whole → S.faults source.new ≡ S.faults source.old }
     ensures no_fault_at_a_record { result ≡ Ok end.Record →
@@ -129,7 +128,7 @@ fn take_blocks<A: Answers, C: Counter, S: ByteSource, W: ByteSink>(
             return Ok(End::Whole);
         }
         read += block.bytes().len() as u64;
-        match pending.take_block(alloc, answers, counter, sink, block.bytes()) {
+        match pending.take_block(alloc, answers, sink, block.bytes()) {
             Ok(()) => {}
             Err(Stop::Fault) => return Err(Fault),
             Err(Stop::Record) => return Ok(End::Record),
@@ -139,10 +138,9 @@ fn take_blocks<A: Answers, C: Counter, S: ByteSource, W: ByteSink>(
 }
 
 /// Reads to the end, and answers all records.
-fn take_all<A: Answers, C: Counter, S: ByteSource, W: ByteSink>(
+fn take_all<A: Answers, S: ByteSource, W: ByteSink>(
     alloc: Global,
-    answers: &A,
-    counter: &mut C,
+    answers: &mut A,
     source: &mut S,
     sink: &mut W,
     pending: &mut PendingOutput,
@@ -150,53 +148,54 @@ fn take_all<A: Answers, C: Counter, S: ByteSource, W: ByteSink>(
     requires partial { partial_of pending.old.cutter.fields ≡ [] }
     requires short { vec_len pending.old.answers < BLOCK_LENGTH }
     ensures end { result ≡ Ok end.Whole → IsAtEnd (S.to_come source.new) }
-    ensures counted { result ≡ Ok end.Whole → (first : C) →
-        HoldsCounted C.after pending.old.cutter.format first counter.old pending.old.answers.items
-        (W.taken sink.old) (W.taken sink.old) →
-        HoldsCounted C.after pending.old.cutter.format first counter.new pending.new.answers.items
-        (W.taken sink.old) (W.taken sink.new) }
-    ensures taken { result ≡ Ok end.Whole → (start : State) →
-        IsFresh (A.gives answers.now) start pending.old.cutter pending.old.answers.items
-        (W.taken sink.old) →
+    ensures taken { result ≡ Ok end.Whole → (first : A) (start : State) →
+        IsFresh (WritesRows A.gives pending.old.cutter.format first answers.old) start
+        pending.old.cutter pending.old.answers.items (W.taken sink.old) →
         OfRead (S.to_come source.old) (S.to_come source.new) (λ bytes. Holds (IsReport
-        (A.gives answers.now) pending.old.cutter.format start bytes) pending.new.answers.items
+        (WritesRows A.gives pending.old.cutter.format first answers.new)
+        pending.old.cutter.format.delimiter start bytes) pending.new.answers.items
         (W.taken sink.old) (W.taken sink.new)) }
-    ensures input { result ≡ Ok end.Input → (start : State) →
-        IsFresh (A.gives answers.now) start pending.old.cutter pending.old.answers.items
-        (W.taken sink.old) →
+    ensures input { result ≡ Ok end.Input → (first : A) (start : State) →
+        IsFresh (WritesRows A.gives pending.old.cutter.format first answers.old) start
+        pending.old.cutter pending.old.answers.items (W.taken sink.old) →
         OfRead (S.to_come source.old) (S.to_come source.new) (λ bytes. Holds (IsReportOnEnded
-        (A.gives answers.now) pending.old.cutter.format start bytes) pending.new.answers.items
+        (WritesRows A.gives pending.old.cutter.format first answers.new)
+        pending.old.cutter.format.delimiter start bytes) pending.new.answers.items
         (W.taken sink.old) (W.taken sink.new)) }
     ensures cause { result ≡ Ok end.Input → (S.faults source.new ≡ S.faults source.old + 1) ⊎
         OfRead (S.to_come source.old) (S.to_come source.new) (λ bytes. length bytes ≡ most_bytes) }
-    ensures refused { result ≡ Ok end.Record → (start : State) →
-        IsFresh (A.gives answers.now) start pending.old.cutter pending.old.answers.items
-        (W.taken sink.old) →
+    ensures refused { result ≡ Ok end.Record → (first : A) (start : State) →
+        IsFresh (WritesRows A.gives pending.old.cutter.format first answers.old) start
+        pending.old.cutter pending.old.answers.items (W.taken sink.old) →
         OfRead (S.to_come source.old) (S.to_come source.new) (λ bytes. Holds (IsReportBefore
-        (A.gives answers.now) (A.refuses answers.now) pending.old.cutter.format start
+        (WritesRows A.gives pending.old.cutter.format first answers.new)
+        (A.refuses answers.new) pending.old.cutter.format.delimiter start
         0 pending.new.cutter.feeds_before (S.to_come source.new) bytes) pending.new.answers.items
         (W.taken sink.old) (W.taken sink.new)) }
-    ensures memory { result ≡ Ok end.Memory → (start : State) →
-        IsFresh (A.gives answers.now) start pending.old.cutter pending.old.answers.items
-        (W.taken sink.old) →
+    ensures memory { result ≡ Ok end.Memory → (first : A) (start : State) →
+        IsFresh (WritesRows A.gives pending.old.cutter.format first answers.old) start
+        pending.old.cutter pending.old.answers.items (W.taken sink.old) →
         OfRead (S.to_come source.old) (S.to_come source.new) (λ bytes. Holds (IsReportOnFirst
-        (A.gives answers.now) pending.old.cutter.format start bytes) pending.new.answers.items
+        (WritesSomeRows A.gives pending.old.cutter.format first)
+        pending.old.cutter.format.delimiter start bytes) pending.new.answers.items
         (W.taken sink.old) (W.taken sink.new)) }
-    ensures quote { result ≡ Ok end.Quote → (start : State) (earlier line : ℕ) →
+    ensures quote { result ≡ Ok end.Quote → (first : A) (start : State) (earlier line : ℕ) →
         line ≡ counted (earlier + pending.new.cutter.feeds_to_quote + 1) →
-        IsFresh (A.gives answers.now) start pending.old.cutter pending.old.answers.items
-        (W.taken sink.old) →
+        IsFresh (WritesRows A.gives pending.old.cutter.format first answers.old) start
+        pending.old.cutter pending.old.answers.items (W.taken sink.old) →
         OfRead (S.to_come source.old) (S.to_come source.new) (λ bytes. Holds (IsReportBeforeQuote
-        (A.gives answers.now) pending.old.cutter.format start earlier line bytes)
+        (WritesRows A.gives pending.old.cutter.format first answers.new)
+        pending.old.cutter.format.delimiter start earlier line bytes)
         pending.new.answers.items (W.taken sink.old) (W.taken sink.new)) }
     ensures quote_end { result ≡ Ok end.Quote → IsAtEnd (S.to_come source.new) }
     ensures no_fault_at_a_quote { result ≡ Ok end.Quote →
         S.faults source.new ≡ S.faults source.old }
-    ensures broken { OnErr result ((start : State) →
-        IsFresh (A.gives answers.now) start pending.old.cutter pending.old.answers.items
-        (W.taken sink.old) →
+    ensures broken { OnErr result ((first : A) (start : State) →
+        IsFresh (WritesRows A.gives pending.old.cutter.format first answers.old) start
+        pending.old.cutter pending.old.answers.items (W.taken sink.old) →
         OfRead (S.to_come source.old) (S.to_come source.new) (λ bytes. BreaksOff
-        (A.gives answers.now) pending.old.cutter.format start bytes (W.taken sink.old)
+        (WritesSomeRows A.gives pending.old.cutter.format first)
+        pending.old.cutter.format.delimiter start bytes (W.taken sink.old)
         (W.taken sink.new))) }
     ensures no_fault { result ≡ Ok end.Whole → S.faults source.new ≡ S.faults source.old }
     ensures no_fault_at_a_record { result ≡ Ok end.Record →
@@ -206,7 +205,7 @@ fn take_all<A: Answers, C: Counter, S: ByteSource, W: ByteSink>(
     ensures sink_no_fault { OnOk result (W.faults sink.new ≡ W.faults sink.old) }
     ensures sink_fault { OnErr result (W.faults sink.new ≡ W.faults sink.old + 1) }
 {
-    match take_blocks(alloc, answers, counter, source, sink, pending) {
+    match take_blocks(alloc, answers, source, sink, pending) {
         Ok(End::Whole) => {}
         Ok(End::Input) => return Ok(End::Input),
         Ok(End::Record) => return Ok(End::Record),
@@ -217,7 +216,7 @@ fn take_all<A: Answers, C: Counter, S: ByteSource, W: ByteSink>(
     if in_quotes(pending.cutter.place) {
         return Ok(End::Quote);
     }
-    match pending.take_last(alloc, answers, counter) {
+    match pending.take_last(alloc, answers) {
         Ok(()) => Ok(End::Whole),
         Err(Refusal::Record) => Ok(End::Record),
         Err(Refusal::Memory) => Ok(End::Memory),
@@ -225,7 +224,7 @@ fn take_all<A: Answers, C: Counter, S: ByteSource, W: ByteSink>(
 }
 
 /// Gives each record of a source back to a sink, unchanged, with the fields of its answer after its
-/// own, in the order of the records, and counts each with its answer. The source is read in blocks
+/// own, in the order of the records, unless the record is left out. The source is read in blocks
 /// to its end, from this start in front of a record, as the kit's `csv` reads, and records are
 /// written as it writes, with this delimiter and line end. What is held in memory are a block, the
 /// longest record and its answer: it does not grow with the number of records.
@@ -242,10 +241,9 @@ fn take_all<A: Answers, C: Counter, S: ByteSource, W: ByteSink>(
 ///   written.
 /// - `Memory`: there was no room for a record or its answer. The answers to some first records are
 ///   written, each whole.
-pub fn answer_records<A: Answers, C: Counter, S: ByteSource, W: ByteSink>(
+pub fn answer_records<A: Answers, S: ByteSource, W: ByteSink>(
     alloc: Global,
-    answers: &A,
-    counter: &mut C,
+    answers: &mut A,
     format: Format,
     start: Start,
     source: &mut S,
@@ -253,33 +251,36 @@ pub fn answer_records<A: Answers, C: Counter, S: ByteSource, W: ByteSink>(
 ) -> Result<(), RunError>
     ensures end { OnOk result (IsAtEnd (S.to_come source.new)) }
     ensures report { OnOk result (OfRead (S.to_come source.old) (S.to_come source.new)
-        (λ bytes. TakesA (IsReport (A.gives answers.now) format (state_of start.place) bytes)
+        (λ bytes. TakesA (IsReport (WritesRows A.gives format answers.old answers.new)
+        format.delimiter (state_of start.place) bytes)
         (W.taken sink.old) (W.taken sink.new))) }
-    ensures counted { OnOk result (TakesA
-        (λ text. IsCounted C.after format counter.old text counter.new)
-        (W.taken sink.old) (W.taken sink.new)) }
     ensures no_fault { OnOk result (S.faults source.new ≡ S.faults source.old) }
     ensures ended { result ≡ Err error.Input →
         OfRead (S.to_come source.old) (S.to_come source.new) (λ bytes. TakesA (IsReportOnEnded
-        (A.gives answers.now) format (state_of start.place) bytes) (W.taken sink.old)
+        (WritesRows A.gives format answers.old answers.new)
+        format.delimiter (state_of start.place) bytes) (W.taken sink.old)
         (W.taken sink.new)) }
     ensures cause { result ≡ Err error.Input → (S.faults source.new ≡ S.faults source.old + 1) ⊎
         OfRead (S.to_come source.old) (S.to_come source.new) (λ bytes. length bytes ≡ most_bytes) }
     ensures beginning { result ≡ Err error.Output →
         OfRead (S.to_come source.old) (S.to_come source.new) (λ bytes. TakesA (IsBeginning
-        (A.gives answers.now) format (state_of start.place) (S.to_come source.new) bytes)
+        (WritesSomeRows A.gives format answers.old)
+        format.delimiter (state_of start.place) (S.to_come source.new) bytes)
         (W.taken sink.old) (W.taken sink.new)) }
     ensures before { (feeds : ℕ) → result ≡ Err (error.Record feeds) →
         OfRead (S.to_come source.old) (S.to_come source.new) (λ bytes. TakesA (IsReportBefore
-        (A.gives answers.now) (A.refuses answers.now) format (state_of start.place)
+        (WritesRows A.gives format answers.old answers.new)
+        (A.refuses answers.new) format.delimiter (state_of start.place)
         start.feeds feeds (S.to_come source.new) bytes) (W.taken sink.old) (W.taken sink.new)) }
     ensures first { result ≡ Err error.Memory →
         OfRead (S.to_come source.old) (S.to_come source.new) (λ bytes. TakesA (IsReportOnFirst
-        (A.gives answers.now) format (state_of start.place) bytes) (W.taken sink.old)
+        (WritesSomeRows A.gives format answers.old)
+        format.delimiter (state_of start.place) bytes) (W.taken sink.old)
         (W.taken sink.new)) }
     ensures quote { (line : ℕ) → result ≡ Err (error.Quote line) →
         OfRead (S.to_come source.old) (S.to_come source.new) (λ bytes. TakesA (IsReportBeforeQuote
-        (A.gives answers.now) format (state_of start.place) start.feeds line bytes)
+        (WritesRows A.gives format answers.old answers.new)
+        format.delimiter (state_of start.place) start.feeds line bytes)
         (W.taken sink.old) (W.taken sink.new)) }
     ensures quote_end { (line : ℕ) → result ≡ Err (error.Quote line) →
         IsAtEnd (S.to_come source.new) }
@@ -293,7 +294,7 @@ pub fn answer_records<A: Answers, C: Counter, S: ByteSource, W: ByteSink>(
     ensures handed_on { result ≢ Err error.Output → W.unflushed sink.new ≡ 0 }
 {
     let mut pending = PendingOutput::new(alloc, format, start.place);
-    let Ok(end) = take_all(alloc, answers, counter, source, sink, &mut pending) else {
+    let Ok(end) = take_all(alloc, answers, source, sink, &mut pending) else {
         return Err(RunError::Output);
     };
     let Ok(()) = write_out(sink, pending.answers.as_slice()) else {

@@ -6,7 +6,7 @@ ghost use Rattle.csv.specs.declared.parser.State.{State};
 ghost use Rattle.csv.specs.declared.parser.State.TheVariants as st;
 ghost use Rattle.phone_csv.specs.Formats.{Record, commas, reading, record_text};
 ghost use Rattle.phone_csv.specs.declared.format.LineEnd.{LineEnd};
-ghost use Rattle.phone_csv.specs.RecordReports.{AreAll, AreAnswered, IsReport};
+ghost use Rattle.phone_csv.specs.RecordReports.{AreAll, AreRows, IsReport, WritesRows};
 
 use crate::Answers;
 
@@ -17,23 +17,25 @@ pub fn records_of_the_kit()
         AreRecords (reading delimiter) start bytes records }
 {}
 
-/// What is written with commas, read again, are the records that were read, each with its answer
-/// behind its fields, whatever stands behind records.
+/// What is written with commas, read again, are the rows: the records that were read, each with its
+/// answer behind its fields, but for those that are left out, whatever stands behind records.
 pub fn read_again<A: Answers>(answers: &A)
-    ensures { (end : LineEnd) (start : State) (bytes text : List ℕ) →
-        IsReport (A.gives answers.now) (commas end) start bytes text →
+    ensures { (last : A) (end : LineEnd) (start : State) (bytes text : List ℕ) →
+        IsReport (WritesRows A.gives (commas end) answers.now last) 44 start bytes text →
         (records rows : List Record) × AreAll 44 start bytes records ×
-        AreAnswered (A.gives answers.now) records rows ×
+        AreRows A.gives answers.now records rows last ×
         AreRecords (reading 44) st.StartRecord text rows }
 {}
 
 /// What is written with commas behind a first record, read again with it, are that one and the
-/// records that were read, each with its answer behind its fields, whatever stands behind records.
+/// rows: the records that were read, each with its answer behind its fields, but for those that are
+/// left out, whatever stands behind records.
 pub fn table_read_again<A: Answers>(answers: &A)
-    ensures { (end : LineEnd) (start : State) (bytes body : List ℕ) (first : Record) →
-        first ≢ [] → IsReport (A.gives answers.now) (commas end) start bytes body →
+    ensures { (last : A) (end : LineEnd) (start : State) (bytes body : List ℕ) (first : Record) →
+        first ≢ [] →
+        IsReport (WritesRows A.gives (commas end) answers.now last) 44 start bytes body →
         (records rows : List Record) × AreAll 44 start bytes records ×
-        AreAnswered (A.gives answers.now) records rows ×
+        AreRows A.gives answers.now records rows last ×
         AreRecords (reading 44) st.StartRecord (record_text (commas end) first ++ body)
         (first ∷ rows) }
 {}

@@ -1,4 +1,5 @@
-//! Records of a source, each given back to a sink with an answer behind its fields, in blocks.
+//! Records of a source, each given back to a sink with an answer behind its fields, or left out, in
+//! blocks.
 #![tactic(auto)]
 
 mod answers;
@@ -13,7 +14,7 @@ mod machine;
 mod pending_output;
 mod spelled;
 
-pub use answers::{Answers, Counter, Refusal, add_record};
+pub use answers::{Answers, Refusal, add_record};
 pub use blocks::{RunError, answer_records};
 pub use cutter::Start;
 pub use delimiter::is_delimiter;

@@ -38,7 +38,7 @@ carrier_of (Ok r) = r.carrier
 carrier_of (Err e) = None
 
 -- the transform rule of a territory has no plus sign
-abbrev IsPlainRule : Metadata → Type 0
+abbrev pub IsPlainRule : Metadata → Type 0
 IsPlainRule m = IfSome m.national_prefix_transform_rule (All IsNoPlus)
 
 abbrev rule_is_plain : Metadata → Bool
@@ -52,14 +52,14 @@ plain_rule m e = at m.national_prefix_transform_rule e
     at None e = tt
     at (Some rule) e = AllPass-from_list_all is_no_plus rule e
 
+pub all_plain : (db : List Metadata) → rules_have_no_plus db ≡ true → All IsPlainRule db
+all_plain db rules = All-weaker (λ (m : Metadata). rule_is_plain m ≡ true) IsPlainRule plain_rule db
+    (AllPass-from_list_all rule_is_plain db rules)
+
 module _ (db : List Metadata) (n : Reading) (h : IsCoded db n)
     (rules : rules_have_no_plus db ≡ true) where
   abbrev national : List ℕ
   national = text_of n.national
-
-  all_plain : All IsPlainRule db
-  all_plain = All-weaker (λ (m : Metadata). rule_is_plain m ≡ true) IsPlainRule plain_rule db
-      (AllPass-from_list_all rule_is_plain db rules)
 
   digits_plain : All IsNoPlus national
   digits_plain = AllPass-from_list_all is_no_plus national
@@ -68,7 +68,8 @@ module _ (db : List Metadata) (n : Reading) (h : IsCoded db n)
 
   left_plain : All IsNoPlus (left db n h).national
   left_plain = All-stripped IsNoPlus national digits_plain
-      (first_of (territories n.code.value db)) (IfSome-first IsPlainRule db all_plain n.code.value)
+      (first_of (territories n.code.value db))
+      (IfSome-first IsPlainRule db (all_plain db rules) n.code.value)
 
   -- what is read tells what was left
   told : (r : Result National ParseError) → national_number (left db n h).national ≡ r →

@@ -23,7 +23,7 @@ use Rattle.phonenumber.proofs.BackTexts.{IsUtf8-low, chars-low, is_low, low_digi
 use Rattle.phone_library_back.specs.Announced.{prefix_of}
 use Rattle.phone_library_back.specs.Coded.{IsCoded, IsLeftAlone}
 use Rattle.phone_library_back.specs.Plain.{IsPlainInternational}
-use Rattle.phone_library_back.specs.Printed.{printed_reading, uncarried}
+use Rattle.phone_library_back.specs.Printed.{printed_reading}
 use Rattle.phone_library_back.proofs.CodedNumbers.{coded_digits, coded_number, no_front}
 use Rattle.phone_library_back.proofs.Exactly.{idle_if_read}
 use Rattle.phone_library_back.proofs.PrintedTexts.{chars-part, printed_text}
@@ -31,13 +31,27 @@ use Rattle.phone_library_back.proofs.ReadSigned.{enough, read_signed, signed}
 use Rattle.phone_library_back.proofs.Tails.{announced_tail, tail}
 use Rattle.phone_library_back.proofs.WrittenLaidOut.{IsNumber}
 
-module _ (db : List Metadata) (n : Reading) (h : IsCoded db n)
-    (p : IsPlainInternational db (uncarried n)) where
+-- the characters of a number laid out with its extension, behind what is low
+module _ (db : List Metadata) (n : Reading) (p : IsPlainInternational db n) where
+  abbrev laid : List ℕ
+  laid = laid_out p.layout.territory International None n
+
+  abbrev behind : List ℕ
+  behind = tail (chars (prefix_of p.layout.territory)) n.extension
+
+  pub chars-laid : (front : List ℕ) → list_all is_low front ≡ true →
+      chars (front ++ (laid ++ extension_part p.layout.territory n.extension))
+      ≡ front ++ (chars laid ++ behind)
+  chars-laid front low =
+      chars-append front (laid ++ extension_part p.layout.territory n.extension)
+      (IsUtf8-low front low)
+      ∙ ap₂ (λ a b. a ++ b) (chars-low front low)
+      (chars-append laid (extension_part p.layout.territory n.extension) p.layout.utf8
+      ∙ ap (λ t. chars laid ++ t) (chars-part p.layout.territory n.extension p.announced))
+
+module _ (db : List Metadata) (n : Reading) (h : IsCoded db n) (p : IsPlainInternational db n) where
   abbrev cd : List ℕ
   cd = decimal n.code.value
-
-  abbrev laid : List ℕ
-  laid = laid_out p.layout.territory International None (uncarried n)
 
   fits : n.code.value < 2 ^ 64
   fits = omega (arith, h.short_code)
@@ -46,10 +60,7 @@ module _ (db : List Metadata) (n : Reading) (h : IsCoded db n)
   code = list_all-decimal n.code.value fits
 
   abbrev number : List ℕ
-  number = 43 ∷ (cd ++ 32 ∷ chars laid)
-
-  abbrev behind : List ℕ
-  behind = tail (chars (prefix_of p.layout.territory)) n.extension
+  number = 43 ∷ (cd ++ 32 ∷ chars (laid db n p))
 
   front_low : list_all is_low (43 ∷ (cd ++ 32 ∷ [])) ≡ true
   front_low = list_all-append is_low cd (32 ∷ []) ∙ and_from _ _ (low_digits cd code) refl
@@ -57,47 +68,43 @@ module _ (db : List Metadata) (n : Reading) (h : IsCoded db n)
   parted_text : (rest : List ℕ) → 43 ∷ (cd ++ 32 ∷ rest) ≡ (43 ∷ (cd ++ 32 ∷ [])) ++ rest
   parted_text rest = ap (λ t. 43 ∷ t) (sym (append_assoc cd (32 ∷ []) rest))
 
-  characters : chars (international_text p.layout.territory None (uncarried n)) ≡ number ++ behind
+  characters : chars (international_text p.layout.territory None n) ≡ number ++ behind db n p
   characters =
-      ap chars (parted_text (laid ++ extension_part p.layout.territory n.extension))
-      ∙ chars-append (43 ∷ (cd ++ 32 ∷ [])) (laid ++ extension_part p.layout.territory n.extension)
-      (IsUtf8-low (43 ∷ (cd ++ 32 ∷ [])) front_low)
-      ∙ ap₂ (λ a b. a ++ b) (chars-low (43 ∷ (cd ++ 32 ∷ [])) front_low)
-      (chars-append laid (extension_part p.layout.territory n.extension) p.layout.utf8
-      ∙ ap (λ t. chars laid ++ t) (chars-part p.layout.territory n.extension p.announced))
-      ∙ sym (append_assoc (43 ∷ (cd ++ 32 ∷ [])) (chars laid) behind)
-      ∙ ap (λ t. t ++ behind) (sym (parted_text (chars laid)))
+      ap chars (parted_text (laid db n p ++ extension_part p.layout.territory n.extension))
+      ∙ chars-laid db n p (43 ∷ (cd ++ 32 ∷ [])) front_low
+      ∙ sym (append_assoc (43 ∷ (cd ++ 32 ∷ [])) (chars (laid db n p)) (behind db n p))
+      ∙ ap (λ t. t ++ behind db n p) (sym (parted_text (chars (laid db n p))))
 
   is_number : IsNumber number
-  is_number = coded_number cd (chars laid) (text_of n.national) 32 code refl refl p.layout.laid
-      (enough db n h)
+  is_number = coded_number cd (chars (laid db n p)) (text_of n.national) 32 code refl refl
+      p.layout.laid (enough db n h)
 
-  written : IsWritten (number ++ behind) (Ok (signed db n h))
+  written : IsWritten (number ++ behind db n p) (Ok (signed db n h))
   written =
-      subst (λ d. IsWritten (number ++ behind)
+      subst (λ d. IsWritten (number ++ behind db n p)
       (Ok (record { has_plus = true; digits = d; extension = n.extension })))
-      (coded_digits cd (chars laid) (text_of n.national) 32 code refl refl p.layout.laid
+      (coded_digits cd (chars (laid db n p)) (text_of n.national) 32 code refl refl p.layout.laid
       (enough db n h))
       (announced_tail [] number no_front is_number (prefix_of p.layout.territory) n.extension
       p.announced (subst (λ t. length t ≤ most_characters) characters p.layout.few))
 
   -- the text that is printed has these characters
-  printed_is : (text : List ℕ) → printed db International None (uncarried n) ≡ Some text →
-      chars text ≡ number ++ behind
+  printed_is : (text : List ℕ) → printed db International None n ≡ Some text →
+      chars text ≡ number ++ behind db n p
   printed_is text e =
-      ap chars (sym (printed_text db International (uncarried n) p.layout.territory text
-      p.layout.first e)) ∙ characters
+      ap chars (sym (printed_text db International n p.layout.territory text p.layout.first e))
+      ∙ characters
 
   pub international_back : (hint : Option Id) (text : List ℕ) →
-      printed db International None (uncarried n) ≡ Some text → IsLeftAlone db n →
+      printed db International None n ≡ Some text → IsLeftAlone db n →
       ReadsByLibrary db hint (chars text) (Ok (printed_reading n))
   international_back hint text e idle =
       subst (λ t. ReadsByLibrary db hint t (Ok (printed_reading n))) (sym (printed_is text e))
-      (read_signed db n h idle hint (number ++ behind) written)
+      (read_signed db n h idle hint (number ++ behind db n p) written)
 
   pub international_idle : rules_have_no_plus db ≡ true → (hint : Option Id) (text : List ℕ) →
-      printed db International None (uncarried n) ≡ Some text →
+      printed db International None n ≡ Some text →
       ReadsByLibrary db hint (chars text) (Ok (printed_reading n)) → IsLeftAlone db n
   international_idle rules hint text e read =
-      idle_if_read db n h rules hint (number ++ behind) written
+      idle_if_read db n h rules hint (number ++ behind db n p) written
       (subst (λ t. ReadsByLibrary db hint t (Ok (printed_reading n))) (printed_is text e) read)

@@ -10,6 +10,7 @@ pub mod NationalBack
 pub mod OwnDigits
 pub mod Prefixes
 pub mod PrintedTexts
+pub mod ReadByEither
 pub mod ReadSigned
 pub mod Rfc3966Back
 pub mod ScriptDigits
@@ -17,4 +18,5 @@ pub mod Silent
 pub mod Tails
 pub mod ToldAlike
 pub mod WithoutLayouts
+pub mod WrittenDigits
 pub mod WrittenLaidOut

@@ -26,11 +26,23 @@ use Rattle.phone_records.specs.declared.loader.Metadata.{Metadata}
 use Rattle.phone_rules.specs.Strips.{Stripped}
 use Rattle.phonenumber.proofs.BackCodes.{shortest-decimal}
 use Rattle.phone_library_back.specs.Coded.{IsCoded, IsLeftAlone}
-use Rattle.phone_library_back.specs.Printed.{printed_reading}
+use Rattle.phone_library_back.specs.Printed.{printed_reading, uncarried}
 
 -- a settled number is coded
 pub coded_of : (db : List Metadata) (n : Reading) → IsSettled db n → IsCoded db n
 coded_of db n h = record {
+  prefix_free = h.prefix_free;
+  listed = h.listed;
+  some_code = h.some_code;
+  short_code = h.short_code;
+  held = h.held;
+  long_enough = h.long_enough;
+  short_enough = h.short_enough;
+}
+
+-- and so is it without its carrier
+pub uncarried_coded : (db : List Metadata) (n : Reading) → IsCoded db n → IsCoded db (uncarried n)
+uncarried_coded db n h = record {
   prefix_free = h.prefix_free;
   listed = h.listed;
   some_code = h.some_code;

@@ -1,5 +1,6 @@
 -- Which printed numbers are read as the number: what the layout and the extension must be.
-use Rattle.std.specs.Prelude.{◌≡◌, ℕ, ◌≤◌, false, length, chars, IsUtf8, List, None, Some}
+use Rattle.std.specs.Prelude.{◌≡◌, ◌⊎◌, ℕ, ◌≤◌, false, length, chars, IsUtf8, List, ◌++◌}
+use Rattle.std.specs.Prelude.{Option, None, Some}
 use Rattle.phone_chars.specs.Characters.{is_separator}
 use Rattle.phone_values.specs.Numbers.{IsHeld, text_of}
 use Rattle.phone_values.specs.declared.mode.Mode.TheVariants.{International, National}
@@ -46,12 +47,33 @@ pub record IsPlainRfc3966 (db : List Metadata) (n : Reading) : Type 0 where
   pub layout : IsLaidRfc3966 db n
   pub parameter : IsParameterIfAny n.extension
 
+-- two digits laid out, which are a number where they stand side by side at the end and no extension
+-- follows
+pub record IsPair (laid digits : List ℕ) (extension : Option (List ℕ)) : Type 0 where
+  pub two : length digits ≡ 2
+  pub before : List ℕ
+  pub whole : laid ≡ before ++ digits
+  pub no_extension : extension ≡ None
+
+-- the national text is laid out plainly: the code's first territory lays the digits out with quiet
+-- punctuation, perhaps with a national prefix, they are three at least or such a pair, the
+-- extension is announced so that it is read, and the text isn't too long
+pub record IsLaidNational (db : List Metadata) (n : Reading) : Type 0 where
+  pub territory : Metadata
+  pub first : first_of (territories n.code.value db) ≡ Some territory
+  pub utf8 : IsUtf8 (laid_out territory National None n)
+  pub digits : List ℕ
+  pub laid : IsLaidOut is_quiet (chars (laid_out territory National None n)) digits
+  pub enough : (3 ≤ length digits) ⊎
+      IsPair (chars (laid_out territory National None n)) digits n.extension
+  pub announced : IsAnnouncedIfAny (prefix_of territory) n.extension
+  pub few : length (chars (national_text territory None n)) ≤ most_characters
+
 -- digits that are dialled inside a territory are the national number: no international prefix and
 -- no calling code stands before them, and the territory strips nothing off them but what isn't the
 -- number's
 pub record IsDialledInside (m : Metadata) (n : Reading) (digits : List ℕ) : Type 0 where
   pub code : code_of m ≡ n.code.value
-  pub enough : 3 ≤ length digits
   pub no_prefix : after_match digits (found_in m.international_prefix digits) ≡ None
   pub no_code : has_code m digits ≡ false
   pub left : (stripped (Some m) digits).national ≡ text_of n.national
@@ -59,15 +81,7 @@ pub record IsDialledInside (m : Metadata) (n : Reading) (digits : List ℕ) : Ty
   pub long_enough : 2 ≤ length (text_of n.national)
   pub short_enough : length (text_of n.national) ≤ 17
 
--- for the national text, read inside a territory: the code's first territory lays the digits out
--- with quiet punctuation, perhaps with a national prefix, and announces the extension so that it is
--- read, and the text isn't too long
+-- the national text is laid out plainly, and its digits are dialled inside a territory
 pub record IsPlainNational (db : List Metadata) (inside : Metadata) (n : Reading) : Type 0 where
-  pub territory : Metadata
-  pub first : first_of (territories n.code.value db) ≡ Some territory
-  pub utf8 : IsUtf8 (laid_out territory National None n)
-  pub digits : List ℕ
-  pub laid : IsLaidOut is_quiet (chars (laid_out territory National None n)) digits
-  pub dialled : IsDialledInside inside n digits
-  pub announced : IsAnnouncedIfAny (prefix_of territory) n.extension
-  pub few : length (chars (national_text territory None n)) ≤ most_characters
+  pub layout : IsLaidNational db n
+  pub dialled : IsDialledInside inside n layout.digits

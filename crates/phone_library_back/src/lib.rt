@@ -3,6 +3,7 @@
 #![tactic(auto)]
 
 pub mod international;
+pub mod keys;
 pub mod national;
 pub mod reach;
 pub mod rfc3966;

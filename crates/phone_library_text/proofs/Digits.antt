@@ -1,11 +1,12 @@
 -- The digits of all scripts: a character is one exactly where it is one of the ten from a zero on. And the digits of a text are ASCII's.
-use Rattle.std.proofs.Common.{◌≡◌, inl, inr, ℕ, ◌+◌, ◌-◌, ◌≤◌, ◌<◌, ◌==◌, Bool, true, false, cond, not, ◌||◌, ◌&&◌, nat_le, nat_lt, map, List, [], ◌∷◌, Some, None, IfSome, option_map, encode_utf8_all, IsUtf8, leb-true, ltb-true, lt-ltb, refl, ap, ap₂, sym, ◌∙◌, arith}
+use Rattle.std.proofs.Common.{◌≡◌, All, inl, inr, ℕ, ◌+◌, ◌-◌, ◌≤◌, ◌<◌, ◌==◌, Bool, true, false, cond, not, ◌||◌, ◌&&◌, nat_le, nat_lt, map, List, [], ◌∷◌, Some, None, IfSome, option_map, encode_utf8_all, IsUtf8, leb-true, ltb-true, lt-ltb, refl, ap, ap₂, sym, ◌∙◌, arith}
 use Rattle.std.proofs.lemmas.Bool.{and_from, and_parts, cases_Bool, cond-false, cond-true, cond_both, le-leb, not-true, or_parts}
 use Rattle.std.proofs.lemmas.Fmt.{IsAscii-from_digits}
+use Rattle.std.proofs.lemmas.List.Elements.{All-from_recursion}
 use Rattle.std.proofs.lemmas.List.Sums.{sum_by-cons}
 use Rattle.std.proofs.lemmas.Str.{IsUtf8-from_ascii, encodes-IsAscii, encodes-chars}
 use Rattle.std.specs.Bool.{beq}
-use Rattle.std.specs.List.{count_by, cons_option, filter_map, find, list_all, list_any}
+use Rattle.std.specs.List.{AllByRecursion, count_by, cons_option, filter_map, find, list_all, list_any}
 use Rattle.std.specs.Str.{chars}
 use Rattle.ucd_category.proofs.Computing.{ucd_category}
 use Rattle.ucd_category.proofs.GeneralCategoryLemmas.{general_category_stepped}
@@ -171,3 +172,25 @@ pub digits_plain : (t : List ℕ) → list_all is_digit (after_front is_plus t) 
 digits_plain t all =
     let unlettered : is_lettered t ≡ false = ap (nat_le 3) (no_letters t all) in
     ap (λ b. filter_map (cond b key_of value_of) t) unlettered ∙ values_plain t all
+
+-- characters of ASCII, and no letter among them
+abbrev pub are_unlettered : List ℕ → Bool
+are_unlettered t = list_all (λ b. nat_lt b 128 && not (is_alpha b)) t
+
+pub small_of_unlettered : (t : List ℕ) → are_unlettered t ≡ true → All (λ b. b < 128) t
+small_of_unlettered t h = All-from_recursion _ t (each t h)
+  where
+    each : (cs : List ℕ) → are_unlettered cs ≡ true → AllByRecursion (λ b. b < 128) cs
+    each [] h = tt
+    each (c ∷ cs) h =
+        let both = and_parts (nat_lt c 128 && not (is_alpha c)) (are_unlettered cs) h in
+        (ltb-true c 128 (and_parts (nat_lt c 128) (not (is_alpha c)) both.0).0, each cs both.1)
+
+no_letters_in_unlettered : (t : List ℕ) → are_unlettered t ≡ true → count_by is_alpha t ≡ 0
+no_letters_in_unlettered [] h = refl
+no_letters_in_unlettered (c ∷ cs) h =
+    let both = and_parts (nat_lt c 128 && not (is_alpha c)) (are_unlettered cs) h in
+    none_more c cs (not-true _ (and_parts (nat_lt c 128) (not (is_alpha c)) both.0).1) (no_letters_in_unlettered cs both.1)
+
+pub unlettered_is_not : (t : List ℕ) → are_unlettered t ≡ true → is_lettered t ≡ false
+unlettered_is_not t h = ap (nat_le 3) (no_letters_in_unlettered t h)

@@ -1,7 +1,7 @@
 //! What characters are by libphonenumber's rules, and the digits of a text. Most characters of a
 //! number are of ASCII, so these are asked first.
 ghost use Rattle.std.specs.Prelude.{◌≡◌, ℕ, ◌+◌, ◌-◌, true, IfOk, string_bytes, chars, count_by};
-ghost use Rattle.std.specs.Prelude.{option_map, All, IsTrue, ◌<◌};
+ghost use Rattle.std.specs.Prelude.{option_map, All, IsTrue, ◌<◌, ◌&&◌, not, nat_lt};
 ghost use Rattle.std.specs.Cow.{cow_str_bytes, IsBorrowedStr};
 ghost use Rattle.std.specs.List.{filter_map, find, list_all};
 ghost use Rattle.phone_chars.specs.Characters.{is_alpha, is_digit, is_in_run, is_nd};
@@ -146,11 +146,19 @@ pub fn digit_values(alloc: Global, text: &str) -> Result<String, AllocError>
     ensures { IfOk result (λ s. string_bytes s ≡ filter_map value_of (chars text.now)) }
 {
     if is_ascii(text.as_bytes()) {
-        let digits = ascii_digits(alloc, text.as_bytes())?;
-        // SAFETY: digits are text.
-        return Ok(unsafe { String::from_utf8_unchecked(digits) });
+        return ascii_values(alloc, text);
     }
     values(alloc, text)
+}
+
+/// The same of a text of ASCII.
+fn ascii_values(alloc: Global, text: &str) -> Result<String, AllocError>
+    requires { All (λ b. b < 128) text.now }
+    ensures { IfOk result (λ s. string_bytes s ≡ filter_map value_of (chars text.now)) }
+{
+    let digits = ascii_digits(alloc, text.as_bytes())?;
+    // SAFETY: digits are text.
+    Ok(unsafe { String::from_utf8_unchecked(digits) })
 }
 
 /// The same, without asking ASCII first.
@@ -211,10 +219,28 @@ fn has_digits_alone(text: &str) -> bool
     text.chars().all(|c| is_digit(c))
 }
 
-/// The digits of a text, in a text of their own.
+/// Whether a byte is a character of ASCII, and no letter.
+fn is_unlettered(byte: u8) -> bool
+    ensures { result ≡ (nat_lt byte 128 && not (is_alpha byte)) }
+{
+    byte < 128 && !byte.is_ascii_alphabetic()
+}
+
+/// Whether each of these bytes is a character of ASCII, and no letter.
+fn are_unlettered(bytes: &[u8]) -> bool
+    ensures { result ≡ list_all (λ b. nat_lt b 128 && not (is_alpha b)) bytes.now }
+{
+    bytes.iter().all(|byte| is_unlettered(*byte))
+}
+
+/// The digits of a text, in a text of their own. Mostly it is ASCII without a letter: that is asked
+/// first, at one look at each byte.
 fn own_digits(alloc: Global, text: &str) -> Result<String, AllocError>
     ensures { IfOk result (λ s. string_bytes s ≡ digits_in (chars text.now)) }
 {
+    if are_unlettered(text.as_bytes()) {
+        return ascii_values(alloc, text);
+    }
     if is_lettered(text) {
         keys(alloc, text)
     } else {

@@ -1,6 +1,8 @@
 //! Whether a text may be a number at all, and the number and the extension of such a text.
 ghost use Rattle.std.specs.Prelude.{◌≡◌, ◌↔◌, ◌||◌, ◌&&◌, ℕ, List, ◌++◌, IsTrue, IfSome, chars};
+ghost use Rattle.std.specs.Prelude.{MatchOption};
 ghost use Rattle.phone_parts.specs.Parts.{IsSlice};
+ghost use Rattle.phone_library_text.specs.Extensions.{HasLongestExtension, HasNoExtension};
 ghost use Rattle.phone_library_text.specs.Letters.{is_early, is_latin};
 ghost use Rattle.phone_library_text.specs.NumberTexts.{chars_of};
 ghost use Rattle.phone_library_text.specs.Scans.{is_two_digits};
@@ -95,4 +97,51 @@ pub fn split_extension(text: &str) -> (&str, Option<&str>)
         }
     }
     (text, None)
+}
+
+/// The number of a viable text without its extension, and the extension's digits, as
+/// [`split_extension`] parts it; none where the text isn't viable. An extension is looked for once.
+/// It takes no memory, and its time is linear in the text.
+pub(crate) fn viable_parts(text: &str) -> Option<(&str, Option<&str>)>
+    ensures { MatchOption result (¬ (IsViable (chars text.now))) (λ p.
+        IsViable (chars text.now) × HasNumber (chars text.now) (chars p.0.now) (chars_of p.1)) }
+{
+    match find_extension(text) {
+        Some((front, digits)) => parts_before(text, front, digits),
+        None => all_if_viable(text),
+    }
+}
+
+/// The same of a text without an extension.
+fn all_if_viable(text: &str) -> Option<(&str, Option<&str>)>
+    requires { HasNoExtension (chars text.now) }
+    ensures { MatchOption result (¬ (IsViable (chars text.now))) (λ p.
+        IsViable (chars text.now) × HasNumber (chars text.now) (chars p.0.now) (chars_of p.1)) }
+{
+    if is_viable(text) {
+        Some((text, None))
+    } else {
+        None
+    }
+}
+
+/// The same of a text whose longest extension stands behind this front. Mostly signed digits stand
+/// there: these are asked first.
+fn parts_before<'a>(
+    text: &'a str,
+    front: &'a str,
+    digits: &'a str,
+) -> Option<(&'a str, Option<&'a str>)>
+    requires { HasLongestExtension (chars text.now) (chars front.now) (chars digits.now) }
+    ensures { MatchOption result (¬ (IsViable (chars text.now))) (λ p.
+        IsViable (chars text.now) × HasNumber (chars text.now) (chars p.0.now) (chars_of p.1)) }
+{
+    if is_signed_digits(front) {
+        return Some((front, Some(digits)));
+    }
+    if is_viable(text) {
+        Some(split_extension(text))
+    } else {
+        None
+    }
 }

@@ -9,7 +9,7 @@ ghost use Rattle.phone_library_text.specs.Written.{IsWritten, IsWrittenIn, most_
 
 use crate::letters::digits_in;
 use crate::number_text::number_text;
-use crate::viable::{is_viable, split_extension};
+use crate::viable::viable_parts;
 use phone_base::Text;
 use phone_base::results::{in_place_of, zip};
 use phone_chars::chars::is_plus;
@@ -60,10 +60,9 @@ fn is_too_long(text: &str) -> bool
 fn written_in(alloc: Global, number: &str) -> Result<WrittenNumber, ParseError>
     ensures { (result ≡ Err ParseError.Memory) ⊎ IsWrittenIn (chars number.now) result }
 {
-    if !is_viable(number) {
+    let Some((front, extension)) = viable_parts(number) else {
         return Err(ParseError::NoNumber);
-    }
-    let (front, extension) = split_extension(number);
+    };
     let (digits, extension) = zip(text_of_digits(alloc, front), text_of(alloc, extension))?;
     Ok(WrittenNumber {
         has_plus: begins_with_plus(number),

@@ -2,7 +2,7 @@
 ghost use Rattle.std.specs.Prelude.{Some};
 ghost use Rattle.phone_territory.specs.First.{ArePatternsOf, IsLentPattern};
 
-use phone_base::results::zip;
+use phone_base::results::{zip, zip_value};
 use phone_pattern::{Compiled, CompiledList, Pool};
 use phone_territory::{Compile, LoadMetadata, loader};
 use regex::Regex;
@@ -60,7 +60,7 @@ impl Compile for Format {
         let light = phone_territory::Format::compile(pool, given);
         let (light, leading) = zip(light, leading)?;
         let pattern = Compiled::new(pool, light.whole_pattern().as_str());
-        let ((light, leading_digits), pattern) = zip(Ok((light, leading)), pattern)?;
+        let (pattern, (light, leading_digits)) = zip_value(pattern, (light, leading))?;
         Ok(Format {
             light,
             pattern,

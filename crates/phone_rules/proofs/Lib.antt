@@ -3,5 +3,5 @@ pub mod DecimalFronts
 pub mod DigitTexts
 pub mod Lengths
 pub mod LentParts
-pub mod Outcomes
+pub mod Results
 pub mod TriedKinds

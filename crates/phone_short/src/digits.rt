@@ -7,7 +7,7 @@ ghost use Rattle.phone_short.specs.Texts.{digits_in, is_dialled_within};
 use phone_chars::chars::is_nd;
 use phone_chars::cuts::{after_run, split_first};
 use phone_library_text::digit_values;
-use phone_parts::helper::BeforeStart;
+use phone_parts::helper::{BeforeStart, extract};
 use std::alloc::{AllocError, Global};
 
 /// Whether a text is dialled within a region: the first of its plus signs and digits is a digit.
@@ -21,11 +21,14 @@ pub(crate) fn is_dialled_within(text: &str) -> bool
     }
 }
 
-/// The digits of a text, from `0` to `9`: the values of its digits of any script. Refused only for
-/// memory.
+/// The digits of a text, from `0` to `9`: the values of the digits of any script in its core, which
+/// is all that is dialled of two numbers in one text. Refused only for memory.
 pub(crate) fn digits_in(alloc: Global, text: &str) -> Result<String, AllocError>
     ensures values { IfOk result (λ s. string_bytes s ≡ digits_in (chars text.now)) }
     ensures digits { IfOk result (λ s. list_all is_digit (string_bytes s) ≡ true) }
 {
-    digit_values(alloc, text)
+    match extract(text) {
+        Some(core) => digit_values(alloc, core),
+        None => Ok(String::new(alloc)),
+    }
 }

@@ -12,8 +12,8 @@ use phone_values::country::Id;
 use std::alloc::AllocError;
 
 /// Whether a text may be a short number of a region: the region's general descriptor lists the
-/// count of its digits. These are the values of its digits of any script; nothing else counts, not
-/// even a plus sign. Refused only for memory.
+/// count of its digits. These are the values of its digits of any script, up to a second number, as
+/// in `112/x30`; nothing else counts, not even a plus sign. Refused only for memory.
 pub fn is_possible_short(db: &Plans, region: Id, text: &str) -> Result<bool, AllocError>
     ensures { IfOk result (λ b. b ≡ regions.is_possible_short db.now region (chars text.now)) }
 {

@@ -1,13 +1,16 @@
 pub mod ColumnLemmas
 pub mod RecordLemmas
 pub mod AnswerLemmas
+pub mod EndsWeaker
+pub mod Kept
+pub mod Numbers
 pub mod TableLemmas
+pub mod Writing
 pub mod EndLemmas
 pub mod ExtraLemmas
 pub mod RunLemmas
 pub mod ObjectLemmas
 pub mod RegionLemmas
-pub mod CountLemmas
 pub mod KeyLemmas
 pub mod ShortLemmas
 pub mod OneAnswers

@@ -1,12 +1,21 @@
 -- The text for a table, read again.
 use Rattle.std.proofs.Common.{◌≡◌, ◌≢◌, ◌⊎◌, inl, inr, ℕ, Bool, true, false, List, [], ◌∷◌, ◌++◌}
-use Rattle.std.proofs.Common.{refl, sym, ap}
+use Rattle.std.proofs.Common.{refl, sym, ap, subst}
 use Rattle.std.proofs.Common.{◌∙◌, true≢false, append_assoc}
 use Rattle.csv.specs.Reading.{is_bom, strip_bom}
-use Rattle.phone_csv.proofs.ReadAgain.{table_read_again}
+use Rattle.csv.specs.Reading.{AreRecords}
+use Rattle.csv.specs.declared.parser.State.TheVariants.{StartRecord}
+use Rattle.std.specs.List.{AllByRecursion}
+use Rattle.phone_csv.proofs.ReadAgain as csv
+use Rattle.phone_csv.proofs.ReadAgain.{IsFull, all_append, first_all, first_read_again, more_full}
 use Rattle.phone_csv.specs.Firsts.{begins_with_mark}
-use Rattle.phone_csv.specs.Formats.{Record, line_end_in}
-use Rattle.phone_csv.specs.RecordReports.{Gives, IsReport}
+use Rattle.phone_csv.specs.Formats.{Record, commas, line_end_in, reading, record_text}
+use Rattle.phone_csv.specs.RecordReports.{IsReport}
+use Rattle.phone_table.specs.Ends.{by}
+use Rattle.phone_table.specs.Rows.{AreAnswered, AreKept, WritesKept}
+use Rattle.phone_table.specs.Rows.AreAnswered.{none as none_answered, next as next_answered}
+use Rattle.phone_table.specs.Rows.AreKept.{none as none_kept, kept as one_kept, left_out as one_left_out}
+use Rattle.phone_table.specs.declared.counts.Counts.{Counts}
 use Rattle.phone_table.specs.Tables.{IsReadAgain, IsTable, mark_text}
 
 -- a header that names are put behind is no empty one
@@ -35,29 +44,45 @@ passed true written h = refl
 passed false written (inl e) = absurd (true≢false (sym e))
 passed false written (inr e) = no_mark written e
 
-pub read_back : (gives : Gives) (header headings : Record) (name : List ℕ) (names : Record)
+-- each row for such records has a field, and so each that is kept
+all_full : (gives : Record → Record → Type 0) (records rows : List Record) → AreAnswered gives records rows → AllByRecursion IsFull records → AllByRecursion IsFull rows
+all_full gives records rows none_answered full = tt
+all_full gives records rows (next_answered some before fields answer are given) full =
+    let parts = first_all some (fields ∷ []) full in
+    all_append before ((fields ++ answer) ∷ []) (all_full gives some before are parts.0) (more_full fields answer parts.1.0, tt)
+
+kept_full : (once : Bool) (all rows : List Record) (counts : Counts) → AreKept once all rows counts → AllByRecursion IsFull all → AllByRecursion IsFull rows
+kept_full once all rows counts none_kept full = tt
+kept_full once all rows counts (one_kept some before c row are new) full =
+    let parts = first_all some (row ∷ []) full in
+    all_append before (row ∷ []) (kept_full once some before c are parts.0) parts.1
+kept_full once all rows counts (one_left_out some before c row are known) full = kept_full once some before c are (first_all some (row ∷ []) full).0
+
+pub read_back : (gives : Record → Record → Type 0) (once : Bool) (counts : Counts) (header headings : Record) (name : List ℕ) (names : Record)
     (bytes text : List ℕ) →
     IsTable header (headings ++ name ∷ names)
-    (IsReport gives) 44 bytes text → IsReadAgain gives header
+    (by IsReport (WritesKept gives once counts)) 44 bytes text → IsReadAgain gives once counts header
     (headings ++ name ∷ names) bytes text
-read_back gives header headings name names bytes text t =
+read_back gives once counts header headings name names bytes text t =
     let first = header ++ (headings ++ name ∷ names) in
-    let a = t.answered in
-    let r =
-    table_read_again gives (line_end_in t.after) t.after t.rest a.0 first t.body
-    (no_names header headings name names) a.1 a.2 in
+    let (records, read, (all, rows, answers, keep, is)) = t.answered in
+    let full = kept_full once all rows counts keep (all_full gives records all answers (csv.all_full 44 t.after t.rest records read)) in
+    let end = line_end_in t.after in
     let marked = begins_with_mark bytes in
     let split = t.whole ∙ append_assoc (mark_text marked) _ t.body in
     record {
       after = t.after;
       rest = t.rest;
-      records = a.0;
-      rows = r.0;
+      records = records;
+      all = all;
+      rows = rows;
       written = _;
       begins = t.begins;
-      read = a.1;
-      answered = r.1;
+      read = read;
+      answered = answers;
+      kept = keep;
       whole = split;
-      again = r.2;
+      again = subst (λ body. AreRecords (reading 44) StartRecord (record_text (commas end) first ++ body) (first ∷ rows)) (sym is)
+          (first_read_again end first rows (no_names header headings name names) full);
       behind_mark = λ h. ap strip_bom split ∙ passed marked _ h;
     }

@@ -5,6 +5,8 @@ use Rattle.phone_device.specs.Passing.{IsAtEnd}
 use Rattle.phone_csv.specs.Firsts.{EndsNoFirst, IsHead, IsOnly, first_in}
 use Rattle.phone_csv.specs.Formats.{Record, state_of}
 use Rattle.phone_csv.specs.Quotes.{IsOpenHeader}
+use Rattle.phone_csv.specs.RecordReports.{Writes}
+use Rattle.phone_csv.specs.declared.format.Format.{Format}
 use Rattle.phone_csv.specs.Runs.{OfRead, most_bytes}
 use Rattle.phone_csv.specs.declared.blocks.RunError.{RunError}
 use Rattle.phone_csv.specs.declared.cutter.Start.{Start}
@@ -57,7 +59,8 @@ lacks_by asked Number header number found region = number refl
 lacks_by asked Region header number found region = (found refl, region refl)
 
 -- a run that begins where the reading of the header ended, which counted no fault
-pub ends_from : {header added : Record} {gives : Record → Record → Type 0} {refuses : Record → Type 0} {d : ℕ} {to_come taken : Option (List ℕ)} {n m faults held : ℕ} {after : Devices}
-    {r : Result ⊤ RunError} → n ≡ m → Ends header added gives refuses d (seen to_come n taken faults held) after r → Ends header added gives refuses d (seen to_come m taken faults held) after r
-ends_from {header = header} {added = added} {gives = gives} {refuses = refuses} {d = d} {to_come = to_come} {taken = taken} {faults = faults} {held = held} {after = after} {r = r} same h =
-    subst (λ n. Ends header added gives refuses d (seen to_come n taken faults held) after r) same h
+pub ends_from : {header added : Record} {writes some : Format → Writes} {refuses : Record → Type 0} {d : ℕ} {to_come taken : Option (List ℕ)} {n m faults held : ℕ} {after : Devices}
+    {r : Result ⊤ RunError} → n ≡ m → Ends header added writes some refuses d (seen to_come n taken faults held) after r →
+    Ends header added writes some refuses d (seen to_come m taken faults held) after r
+ends_from {header = header} {added = added} {writes = writes} {some = some} {refuses = refuses} {d = d} {to_come = to_come} {taken = taken} {faults = faults} {held = held} {after = after} {r = r} same h =
+    subst (λ n. Ends header added writes some refuses d (seen to_come n taken faults held) after r) same h

@@ -11,14 +11,14 @@ use Rattle.phone_csv.specs.Firsts.{begins_with_mark, first_in}
 use Rattle.phone_csv.specs.Formats.{Record, format_after, state_behind, state_of}
 use Rattle.phone_csv.specs.Quotes.{EndsInQuotes}
 use Rattle.phone_csv.specs.Records.AreCut.{none as uncut}
-use Rattle.phone_csv.specs.RecordReports.{Gives, IsReport, IsReportBefore, IsReportBeforeQuote, IsReportOnEnded, IsReportOnFirst}
+use Rattle.phone_csv.specs.RecordReports.{IsReport, IsReportBefore, IsReportBeforeQuote, IsReportOnEnded, IsReportOnFirst, Writes}
 use Rattle.phone_csv.specs.RecordReports as csv
-use Rattle.phone_csv.specs.RecordReports.AreAnswers.{none as unanswered}
 use Rattle.phone_csv.specs.Runs.{OfRead, TakesA}
 use Rattle.phone_csv.specs.declared.cutter.Start.{Start}
 use Rattle.phone_csv.specs.declared.format.Format.{Format}
 use Rattle.phone_csv.proofs.FeedLemmas.{line_feeds-append}
 use Rattle.phone_csv.proofs.Progress.{IsReportBefore-counted, at_start, takes_then}
+use Rattle.phone_table.specs.Ends.{by}
 use Rattle.phone_table.specs.Tables.{IsBeginning, IsHeader, IsHeaderAlone, IsTable, head_text}
 
 -- the line feeds of a header are those of all bytes but for those behind it
@@ -66,10 +66,10 @@ module _ (d : ℕ) (header added : Record) (has_mark : Bool) where
     )
 
     -- a header, and the records in front of one that is refused
-    pub table_before : (gives : Gives) (refuses : Record → Type 0) (feeds : ℕ) →
-        OfRead s1 s2 (λ bytes. TakesA (IsReportBefore gives refuses (format_after d (state_of start.place)) (state_of start.place) start.feeds feeds s2 bytes) w1 w2) →
-        OfRead s0 s2 (λ bytes. TakesA (IsTable header added (λ format state rest. IsReportBefore gives refuses format state (line_feeds bytes - line_feeds rest) feeds s2 rest) d bytes) w0 w2)
-    table_before gives refuses feeds (rb, rp, (body, on, took)) =
+    pub table_before : (writes : Format → Writes) (refuses : Record → Type 0) (feeds : ℕ) →
+        OfRead s1 s2 (λ bytes. TakesA (IsReportBefore (writes (format_after d (state_of start.place))) refuses d (state_of start.place) start.feeds feeds s2 bytes) w1 w2) →
+        OfRead s0 s2 (λ bytes. TakesA (IsTable header added (λ format state rest. IsReportBefore (writes format) refuses d state (line_feeds bytes - line_feeds rest) feeds s2 rest) d bytes) w0 w2)
+    table_before writes refuses feeds (rb, rp, (body, on, took)) =
         let f = format_after d (state_of start.place) in (
           read.0 ++ rb,
           Passes-then s0 s1 s2 read.0 rb read.1 rp,
@@ -80,8 +80,8 @@ module _ (d : ℕ) (header added : Record) (has_mark : Bool) where
               rest = rb;
               body = body;
               begins = read.2.first rb;
-              answered = subst (λ n. IsReportBefore gives refuses f (state_of start.place) n feeds s2 rb body) (feeds_of_header read.0 rb)
-                  (IsReportBefore-counted gives refuses f (state_of start.place) start.feeds (line_feeds read.0) feeds s2 rb body read.2.line_feeds on);
+              answered = subst (λ n. IsReportBefore (writes f) refuses d (state_of start.place) n feeds s2 rb body) (feeds_of_header read.0 rb)
+                  (IsReportBefore-counted (writes f) refuses d (state_of start.place) start.feeds (line_feeds read.0) feeds s2 rb body read.2.line_feeds on);
               whole = marked (state_of start.place) (read.0 ++ rb) body (read.2.marked rb);
             },
             takes_then w0 w1 w2 (head (state_of start.place)) body wrote took,
@@ -89,11 +89,11 @@ module _ (d : ℕ) (header added : Record) (has_mark : Bool) where
         )
 
     -- a header, and the records in front of a quote that is never closed
-    pub table_quote : (gives : Gives) (line : ℕ) →
-        OfRead s1 s2 (λ bytes. TakesA (IsReportBeforeQuote gives (format_after d (state_of start.place)) (state_of start.place) start.feeds line bytes) w1 w2) →
+    pub table_quote : (writes : Format → Writes) (line : ℕ) →
+        OfRead s1 s2 (λ bytes. TakesA (IsReportBeforeQuote (writes (format_after d (state_of start.place))) d (state_of start.place) start.feeds line bytes) w1 w2) →
         OfRead s0 s2 (λ bytes. TakesA (IsTable header added
-        (λ format state rest body. IsReportOnEnded gives format state rest body × EndsInQuotes d state (line_feeds bytes - line_feeds rest) line rest) d bytes) w0 w2)
-    table_quote gives line (rb, rp, (body, on, took)) = (
+        (λ format state rest body. IsReportOnEnded (writes format) d state rest body × EndsInQuotes d state (line_feeds bytes - line_feeds rest) line rest) d bytes) w0 w2)
+    table_quote writes line (rb, rp, (body, on, took)) = (
       read.0 ++ rb,
       Passes-then s0 s1 s2 read.0 rb read.1 rp,
       (
@@ -115,10 +115,10 @@ module _ (d : ℕ) (header added : Record) (has_mark : Bool) where
     )
 
     -- the same where a beginning of the report was taken
-    pub table_begun : (gives : Gives) →
-        OfRead s1 s2 (λ bytes. TakesA (csv.IsBeginning gives (format_after d (state_of start.place)) (state_of start.place) s2 bytes) w1 w2) →
-        OfRead s0 s2 (λ bytes. TakesA (IsBeginning gives header added d s2 bytes) w0 w2)
-    table_begun gives (rb, rp, (text, (left, on), took)) = (
+    pub table_begun : (writes : Format → Writes) →
+        OfRead s1 s2 (λ bytes. TakesA (csv.IsBeginning (writes (format_after d (state_of start.place))) d (state_of start.place) s2 bytes) w1 w2) →
+        OfRead s0 s2 (λ bytes. TakesA (IsBeginning writes header added d s2 bytes) w0 w2)
+    table_begun writes (rb, rp, (text, (left, on), took)) = (
       read.0 ++ rb,
       Passes-then s0 s1 s2 read.0 rb read.1 rp,
       (
@@ -146,14 +146,14 @@ module _ (d : ℕ) (header added : Record) (has_mark : Bool) where
   mark_alone (Some start) bytes h = ap begins_with_mark (sym (append-nil bytes)) ∙ h.marked []
   mark_alone None bytes h = h.marked
 
-  nothing_answered : (gives : Gives) (f : Format) (s : State) → IsReportOnFirst gives f s [] []
-  nothing_answered gives f s = ([], s, [], uncut s [], unanswered)
+  nothing_answered : (writes : Writes) → writes [] [] → (s : State) → IsReportOnFirst writes d s [] []
+  nothing_answered writes none s = ([], s, [], uncut s [], none)
 
   -- the header broken off
-  pub header_begun : (gives : Gives) (rest : Option Start) (s0 s1 w0 w1 : Option (List ℕ)) →
+  pub header_begun : (writes : Format → Writes) → ((format : Format) → writes format [] []) → (rest : Option Start) (s0 s1 w0 w1 : Option (List ℕ)) →
       OfRead s0 s1 (λ bytes. IsHeader d header rest has_mark bytes) → TakesFront w0 (head (state_behind rest)) w1 →
-      OfRead s0 s1 (λ bytes. TakesA (IsBeginning gives header added d s1 bytes) w0 w1)
-  header_begun gives rest s0 s1 w0 w1 (hb, hp, h) f = (
+      OfRead s0 s1 (λ bytes. TakesA (IsBeginning writes header added d s1 bytes) w0 w1)
+  header_begun writes none rest s0 s1 w0 w1 (hb, hp, h) f = (
     hb,
     hp,
     (
@@ -165,7 +165,7 @@ module _ (d : ℕ) (header added : Record) (has_mark : Bool) where
           rest = [];
           body = [];
           begins = header_alone rest hb h;
-          answered = inl (nothing_answered gives (format_after d (state_behind rest)) (state_behind rest));
+          answered = inl (nothing_answered (writes (format_after d (state_behind rest))) (none (format_after d (state_behind rest))) (state_behind rest));
           whole = sym f.whole ∙ sym (append-nil (head (state_behind rest))) ∙ marked (state_behind rest) hb [] (mark_alone rest hb h);
         },
       ),
@@ -178,10 +178,10 @@ module _ (d : ℕ) (header added : Record) (has_mark : Bool) where
   no_last = refl
 
   -- a header that nothing follows
-  pub table_only : (gives : Gives) (s0 s1 w0 w1 : Option (List ℕ)) →
+  pub table_only : (writes : Format → Writes) → ((format : Format) → writes format [] []) → (s0 s1 w0 w1 : Option (List ℕ)) →
       OfRead s0 s1 (λ bytes. IsHeader d header None has_mark bytes) → Takes w0 (head st.StartRecord) w1 →
-      OfRead s0 s1 (λ bytes. TakesA (IsTable header added (IsReport gives) d bytes) w0 w1)
-  table_only gives s0 s1 w0 w1 (hb, hp, h) wrote = (
+      OfRead s0 s1 (λ bytes. TakesA (IsTable header added (by IsReport writes) d bytes) w0 w1)
+  table_only writes none s0 s1 w0 w1 (hb, hp, h) wrote = (
     hb,
     hp,
     (
@@ -194,7 +194,7 @@ module _ (d : ℕ) (header added : Record) (has_mark : Bool) where
         answered = (
           [],
           ([], st.StartRecord, [], uncut st.StartRecord [], (st.StartRecord, [], [], at_start d st.StartRecord st.StartRecord [] [] refl refl refl, refl), no_last),
-          unanswered,
+          none (format_after d st.StartRecord),
         );
         whole = sym (append-nil (head st.StartRecord)) ∙ marked st.StartRecord hb [] h.marked;
       },

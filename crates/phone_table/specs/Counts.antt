@@ -1,14 +1,11 @@
--- How many rows of a table were written, and what their last two fields say: the validity of a
+-- How many rows a table has, and what their last two fields say: the validity of a
 -- number, and the words of a refusal.
 use Rattle.std.specs.Prelude.{◌≡◌, ℕ, ◌+◌, ◌-◌, ◌&&◌, not, Bool, true, if◌then◌else◌, List}
-use Rattle.std.specs.Prelude.{◌++◌, codes, length, Option}
+use Rattle.std.specs.Prelude.{codes, length}
 use Rattle.std.specs.Str.{bytes_eq}
 use Rattle.phone_csv.specs.Feeds.{counted}
 use Rattle.phone_csv.specs.Formats.{Record}
-use Rattle.phone_csv.specs.Runs.{IsCounted, TakesA}
-use Rattle.phone_csv.specs.declared.format.Format.{Format}
 use Rattle.phone_table.specs.Regions.{field_in}
-use Rattle.phone_table.specs.Tables.{head_text}
 use Rattle.phone_table.specs.declared.counts.Counts.{Counts}
 
 -- a row has this word so many fields from its end
@@ -41,7 +38,12 @@ counts_after c row = record {
   wrong_count = counted_if (has_refusal (codes "wrong count of fields") row) c.wrong_count;
   no_number = counted_if (is_junk row) c.no_number;
   invalid = counted_if (is_invalid row) c.invalid;
+  repeated = c.repeated;
 }
+
+-- the counts after one more row that isn't written
+abbrev pub counts_without : Counts → Record → Counts
+counts_without c row = record (counts_after c row) { repeated = counted (c.repeated + 1) }
 
 -- no row was counted
 abbrev pub no_counts : Counts
@@ -52,12 +54,5 @@ no_counts = record {
   wrong_count = 0;
   no_number = 0;
   invalid = 0;
+  repeated = 0;
 }
-
--- a sink took a header, a byte-order mark in front of it where there is one, and then rows that
--- were counted, from one count on to another
-abbrev pub TakesRows : {C : Type 0} → (C → Record → C) → Format → Bool → Record →
-    (first now : C) → Option (List ℕ) → Option (List ℕ) → Type 0
-TakesRows after format has_mark header first now before taken = TakesA (λ text.
-    (body : List ℕ) × (text ≡ head_text format has_mark header ++ body) ×
-    IsCounted after format first body now) before taken

@@ -6,7 +6,9 @@ pub mod Finds
 pub mod Headers
 pub mod Objects
 pub mod Regions
+pub mod Rows
 pub mod Runs
 pub mod Shorts
 pub mod Spelled
 pub mod Tables
+pub mod Taking

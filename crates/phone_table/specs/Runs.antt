@@ -1,22 +1,23 @@
 -- How a run over a table of customers ends.
 use Rattle.std.specs.Prelude.{◌≡◌, ℕ, List, Option, None, Some, Result, Ok, Err, option_map}
-use Rattle.std.specs.Prelude.{◌++◌, Bool, IsSome, true, false}
+use Rattle.std.specs.Prelude.{IsSome, true, false}
 use Rattle.csv.specs.Records.{Row, fields_of}
-use Rattle.csv.specs.declared.parser.State.{State}
 use Rattle.phone_device.specs.Passing.{IsAtEnd}
 use Rattle.phone_csv.specs.Firsts.{EndsNoFirst, first_in}
-use Rattle.phone_csv.specs.Formats.{Record, format_after, is_delimiter}
+use Rattle.phone_csv.specs.Formats.{Record, is_delimiter}
 use Rattle.phone_csv.specs.Quotes.{IsOpenHeader}
+use Rattle.phone_csv.specs.RecordReports.{Writes}
 use Rattle.phone_csv.specs.Runs.{OfRead}
 use Rattle.phone_csv.specs.declared.blocks.RunError.{RunError}
 use Rattle.phone_csv.specs.declared.first.FirstError.{FirstError}
+use Rattle.phone_csv.specs.declared.format.Format.{Format}
 use Rattle.phone_csv.specs.declared.first.FirstError.TheVariants.{Absent, Input, Memory, Quote}
 use Rattle.phone_lines.specs.Ends.{Devices}
 use Rattle.phone_records.specs.declared.loader.Metadata.{Metadata}
 use Rattle.phone_values.specs.declared.country.Id.{Id}
 use Rattle.phone_values.specs.declared.rules.Rules.{Rules}
 use Rattle.phone_table.specs.Answers.{IsAnswer, IsOfOtherWidth}
-use Rattle.phone_table.specs.Counts.{TakesRows, counts_after, no_counts}
+use Rattle.phone_table.specs.Rows.{WritesKept, WritesSome}
 use Rattle.phone_table.specs.Ends.{Ends, IsUntouched, SourceFails}
 use Rattle.phone_table.specs.Extras.{added_names}
 use Rattle.phone_table.specs.Headers.{column_of, columns_of, region_column}
@@ -65,6 +66,18 @@ pub record LacksColumn (asked : Asked) (column : Column) (header : Record)
   pub lacks : Lacks asked column header
   pub no_source_fault : after.source_faults ≡ before.source_faults
 
+-- what is written for the records of a table with these columns: each with its answer, by what is
+-- asked for, those left out whose number an earlier one has, where each is kept once
+abbrev pub WritesTable : Rules → List Metadata → Option Id → Columns → Asked → Counts → Format →
+    Writes
+WritesTable rules db hint columns asked =
+    WritesKept (IsAnswer rules db hint columns asked) asked.is_unique
+
+-- the same, whatever its counts
+abbrev pub WritesSomeTable : Rules → List Metadata → Option Id → Columns → Asked → Format → Writes
+WritesSomeTable rules db hint columns asked =
+    WritesSome (IsAnswer rules db hint columns asked) asked.is_unique
+
 -- a run over a table ends so, which its result tells: under a delimiter that is none nothing is
 -- read; without a header or a column that is asked for nothing is written; else as the run over
 -- its rows ends, each answered by the region that it names, and counted
@@ -79,16 +92,15 @@ pub data RunEnds (rules : Rules) (db : List Metadata) (hint : Option Id) (asked 
       LacksColumn asked column (fields_of header) before after →
       IsUntouched before after →
       RunEnds rules db hint asked before after (Err (NoColumn column header))
-  whole : (header : Record) (columns : Columns) → is_delimiter asked.delimiter ≡ true →
-      columns_in asked header ≡ Some columns →
-      Ends header (names_in asked) (IsAnswer rules db hint columns asked)
-      (IsOfOtherWidth columns asked) asked.delimiter before after (Ok tt) →
-      (counts : Counts) → (after_header : State) → (has_mark : Bool) →
-      TakesRows counts_after (format_after asked.delimiter after_header) has_mark
-      (header ++ names_in asked) no_counts counts before.taken after.taken →
-      RunEnds rules db hint asked before after (Ok counts)
-  broken_off : (header : Record) (columns : Columns) (e : RunError) →
+  whole : (header : Record) (columns : Columns) (counts : Counts) →
       is_delimiter asked.delimiter ≡ true → columns_in asked header ≡ Some columns →
-      Ends header (names_in asked) (IsAnswer rules db hint columns asked)
-      (IsOfOtherWidth columns asked) asked.delimiter before after (Err e) →
+      Ends header (names_in asked) (WritesTable rules db hint columns asked counts)
+      (WritesSomeTable rules db hint columns asked) (IsOfOtherWidth columns asked)
+      asked.delimiter before after (Ok tt) →
+      RunEnds rules db hint asked before after (Ok counts)
+  broken_off : (header : Record) (columns : Columns) (counts : Counts) (e : RunError) →
+      is_delimiter asked.delimiter ≡ true → columns_in asked header ≡ Some columns →
+      Ends header (names_in asked) (WritesTable rules db hint columns asked counts)
+      (WritesSomeTable rules db hint columns asked) (IsOfOtherWidth columns asked)
+      asked.delimiter before after (Err e) →
       RunEnds rules db hint asked before after (Err (Rows e))

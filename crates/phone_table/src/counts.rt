@@ -1,12 +1,11 @@
 //! How many records of a table were answered, and how.
-ghost use Rattle.std.specs.Prelude.{◌≡◌};
+ghost use Rattle.std.specs.Prelude.{◌≡◌, true, false};
 ghost use Rattle.csv.specs.Records.{fields_of};
-ghost use Rattle.phone_table.specs.Counts.{counted_if, counts_after, has_refusal, is_junk};
-ghost use Rattle.phone_table.specs.Counts.{is_invalid, no_counts, tells};
+ghost use Rattle.phone_table.specs.Counts.{counted_if, counts_after, counts_without, has_refusal};
+ghost use Rattle.phone_table.specs.Counts.{is_invalid, is_junk, no_counts, tells};
 
 use crate::table::field_in;
 use csv::ByteRecord;
-use phone_csv::Counter;
 
 /// How many records of a table were answered, and how many of them not as a valid number: each at
 /// most 2^64 - 1.
@@ -24,6 +23,8 @@ pub struct Counts {
     pub no_number: u64,
     /// Those whose number isn't valid.
     pub invalid: u64,
+    /// Those that are left out, since an earlier one has their number.
+    pub repeated: u64,
 }
 
 impl Counts {
@@ -38,25 +39,36 @@ impl Counts {
             wrong_count: 0,
             no_number: 0,
             invalid: 0,
+            repeated: 0,
         }
     }
-}
 
-impl Counter for Counts {
-    ghost use Rattle.phone_table.specs.Counts.{counts_after};
-
-    ghost after = { counts_after };
-
-    /// Counts one more row, by its last two fields: the validity, and the words of a refusal.
-    fn count(&mut self, row: &ByteRecord) {
-        *self = Counts {
+    /// The counts after one more row, by its last two fields: the validity, and the words of a
+    /// refusal.
+    fn after(self, row: &ByteRecord) -> Counts
+        ensures { result ≡ counts_after self (fields_of row.now) }
+    {
+        Counts {
             records: counted_if(true, self.records),
             unknown_region: counted_if(has_refusal(row, "unknown region"), self.unknown_region),
             empty: counted_if(has_refusal(row, "empty"), self.empty),
             wrong_count: counted_if(has_refusal(row, "wrong count of fields"), self.wrong_count),
             no_number: counted_if(is_junk(row), self.no_number),
             invalid: counted_if(is_invalid(row), self.invalid),
-        };
+            repeated: self.repeated,
+        }
+    }
+
+    /// Counts one more row, which is written or not.
+    pub(crate) fn count(&mut self, row: &ByteRecord, is_written: bool)
+        ensures written { is_written ≡ true →
+            self.new ≡ counts_after self.old (fields_of row.now) }
+        ensures left_out { is_written ≡ false →
+            self.new ≡ counts_without self.old (fields_of row.now) }
+    {
+        let repeated = counted_if(!is_written, self.repeated);
+        let counts = self.after(row);
+        *self = Counts { repeated, ..counts };
     }
 }
 

@@ -17,7 +17,9 @@ ghost use Rattle.phone_table.specs.Answers.{IsAnswer, IsFieldAnswer, IsOfOtherWi
 ghost use Rattle.phone_table.specs.Answers.{IsSevenAnswer};
 ghost use Rattle.phone_table.specs.Extras.{EachHasOneText, HaveOneText};
 ghost use Rattle.phone_table.specs.Objects.{IsObject, IsObjectLine};
-ghost use Rattle.phone_table.specs.Runs.{names_in};
+ghost use Rattle.phone_table.specs.Ends.{by};
+ghost use Rattle.phone_table.specs.Runs.{WritesTable, names_in};
+ghost use Rattle.phone_table.specs.declared.counts.Counts.{Counts};
 ghost use Rattle.phone_table.specs.Shorts.{short_answer};
 ghost use Rattle.phone_table.specs.Tables.{IsReadAgain, IsTable};
 ghost use Rattle.phone_table.specs.declared.header.Columns as header;
@@ -116,12 +118,14 @@ pub fn some_object(line: &[u8])
 }
 
 /// What a run writes for a whole table with commas, read again, is the byte-order mark that the
-/// table begins with, if it does, the header with the added names, and the table's records, each
-/// with its answer behind its fields.
+/// table begins with, if it does, the header with the added names, and the rows that are kept of
+/// the table's records, each with its answer.
 pub fn read_again()
     ensures { (rules : Rules) (db : List loader.Metadata) (hint : Option Id)
-        (columns : header.Columns) (asked : run.Asked) (header : Record) (bytes text : List ℕ) →
-        IsTable header (names_in asked) (IsReport (IsAnswer rules db hint columns asked)) 44 bytes
-        text → IsReadAgain (IsAnswer rules db hint columns asked) header (names_in asked) bytes
-        text }
+        (columns : header.Columns) (asked : run.Asked) (counts : Counts) (header : Record)
+        (bytes text : List ℕ) →
+        IsTable header (names_in asked)
+        (by IsReport (WritesTable rules db hint columns asked counts)) 44 bytes text →
+        IsReadAgain (IsAnswer rules db hint columns asked) asked.is_unique counts header
+        (names_in asked) bytes text }
 {}

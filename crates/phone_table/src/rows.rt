@@ -1,29 +1,27 @@
 //! The rows of a table behind its header.
-ghost use Rattle.std.specs.Prelude.{◌≡◌, ℕ, List, [], ◌++◌, Option, IsNone, OnOk};
+ghost use Rattle.std.specs.Prelude.{◌≡◌, ℕ, List, [], Option, IsNone};
 ghost use Rattle.csv.specs.Records.{fields_of, partial_of};
-ghost use Rattle.phone_csv.specs.Formats.{format_after, state_behind};
+ghost use Rattle.phone_csv.specs.RecordReports.{WritesRows, WritesSomeRows};
 ghost use Rattle.phone_csv.specs.Runs.{OfRead};
 ghost use Rattle.phone_device.specs.Passing.{IsAtEnd};
 ghost use Rattle.phone_lines.specs.Ends.{seen};
-ghost use Rattle.phone_table.specs.Counts.{TakesRows};
 ghost use Rattle.phone_table.specs.Ends.{Ends};
 ghost use Rattle.phone_table.specs.Extras.{added_names};
 ghost use Rattle.phone_table.specs.Tables.{IsHeader};
 
 use crate::extra::Extra;
 use crate::names::{HeaderError, write_header};
-use phone_csv::{Answers, Counter, First, RunError, answer_records, format_after};
+use phone_csv::{Answers, First, RunError, answer_records, format_after};
 use phone_device::{ByteSink, ByteSource};
 use std::alloc::Global;
 
 /// Writes a header that was read with the seven names behind it, and then the records that follow
-/// it, each with its answer, and counts these. Begins with a byte-order mark where the table does,
-/// and ends each record as the header ends. Refused as `answer_records` refuses; where memory is
-/// refused for the header nothing is written.
-pub(crate) fn write_rows<A: Answers, C: Counter, S: ByteSource, W: ByteSink>(
+/// it, each with its answer, unless it is left out. Begins with a byte-order mark where the table
+/// does, and ends each record as the header ends. Refused as `answer_records` refuses; where
+/// memory is refused for the header nothing is written.
+pub(crate) fn write_rows<A: Answers, S: ByteSource, W: ByteSink>(
     alloc: Global,
-    answers: &A,
-    counter: &mut C,
+    answers: &mut A,
     delimiter: u8,
     first: First,
     extra: &[Extra<'_>],
@@ -35,16 +33,13 @@ pub(crate) fn write_rows<A: Answers, C: Counter, S: ByteSource, W: ByteSink>(
     ensures ends { (before : Option (List ℕ)) → OfRead before (S.to_come source.old) (λ bytes.
         IsHeader delimiter (fields_of first.fields) first.rest first.has_mark bytes) →
         Ends (fields_of first.fields) (added_names extra.now)
-        (A.gives answers.now) (A.refuses answers.now) delimiter
+        (λ format. WritesRows A.gives format answers.old answers.new)
+        (λ format. WritesSomeRows A.gives format answers.old) (A.refuses answers.new) delimiter
         (seen before (S.faults source.old) (W.taken sink.old)
         (W.faults sink.old) (W.unflushed sink.old))
         (seen (S.to_come source.new) (S.faults source.new) (W.taken sink.new)
         (W.faults sink.new) (W.unflushed sink.new))
         result }
-    ensures counted { OnOk result (TakesRows C.after
-        (format_after delimiter (state_behind first.rest)) first.has_mark
-        (fields_of first.fields ++ added_names extra.now) counter.old counter.new
-        (W.taken sink.old) (W.taken sink.new)) }
 {
     let First {
         fields,
@@ -58,7 +53,7 @@ pub(crate) fn write_rows<A: Answers, C: Counter, S: ByteSource, W: ByteSink>(
         Err(HeaderError::Memory) => return Err(RunError::Memory),
     }
     match rest {
-        Some(start) => answer_records(alloc, answers, counter, format, start, source, sink),
+        Some(start) => answer_records(alloc, answers, format, start, source, sink),
         None => match sink.flush() {
             Ok(()) => Ok(()),
             Err(_) => Err(RunError::Output),

@@ -1,5 +1,7 @@
 //! What answers the records of a table.
-ghost use Rattle.std.specs.Prelude.{◌≡◌, ◌++◌, [], true, false, codes};
+ghost use Rattle.std.specs.Prelude.{◌≡◌, ◌++◌, ◌&&◌, ◌||◌, ℕ, List, [], not, true, false, codes};
+ghost use Rattle.std.specs.List.{list_any};
+ghost use Rattle.std.specs.Str.{bytes_eq};
 ghost use Rattle.std.specs.Prelude.{Err, IfErr, IfOk, None, OnOk};
 ghost use Rattle.csv.specs.Records.{fields_of, partial_of};
 ghost use Rattle.phone_csv.specs.Formats.{Record};
@@ -7,21 +9,27 @@ ghost use Rattle.phone_table.specs.Answers.{IsNumberAnswer, IsOfOtherWidth, IsSe
 ghost use Rattle.phone_table.specs.Answers.{refused_answer};
 ghost use Rattle.phone_table.specs.Extras.{AreTold};
 ghost use Rattle.phone_table.specs.Regions.{RecordNames, field_in};
+ghost use Rattle.phone_table.specs.Counts.{no_counts};
+ghost use Rattle.phone_table.specs.Rows.{number_of};
+ghost use Rattle.phone_table.specs.Taking.{Keeps, is_known};
 ghost use Rattle.phone_table.specs.Spelled.{IsKnownIn, number_in, spelled};
 
 use crate::answer::{Answer, answer_to, push_answer};
+use crate::counts::Counts;
 use crate::extra::push_told;
 use crate::header::Columns;
+use crate::key::ANSWER_WIDTH;
 use crate::region::{Named, hint_under, region_named};
 use crate::run::Asked;
 use csv::ByteRecord;
 use phone_csv::{Answers, Refusal};
 use phone_engine::Engine;
 use std::alloc::{AllocError, Global};
+use std::collections::HashSet;
 use std::marker::Model;
 
 /// What answers the records of a table: an engine, by what is asked of it.
-#[derive(Clone, Copy)]
+#[derive(Drop)]
 pub struct Table<'d> {
     /// What reads, prints and tells; its region is that of a record that names none.
     pub engine: Engine<'d>,
@@ -29,9 +37,30 @@ pub struct Table<'d> {
     pub asked: Asked<'d>,
     /// Its columns.
     pub columns: Columns,
+    /// How many records were answered, and how.
+    pub counts: Counts,
+    /// The E.164 texts of the rows, where each number is kept once.
+    pub numbers: HashSet<Vec<u8>>,
 }
 
 impl<'d> Table<'d> {
+    /// A table of which no record was answered yet.
+    pub fn new(engine: Engine<'d>, asked: Asked<'d>, columns: Columns) -> Table<'d>
+        ensures engine { result.engine ≡ engine.entry }
+        ensures asked { result.asked ≡ asked.entry }
+        ensures columns { result.columns ≡ columns }
+        ensures counts { result.counts ≡ no_counts }
+        ensures numbers { result.numbers.keys ≡ [] }
+    {
+        Table {
+            engine,
+            asked,
+            columns,
+            counts: Counts::new(),
+            numbers: HashSet::new(engine.database.allocator()),
+        }
+    }
+
     /// The answer to a record. Refused only for memory.
     fn answer_to_record(&self, fields: &ByteRecord) -> Result<Answer, AllocError>
         ensures answer { IfOk result (λ a. IsNumberAnswer self.now.engine.rules
@@ -126,25 +155,69 @@ pub(crate) fn field_in(fields: &ByteRecord, column: usize) -> &[u8]
     }
 }
 
-impl<'d> Answers for Table<'d> {
-    ghost use Rattle.phone_table.specs.Answers.{IsAnswer, IsOfOtherWidth};
+/// The E.164 text of a row; empty where it has no number.
+fn number_of(row: &ByteRecord) -> &[u8]
+    ensures { result.now ≡ number_of (fields_of row.now) }
+{
+    field_in(row, row.len().saturating_sub(ANSWER_WIDTH))
+}
 
-    ghost gives = { λ t fields answer. IsAnswer t.engine.rules t.engine.database.now t.engine.hint
-        t.columns t.asked fields answer };
+impl<'d> Table<'d> {
+    /// Whether a row is written: where each number is kept once, its own is kept then. Refused only
+    /// for memory.
+    fn is_new(&mut self, row: &ByteRecord) -> Result<bool, AllocError>
+        ensures new { IfOk result (λ is_new. (self.old.asked.is_unique &&
+            is_known self.old (fields_of row.now)) ≡ not is_new) }
+        ensures keeps { OnOk result (Keeps self.old (fields_of row.now) self.new) }
+        ensures counts { self.new.counts ≡ self.old.counts }
+    {
+        let number = number_of(row);
+        if !self.asked.is_unique || number.is_empty() {
+            return Ok(true);
+        }
+        let mut text = Vec::new(self.engine.database.allocator());
+        text.extend_from_slice(number)?;
+        add(&mut self.numbers, text)
+    }
+}
+
+/// Puts a text among others, and says whether it is new. Refused only for memory.
+fn add(texts: &mut HashSet<Vec<u8>>, text: Vec<u8>) -> Result<bool, AllocError>
+    ensures new { IfOk result (λ is_new.
+        list_any (λ k. bytes_eq text.items k.items) texts.old.keys ≡ not is_new) }
+    ensures added { OnOk result ((t : List ℕ) →
+        list_any (λ k. bytes_eq t k.items) texts.new.keys ≡
+        (bytes_eq t text.items || list_any (λ k. bytes_eq t k.items) texts.old.keys)) }
+{
+    let Ok(is_new) = texts.insert(text) else {
+        return Err(AllocError);
+    };
+    Ok(is_new)
+}
+
+impl<'d> Answers for Table<'d> {
+    ghost use Rattle.phone_table.specs.Answers.{IsOfOtherWidth};
+    ghost use Rattle.phone_table.specs.Taking.{Takes};
+
+    ghost gives = { λ t fields answer after. Takes t fields after answer };
 
     ghost refuses = { λ t fields. IsOfOtherWidth t.columns t.asked fields };
 
     /// Puts what the columns that are asked for tell, and the seven fields of the answer, behind
-    /// those of a record. A record with another count of fields than the table has columns isn't
-    /// answered, unless such are marked.
-    fn answer(&self, _alloc: Global, fields: &mut ByteRecord) -> Result<(), Refusal> {
+    /// those of a record, and counts it. A record with another count of fields than the table has
+    /// columns isn't answered, unless such are marked.
+    fn answer(&mut self, _alloc: Global, fields: &mut ByteRecord) -> Result<bool, Refusal> {
         let answer = match self.answer_or_refusal(fields) {
             Ok(answer) => answer,
             Err(refusal) => return Err(refusal),
         };
-        match self.push_row(fields, &answer) {
-            Ok(()) => Ok(()),
-            Err(_) => Err(Refusal::Memory),
-        }
+        let Ok(()) = self.push_row(fields, &answer) else {
+            return Err(Refusal::Memory);
+        };
+        let Ok(is_new) = self.is_new(fields) else {
+            return Err(Refusal::Memory);
+        };
+        self.counts.count(fields, is_new);
+        Ok(is_new)
     }
 }

@@ -1,6 +1,11 @@
+pub mod BegunNumbers
+pub mod BegunTexts
+pub mod BlankTexts
+pub mod CodesAtFront
 pub mod HomeTexts
 pub mod KeyPlaces
 pub mod KeysOfTexts
+pub mod LaidAlike
 pub mod MarkedTexts
 pub mod MarkedWritten
 pub mod PrintedTexts

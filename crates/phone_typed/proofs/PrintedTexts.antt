@@ -20,7 +20,7 @@ use Rattle.phone_typed.specs.Printed.{IsPlain, IsPlainAbroad, IsPlainAtHome, nat
 use Rattle.phone_typed.specs.Typed.{complete_text, first_complete, first_partial, if_shows, layout_territory, text_abroad, text_at, text_of_code, text_of_keys, typed}
 
 -- what is found passes
-found_passes : (p : Format → Bool) (fs : List Format) (f : Format) → find p fs ≡ Some f → p f ≡ true
+pub found_passes : (p : Format → Bool) (fs : List Format) (f : Format) → find p fs ≡ Some f → p f ≡ true
 found_passes p [] f e = absurd (cc)
 found_passes p (g ∷ gs) f e = at (p g) refl e (found_passes p gs f)
   where
@@ -29,7 +29,7 @@ found_passes p (g ∷ gs) f e = at (p g) refl e (found_passes p gs f)
     at false h e more = more e
 
 -- where what doesn't pass gives nothing, the first that passes gives the first answer
-first_by : (p : Format → Bool) (by : Format → Option (List ℕ)) (fs : List Format) (f : Format) (t : List ℕ) → ((g : Format) → p g ≡ false → by g ≡ None) →
+pub first_by : (p : Format → Bool) (by : Format → Option (List ℕ)) (fs : List Format) (f : Format) (t : List ℕ) → ((g : Format) → p g ≡ false → by g ≡ None) →
     find p fs ≡ Some f → by f ≡ Some t → first_given (map by fs) ≡ Some t
 first_by p by [] f t none e h = absurd (cc)
 first_by p by (g ∷ gs) f t none e h = at (p g) refl e (λ e. first_by p by gs f t none e h)
@@ -58,7 +58,7 @@ module _ (m : Metadata) (mode : Mode) (n : Reading) (keys : List ℕ) (plain : I
   text = laid_out m mode None n
 
   -- what the layout prints is the number laid out
-  laid_text : laid_by plain.layout (template_for plain.layout m mode None) digits ≡ text
+  pub laid_text : laid_by plain.layout (template_for plain.layout m mode None) digits ≡ text
   laid_text = sym (ap₂ (λ (f : Option Format) (carrier : Option (List ℕ)). laid f m mode carrier digits) plain.first plain.no_carrier)
 
   by_layout : complete_text m mode digits keys plain.layout ≡ Some text

@@ -1,3 +1,4 @@
+pub mod Beginnings
 pub mod Fields
 pub mod Keys
 pub mod Printed

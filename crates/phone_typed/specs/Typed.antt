@@ -1,5 +1,5 @@
--- What is shown of a number while it is typed: the beginning of what is printed of it once it is
--- complete, up to the last key. Texts are bytes.
+-- What is shown of a number while it is typed: what a layout prints of its digits, as of a complete
+-- number's, else as of a beginning's with nines after them, up to the last key. Texts are bytes.
 use Rattle.std.specs.Prelude.{ℕ, ◌==◌, ◌&&◌, ◌||◌, nat_le, nat_lt, Bool, false, if◌then◌else◌}
 use Rattle.std.specs.Prelude.{List, [], ◌∷◌, ◌++◌, codes, drop, length, map, take, Option, None}
 use Rattle.std.specs.Prelude.{Some, unwrap_or}

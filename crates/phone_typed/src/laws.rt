@@ -1,16 +1,22 @@
 //! What holds of all that is shown.
 ghost use Rattle.std.specs.Prelude.{◌≡◌, ◌-◌, ◌∷◌, ◌++◌, ◌||◌, [], ℕ, List, Option, None, Some};
 ghost use Rattle.std.specs.Prelude.{◌≤◌, filter, length, take, true, Result};
+ghost use Rattle.std.specs.Fmt.{decimal};
 ghost use Rattle.std.specs.List.{list_all};
 ghost use Rattle.phone_chars.specs.Characters.{is_digit};
 ghost use Rattle.phone_values.specs.declared.country.Id.{Id};
+ghost use Rattle.phone_values.specs.Numbers.{text_of};
 ghost use Rattle.phone_values.specs.declared.error.ParseError.{ParseError};
+ghost use Rattle.phone_values.specs.declared.mode.Mode.TheVariants as mode;
 ghost use Rattle.phone_values.specs.declared.reading.Reading.{Reading};
 ghost use Rattle.phone_library_text.specs.Written.{IsWritten, most_characters};
 ghost use Rattle.phone_library_text.specs.declared.written.WrittenNumber.{WrittenNumber};
 ghost use Rattle.phone_print.specs.Texts.{e164_text, international_text, national_text};
+ghost use Rattle.phone_rules.specs.Strips.{step};
 ghost use Rattle.phone_records.specs.declared.loader.Metadata as loader;
-ghost use Rattle.phone_typed.specs.Keys.{is_key, is_mark, key_of, keys_in, with_key, with_keys};
+ghost use Rattle.phone_typed.specs.Beginnings.{IsBegun};
+ghost use Rattle.phone_typed.specs.Keys.{is_key, is_mark, key_of, keys_in, up_to_key, with_key};
+ghost use Rattle.phone_typed.specs.Keys.{with_keys};
 ghost use Rattle.phone_typed.specs.Printed.{IsPlainAbroad, IsPlainAtHome, national_keys};
 ghost use Rattle.phone_typed.specs.Typed.{typed};
 
@@ -49,6 +55,28 @@ pub fn last_is_national()
     ensures { (db : List loader.Metadata) (hint : Option Id) (m : loader.Metadata) (n : Reading) →
         IsPlainAtHome db hint m n →
         typed db hint (national_keys m n) ≡ national_text m None n }
+{}
+
+/// A beginning is shown as it stands in the last text, up to the last key: of a plain number that
+/// is typed as its E.164 text, where the layout that prints the number serves the beginning too and
+/// parts the digits of both alike, the front of the international text.
+pub fn beginning_is_international()
+    ensures { (db : List loader.Metadata) (hint : Option Id) (m : loader.Metadata) (n : Reading)
+        (front rest : List ℕ) → IsPlainAbroad db m n → text_of n.national ≡ front ++ rest →
+        IsBegun m mode.International n front front →
+        typed db hint (43 ∷ (decimal n.code.value ++ front)) ≡
+        up_to_key (length (43 ∷ (decimal n.code.value ++ front)))
+        (international_text m None n) }
+{}
+
+/// The same of a plain number that is typed as the digits of its national text: the front of the
+/// national text. The territory's rules leave digits of the beginning.
+pub fn beginning_is_national()
+    ensures { (db : List loader.Metadata) (hint : Option Id) (m : loader.Metadata) (n : Reading)
+        (keys rest : List ℕ) → IsPlainAtHome db hint m n → national_keys m n ≡ keys ++ rest →
+        list_all is_digit (step m keys None).national ≡ true →
+        IsBegun m mode.National n (step m keys None).national keys →
+        typed db hint keys ≡ up_to_key (length keys) (national_text m None n) }
 {}
 
 /// Every beginning is written as the keys are, by libphonenumber's rules: of three digits or more,

@@ -1,4 +1,5 @@
-//! A number as it is typed: the beginning of what is printed of it once it is complete.
+//! A number as it is typed: the keys so far as a layout prints them, of a complete number or of the
+//! beginning of one.
 #![tactic(auto)]
 
 mod keys;

@@ -15,7 +15,8 @@ const ROOM: usize = 4096;
 
 /// How a table is given back, and what was written, parted by a tab; none for any other call. The
 /// line has the column of the numbers, that of the regions or a hyphen, the hint, `mark` where bad
-/// records are marked, and the table. An error where memory is refused.
+/// records are marked, `unique` where each number is kept once, and the table. An error where
+/// memory is refused.
 pub fn answer(alloc: Global, row: &Row, db: &Database) -> Result<Option<String>> {
     match by_rules(row) {
         (rules, "given-table") => Ok(Some(given(alloc, row, hinted(rules, db, row.argument(3))?)?)),
@@ -40,6 +41,7 @@ fn asked(row: &Row) -> Asked<'_> {
         delimiter: b',',
         else_hint: false,
         mark_bad: row.argument(4) == "mark",
+        is_unique: row.argument(4) == "unique",
         extra: &[],
         short: None,
     }
@@ -72,7 +74,7 @@ fn push_end(out: &mut String, end: Result<Counts, TableError>) -> Result<()> {
 }
 
 /// Writes how many records there were, and how many with an unknown region, an empty field, a wrong
-/// count of fields, without a number, and with one that isn't valid, parted by spaces.
+/// count of fields, without a number, with one that isn't valid, and left out, parted by spaces.
 fn push_counts(out: &mut String, counts: &Counts) -> Result<(), AllocError> {
     let Counts {
         records,
@@ -81,9 +83,10 @@ fn push_counts(out: &mut String, counts: &Counts) -> Result<(), AllocError> {
         wrong_count,
         no_number,
         invalid,
+        repeated,
     } = counts;
     write!(
         out,
-        "{records} {unknown_region} {empty} {wrong_count} {no_number} {invalid}"
+        "{records} {unknown_region} {empty} {wrong_count} {no_number} {invalid} {repeated}"
     )
 }

@@ -4,10 +4,10 @@ use Rattle.phone_library_laws.specs.Again.{e164_reading}
 use Rattle.phone_library_laws.proofs.ReadAgain.{read_again}
 use Rattle.phone_library_text.proofs.PlainWritten.{international_written}
 use Rattle.phone_print.specs.Texts.{e164_text}
-use Rattle.phone_library_back.specs.Printed.{inside_reading, printed_reading}
+use Rattle.phone_library_back.specs.Printed.{inside_reading, printed_reading, uncarried}
 use Rattle.phone_library_back.proofs.InternationalBack.{international_back}
 use Rattle.phone_library_back.proofs.NationalBack.{national_back}
-use Rattle.phone_library_back.proofs.ReadSigned.{coded_of}
+use Rattle.phone_library_back.proofs.ReadSigned.{coded_of, uncarried_coded}
 use Rattle.phone_library_back.proofs.Rfc3966Back.{rfc3966_back}
 use Rattle.phone_library_back.proofs.ToldAlike.{e164_alike, inside_alike, printed_alike, told_alike}
 use Rattle.phone_library_back.proofs.told.told_again.Goals as goal
@@ -20,7 +20,8 @@ returns-clause-e164 c db hint n r settled read =
 pub returns-clause-international : goal.returns-clause-international
 returns-clause-international c db hint n r text settled plain e read =
     told_alike db hint (chars text) n r (printed_reading n) read
-    (international_back db n (coded_of db n settled) plain hint text e settled.idle)
+    (international_back db (uncarried n) (uncarried_coded db n (coded_of db n settled)) plain hint
+    text e settled.idle)
     (printed_alike db n)
 
 pub returns-clause-rfc3966 : goal.returns-clause-rfc3966
@@ -30,6 +31,7 @@ returns-clause-rfc3966 c db hint n r text settled plain e read =
 
 pub returns-clause-national : goal.returns-clause-national
 returns-clause-national c db hint m n r text there plain e read =
-    let carrier = (stripped (Some m) plain.digits).carrier in
+    let carrier = (stripped (Some m) plain.layout.digits).carrier in
     told_alike db hint (chars text) n r (inside_reading n carrier) read
-    (national_back db m n plain hint text there e) (inside_alike db n carrier)
+    (national_back db m (uncarried n) plain.layout hint text there e plain.dialled)
+    (inside_alike db n carrier)

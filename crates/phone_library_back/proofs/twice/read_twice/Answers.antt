@@ -1,8 +1,9 @@
 use Rattle.phone_library_laws.proofs.WhatIsRead.{settled_if_read}
+use Rattle.phone_library_back.specs.Printed.{uncarried}
 use Rattle.phone_library_back.proofs.ExtensionsRead.{extension_read}
 use Rattle.phone_library_back.proofs.InternationalBack.{international_back}
 use Rattle.phone_library_back.proofs.Prefixes.{announced_by_default}
-use Rattle.phone_library_back.proofs.ReadSigned.{coded_of}
+use Rattle.phone_library_back.proofs.ReadSigned.{coded_of, uncarried_coded}
 use Rattle.phone_library_back.proofs.Rfc3966Back.{rfc3966_back}
 use Rattle.phone_library_back.proofs.twice.read_twice.Goals as goal
 
@@ -10,7 +11,8 @@ pub returns-clause-international : goal.returns-clause-international
 returns-clause-international c db hint other text again n rules settled read layout none e =
     let extension = extension_read db hint text n read in
     let announced = announced_by_default layout.territory n.extension none extension in
-    international_back db n (coded_of db n (settled_if_read db hint text n rules settled read))
+    let coded = coded_of db n (settled_if_read db hint text n rules settled read) in
+    international_back db (uncarried n) (uncarried_coded db n coded)
     (record { layout = layout; announced = announced }) other again e settled.idle
 
 pub returns-clause-rfc3966 : goal.returns-clause-rfc3966

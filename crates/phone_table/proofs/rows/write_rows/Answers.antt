@@ -5,7 +5,7 @@ use Rattle.phone_csv.specs.Formats.{format_after, state_behind}
 use Rattle.phone_csv.specs.Runs.{OfRead}
 use Rattle.phone_table.specs.Extras.{added_names}
 use Rattle.phone_table.specs.Tables.{IsHeader, head_text}
-use Rattle.phone_table.proofs.CountLemmas.{OnOk-weaker, no_rows, rows_taken}
+use Rattle.phone_table.proofs.Writing.{nothing_told, some_told, told, writes_nothing_by}
 use Rattle.phone_table.proofs.EndLemmas.{header_ends, header_refused, only_ends, only_held, rows_end}
 use Rattle.phone_table.proofs.rows.write_rows.Goals as goal
 
@@ -16,8 +16,7 @@ returns-in-Err-Output g c =
     let is = ap Err c.in-Err-Output.field-0-is in
     let begun = rw c.format_after-format.ensures at (e.beginning is) in
     record {
-      ends = λ before h. header_ends _ added _ _ c.args.delimiter c.args.first.has_mark before _ _ _ _ _ _ _ _ c.args.first.rest h begun (e.fault is);
-      counted = tt;
+      ends = λ before h. header_ends _ added (told g.A.Answers.gives c.args.answers.now c.args.answers.now) (some_told g.A.Answers.gives c.args.answers.now) (nothing_told g.A.Answers.gives c.args.answers.now) _ c.args.delimiter c.args.first.has_mark before _ _ _ _ _ _ _ _ c.args.first.rest h begun (e.fault is);
     }
 
 pub returns-in-Err-Memory : goal.returns-in-Err-Memory
@@ -26,8 +25,7 @@ returns-in-Err-Memory g c =
     let added = added_names c.args.extra.now in
     let is = ap Err c.in-Err-Memory.field-0-is in
     record {
-      ends = λ before h. header_refused _ added _ _ c.args.delimiter c.args.first.has_mark before _ _ _ _ _ _ _ _ c.args.first.rest h (e.nothing is) (e.nothing_held is) (e.no_fault_without_memory is);
-      counted = tt;
+      ends = λ before h. header_refused _ added (told g.A.Answers.gives c.args.answers.now c.args.answers.now) (some_told g.A.Answers.gives c.args.answers.now) (nothing_told g.A.Answers.gives c.args.answers.now) _ c.args.delimiter c.args.first.has_mark before _ _ _ _ _ _ _ _ c.args.first.rest h (e.nothing is) (e.nothing_held is) (e.no_fault_without_memory is);
     }
 
 pub returns-in-Some : goal.returns-in-Some
@@ -40,13 +38,11 @@ returns-in-Some g c =
     let mark = c.args.first.has_mark in
     let source = g.S.ByteSource.to_come c.args.source.now in
     let same = c.format_after-format.ensures ∙ ap (λ rest. format_after d (state_behind rest)) c.in-Some.is in
-    let counts = rows_taken g.C.Counter.after c.format_after-format.result mark (header ++ added) c.args.counter.now c.answer_records.new.counter _ _ _ t.written in
     record {
-      ends = λ before h. rows_end header added (g.A.Answers.gives c.args.answers.now) (g.A.Answers.refuses c.args.answers.now) d mark before source _ _ _ _ _ _ c.in-Some.start _ _ _ _ _ c.answer_records.result
+      ends = λ before h. rows_end header added (told g.A.Answers.gives c.args.answers.now c.answer_records.new.answers) (some_told g.A.Answers.gives c.args.answers.now) (nothing_told g.A.Answers.gives c.args.answers.now) (g.A.Answers.refuses c.answer_records.new.answers) d mark before source _ _ _ _ _ _ c.in-Some.start _ _ _ _ _ c.answer_records.result
           (subst (λ rest. OfRead before source (λ bytes. IsHeader d header rest mark bytes)) c.in-Some.is h)
           (rw same at t.written) t.no_fault r.end (rw same at r.report) r.no_fault (rw same at r.ended) r.cause (rw same at r.beginning) (rw same at r.before)
           (rw same at r.quote) r.quote_end r.no_fault_at_a_quote (rw same at r.first) r.no_fault_at_a_record r.no_fault_without_memory r.sink_faults r.handed_on;
-      counted = rw c.format_after-format.ensures at (OnOk-weaker c.answer_records.result counts r.counted);
     }
 
 pub returns-in-Ok-flush : goal.returns-in-Ok-flush
@@ -62,9 +58,8 @@ returns-in-Ok-flush g c =
     let same = c.format_after-format.ensures ∙ ap (λ rest. format_after d (state_behind rest)) c.in-None.is in
     let written = subst (λ w. Takes (g.W.ByteSink.taken c.args.sink.now) (head_text c.format_after-format.result mark (header ++ added)) w) (sym f.kept) t.written in
     record {
-      ends = λ before h. only_ends header added _ _ d mark before source _ _ _ _ _ _ _ (subst (λ rest. OfRead before source (λ bytes. IsHeader d header rest mark bytes)) c.in-None.is h)
+      ends = λ before h. only_ends header added (told g.A.Answers.gives c.args.answers.now c.args.answers.now) (some_told g.A.Answers.gives c.args.answers.now) (nothing_told g.A.Answers.gives c.args.answers.now) _ d mark before source _ _ _ _ _ _ (writes_nothing_by g.A.Answers.gives c.args.answers.now) _ (subst (λ rest. OfRead before source (λ bytes. IsHeader d header rest mark bytes)) c.in-None.is h)
           (end refl) (rw same at written) (f.no_fault ∙ t.no_fault) f.handed_on;
-      counted = rw c.format_after-format.ensures at (no_rows g.C.Counter.after c.format_after-format.result mark (header ++ added) c.args.counter.now _ _ written);
     }
 
 pub returns-in-Err : goal.returns-in-Err
@@ -79,7 +74,6 @@ returns-in-Err g c =
     let same = c.format_after-format.ensures ∙ ap (λ rest. format_after d (state_behind rest)) c.in-None.is in
     let written = subst (λ w. Takes (g.W.ByteSink.taken c.args.sink.now) (head_text c.format_after-format.result mark (header ++ added)) w) (sym f.kept) t.written in
     record {
-      ends = λ before h. only_held header added _ _ d mark before source _ _ _ _ _ _ _ (subst (λ rest. OfRead before source (λ bytes. IsHeader d header rest mark bytes)) c.in-None.is h)
+      ends = λ before h. only_held header added (told g.A.Answers.gives c.args.answers.now c.args.answers.now) (some_told g.A.Answers.gives c.args.answers.now) (nothing_told g.A.Answers.gives c.args.answers.now) _ d mark before source _ _ _ _ _ _ _ (subst (λ rest. OfRead before source (λ bytes. IsHeader d header rest mark bytes)) c.in-None.is h)
           (rw same at written) (f.fault ∙ ap (λ n. n + 1) t.no_fault);
-      counted = tt;
     }

@@ -1,9 +1,8 @@
-use Rattle.std.proofs.Common.{rules, ◌++◌, refl, subst}
+use Rattle.std.proofs.Common.{rules, refl}
 use Rattle.csv.specs.Records.{fields_of}
-use Rattle.phone_csv.specs.Formats.{format_after, state_behind}
-use Rattle.phone_table.specs.Counts.{TakesRows, counts_after}
 use Rattle.phone_table.specs.Runs.{names_in}
 use Rattle.phone_table.specs.Runs.RunEnds.{broken_off, no_column, no_delimiter, no_header, whole}
+use Rattle.phone_table.proofs.Kept.{table_ends}
 use Rattle.phone_table.proofs.TableLemmas.{alone}
 use Rattle.phone_table.proofs.RunLemmas.{ends_from, header_read, lacks_by, no_header_by}
 use Rattle.phone_table.proofs.run.write_table.Goals as goal
@@ -33,20 +32,22 @@ pub returns-in-Ok-write_rows : goal.returns-in-Ok-write_rows
 returns-in-Ok-write_rows g c =
     let f = c.in-Ok.ensures in
     let first = c.in-Ok.first in
+    let n = c.new-table.ensures in
+    let ends = ends_from f.no_fault (c.in-Ok-write_rows.ensures.ends (g.S.ByteSource.to_come c.args.source.now)
+    (header_read c.args.asked.delimiter (fields_of first.fields) first.rest first.has_mark _ _ f.ended f.only)) in
     record {
-      ends = whole (fields_of first.fields) c.in-Ok-columns_of.columns (search rules) c.in-Ok-columns_of.ensures.found
-          (ends_from f.no_fault (c.in-Ok-write_rows.ensures.ends (g.S.ByteSource.to_come c.args.source.now)
-          (header_read c.args.asked.delimiter (fields_of first.fields) first.rest first.has_mark _ _ f.ended f.only)))
-          c.write_rows.new.counter (state_behind first.rest) first.has_mark
-          (subst (λ n. TakesRows counts_after (format_after c.args.asked.delimiter (state_behind first.rest)) first.has_mark (fields_of first.fields ++ names_in c.args.asked) n c.write_rows.new.counter (g.W.ByteSink.taken c.args.sink.now) (g.W.ByteSink.taken c.write_rows.new.sink)) c.new-counts.ensures c.in-Ok-write_rows.ensures.counted);
+      ends = whole (fields_of first.fields) c.in-Ok-columns_of.columns c.write_rows.new.answers.counts (search rules) c.in-Ok-columns_of.ensures.found
+          (rw (n.engine, n.columns, n.asked) at (table_ends c.new-table.result n.counts n.numbers c.write_rows.new.answers (fields_of first.fields) _ c.args.asked.delimiter _ _ _ ends));
     }
 
-pub returns-in-Err-write_rows : goal.returns-in-Err-write_rows
-returns-in-Err-write_rows g c =
+pub returns : goal.returns
+returns g c =
     let f = c.in-Ok.ensures in
     let first = c.in-Ok.first in
+    let n = c.new-table.ensures in
+    let ends = ends_from f.no_fault (c.in-Err-write_rows.ensures.ends (g.S.ByteSource.to_come c.args.source.now)
+    (header_read c.args.asked.delimiter (fields_of first.fields) first.rest first.has_mark _ _ f.ended f.only)) in
     record {
-      ends = broken_off (fields_of first.fields) c.in-Ok-columns_of.columns c.in-Err-write_rows.error (search rules) c.in-Ok-columns_of.ensures.found
-          (ends_from f.no_fault (c.in-Err-write_rows.ensures.ends (g.S.ByteSource.to_come c.args.source.now)
-          (header_read c.args.asked.delimiter (fields_of first.fields) first.rest first.has_mark _ _ f.ended f.only)));
+      ends = broken_off (fields_of first.fields) c.in-Ok-columns_of.columns c.write_rows.new.answers.counts c.in-Err-write_rows.error (search rules) c.in-Ok-columns_of.ensures.found
+          (rw (n.engine, n.columns, n.asked) at (table_ends c.new-table.result n.counts n.numbers c.write_rows.new.answers (fields_of first.fields) _ c.args.asked.delimiter _ _ _ ends));
     }

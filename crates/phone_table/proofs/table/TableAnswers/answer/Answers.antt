@@ -1,0 +1,32 @@
+use Rattle.std.proofs.Common.{◌++◌, ◌≡◌, not, ap, refl, ◌∙◌}
+use Rattle.csv.specs.Records.{fields_of}
+use Rattle.phone_table.specs.Counts.{counts_after, counts_without}
+use Rattle.phone_table.specs.Spelled.{number_in, spelled}
+use Rattle.phone_table.specs.Taking.Takes.{written, left_out}
+use Rattle.phone_table.proofs.Numbers.{same_ok}
+use Rattle.phone_table.proofs.table.TableAnswers.answer.Goals as goal
+
+pub returns-clause-answered : goal.returns-clause-answered
+returns-clause-answered c e =
+    let fields = fields_of c.args.fields.now in
+    let (told, are, is) = c.in-Ok-push_row.ensures in
+    let seven = spelled c.in-Ok.answer in
+    let new = same_ok _ _ e in
+    let k = rw is at c.in-Ok-is_new.ensures.keeps in (
+      told ++ seven,
+      written (told ++ seven) (number_in c.in-Ok.answer, told, seven, c.in-Ok.ensures.answer, are, refl) (rw is at c.in-Ok-is_new.ensures.new ∙ ap not new)
+          (record { engine = k.engine; asked = k.asked; columns = k.columns; numbers = k.numbers })
+          (rw is at (c.count.ensures.written new) ∙ ap (λ n. counts_after n (fields ++ (told ++ seven))) c.in-Ok-is_new.ensures.counts),
+      is,
+    )
+
+pub returns-clause-left_out : goal.returns-clause-left_out
+returns-clause-left_out c e =
+    let fields = fields_of c.args.fields.now in
+    let (told, are, is) = c.in-Ok-push_row.ensures in
+    let seven = spelled c.in-Ok.answer in
+    let known = same_ok _ _ e in
+    let k = rw is at c.in-Ok-is_new.ensures.keeps in
+    left_out (told ++ seven) (number_in c.in-Ok.answer, told, seven, c.in-Ok.ensures.answer, are, refl) (rw is at c.in-Ok-is_new.ensures.new ∙ ap not known)
+    (record { engine = k.engine; asked = k.asked; columns = k.columns; numbers = k.numbers })
+    (rw is at (c.count.ensures.left_out known) ∙ ap (λ n. counts_without n (fields ++ (told ++ seven))) c.in-Ok-is_new.ensures.counts)
