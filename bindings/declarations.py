@@ -1,5 +1,6 @@
 #!/usr/bin/env python3
-"""Compares the declarations of the calls: crates/phone_c, c/world.c, c/phone.h, Rust's sys/src/lib.rs and Python's _calls.py.
+"""Compares the declarations of the calls: crates/phone_c, c/world.c, c/phone.h, c/phone.map, Rust's sys/src/lib.rs and Python's
+_calls.py.
 
 usage: bindings/declarations.py
 
@@ -17,12 +18,15 @@ BINDINGS = Path(__file__).resolve().parent
 CRATES = BINDINGS.parent / "crates"
 # The names of a struct in the four places, each by its name in phone.h.
 STRUCTS = {
-    "Handle": "handle", "Table": "prefixes", "Prefixes": "prefixes", "PrefixesHandle": "prefixes", "Part": "part", "Number": "number",
+    "Handle": "handle", "PrefixTable": "prefixes", "Prefixes": "prefixes", "PrefixesHandle": "prefixes", "Part": "part", "Number": "number",
     "PlainFacts": "short_facts", "ShortFacts": "short_facts", "Facts": "short_facts", "Place": "place",
 }
 # What the names of a set's values begin with in phone.h.
-FRONTS = {"Cost": "COST_", "Possibility": "LENGTH_", "Sameness": "MATCH_", "Leniency": "IF_"}
-C_TYPES = {"uint8_t": "u8", "uint16_t": "u16", "uint32_t": "u32", "uint64_t": "u64", "size_t": "usize", "void": "u8"}
+FRONTS = {
+    "Mode": "MODE_", "Source": "SOURCE_", "Kind": "KIND_", "Type": "KIND_", "Cost": "COST_", "Possibility": "LENGTH_",
+    "Sameness": "MATCH_", "Leniency": "IF_",
+}
+C_TYPES = {"uint8_t": "u8", "uint16_t": "u16", "uint32_t": "u32", "phone_status": "u32", "uint64_t": "u64", "size_t": "usize", "void": "u8"}
 differences = []
 
 
@@ -39,7 +43,7 @@ def of_c(text):
 def c_calls(text, end):
     """The calls that C declares, or defines, by what stands behind their arguments."""
     calls = {}
-    for answer, name, args in re.findall(r"^(uint32_t |void |const uint8_t \*)phone_(\w+)\(([^)]*)\)" + end, text, re.MULTILINE):
+    for answer, name, args in re.findall(r"^(uint32_t |phone_status |void |const uint8_t \*)phone_(\w+)\(([^)]*)\)" + end, text, re.MULTILINE):
         calls[name] = ([] if args == "void" else [of_c(it) for it in args.split(",")], "" if answer == "void " else of_c(answer + "it"))
     return calls
 
@@ -56,6 +60,13 @@ def header():
         numbers[name] = at
     numbers["VERSION"] = int(re.search(r"PHONE_VERSION (\d+)u", text)[1])
     return calls, structs, numbers
+
+
+def exported():
+    """The calls that the shared library gives, each by its name."""
+    text = re.sub(r"/\*.*?\*/", "", (BINDINGS / "c" / "phone.map").read_text(), flags=re.DOTALL)
+    names = re.findall(r"\S+(?=;)", text[text.index("global:"):text.index("local:")])
+    return {name.removeprefix("phone_"): True for name in names}
 
 
 def of_rust(text):
@@ -160,6 +171,7 @@ def main():
     ffi = (BINDINGS / "rust" / "sys" / "src" / "lib.rs").read_text()
     world = c_calls((BINDINGS / "c" / "world.c").read_text(), r" \{")
     compare("crates/phone_c, c/world.c", "call", rust_calls(crate, 'extern "C"') | world, calls, whole=True)
+    compare("c/phone.map", "call", exported(), dict.fromkeys(calls, True), whole=True)
     compare("crates/phone_c", "struct", rust_structs(crate), structs)
     compare("crates/phone_c", "number", crate_numbers(crate), numbers)
     compare("sys/src/lib.rs", "call", rust_calls(ffi, "pub"), calls)

@@ -27,42 +27,55 @@ static void value(const char *call, uint32_t status, unsigned long told) {
 static phone_number number_of(phone_handle *world, const char *call, const char *line, uint8_t *texts, size_t *len) {
     phone_number number;
     memset(&number, 0, sizeof number);
-    VALUE(call, phone_parse_by(world, PHONE_LIBRARY, TEXT("NZ"), TEXT(line), &number, texts, 64, len), 0);
+    VALUE(call, phone_parse(world, TEXT("NZ"), TEXT(line), &number, texts, 64, len), 0);
     printf("+%u %.*s%llu, extension %.*s, source %u\n", number.code, number.zeros, "00000000", (unsigned long long)number.value,
            (int)number.extension.len, (const char *)texts + number.extension.start, number.source);
     return number;
 }
 
-/* The calls of a number: by libphonenumber's rules, and by those of the crate. */
+/* The calls of a number, by libphonenumber's rules. */
 static void of_number(phone_handle *world) {
     uint8_t texts[64], flag = 9;
     size_t len = 0;
     uint32_t kind = 99;
-    phone_number number = number_of(world, "phone_parse_by", "03-331 6005 ext. 12", texts, &len);
-    text("phone_format_by", phone_format_by(world, PHONE_LIBRARY, &number, texts, len, PHONE_NATIONAL, out, sizeof out, &wrote));
-    VALUE("phone_kind_by", phone_kind_by(world, PHONE_LIBRARY, &number, &kind), kind);
-    text("phone_region_by", phone_region_by(world, PHONE_LIBRARY, &number, out, sizeof out, &wrote));
-    VALUE("phone_is_valid_by", phone_is_valid_by(world, PHONE_LIBRARY, &number, &flag), flag);
-    text("phone_key", phone_key(&number, out, sizeof out, &wrote));
-    VALUE("phone_parse", phone_parse(world, TEXT("DE"), TEXT("301/23456"), &number, texts, sizeof texts, &len), number.code);
-    text("phone_format", phone_format(world, &number, texts, len, PHONE_RFC3966, out, sizeof out, &wrote));
+    phone_number number = number_of(world, "phone_parse", "03-331 6005 ext. 12", texts, &len);
+    text("phone_format", phone_format(world, &number, texts, len, PHONE_MODE_NATIONAL, out, sizeof out, &wrote));
     VALUE("phone_kind", phone_kind(world, &number, &kind), kind);
     text("phone_region", phone_region(world, &number, out, sizeof out, &wrote));
     VALUE("phone_is_valid", phone_is_valid(world, &number, &flag), flag);
+    text("phone_key", phone_key(&number, out, sizeof out, &wrote));
+}
+
+/* The same calls by the rules of the crate, behind a second handle. */
+static void by_the_crate(phone_handle *world) {
+    phone_handle crate = PHONE_CLOSED;
+    phone_number number;
+    uint8_t texts[64], flag = 9;
+    size_t len = 0;
+    uint32_t kind = 99;
+    memset(&number, 0, sizeof number);
+    VALUE("phone_share_by", phone_share_by(world, PHONE_CRATE, &crate), 0);
+    world = &crate;
+    text("phone_report", phone_report(world, TEXT("US"), TEXT("+44 (0)20 7946 0018"), out, sizeof out, &wrote));
+    VALUE("phone_parse", phone_parse(world, TEXT("DE"), TEXT("301/23456"), &number, texts, sizeof texts, &len), number.code);
+    text("phone_format", phone_format(world, &number, texts, len, PHONE_MODE_RFC3966, out, sizeof out, &wrote));
+    VALUE("phone_kind", phone_kind(world, &number, &kind), kind);
+    text("phone_region", phone_region(world, &number, out, sizeof out, &wrote));
+    VALUE("phone_is_valid", phone_is_valid(world, &number, &flag), flag);
+    phone_close(&crate);
 }
 
 /* The calls of a text, and of keys. */
 static void of_text(phone_handle *world) {
     uint8_t flag = 9;
     size_t place = 99;
-    text("phone_report", phone_report(world, TEXT("US"), TEXT("+44 (0)20 7946 0018"), out, sizeof out, &wrote));
-    text("phone_report_by",
-         phone_report_by(world, PHONE_LIBRARY, TEXT("US"), TEXT("+44 (0)20 7946 0018"), out, sizeof out, &wrote));
-    text("phone_report_by, no room", phone_report_by(world, PHONE_LIBRARY, TEXT(""), TEXT("call me"), out, 0, &wrote));
+    text("phone_report",
+         phone_report(world, TEXT("US"), TEXT("+44 (0)20 7946 0018"), out, sizeof out, &wrote));
+    text("phone_report, no room", phone_report(world, TEXT(""), TEXT("call me"), out, 0, &wrote));
     text("phone_typing_shown", phone_typing_shown(world, TEXT("US"), TEXT("6502530"), out, sizeof out, &wrote));
     VALUE("phone_typing_caret", phone_typing_caret(world, TEXT("US"), TEXT("6502530"), 4, &place), place);
     VALUE("phone_is_viable", phone_is_viable(TEXT("call me"), &flag), flag);
-    text("phone_refusal_words", phone_refusal_words(PHONE_TOO_LONG, out, sizeof out, &wrote));
+    text("phone_status_words", phone_status_words(PHONE_TOO_LONG, out, sizeof out, &wrote));
 }
 
 /* The calls of two texts, of lengths, of regions, and of numbers in a text. */
@@ -73,18 +86,18 @@ static void of_more(phone_handle *world) {
     uint32_t told = 99;
     uint16_t codes[300] = {0};
     phone_place places[4] = {{0, 0}, {0, 0}, {0, 0}, {0, 0}};
-    phone_number number = number_of(world, "phone_parse_by", "03-331 6005", texts, &len);
-    VALUE("phone_possibility_by", phone_possibility_by(world, PHONE_LIBRARY, &number, &told), told);
-    VALUE("phone_text_possibility_by", phone_text_possibility_by(world, PHONE_LIBRARY, TEXT("US"), TEXT("+1 650"), &told), told);
-    VALUE("phone_compare_by", phone_compare_by(world, PHONE_LIBRARY, TEXT("+64 3 331 6005"), TEXT("331 6005"), &told), told);
+    phone_number number = number_of(world, "phone_parse", "03-331 6005", texts, &len);
+    VALUE("phone_possibility", phone_possibility(world, &number, &told), told);
+    VALUE("phone_text_possibility", phone_text_possibility(world, TEXT("US"), TEXT("+1 650"), &told), told);
+    VALUE("phone_compare", phone_compare(world, TEXT("+64 3 331 6005"), TEXT("331 6005"), &told), told);
     text("phone_dialled_from", phone_dialled_from(world, TEXT("DE"), &number, texts, len, out, sizeof out, &wrote));
-    VALUE("phone_find_by", phone_find_by(world, PHONE_LIBRARY, TEXT("NZ"), PHONE_IF_VALID, TEXT(line), places, 4, &len), len);
+    VALUE("phone_find", phone_find(world, TEXT("NZ"), PHONE_IF_VALID, TEXT(line), places, 4, &len), len);
     for (size_t i = 0; i < len; i++) printf("%.*s\n", (int)(places[i].end - places[i].start), line + places[i].start);
-    VALUE("phone_example_by", phone_example_by(world, PHONE_LIBRARY, TEXT("NZ"), PHONE_UNKNOWN, &number, texts, 64, &len), 0);
-    VALUE("phone_example_by", phone_example_by(world, PHONE_LIBRARY, TEXT("NZ"), PHONE_MOBILE, &number, texts, 64, &len), number.code);
+    VALUE("phone_example", phone_example(world, TEXT("NZ"), PHONE_KIND_UNKNOWN, &number, texts, 64, &len), 0);
+    VALUE("phone_example", phone_example(world, TEXT("NZ"), PHONE_KIND_MOBILE, &number, texts, 64, &len), number.code);
     text("phone_regions", phone_regions(world, out, 0, &wrote));
     VALUE("phone_codes", phone_codes(world, codes, 300, &len), codes[0]);
-    text("phone_word", phone_word(PHONE_KIND_WORDS, PHONE_FIXED_LINE_OR_MOBILE, out, sizeof out, &wrote));
+    text("phone_word", phone_word(PHONE_KIND_WORDS, PHONE_KIND_FIXED_LINE_OR_MOBILE, out, sizeof out, &wrote));
 }
 
 /* The calls of tables of their own. */
@@ -93,7 +106,7 @@ static void of_tables(void) {
     phone_prefixes prefixes = PHONE_CLOSED, mine = PHONE_CLOSED;
     phone_short_facts facts = {0, 0, 0, 0, 0, 0};
     size_t line = 99, len = 0;
-    VALUE("phone_open", phone_open(TEXT(SHORT), &numbers), 0);
+    VALUE("phone_open", phone_open(TEXT(SHORT), PHONE_LIBRARY, &numbers), 0);
     VALUE("phone_short", phone_short(&numbers, TEXT("NZ"), TEXT("111"), &facts), facts.cost);
     printf("%u%u%u%u%u\n", facts.is_possible, facts.is_valid, facts.is_carrier_specific, facts.is_emergency,
            facts.reaches_emergency);
@@ -115,9 +128,10 @@ int main(void) {
     VALUE("phone_version", PHONE_OK, phone_version() == PHONE_VERSION);
     text("phone_table_version", phone_table_version(out, sizeof out, &wrote) == PHONE_OK ? (wrote = 14, PHONE_OK) : 99);
     VALUE("phone_world_text", PHONE_OK, len > 100000 && table[0] == '[');
-    VALUE("phone_open_world", phone_open_world(&world), 0);
+    VALUE("phone_open_world", phone_open_world(&world, PHONE_LIBRARY), 0);
     VALUE("phone_share", phone_share(&world, &mine), 0);
     of_number(&world);
+    by_the_crate(&world);
     of_text(&world);
     phone_close(&world);
     VALUE("phone_share, closed", phone_share(&world, &second), 0);

@@ -22,7 +22,7 @@ int main(int argc, char **argv) {
     uint8_t *text = read_all(argv[1], &len);
     if (!text) return 3;
     phone_handle world = PHONE_CLOSED;
-    uint32_t status = phone_open(phone_text(text, len), len, &world);
+    phone_status status = phone_open(phone_text(text, len), len, PHONE_LIBRARY, &world);
     free(text);
     if (status != PHONE_OK) return 4;
     for (int i = 3; i < argc; i++) {
@@ -30,7 +30,7 @@ int main(int argc, char **argv) {
         const uint8_t *hint = phone_text(argv[2], strlen(argv[2])), *line = (const uint8_t *)argv[i];
         status = phone_report(&world, hint, strlen(argv[2]), line, strlen(argv[i]), out, sizeof out, &wrote);
         if (status == PHONE_OK) printf("%.*s\n", (int)wrote, (const char *)out);
-        else fprintf(stderr, "status %u\n", status);
+        else if (phone_status_words(status, out, sizeof out, &wrote) == PHONE_OK) fprintf(stderr, "%.*s\n", (int)wrote, (const char *)out);
     }
     phone_close(&world);
     return 0;

@@ -45,66 +45,62 @@ static int is_untouched(size_t from) {
     for (size_t i = from; i < sizeof out; i++) if (out[i] != 0xAA) return 0;
     return 1;
 }
-static uint32_t report(phone_handle *h, const char *hint, const void *line, size_t len, size_t room) {
+static phone_status report(phone_handle *h, const char *hint, const void *line, size_t len, size_t room) {
     fill();
     return phone_report(h, phone_text(hint, strlen(hint)), strlen(hint), phone_text(line, len), len, out, room, &wrote);
 }
-static uint32_t parse(phone_handle *h, const char *hint, const void *text, size_t len, size_t room) {
+static phone_status parse(phone_handle *h, const char *hint, const void *text, size_t len, size_t room) {
     fill();
     memset(&number, 0x55, sizeof number);
     return phone_parse(h, phone_text(hint, strlen(hint)), strlen(hint), phone_text(text, len), len, &number, out, room, &wrote);
 }
-static uint32_t parse_by(phone_handle *h, uint32_t rules, const char *hint, const char *text) {
-    fill();
-    memset(&number, 0x55, sizeof number);
-    return phone_parse_by(h, rules, phone_text(hint, strlen(hint)), strlen(hint), phone_text(text, strlen(text)), strlen(text),
-                          &number, out, sizeof out, &wrote);
-}
-static uint32_t shown(phone_handle *h, const char *hint, const void *keys, size_t len, size_t room) {
+static phone_status shown(phone_handle *h, const char *hint, const void *keys, size_t len, size_t room) {
     fill();
     return phone_typing_shown(h, phone_text(hint, strlen(hint)), strlen(hint), phone_text(keys, len), len, out, room, &wrote);
 }
-static uint32_t caret(phone_handle *h, const char *keys, size_t n, size_t *told) {
+static phone_status caret(phone_handle *h, const char *keys, size_t n, size_t *told) {
     return phone_typing_caret(h, phone_text("", 0), 0, phone_text(keys, strlen(keys)), strlen(keys), n, told);
 }
-/* The calls, by a number, each on the same text; those up to ROOMS write to a buffer. */
+/* The calls, by a number, each on the same text; those up to ROOMS write to a buffer. Some are asked by the rules of
+ * libphonenumber, behind a second handle on the table. */
+static phone_handle second = PHONE_CLOSED;
 enum { ROOMS = 16, CALLS = 24 };
-static uint32_t call(int which, phone_handle *h, const phone_number *n, const uint8_t *bytes, size_t len, size_t room) {
+static phone_status call(int which, phone_handle *h, const phone_number *n, const uint8_t *bytes, size_t len, size_t room) {
     const char *text = "+64 3 331 6005 ext. 12";
-    uint32_t status, kind = 99;
+    phone_status status, kind = 99;
     uint8_t flag = 99;
     size_t place = 99;
     fill();
     switch (which) {
     case 0: return report(h, "NZ", text, strlen(text), room);
     case 1: return parse(h, "NZ", text, strlen(text), room);
-    case 2: return phone_format(h, n, bytes, len, PHONE_E164, out, room, &wrote);
-    case 3: return phone_format(h, n, bytes, len, PHONE_RFC3966, out, room, &wrote);
+    case 2: return phone_format(h, n, bytes, len, PHONE_MODE_E164, out, room, &wrote);
+    case 3: return phone_format(h, n, bytes, len, PHONE_MODE_RFC3966, out, room, &wrote);
     case 4: return phone_region(h, n, out, room, &wrote);
     case 5: return phone_key(n, out, room, &wrote);
-    case 6: return phone_report_by(h, PHONE_LIBRARY, B("NZ"), (const uint8_t *)text, strlen(text), out, room, &wrote);
-    case 7: return phone_parse_by(h, PHONE_LIBRARY, B("NZ"), (const uint8_t *)text, strlen(text), &number, out, room, &wrote);
-    case 8: return phone_format_by(h, PHONE_LIBRARY, n, bytes, len, PHONE_NATIONAL, out, room, &wrote);
-    case 9: return phone_region_by(h, PHONE_LIBRARY, n, out, room, &wrote);
+    case 6: return phone_report(&second, B("NZ"), (const uint8_t *)text, strlen(text), out, room, &wrote);
+    case 7: return phone_parse(&second, B("NZ"), (const uint8_t *)text, strlen(text), &number, out, room, &wrote);
+    case 8: return phone_format(&second, n, bytes, len, PHONE_MODE_NATIONAL, out, room, &wrote);
+    case 9: return phone_region(&second, n, out, room, &wrote);
     case 10: return shown(h, "NZ", "033316005", 9, room);
     case 11: return phone_dialled_from(h, B("DE"), n, bytes, len, out, room, &wrote);
-    case 12: return phone_example_by(h, PHONE_LIBRARY, B("NZ"), PHONE_MOBILE, &number, out, room, &wrote);
+    case 12: return phone_example(&second, B("NZ"), PHONE_KIND_MOBILE, &number, out, room, &wrote);
     case 13: return phone_regions(h, out, room, &wrote);
     case 14: return status = phone_codes(h, (uint16_t *)out, room / 2, &wrote), wrote *= 2, status;
     case 15:
-        status = phone_find_by(h, PHONE_LIBRARY, B("NZ"), PHONE_IF_VALID, B("or 03-331 6005, or +1 650 253 0000"),
+        status = phone_find(&second, B("NZ"), PHONE_IF_VALID, B("or 03-331 6005, or +1 650 253 0000"),
                                (phone_place *)out, room / sizeof(phone_place), &wrote);
         return wrote *= sizeof(phone_place), status;
-    case 16: return status = phone_kind(h, n, &kind), kind == (status ? 99 : PHONE_FIXED_LINE) ? status : 98;
-    case 17: return status = phone_kind_by(h, PHONE_LIBRARY, n, &kind), kind == (status ? 99 : PHONE_FIXED_LINE) ? status : 98;
-    case 18: return status = phone_is_valid_by(h, PHONE_LIBRARY, n, &flag), flag == (status ? 99 : 1) ? status : 98;
+    case 16: return status = phone_kind(h, n, &kind), kind == (status ? 99 : PHONE_KIND_FIXED_LINE) ? status : 98;
+    case 17: return status = phone_kind(&second, n, &kind), kind == (status ? 99 : PHONE_KIND_FIXED_LINE) ? status : 98;
+    case 18: return status = phone_is_valid(&second, n, &flag), flag == (status ? 99 : 1) ? status : 98;
     case 19: return status = caret(h, "+6433316005", 4, &place), place == (status ? 99 : 5) ? status : 98;
-    case 20: return status = phone_possibility_by(h, PHONE_LIBRARY, n, &kind), kind == (status ? 99 : PHONE_LENGTH_POSSIBLE) ? status : 98;
+    case 20: return status = phone_possibility(&second, n, &kind), kind == (status ? 99 : PHONE_LENGTH_POSSIBLE) ? status : 98;
     case 21:
-        status = phone_text_possibility_by(h, PHONE_CRATE, B("NZ"), B("03-33"), &kind);
+        status = phone_text_possibility(h, B("NZ"), B("03-33"), &kind);
         return kind == (status ? 99 : PHONE_LENGTH_TOO_SHORT) ? status : 98;
     case 22:
-        status = phone_compare_by(h, PHONE_LIBRARY, B("331 6005"), (const uint8_t *)text, strlen(text), &kind);
+        status = phone_compare(&second, B("331 6005"), (const uint8_t *)text, strlen(text), &kind);
         return kind == (status ? 99 : PHONE_MATCH_END) ? status : 98;
     default: return status = phone_is_valid(h, n, &flag), flag == (status ? 99 : 1) ? status : 98;
     }
@@ -131,7 +127,7 @@ static int refused(phone_handle *h, const phone_number *n, const uint8_t *bytes,
         memcpy(whole, out, sizeof out), len = wrote;
         for (long k = 0;; k++) {
             requests = 0, refuse_at = k;
-            uint32_t status = call(which, h, n, bytes, bytes_len, sizeof out);
+            phone_status status = call(which, h, n, bytes, bytes_len, sizeof out);
             refuse_at = -1;
             int met = requests > k;
             CHECK(1500 + which, (status == PHONE_OK && !memcmp(out, whole, sizeof out) && wrote == len)
@@ -148,11 +144,11 @@ static int small(void) {
     uint8_t flag = 9;
     phone_close(&h);
     CHECK(1, report(&h, "NZ", "1", 1, 10) == PHONE_IS_CLOSED && wrote == 0 && is_untouched(0));
-    CHECK(2, phone_open(B("\xff"), &h) == PHONE_NOT_UTF8 && !h.at);
-    CHECK(3, phone_open(phone_text(NULL, 0), 0, &h) == PHONE_MALFORMED_JSON && !h.at);
-    CHECK(4, phone_open(B("[{\"id\": \"NZ\"}]"), &h) == PHONE_MISSING_VALUE && !h.at);
-    CHECK(5, phone_open(B(SMALL), &h) == PHONE_OK && h.at);
-    CHECK(6, phone_open(B("[]"), &other) == PHONE_OK && other.at != h.at);
+    CHECK(2, phone_open(B("\xff"), PHONE_CRATE, &h) == PHONE_NOT_UTF8 && !h.at);
+    CHECK(3, phone_open(phone_text(NULL, 0), 0, PHONE_CRATE, &h) == PHONE_MALFORMED_JSON && !h.at);
+    CHECK(4, phone_open(B("[{\"id\": \"NZ\"}]"), PHONE_CRATE, &h) == PHONE_MISSING_VALUE && !h.at);
+    CHECK(5, phone_open(B(SMALL), PHONE_CRATE, &h) == PHONE_OK && h.at);
+    CHECK(6, phone_open(B("[]"), PHONE_CRATE, &other) == PHONE_OK && other.at != h.at);
     CHECK(7, report(&h, "", "+999 234", 8, sizeof out) == PHONE_OK && !memcmp(out, "ok\t+999234\t", 11));
     CHECK(8, report(&other, "", "+999 234", 8, sizeof out) == PHONE_OK && !memcmp(out, "error\t2\t", 8));
     CHECK(9, report(&h, "xx", "+999 234", 8, sizeof out) == PHONE_NO_REGION && wrote == 0 && is_untouched(0));
@@ -164,7 +160,7 @@ static int small(void) {
     CHECK(15, parse(&h, "", "call me", 7, sizeof out) == PHONE_NO_NUMBER && number.zeros == 0x55);
     CHECK(16, parse(&h, "", "+999 234 ext. 567", 17, 2) == PHONE_TOO_SMALL && wrote == 3 && number.zeros == 0x55);
     CHECK(17, parse(&h, "", "+999 234 ext. 567", 17, 3) == PHONE_OK && number.value == 234 && number.code == 999
-        && number.source == PHONE_PLUS && number.zeros == 0 && number.extension.is_there && number.extension.start == 0
+        && number.source == PHONE_SOURCE_PLUS && number.zeros == 0 && number.extension.is_there && number.extension.start == 0
         && number.extension.len == 3 && !number.carrier.is_there && !memcmp(out, "567", 3));
     phone_number bad = number;
     CHECK(18, (bad.source = 4, phone_key(&bad, out, 9, &wrote)) == PHONE_BAD_NUMBER);
@@ -178,7 +174,7 @@ static int small(void) {
     CHECK(26, phone_is_viable(B("\xff"), &flag) == PHONE_NOT_UTF8 && flag == 9);
     CHECK(27, phone_is_viable(B("call me"), &flag) == PHONE_OK && flag == 0);
     CHECK(28, phone_is_viable(B("+999 234"), &flag) == PHONE_OK && flag == 1);
-    CHECK(29, phone_open(B("["), &h) == PHONE_MALFORMED_JSON && !h.at);
+    CHECK(29, phone_open(B("["), PHONE_CRATE, &h) == PHONE_MALFORMED_JSON && !h.at);
     CHECK(30, report(&h, "", "1", 1, 10) == PHONE_IS_CLOSED && parse(&h, "", "1", 1, 10) == PHONE_IS_CLOSED);
     phone_close(&h);
     phone_close(&other);
@@ -186,40 +182,31 @@ static int small(void) {
     CHECK(33, blocks == 0);
     for (long k = 0;; k++) { /* opening a small table, each request refused in turn */
         requests = 0, refuse_at = k;
-        uint32_t status = phone_open(B(SMALL), &h);
+        phone_status status = phone_open(B(SMALL), PHONE_CRATE, &h);
         refuse_at = -1;
         CHECK(31, (status == PHONE_OK && h.at) || (requests > k && status == PHONE_MEMORY && !h.at && blocks == 0));
         if (requests <= k) { printf("requests of opening a small table: %ld\n", k); break; }
-        CHECK(32, phone_open(B(SMALL), &h) == PHONE_OK);
+        CHECK(32, phone_open(B(SMALL), PHONE_CRATE, &h) == PHONE_OK);
     }
     phone_close(&h);
     CHECK(34, blocks == 0);
     return 0;
 }
 static int by_rules(void) {
-    phone_handle h = PHONE_CLOSED;
-    uint32_t kind = 9;
-    uint8_t flag = 9;
-    CHECK(600, parse_by(&h, 2, "", "1") == PHONE_NO_RULES && wrote == 0 && is_untouched(0) && number.zeros == 0x55);
-    CHECK(601, parse_by(&h, PHONE_LIBRARY, "", "1") == PHONE_IS_CLOSED);
-    CHECK(602, phone_open(B(SMALL), &h) == PHONE_OK);
-    CHECK(603, parse_by(&h, UINT32_MAX, "xx", "\xff") == PHONE_NO_RULES && h.at);
-    CHECK(604, parse_by(&h, PHONE_LIBRARY, "xx", "\xff") == PHONE_NO_REGION);
-    CHECK(605, parse_by(&h, PHONE_CRATE, "", "\xff") == PHONE_NOT_UTF8 && number.zeros == 0x55);
-    CHECK(606, parse_by(&h, PHONE_LIBRARY, "", "call me") == PHONE_NO_NUMBER);
-    CHECK(607, parse_by(&h, PHONE_LIBRARY, "", "+999 234 ext. 567") == PHONE_OK && number.value == 234 && wrote == 3);
-    CHECK(608, phone_kind_by(&h, 2, &number, &kind) == PHONE_NO_RULES && kind == 9);
-    CHECK(609, phone_is_valid_by(&h, 2, &number, &flag) == PHONE_NO_RULES && flag == 9);
-    fill();
-    CHECK(610, phone_region_by(&h, 2, &number, out, 9, &wrote) == PHONE_NO_RULES && wrote == 0 && is_untouched(0));
-    CHECK(611, phone_format_by(&h, 2, &number, B("567"), 9, out, 9, &wrote) == PHONE_NO_RULES && wrote == 0 && is_untouched(0));
-    CHECK(612, phone_format_by(&h, PHONE_LIBRARY, &number, B("567"), 9, out, 9, &wrote) == PHONE_NO_MODE);
-    CHECK(613, phone_report_by(&h, 2, B("NZ"), B("1"), out, 9, &wrote) == PHONE_NO_RULES && wrote == 0 && is_untouched(0));
+    phone_handle h = PHONE_CLOSED, l = PHONE_CLOSED;
+    CHECK(600, phone_open(B("\xff"), 2, &h) == PHONE_NO_RULES && !h.at);
+    CHECK(601, phone_share_by(&h, 2, &l) == PHONE_NO_RULES && phone_share_by(&h, PHONE_LIBRARY, &l) == PHONE_IS_CLOSED && !l.at);
+    CHECK(602, phone_open(B(SMALL), PHONE_CRATE, &h) == PHONE_OK && phone_share_by(&h, PHONE_LIBRARY, &l) == PHONE_OK);
+    CHECK(603, phone_open(B(SMALL), UINT32_MAX, &h) == PHONE_NO_RULES && !h.at && l.at);
+    CHECK(604, parse(&l, "xx", "\xff", 1, sizeof out) == PHONE_NO_REGION && parse(&l, "", "\xff", 1, sizeof out) == PHONE_NOT_UTF8);
+    CHECK(605, parse(&l, "", "call me", 7, sizeof out) == PHONE_NO_NUMBER && number.zeros == 0x55);
+    CHECK(606, parse(&l, "", "+999 234 ext. 567", 17, sizeof out) == PHONE_OK && number.value == 234 && wrote == 3);
+    CHECK(607, phone_format(&l, &number, B("567"), 9, out, 9, &wrote) == PHONE_NO_MODE);
     /* The carrier is printed by the rules of the crate alone, and looked at by both. */
     number.carrier.is_there = 1, number.carrier.start = 9, number.carrier.len = 1;
-    CHECK(614, phone_format_by(&h, PHONE_LIBRARY, &number, B("567"), 2, out, 99, &wrote) == PHONE_BAD_NUMBER);
-    phone_close(&h);
-    CHECK(615, blocks == 0);
+    CHECK(608, phone_format(&l, &number, B("567"), 2, out, 99, &wrote) == PHONE_BAD_NUMBER);
+    phone_close(&l);
+    CHECK(609, blocks == 0);
     return 0;
 }
 static int typing(void) {
@@ -228,7 +215,7 @@ static int typing(void) {
     static char many[10000];
     CHECK(700, shown(&h, "", "1", 1, 9) == PHONE_IS_CLOSED && wrote == 0 && is_untouched(0));
     CHECK(701, caret(&h, "1", 1, &place) == PHONE_IS_CLOSED && place == 9);
-    CHECK(702, phone_open(B(SMALL), &h) == PHONE_OK);
+    CHECK(702, phone_open(B(SMALL), PHONE_CRATE, &h) == PHONE_OK);
     CHECK(703, shown(&h, "xx", "1", 1, 9) == PHONE_NO_REGION && shown(&h, "", "\xff", 1, 9) == PHONE_NOT_UTF8 && wrote == 0);
     CHECK(704, shown(&h, "", NULL, 0, 0) == PHONE_OK && wrote == 0);
     CHECK(705, shown(&h, "", "+999 1", 6, sizeof out) == PHONE_OK && wrote == 6 && !memcmp(out, "+999 1", 6) && is_untouched(6));
@@ -247,7 +234,7 @@ static int shorts(void) {
     phone_handle h = PHONE_CLOSED;
     phone_short_facts facts = {9, 9, 9, 9, 9, 9};
     CHECK(800, phone_short(&h, B("NZ"), B("111"), &facts) == PHONE_IS_CLOSED && facts.cost == 9);
-    CHECK(801, phone_open(B(SHORT), &h) == PHONE_OK);
+    CHECK(801, phone_open(B(SHORT), PHONE_CRATE, &h) == PHONE_OK);
     CHECK(802, phone_short(&h, B("xx"), B("111"), &facts) == PHONE_NO_REGION && facts.cost == 9);
     CHECK(803, phone_short(&h, phone_text(NULL, 0), 0, B("111"), &facts) == PHONE_NO_REGION && facts.cost == 9);
     CHECK(804, phone_short(&h, B("NZ"), B("\xff"), &facts) == PHONE_NOT_UTF8 && facts.cost == 9);
@@ -258,7 +245,7 @@ static int shorts(void) {
     CHECK(807, phone_short(&h, B("US"), B("911"), &facts) == PHONE_OK && facts.is_possible == 0 && facts.reaches_emergency == 0);
     for (long k = 0;; k++) {
         requests = 0, refuse_at = k, facts.cost = 9;
-        uint32_t status = phone_short(&h, B("NZ"), B("111"), &facts);
+        phone_status status = phone_short(&h, B("NZ"), B("111"), &facts);
         refuse_at = -1;
         CHECK(808, status == PHONE_OK ? facts.cost == PHONE_COST_TOLL_FREE : requests > k && status == PHONE_MEMORY && facts.cost == 9);
         if (requests <= k) break;
@@ -267,7 +254,7 @@ static int shorts(void) {
     CHECK(809, blocks == 0);
     return 0;
 }
-static uint32_t longest(phone_prefixes *p, const char *digits, size_t room, size_t *prefix) {
+static phone_status longest(phone_prefixes *p, const char *digits, size_t room, size_t *prefix) {
     fill();
     return phone_prefixes_longest(p, phone_text(digits, strlen(digits)), strlen(digits), out, room, &wrote, prefix);
 }
@@ -297,7 +284,7 @@ static int prefixes(void) {
     CHECK(915, !p.at && blocks == 0);
     for (long k = 0;; k++) { /* opening it, each request refused in turn */
         requests = 0, refuse_at = k;
-        uint32_t status = phone_prefixes_open(B(PREFIXES), &p, &line);
+        phone_status status = phone_prefixes_open(B(PREFIXES), &p, &line);
         refuse_at = -1;
         CHECK(916, line == 0 && (status == PHONE_OK ? p.at != NULL : requests > k && status == PHONE_MEMORY && !p.at && blocks == 0));
         if (requests <= k) break;
@@ -309,86 +296,86 @@ static int prefixes(void) {
 /* How the calls of two texts, of lengths, of regions and of numbers in texts refuse, in their order. */
 static int possible(void) {
     phone_handle h = PHONE_CLOSED;
-    phone_number n = {0, {0, 0, 0}, {0, 0, 0}, 64, PHONE_PLUS, 0}, bad = {1ull << 56, {0, 0, 0}, {0, 0, 0}, 64, PHONE_PLUS, 0};
+    phone_number n = {0, {0, 0, 0}, {0, 0, 0}, 64, PHONE_SOURCE_PLUS, 0}, bad = {1ull << 56, {0, 0, 0}, {0, 0, 0}, 64, PHONE_SOURCE_PLUS, 0};
     uint32_t told = 9;
-    CHECK(1000, phone_possibility_by(&h, 2, &bad, &told) == PHONE_NO_RULES && phone_possibility_by(&h, 0, &bad, &told) == PHONE_IS_CLOSED);
-    CHECK(1001, phone_text_possibility_by(&h, 2, B("xx"), B("\xff"), &told) == PHONE_NO_RULES);
-    CHECK(1002, phone_text_possibility_by(&h, 1, B("xx"), B("\xff"), &told) == PHONE_IS_CLOSED);
-    CHECK(1003, phone_compare_by(&h, 2, B("\xff"), B("1"), &told) == PHONE_NO_RULES);
-    CHECK(1004, phone_compare_by(&h, 1, B("\xff"), B("1"), &told) == PHONE_IS_CLOSED && told == 9);
-    CHECK(1005, phone_open(B(REGION), &h) == PHONE_OK && phone_possibility_by(&h, 0, &bad, &told) == PHONE_BAD_NUMBER);
-    CHECK(1006, phone_text_possibility_by(&h, 0, B("xx"), B("\xff"), &told) == PHONE_NO_REGION);
-    CHECK(1007, phone_text_possibility_by(&h, 0, B("NZ"), B("\xff"), &told) == PHONE_NOT_UTF8);
-    CHECK(1008, phone_text_possibility_by(&h, 0, B("NZ"), B("call me"), &told) == PHONE_NO_NUMBER);
-    CHECK(1009, phone_compare_by(&h, 0, B("1234567"), B("\xff"), &told) == PHONE_NOT_UTF8);
-    CHECK(1010, phone_compare_by(&h, 0, B("call me"), B("+9991234567"), &told) == PHONE_NO_NUMBER && told == 9);
-    CHECK(1011, phone_compare_by(&h, 0, B("1234567"), B("\xff\xff"), &told) == PHONE_NOT_UTF8 && told == 9);
-    CHECK(1012, phone_possibility_by(&h, 0, &n, &told) == PHONE_OK && told == PHONE_LENGTH_TOO_SHORT);
-    CHECK(1013, (n.code = 65, phone_possibility_by(&h, 1, &n, &told)) == PHONE_OK && told == PHONE_LENGTH_UNKNOWN_CODE);
-    CHECK(1014, phone_compare_by(&h, 0, B("+64 2345678"), B("234-5678"), &told) == PHONE_OK && told == PHONE_MATCH_NATIONAL);
+    CHECK(1000, phone_possibility(&h, &bad, &told) == PHONE_IS_CLOSED);
+    CHECK(1002, phone_text_possibility(&h, B("xx"), B("\xff"), &told) == PHONE_IS_CLOSED);
+    CHECK(1004, phone_compare(&h, B("\xff"), B("1"), &told) == PHONE_IS_CLOSED && told == 9);
+    CHECK(1005, phone_open(B(REGION), PHONE_LIBRARY, &h) == PHONE_OK && phone_possibility(&h, &bad, &told) == PHONE_BAD_NUMBER);
+    CHECK(1006, phone_text_possibility(&h, B("xx"), B("\xff"), &told) == PHONE_NO_REGION);
+    CHECK(1007, phone_text_possibility(&h, B("NZ"), B("\xff"), &told) == PHONE_NOT_UTF8);
+    CHECK(1008, phone_text_possibility(&h, B("NZ"), B("call me"), &told) == PHONE_NO_NUMBER);
+    CHECK(1009, phone_compare(&h, B("1234567"), B("\xff"), &told) == PHONE_NOT_UTF8);
+    CHECK(1010, phone_compare(&h, B("call me"), B("+9991234567"), &told) == PHONE_NO_NUMBER && told == 9);
+    CHECK(1011, phone_compare(&h, B("1234567"), B("\xff\xff"), &told) == PHONE_NOT_UTF8 && told == 9);
+    CHECK(1012, phone_possibility(&h, &n, &told) == PHONE_OK && told == PHONE_LENGTH_TOO_SHORT);
+    CHECK(1013, (n.code = 65, phone_possibility(&h, &n, &told)) == PHONE_OK && told == PHONE_LENGTH_UNKNOWN_CODE);
+    CHECK(1014, phone_compare(&h, B("+64 2345678"), B("234-5678"), &told) == PHONE_OK && told == PHONE_MATCH_NATIONAL);
     phone_close(&h);
     CHECK(1015, blocks == 0);
     return 0;
 }
-static uint32_t dialled(phone_handle *h, const char *region, const phone_number *n, size_t room) {
+static phone_status dialled(phone_handle *h, const char *region, const phone_number *n, size_t room) {
     fill();
     return phone_dialled_from(h, phone_text(region, strlen(region)), strlen(region), n, B(""), out, room, &wrote);
 }
-static uint32_t example(phone_handle *h, uint32_t rules, const char *region, uint32_t kind, size_t room) {
+static phone_status example(phone_handle *h, const char *region, uint32_t kind, size_t room) {
     fill();
     memset(&number, 0x55, sizeof number);
-    return phone_example_by(h, rules, phone_text(region, strlen(region)), strlen(region), kind, &number, out, room, &wrote);
+    return phone_example(h, phone_text(region, strlen(region)), strlen(region), kind, &number, out, room, &wrote);
 }
-static uint32_t find(phone_handle *h, uint32_t rules, const char *hint, uint32_t leniency, const void *text, size_t len, size_t room) {
+static phone_status find(phone_handle *h, const char *hint, uint32_t leniency, const void *text, size_t len, size_t room) {
     fill();
-    return phone_find_by(h, rules, phone_text(hint, strlen(hint)), strlen(hint), leniency, phone_text(text, len), len,
+    return phone_find(h, phone_text(hint, strlen(hint)), strlen(hint), leniency, phone_text(text, len), len,
                          (phone_place *)out, room, &wrote);
 }
 static int listed(void) {
     phone_handle h = PHONE_CLOSED;
-    phone_number n = {2345678, {0, 0, 0}, {0, 0, 0}, 64, PHONE_PLUS, 0}, bad = n;
+    phone_number n = {2345678, {0, 0, 0}, {0, 0, 0}, 64, PHONE_SOURCE_PLUS, 0}, bad = n;
     const phone_place *places = (const phone_place *)out;
     bad.source = 4;
-    CHECK(1020, dialled(&h, "xx", &bad, 99) == PHONE_IS_CLOSED && example(&h, 2, "xx", 17, 99) == PHONE_NO_RULES);
-    CHECK(1021, example(&h, 0, "xx", 17, 99) == PHONE_IS_CLOSED && find(&h, 2, "xx", 2, "\xff", 1, 9) == PHONE_NO_RULES);
-    CHECK(1022, find(&h, 0, "xx", 2, "\xff", 1, 9) == PHONE_IS_CLOSED && wrote == 0 && is_untouched(0));
+    CHECK(1020, dialled(&h, "xx", &bad, 99) == PHONE_IS_CLOSED);
+    CHECK(1021, example(&h, "xx", 17, 99) == PHONE_IS_CLOSED);
+    CHECK(1022, find(&h, "xx", 2, "\xff", 1, 9) == PHONE_IS_CLOSED && wrote == 0 && is_untouched(0));
     CHECK(1023, phone_regions(&h, out, 9, &wrote) == PHONE_IS_CLOSED && phone_codes(&h, (uint16_t *)out, 9, &wrote) == PHONE_IS_CLOSED);
-    CHECK(1024, phone_open(B(REGION), &h) == PHONE_OK && dialled(&h, "", &bad, 99) == PHONE_NO_REGION);
+    CHECK(1024, phone_open(B(REGION), PHONE_LIBRARY, &h) == PHONE_OK && dialled(&h, "", &bad, 99) == PHONE_NO_REGION);
     CHECK(1025, dialled(&h, "DE", &bad, 99) == PHONE_BAD_NUMBER && dialled(&h, "DE", &n, 99) == PHONE_NO_TERRITORY);
     CHECK(1026, dialled(&h, "NZ", &n, 6) == PHONE_TOO_SMALL && wrote == 7 && is_untouched(0));
     CHECK(1027, dialled(&h, "NZ", &n, 7) == PHONE_OK && !memcmp(out, "2345678", 7) && is_untouched(7));
     CHECK(1028, (n.code = 65, dialled(&h, "NZ", &n, 99)) == PHONE_UNKNOWN_CODE && wrote == 0 && is_untouched(0));
-    CHECK(1029, example(&h, 0, "", 17, 99) == PHONE_NO_REGION && example(&h, 0, "DE", 17, 99) == PHONE_NO_KIND);
-    CHECK(1030, example(&h, 0, "DE", 16, 99) == PHONE_NO_EXAMPLE && example(&h, 1, "NZ", PHONE_FIXED_LINE, 99) == PHONE_NO_EXAMPLE);
+    CHECK(1029, example(&h, "", 17, 99) == PHONE_NO_REGION && example(&h, "DE", 17, 99) == PHONE_NO_KIND);
+    CHECK(1030, example(&h, "DE", 16, 99) == PHONE_NO_EXAMPLE && example(&h, "NZ", PHONE_KIND_FIXED_LINE, 99) == PHONE_NO_EXAMPLE);
     CHECK(1031, wrote == 0 && is_untouched(0) && number.zeros == 0x55);
-    CHECK(1032, example(&h, 0, "NZ", PHONE_MOBILE, 0) == PHONE_OK && number.value == 2345678 && number.code == 64 && wrote == 0);
+    CHECK(1032, example(&h, "NZ", PHONE_KIND_MOBILE, 0) == PHONE_OK && number.value == 2345678 && number.code == 64 && wrote == 0);
     CHECK(1033, phone_regions(&h, out, 1, &wrote) == PHONE_TOO_SMALL && wrote == 2);
     CHECK(1034, phone_regions(&h, out, 2, &wrote) == PHONE_OK && wrote == 2 && !memcmp(out, "NZ", 2));
     CHECK(1035, phone_codes(&h, (uint16_t *)out, 0, &wrote) == PHONE_TOO_SMALL && wrote == 1);
     CHECK(1036, phone_codes(&h, (uint16_t *)out, 1, &wrote) == PHONE_OK && wrote == 1 && *(uint16_t *)out == 64);
-    CHECK(1037, find(&h, 0, "xx", 2, "\xff", 1, 9) == PHONE_NO_LENIENCY && find(&h, 0, "xx", 1, "\xff", 1, 9) == PHONE_NO_REGION);
-    CHECK(1038, find(&h, 0, "NZ", 1, "\xff", 1, 9) == PHONE_NOT_UTF8 && find(&h, 0, "NZ", 1, NULL, 0, 0) == PHONE_OK && wrote == 0);
-    CHECK(1039, find(&h, 0, "NZ", 1, "a 2345678, b 3456789", 20, 1) == PHONE_TOO_SMALL && wrote == 2 && is_untouched(0));
-    CHECK(1040, find(&h, 0, "NZ", 1, "a 2345678, b 3456789", 20, 2) == PHONE_OK && wrote == 2 && places[0].start == 2
+    CHECK(1037, find(&h, "xx", 2, "\xff", 1, 9) == PHONE_NO_LENIENCY && find(&h, "xx", 1, "\xff", 1, 9) == PHONE_NO_REGION);
+    CHECK(1038, find(&h, "NZ", 1, "\xff", 1, 9) == PHONE_NOT_UTF8 && find(&h, "NZ", 1, NULL, 0, 0) == PHONE_OK && wrote == 0);
+    CHECK(1039, find(&h, "NZ", 1, "a 2345678, b 3456789", 20, 1) == PHONE_TOO_SMALL && wrote == 2 && is_untouched(0));
+    CHECK(1040, find(&h, "NZ", 1, "a 2345678, b 3456789", 20, 2) == PHONE_OK && wrote == 2 && places[0].start == 2
         && places[0].end == 9 && places[1].start == 13 && places[1].end == 20 && is_untouched(2 * sizeof *places));
     phone_close(&h);
     CHECK(1041, blocks == 0);
     return 0;
 }
+static phone_status word(uint32_t set, uint32_t value, size_t room) {
+    return set == 6 ? phone_status_words(value, out, room, &wrote) : phone_word(set, value, out, room, &wrote);
+}
 /* Each value of each set has a word, and each status too; no other has. */
 static int words(void) {
-    static const uint32_t COUNTS[] = {17, 4, 6, 5, 4, 36, 19, 0};
+    static const uint32_t COUNTS[] = {17, 4, 6, 5, 4, 0, 36};
     requests = 0, refuse_at = 0;
-    for (uint32_t set = 0; set < 8; set++)
+    for (uint32_t set = 0; set < 7; set++) /* the last stands for the statuses */
         for (uint32_t value = 0; value < 64; value++) {
             fill();
-            uint32_t status = phone_word(set, value, out, sizeof out, &wrote);
-            int is_one = value < COUNTS[set] && (set != 5 || value < 8 || value > 15)
-                && (set != 6 || value < 6 || value == PHONE_MEMORY || value == PHONE_NOT_UTF8);
+            phone_status status = word(set, value, sizeof out);
+            int is_one = value < COUNTS[set] && (set != 6 || value < 13 || (value > 15 && value != 23));
             CHECK(1050, status == (is_one ? PHONE_OK : PHONE_NO_WORD) && (is_one ? wrote > 0 : wrote == 0) && is_untouched(wrote));
             size_t len = wrote;
             fill();
-            CHECK(1051, !is_one || (phone_word(set, value, out, len - 1, &wrote) == PHONE_TOO_SMALL && wrote == len && is_untouched(0)));
+            CHECK(1051, !is_one || (word(set, value, len - 1) == PHONE_TOO_SMALL && wrote == len && is_untouched(0)));
         }
     CHECK(1052, phone_word(UINT32_MAX, 0, out, 9, &wrote) == PHONE_NO_WORD && requests == 0);
     refuse_at = -1;
@@ -403,7 +390,7 @@ static int world_in_library(void) {
     CHECK(950, phone_world_text(&len) == phone_world_text(&line) && len == line && len > 0);
     for (long k = 0;; k = 2 * k + 1) {
         requests = 0, refuse_at = k;
-        uint32_t status = phone_open_world(&h);
+        phone_status status = phone_open_world(&h, PHONE_CRATE);
         refuse_at = -1;
         CHECK(951, status == PHONE_OK ? h.at != NULL : requests > k && status == PHONE_MEMORY && !h.at && blocks == 0);
         if (requests <= k) { printf("requests of opening the table in the library: %ld\n", requests); break; }
@@ -414,8 +401,6 @@ static int world_in_library(void) {
     CHECK(954, phone_version() == PHONE_VERSION && phone_table_version(out, sizeof out, &wrote) == PHONE_OK);
     CHECK(955, phone_is_viable(B("03-331 6005"), &flag) == PHONE_OK && flag == 1);
     CHECK(956, longest(&p, "6433316005", sizeof out, &prefix) == PHONE_OK && prefix == 3);
-    for (uint32_t refusal = 0; refusal < 40; refusal++)
-        CHECK(957, phone_refusal_words(refusal, out, sizeof out, &wrote) == (refusal >= 1 && refusal <= 7 ? PHONE_OK : PHONE_NO_REFUSAL));
     phone_close(&h);
     phone_prefixes_close(&p);
     CHECK(958, requests == 0 && blocks == 0);
@@ -428,13 +413,13 @@ static int shared(void) {
     phone_prefixes p = PHONE_CLOSED, own = PHONE_CLOSED;
     size_t line = 9, prefix = 9;
     CHECK(960, phone_share(&h, &mine) == PHONE_IS_CLOSED && !h.at && !mine.at);
-    CHECK(961, phone_open(B("[]"), &mine) == PHONE_OK);
+    CHECK(961, phone_open(B("[]"), PHONE_CRATE, &mine) == PHONE_OK);
     CHECK(962, phone_share(&h, &mine) == PHONE_IS_CLOSED && !mine.at && blocks == 0);
-    CHECK(963, phone_open(B(SMALL), &h) == PHONE_OK && phone_open(B("[]"), &mine) == PHONE_OK);
+    CHECK(963, phone_open(B(SMALL), PHONE_CRATE, &h) == PHONE_OK && phone_open(B("[]"), PHONE_CRATE, &mine) == PHONE_OK);
     long held = blocks;
     for (long k = 0;; k++) {
         requests = 0, refuse_at = k;
-        uint32_t status = phone_share(&h, &mine);
+        phone_status status = phone_share(&h, &mine);
         refuse_at = -1;
         CHECK(964, h.at && (status == PHONE_OK ? mine.at && mine.at != h.at : requests > k && status == PHONE_MEMORY && !mine.at));
         CHECK(965, blocks < held && report(&h, "", "+999 234", 8, sizeof out) == PHONE_OK);
@@ -444,7 +429,7 @@ static int shared(void) {
     phone_close(&h);
     CHECK(967, report(&h, "", "+999 234", 8, sizeof out) == PHONE_IS_CLOSED);
     CHECK(968, report(&mine, "", "+999 234", 8, sizeof out) == PHONE_OK && !memcmp(out, "ok\t+999234\t", 11));
-    CHECK(969, phone_open(B("["), &mine) == PHONE_MALFORMED_JSON && !mine.at && blocks > 0);
+    CHECK(969, phone_open(B("["), PHONE_CRATE, &mine) == PHONE_MALFORMED_JSON && !mine.at && blocks > 0);
     CHECK(970, report(&third, "", "+999 234", 8, sizeof out) == PHONE_OK && !memcmp(out, "ok\t+999234\t", 11));
     phone_close(&third);
     CHECK(971, blocks == 0);
@@ -452,7 +437,7 @@ static int shared(void) {
     CHECK(973, phone_prefixes_open(B(PREFIXES), &p, &line) == PHONE_OK);
     for (long k = 0;; k++) {
         requests = 0, refuse_at = k;
-        uint32_t status = phone_prefixes_share(&p, &own);
+        phone_status status = phone_prefixes_share(&p, &own);
         refuse_at = -1;
         CHECK(974, p.at && (status == PHONE_OK ? own.at && own.at != p.at : requests > k && status == PHONE_MEMORY && !own.at));
         if (requests <= k) break;
@@ -476,23 +461,24 @@ int main(int argc, char **argv) {
     fill();
     CHECK(105, phone_table_version(out, 20, &wrote) == PHONE_TOO_SMALL && wrote == 21 && is_untouched(0));
     fill();
-    CHECK(106, phone_refusal_words(PHONE_NO_NUMBER, out, sizeof out, &wrote) == PHONE_OK && wrote == 12
+    CHECK(106, phone_status_words(PHONE_NO_NUMBER, out, sizeof out, &wrote) == PHONE_OK && wrote == 12
         && !memcmp(out, "not a number", 12) && is_untouched(12));
     fill();
-    CHECK(107, phone_refusal_words(PHONE_NO_NUMBER, out, 11, &wrote) == PHONE_TOO_SMALL && wrote == 12 && is_untouched(0));
+    CHECK(107, phone_status_words(PHONE_NO_NUMBER, out, 11, &wrote) == PHONE_TOO_SMALL && wrote == 12 && is_untouched(0));
     fill();
-    CHECK(108, phone_refusal_words(8, out, sizeof out, &wrote) == PHONE_NO_REFUSAL && wrote == 0 && is_untouched(0));
+    CHECK(108, phone_status_words(13, out, sizeof out, &wrote) == PHONE_NO_WORD && wrote == 0 && is_untouched(0));
     FILE *file = argc > 1 ? fopen(argv[1], "rb") : NULL;
     CHECK(101, file != NULL);
     static uint8_t text[1 << 20];
     size_t len = fread(text, 1, sizeof text, file), bytes_len;
     fclose(file);
     phone_handle h = PHONE_CLOSED;
-    CHECK(102, phone_open(text, len, &h) == PHONE_OK);
-    CHECK(103, parse(&h, "NZ", "03-331 6005 ext. 12", 19, sizeof out) == PHONE_OK && number.source == PHONE_DEFAULT);
+    CHECK(102, phone_open(text, len, PHONE_CRATE, &h) == PHONE_OK);
+    CHECK(103, parse(&h, "NZ", "03-331 6005 ext. 12", 19, sizeof out) == PHONE_OK && number.source == PHONE_SOURCE_DEFAULT);
     phone_number kept = number;
     uint8_t bytes[64];
     memcpy(bytes, out, bytes_len = wrote);
+    CHECK(110, phone_share_by(&h, PHONE_LIBRARY, &second) == PHONE_OK);
     if ((wrong = every_room(&h, &kept, bytes, bytes_len))) return wrong;
     if ((wrong = refused(&h, &kept, bytes, bytes_len, &most))) return wrong;
     printf("most requests of a call: %ld\n", most);
@@ -500,9 +486,10 @@ int main(int argc, char **argv) {
         for (int which = 0; which < CALLS; which++)
             CHECK(1700 + which, call(which, &h, &kept, bytes, bytes_len, sizeof out) == PHONE_OK);
     phone_close(&h);
+    phone_close(&second);
     CHECK(502, blocks == 0);
     for (long i = 0; i < rounds / 100; i++) {
-        CHECK(500, phone_open(B(SMALL), &h) == PHONE_OK && blocks > 0);
+        CHECK(500, phone_open(B(SMALL), PHONE_CRATE, &h) == PHONE_OK && blocks > 0);
         phone_close(&h);
         CHECK(503, blocks == 0);
     }

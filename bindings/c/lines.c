@@ -25,7 +25,7 @@ int main(int argc, char **argv) {
     uint8_t *table = read_all(argc > 1 ? fopen(argv[1], "rb") : NULL, &len), *text = read_all(stdin, &all);
     phone_handle world = PHONE_CLOSED;
     double start = now();
-    if (!table || !text || phone_open(table, len, &world) != PHONE_OK) return 1;
+    if (!table || !text || phone_open(table, len, PHONE_CRATE, &world) != PHONE_OK) return 1;
     double loaded = now();
     for (long round = 0; round <= rounds; round++) {
         if (round == 1) start = now();

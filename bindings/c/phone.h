@@ -4,11 +4,12 @@
  * What a caller owes, and nothing checks:
  *   - A handle begins as PHONE_CLOSED, and only these calls write it. It is not copied: two copies
  *     would own one thing; phone_share makes a second. So with a table of prefixes.
- *   - One call at a time on a handle. It is of no thread: one thread opens it, others use it in turn, any
- *     closes it, with a lock or a join between two calls. Threads that read at once have handles of
- *     their own: those made by phone_share stand on one table, of the world some 6 MB, and calls on
- *     different handles may run at once, any number of them. No call is made from a signal handler,
- *     nor in a forked child on a handle that another thread's call was on at the fork.
+ *   - One call at a time on a handle, which each call writes: those that ask leave it as it was. It is of
+ *     no thread: one thread opens it, others use it in turn, any closes it, with a lock or a join between
+ *     two calls. Threads that read at once have handles of their own: those made by phone_share stand on
+ *     one table, of the world some 6 MB, and calls on different handles may run at once, any number of
+ *     them. No call is made from a signal handler, nor in a forked child on a handle that another
+ *     thread's call was on at the fork.
  *   - A length is not past its buffer. A buffer that is written is memory that may be read: what was
  *     allocated is set to something first. What one call is given does not overlap.
  *   - `phone_text(p, n)` makes of a null text of length 0 one that may be passed; no pointer that is
@@ -40,22 +41,22 @@ static inline phone_prefixes phone_prefixes_closed(void) {
     return prefixes;
 }
 
-/* What a call answers. 1 to 6 are the numbers of the errors: of a text that is no number
- * (phone_parse), or of a text that is no database (phone_open). */
+/* What a call answers: each status has a number of its own, and words (phone_status_words). */
+typedef uint32_t phone_status;
 enum {
     PHONE_OK = 0,
     PHONE_NO_NUMBER = 1,             /* phone_parse: it is no phone number */
     PHONE_INVALID_COUNTRY_CODE = 2,  /* phone_parse: no calling code is known for it */
-    PHONE_TOO_SHORT_AFTER_IDD = 3,   /* phone_parse_by: too few digits behind an international prefix */
+    PHONE_TOO_SHORT_AFTER_IDD = 3,   /* phone_parse: too few digits behind an international prefix */
     PHONE_TOO_SHORT_NSN = 4,         /* phone_parse: too few digits for a national number */
     PHONE_TOO_LONG = 5,              /* phone_parse: too many */
     PHONE_MALFORMED_INTEGER = 6,     /* phone_parse: digits that are no number, as zeros alone */
-    PHONE_MISSING_VALUE = 1,         /* phone_open: a record lacks a value that it must have */
-    PHONE_UNHANDLED_ELEMENT = 2,     /* phone_open: a record has a key that it may not have */
-    PHONE_MALFORMED_JSON = 3,        /* phone_open: the text is no JSON */
-    PHONE_WRONG_KIND = 4,            /* phone_open: a value of the wrong kind */
-    PHONE_MALFORMED_REGEX = 5,       /* phone_open: a text that is no pattern */
     PHONE_MEMORY = 7,                /* memory was refused; the handle may be used as before */
+    PHONE_MISSING_VALUE = 8,         /* phone_open: a record lacks a value that it must have */
+    PHONE_UNHANDLED_ELEMENT = 9,     /* phone_open: a record has a key that it may not have */
+    PHONE_MALFORMED_JSON = 10,       /* phone_open: the text is no JSON */
+    PHONE_WRONG_KIND = 11,           /* phone_open: a value of the wrong kind */
+    PHONE_MALFORMED_REGEX = 12,      /* phone_open: a text that is no pattern */
     PHONE_IS_CLOSED = 16,            /* nothing is open behind the handle */
     PHONE_TOO_SMALL = 17,            /* the buffer is too short; `wrote` is the length that is needed */
     PHONE_NOT_UTF8 = 18,             /* the text is not UTF-8 */
@@ -63,8 +64,7 @@ enum {
     PHONE_UNKNOWN_CODE = 20,         /* no territory of the database has the number's calling code */
     PHONE_BAD_NUMBER = 21,           /* the plain numbers and bytes are no phone number */
     PHONE_NO_MODE = 22,              /* the mode is none of the four */
-    PHONE_NO_REFUSAL = 23,           /* no refusal of a text has the number */
-    PHONE_NO_RULES = 24,             /* the rules are neither of the two */
+    PHONE_NO_RULES = 24,             /* phone_open: the rules are neither of the two */
     PHONE_LINE_EMPTY = 25,           /* phone_prefixes_open: the line is empty */
     PHONE_LINE_NO_TAB = 26,          /* phone_prefixes_open: no tab stands in the line */
     PHONE_LINE_NO_PREFIX = 27,       /* phone_prefixes_open: before the tab stand not 1 to 15 digits */
@@ -73,14 +73,13 @@ enum {
     PHONE_NO_PREFIX = 30,            /* phone_prefixes_longest: no prefix begins the digits */
     PHONE_NO_KIND = 31,              /* the kind is none of the 17 */
     PHONE_NO_EXAMPLE = 32,           /* the table has no example of the region and kind */
-    PHONE_NO_WORD = 33,              /* phone_word: no value of the set has the number */
+    PHONE_NO_WORD = 33,              /* phone_word: no value of the set has the number; no status has it */
     PHONE_NO_TERRITORY = 34,         /* the table has no territory of the region */
     PHONE_NO_LENIENCY = 35           /* the leniency is neither of the two */
 };
 
-/* By whose rules a text is read and a number described: those of libphonenumber, or those of the Rust
- * crate phonenumber 0.3.10. The calls that end in _by take them; each call beside one of these is the
- * same by the rules of the crate. */
+/* By whose rules a text is read and a number printed and described: those of libphonenumber, or those of
+ * the Rust crate phonenumber 0.3.10. They are chosen where a table is opened, and are the handle's. */
 enum { PHONE_LIBRARY = 0, PHONE_CRATE = 1 };
 
 /* Where a text stands that may be absent, in bytes beside the number. */
@@ -97,20 +96,24 @@ typedef struct {
     phone_part extension; /* what is dialled once the call is answered */
     phone_part carrier;   /* the carrier's selection code */
     uint16_t code;        /* the calling code, as 64 for New Zealand */
-    uint8_t source;       /* how it was found: PHONE_PLUS .. */
+    uint8_t source;       /* how it was found: PHONE_SOURCE_PLUS .. */
     uint8_t zeros;        /* how many zeros stand before the value */
 } phone_number;
-enum { PHONE_PLUS = 0, PHONE_IDD = 1, PHONE_NUMBER = 2, PHONE_DEFAULT = 3 };
+enum {
+    PHONE_SOURCE_PLUS = 0, PHONE_SOURCE_IDD = 1, PHONE_SOURCE_NUMBER = 2, PHONE_SOURCE_DEFAULT = 3
+};
 
 /* How a number is printed: +6433316005, +64 3 331 6005, 03 331 6005, tel:+64-3-331-6005 */
-enum { PHONE_E164 = 0, PHONE_INTERNATIONAL = 1, PHONE_NATIONAL = 2, PHONE_RFC3966 = 3 };
+enum {
+    PHONE_MODE_E164 = 0, PHONE_MODE_INTERNATIONAL = 1, PHONE_MODE_NATIONAL = 2, PHONE_MODE_RFC3966 = 3
+};
 
 /* The kinds of numbers. */
 enum {
-    PHONE_FIXED_LINE = 0, PHONE_MOBILE, PHONE_FIXED_LINE_OR_MOBILE, PHONE_TOLL_FREE, PHONE_PREMIUM_RATE,
-    PHONE_SHARED_COST, PHONE_PERSONAL_NUMBER, PHONE_VOIP, PHONE_PAGER, PHONE_UAN, PHONE_EMERGENCY,
-    PHONE_VOICEMAIL, PHONE_SHORT_CODE, PHONE_STANDARD_RATE, PHONE_CARRIER, PHONE_NO_INTERNATIONAL,
-    PHONE_UNKNOWN
+    PHONE_KIND_FIXED_LINE = 0, PHONE_KIND_MOBILE, PHONE_KIND_FIXED_LINE_OR_MOBILE, PHONE_KIND_TOLL_FREE,
+    PHONE_KIND_PREMIUM_RATE, PHONE_KIND_SHARED_COST, PHONE_KIND_PERSONAL_NUMBER, PHONE_KIND_VOIP,
+    PHONE_KIND_PAGER, PHONE_KIND_UAN, PHONE_KIND_EMERGENCY, PHONE_KIND_VOICEMAIL, PHONE_KIND_SHORT_CODE,
+    PHONE_KIND_STANDARD_RATE, PHONE_KIND_CARRIER, PHONE_KIND_NO_INTERNATIONAL, PHONE_KIND_UNKNOWN
 };
 
 /* What is known of a text as a short number of a region. Each but the cost is 1, else 0. */
@@ -155,7 +158,7 @@ typedef struct { size_t start; size_t end; } phone_place;
 /* The sets of values that have words, for phone_word. */
 enum {
     PHONE_KIND_WORDS = 0, PHONE_SOURCE_WORDS, PHONE_POSSIBILITY_WORDS, PHONE_SAMENESS_WORDS,
-    PHONE_COST_WORDS, PHONE_STATUS_WORDS, PHONE_OPEN_STATUS_WORDS
+    PHONE_COST_WORDS
 };
 
 /* A text of length 0 may be null for the caller, but not for a call. */
@@ -166,26 +169,31 @@ static inline const uint8_t *phone_text(const void *text, size_t len) {
 /* Opens the database that bytes are: a JSON text, as data/world.json, or the compact form of its
  * records, which opens sooner, as data/world.compact (tools/compact makes it of a JSON text); bytes are
  * meant as that where they begin with its first line, "phone_compact 1" and a line feed. What the handle
- * had open is closed first. PHONE_OK: it is open. PHONE_NOT_UTF8 exactly where the bytes don't begin so
- * and aren't UTF-8; 1 to 5 by the first fault of the records, PHONE_MALFORMED_JSON where there are none,
- * in either form; PHONE_MEMORY. For each but PHONE_OK the handle is closed. */
-uint32_t phone_open(const uint8_t *text, size_t text_len, phone_handle *handle);
+ * had open is closed first. The handle is asked by these rules. PHONE_OK: it is open. PHONE_NO_RULES
+ * exactly where the rules are above 1, else PHONE_NOT_UTF8 exactly where the bytes don't begin so and
+ * aren't UTF-8; PHONE_MISSING_VALUE .. PHONE_MALFORMED_REGEX by the first fault of the records,
+ * PHONE_MALFORMED_JSON where there are none, in either form; PHONE_MEMORY. For each but PHONE_OK the
+ * handle is closed. */
+phone_status phone_open(const uint8_t *text, size_t text_len, uint32_t rules, phone_handle *handle);
 
 /* Opens the table of the world that stands in the library, of the version that phone_table_version
- * tells: phone_open of phone_world_text. PHONE_OK, or PHONE_MEMORY. It is C over phone_open. */
-uint32_t phone_open_world(phone_handle *handle);
+ * tells, to be asked by these rules: phone_open of phone_world_text. PHONE_OK, PHONE_NO_RULES or
+ * PHONE_MEMORY. It is C over phone_open. */
+phone_status phone_open_world(phone_handle *handle, uint32_t rules);
 
 /* The records of that table as JSON, of which phone_open makes the same: a text that is never freed, and
  * its length. It is C, and takes no memory. */
 const uint8_t *phone_world_text(size_t *text_len);
 
-/* Opens behind `mine` the database that is open behind `world`: a second handle on one database, for
- * another thread, say. It takes a few bytes and copies no database. The handles are two variables. What
- * `mine` had open is closed first, whatever comes. PHONE_OK: it is open. PHONE_IS_CLOSED exactly where
- * `world` is closed; PHONE_MEMORY. For each but PHONE_OK `mine` is closed. `world` stays open, or
- * closed, as it was; for it this is a call as any other. Each handle serves one call at a time,
- * different handles any number at once. The database is freed with the last handle on it. */
-uint32_t phone_share(phone_handle *world, phone_handle *mine);
+/* Opens behind `mine` the database that is open behind `world`, to be asked by the same rules: a second
+ * handle on one database, for a part of a program that closes it when it likes, say. It takes a few
+ * bytes and copies no database. The handles are two variables. What `mine` had open is closed first,
+ * whatever comes. PHONE_OK: it is open. PHONE_IS_CLOSED exactly where `world` is closed; PHONE_MEMORY.
+ * For each but PHONE_OK `mine` is closed. The database is freed with the last handle on it. */
+phone_status phone_share(phone_handle *world, phone_handle *mine);
+
+/* The same, to be asked by these rules. PHONE_NO_RULES exactly where they are above 1, before all else. */
+phone_status phone_share_by(phone_handle *world, uint32_t rules, phone_handle *mine);
 
 /* Closes a handle; nothing where it is closed. The last one on a database frees it. */
 void phone_close(phone_handle *handle);
@@ -197,78 +205,59 @@ void phone_close(phone_handle *handle);
  * open, else PHONE_NO_REGION exactly where the hint has a byte and is no id; PHONE_TOO_SMALL only
  * where `out` is shorter than the answer: `wrote` is then the length that it needs; PHONE_MEMORY.
  * For each but PHONE_OK `out` is as it was, and for each but PHONE_OK and PHONE_TOO_SMALL `wrote` is
- * 0. The handle stays open, or closed, as it was. */
-uint32_t phone_report(phone_handle *handle, const uint8_t *hint, size_t hint_len, const uint8_t *line,
-                      size_t line_len, uint8_t *out, size_t out_len, size_t *wrote);
+ * 0. */
+phone_status phone_report(phone_handle *handle, const uint8_t *hint, size_t hint_len,
+                          const uint8_t *line, size_t line_len, uint8_t *out, size_t out_len,
+                          size_t *wrote);
 
 /* Reads a text as a phone number, under a hint as phone_report takes it, into `number`; its texts,
  * extension and then carrier, go to the front of `out`, and their length to `wrote`. A buffer as long
  * as the text is seldom too short; PHONE_TOO_SMALL tells the length. PHONE_IS_CLOSED, PHONE_NO_REGION
  * and PHONE_MEMORY as phone_report has them; else PHONE_NOT_UTF8 exactly where the text isn't UTF-8;
  * 1 to 6: why it is no number. For each but PHONE_OK `number` and `out` are as they were. */
-uint32_t phone_parse(phone_handle *handle, const uint8_t *hint, size_t hint_len, const uint8_t *text,
-                     size_t text_len, phone_number *number, uint8_t *out, size_t out_len, size_t *wrote);
+phone_status phone_parse(phone_handle *handle, const uint8_t *hint, size_t hint_len,
+                         const uint8_t *text, size_t text_len, phone_number *number, uint8_t *out,
+                         size_t out_len, size_t *wrote);
 
 /* Writes the text of a number in a mode to the front of `out`, and its length to `wrote`. `bytes` are
  * those in which the number's texts stand. PHONE_IS_CLOSED exactly where nothing is open, else
  * PHONE_NO_MODE exactly where the mode is above 3, then PHONE_BAD_NUMBER exactly where it is no
  * number: a source above 3, a value of 2^56 or more, a text outside `bytes` or not UTF-8.
  * PHONE_UNKNOWN_CODE only where no territory has the calling code. PHONE_TOO_SMALL and PHONE_MEMORY as
- * phone_report has them. */
-uint32_t phone_format(phone_handle *handle, const phone_number *number, const uint8_t *bytes,
-                      size_t bytes_len, uint32_t mode, uint8_t *out, size_t out_len, size_t *wrote);
+ * phone_report has them. By the rules of libphonenumber a number is printed without its carrier's code;
+ * its texts are looked at all the same. */
+phone_status phone_format(phone_handle *handle, const phone_number *number, const uint8_t *bytes,
+                          size_t bytes_len, uint32_t mode, uint8_t *out, size_t out_len, size_t *wrote);
 
-/* Tells the kind of a number: PHONE_FIXED_LINE .. PHONE_IS_CLOSED exactly where nothing is open, else
+/* Tells the kind of a number: PHONE_KIND_FIXED_LINE .. PHONE_IS_CLOSED exactly where nothing is open, else
  * PHONE_BAD_NUMBER exactly where source or value is out of range; PHONE_MEMORY. The number's texts are
  * not looked at. For each but PHONE_OK `told` is as it was. */
-uint32_t phone_kind(phone_handle *handle, const phone_number *number, uint32_t *told);
+phone_status phone_kind(phone_handle *handle, const phone_number *number, uint32_t *told);
 
 /* Writes the id of a number's region, as "NZ", or no byte where it has none. Its statuses are those of
  * phone_kind, and PHONE_TOO_SMALL. */
-uint32_t phone_region(phone_handle *handle, const phone_number *number, uint8_t *out, size_t out_len,
-                      size_t *wrote);
+phone_status phone_region(phone_handle *handle, const phone_number *number, uint8_t *out,
+                          size_t out_len, size_t *wrote);
 
 /* Tells whether a number is valid: 1, else 0. Its statuses are those of phone_kind. */
-uint32_t phone_is_valid(phone_handle *handle, const phone_number *number, uint8_t *told);
+phone_status phone_is_valid(phone_handle *handle, const phone_number *number, uint8_t *told);
 
-/* The six calls above by rules: PHONE_LIBRARY or PHONE_CRATE. PHONE_NO_RULES exactly where the rules
- * are above 1, before all else; each other status as the call above has it. By the rules of
- * libphonenumber a number is printed without its carrier's code; phone_format_by looks at the
- * number's texts all the same. */
-uint32_t phone_report_by(phone_handle *handle, uint32_t rules, const uint8_t *hint, size_t hint_len,
-                         const uint8_t *line, size_t line_len, uint8_t *out, size_t out_len,
-                         size_t *wrote);
-uint32_t phone_parse_by(phone_handle *handle, uint32_t rules, const uint8_t *hint, size_t hint_len,
-                        const uint8_t *text, size_t text_len, phone_number *number, uint8_t *out,
-                        size_t out_len, size_t *wrote);
-uint32_t phone_format_by(phone_handle *handle, uint32_t rules, const phone_number *number,
-                         const uint8_t *bytes, size_t bytes_len, uint32_t mode, uint8_t *out,
-                         size_t out_len, size_t *wrote);
-uint32_t phone_kind_by(phone_handle *handle, uint32_t rules, const phone_number *number,
-                       uint32_t *told);
-uint32_t phone_region_by(phone_handle *handle, uint32_t rules, const phone_number *number, uint8_t *out,
-                         size_t out_len, size_t *wrote);
-uint32_t phone_is_valid_by(phone_handle *handle, uint32_t rules, const phone_number *number,
-                           uint8_t *told);
-
-/* Tells whether the count of a number's digits is possible: PHONE_LENGTH_POSSIBLE .. PHONE_NO_RULES exactly
- * where the rules are above 1; else its statuses are those of phone_kind. */
-uint32_t phone_possibility_by(phone_handle *handle, uint32_t rules, const phone_number *number,
-                              uint32_t *told);
+/* Tells whether the count of a number's digits is possible: PHONE_LENGTH_POSSIBLE .. Its
+ * statuses are those of phone_kind. */
+phone_status phone_possibility(phone_handle *handle, const phone_number *number, uint32_t *told);
 
 /* The same of a text, which may not be whole yet, under a hint as phone_report takes it. A text that is
  * refused for its length or its calling code is told of by PHONE_LENGTH_TOO_SHORT and its like.
- * PHONE_NO_RULES, PHONE_IS_CLOSED, PHONE_NO_REGION and PHONE_NOT_UTF8 as phone_parse_by has them; else
+ * PHONE_IS_CLOSED, PHONE_NO_REGION and PHONE_NOT_UTF8 as phone_parse has them; else
  * PHONE_NO_NUMBER or PHONE_MALFORMED_INTEGER; PHONE_MEMORY. */
-uint32_t phone_text_possibility_by(phone_handle *handle, uint32_t rules, const uint8_t *hint,
-                                   size_t hint_len, const uint8_t *text, size_t text_len,
-                                   uint32_t *told);
+phone_status phone_text_possibility(phone_handle *handle, const uint8_t *hint, size_t hint_len,
+                                    const uint8_t *text, size_t text_len, uint32_t *told);
 
 /* Tells how like the numbers of two texts are, each perhaps without its calling code: PHONE_MATCH_EXACT ..
- * PHONE_NO_RULES, PHONE_IS_CLOSED; else PHONE_NOT_UTF8 exactly where one of the texts isn't UTF-8; 1 to
+ * PHONE_IS_CLOSED; else PHONE_NOT_UTF8 exactly where one of the texts isn't UTF-8; 1 to
  * 6: why the first text is no number, else why the second is none; PHONE_MEMORY. */
-uint32_t phone_compare_by(phone_handle *handle, uint32_t rules, const uint8_t *first, size_t first_len,
-                          const uint8_t *second, size_t second_len, uint32_t *told);
+phone_status phone_compare(phone_handle *handle, const uint8_t *first, size_t first_len,
+                           const uint8_t *second, size_t second_len, uint32_t *told);
 
 /* Writes how a number is dialled from a region, whose id is as "NZ": its national text there, and else
  * an international prefix, its calling code and its digits. `number` and `bytes` are as phone_format
@@ -276,34 +265,34 @@ uint32_t phone_compare_by(phone_handle *handle, uint32_t rules, const uint8_t *f
  * region is no id, else PHONE_BAD_NUMBER as phone_format has it. PHONE_NO_TERRITORY only where the
  * table has no territory of the region, PHONE_UNKNOWN_CODE only where none has the calling code;
  * PHONE_TOO_SMALL, PHONE_MEMORY. */
-uint32_t phone_dialled_from(phone_handle *handle, const uint8_t *region, size_t region_len,
-                            const phone_number *number, const uint8_t *bytes, size_t bytes_len,
-                            uint8_t *out, size_t out_len, size_t *wrote);
+phone_status phone_dialled_from(phone_handle *handle, const uint8_t *region, size_t region_len,
+                                const phone_number *number, const uint8_t *bytes, size_t bytes_len,
+                                uint8_t *out, size_t out_len, size_t *wrote);
 
-/* Writes the example number of a region and a kind, read with the region as hint, as phone_parse_by
- * writes a number. PHONE_NO_RULES, PHONE_IS_CLOSED, PHONE_NO_REGION, PHONE_NO_KIND, and
+/* Writes the example number of a region and a kind, read with the region as hint, as phone_parse
+ * writes a number. PHONE_IS_CLOSED, PHONE_NO_REGION, PHONE_NO_KIND, and
  * PHONE_NO_EXAMPLE exactly where so, in this order; 1 to 6: why the example is no number;
  * PHONE_TOO_SMALL, PHONE_MEMORY. */
-uint32_t phone_example_by(phone_handle *handle, uint32_t rules, const uint8_t *region,
-                          size_t region_len, uint32_t kind, phone_number *number, uint8_t *out,
-                          size_t out_len, size_t *wrote);
+phone_status phone_example(phone_handle *handle, const uint8_t *region, size_t region_len,
+                           uint32_t kind, phone_number *number, uint8_t *out, size_t out_len,
+                           size_t *wrote);
 
 /* Writes the ids of the table's regions, by the alphabet, two bytes each with nothing between them.
  * PHONE_IS_CLOSED exactly where nothing is open; PHONE_TOO_SMALL, PHONE_MEMORY. */
-uint32_t phone_regions(phone_handle *handle, uint8_t *out, size_t out_len, size_t *wrote);
+phone_status phone_regions(phone_handle *handle, uint8_t *out, size_t out_len, size_t *wrote);
 
 /* Writes the table's calling codes, ascending. Its statuses are those of phone_regions. Here `out_len`
  * and `wrote` count codes, and not bytes. */
-uint32_t phone_codes(phone_handle *handle, uint16_t *out, size_t out_len, size_t *wrote);
+phone_status phone_codes(phone_handle *handle, uint16_t *out, size_t out_len, size_t *wrote);
 
-/* Writes where numbers stand in a text, from its front on; they don't overlap. phone_parse_by reads each
- * of these pieces, by the same rules and under the same hint, as the number that was found. `out_len`
- * and `wrote` count places: no text has more than bytes. PHONE_NO_RULES, PHONE_IS_CLOSED,
+/* Writes where numbers stand in a text, from its front on; they don't overlap. phone_parse reads each of
+ * these pieces, under the same handle and hint, as the number that was found. `out_len` and `wrote`
+ * count places: no text has more than bytes. PHONE_IS_CLOSED,
  * PHONE_NO_LENIENCY, PHONE_NO_REGION, PHONE_NOT_UTF8 exactly where so, in this order; PHONE_TOO_SMALL,
  * PHONE_MEMORY. */
-uint32_t phone_find_by(phone_handle *handle, uint32_t rules, const uint8_t *hint, size_t hint_len,
-                       uint32_t leniency, const uint8_t *text, size_t text_len, phone_place *out,
-                       size_t out_len, size_t *wrote);
+phone_status phone_find(phone_handle *handle, const uint8_t *hint, size_t hint_len,
+                        uint32_t leniency, const uint8_t *text, size_t text_len, phone_place *out,
+                        size_t out_len, size_t *wrote);
 
 /* Writes what is shown of a number while it is typed, by libphonenumber's layouts, to the front of
  * `out`, and its length to `wrote`: of the keys of all that was typed so far. `keys` is a text in
@@ -313,36 +302,36 @@ uint32_t phone_find_by(phone_handle *handle, uint32_t rules, const uint8_t *hint
  * without a plus sign are dialled in, as phone_report takes it. A handle holds nothing of what is
  * typed: each call is given all of it. PHONE_IS_CLOSED, PHONE_NO_REGION, PHONE_TOO_SMALL and
  * PHONE_MEMORY as phone_report has them; else PHONE_NOT_UTF8 exactly where the keys aren't UTF-8. */
-uint32_t phone_typing_shown(phone_handle *handle, const uint8_t *hint, size_t hint_len,
-                            const uint8_t *keys, size_t keys_len, uint8_t *out, size_t out_len,
-                            size_t *wrote);
+phone_status phone_typing_shown(phone_handle *handle, const uint8_t *hint, size_t hint_len,
+                                const uint8_t *keys, size_t keys_len, uint8_t *out, size_t out_len,
+                                size_t *wrote);
 
 /* Tells after how many characters of what phone_typing_shown shows of these keys the n-th key stands,
  * counted from 1: where the caret stands after it. 0 for no key, all characters from the last key on.
  * Each character that is shown is one byte. Its statuses are those of phone_typing_shown, but for
  * PHONE_TOO_SMALL. For each but PHONE_OK `told` is as it was. */
-uint32_t phone_typing_caret(phone_handle *handle, const uint8_t *hint, size_t hint_len,
-                            const uint8_t *keys, size_t keys_len, size_t n, size_t *told);
+phone_status phone_typing_caret(phone_handle *handle, const uint8_t *hint, size_t hint_len,
+                                const uint8_t *keys, size_t keys_len, size_t n, size_t *told);
 
 /* Tells what is known of a text as a short number of a region, under a handle that was opened on a
  * table of short numbers (data/short.json is one); `region` is the region's id, as "NZ".
  * PHONE_IS_CLOSED exactly where nothing is open, else PHONE_NO_REGION exactly where the region is no
  * id, else PHONE_NOT_UTF8 exactly where the text isn't UTF-8; PHONE_MEMORY. For each but PHONE_OK
  * `facts` is as it was. */
-uint32_t phone_short(phone_handle *handle, const uint8_t *region, size_t region_len,
-                     const uint8_t *text, size_t text_len, phone_short_facts *facts);
+phone_status phone_short(phone_handle *handle, const uint8_t *region, size_t region_len,
+                         const uint8_t *text, size_t text_len, phone_short_facts *facts);
 
 /* Opens the table of prefixes that a text is: each line a prefix of 1 to 15 digits, a tab, and a text
  * in UTF-8; a carriage return at a line's end is dropped. What was open there is closed first.
  * PHONE_OK: it is open. PHONE_LINE_EMPTY .. PHONE_LINE_TWICE by the first line that is no entry:
  * `line` is its number, counted from 1, and for all other statuses 0. PHONE_MEMORY. For each but
  * PHONE_OK the table is closed. */
-uint32_t phone_prefixes_open(const uint8_t *text, size_t text_len, phone_prefixes *prefixes,
-                             size_t *line);
+phone_status phone_prefixes_open(const uint8_t *text, size_t text_len, phone_prefixes *prefixes,
+                                 size_t *line);
 
 /* Opens behind `mine` the table of prefixes that is open behind `prefixes`, as phone_share does with
  * databases, and with its statuses. */
-uint32_t phone_prefixes_share(phone_prefixes *prefixes, phone_prefixes *mine);
+phone_status phone_prefixes_share(phone_prefixes *prefixes, phone_prefixes *mine);
 
 /* Closes a handle of a table of prefixes; nothing where it is closed. The last one on a table frees it. */
 void phone_prefixes_close(phone_prefixes *prefixes);
@@ -353,39 +342,38 @@ void phone_prefixes_close(phone_prefixes *prefixes);
  * digits aren't UTF-8, else PHONE_NO_PREFIX exactly where no prefix begins them; PHONE_TOO_SMALL as
  * phone_report has it. It takes no memory. For each but PHONE_OK `out` and `prefix_len` are as they
  * were, and for each but PHONE_OK and PHONE_TOO_SMALL `wrote` is 0. */
-uint32_t phone_prefixes_longest(phone_prefixes *prefixes, const uint8_t *digits, size_t digits_len,
-                                uint8_t *out, size_t out_len, size_t *wrote, size_t *prefix_len);
+phone_status phone_prefixes_longest(phone_prefixes *prefixes, const uint8_t *digits,
+                                    size_t digits_len, uint8_t *out, size_t out_len, size_t *wrote,
+                                    size_t *prefix_len);
 
 /* Writes the E.164 text of a number, by which tables are keyed. It needs no database. Equal texts mean
  * equal calling code and national number where no calling code of the database begins another, as in
  * the table of the world. PHONE_BAD_NUMBER as phone_kind has it, PHONE_TOO_SMALL, PHONE_MEMORY. */
-uint32_t phone_key(const phone_number *number, uint8_t *out, size_t out_len, size_t *wrote);
+phone_status phone_key(const phone_number *number, uint8_t *out, size_t out_len, size_t *wrote);
 
 /* Tells whether a text may be a number at all: 1, else 0. It needs no database and takes no memory.
  * PHONE_NOT_UTF8 exactly where the text isn't UTF-8; `told` is then as it was. */
-uint32_t phone_is_viable(const uint8_t *text, size_t text_len, uint8_t *told);
+phone_status phone_is_viable(const uint8_t *text, size_t text_len, uint8_t *told);
 
-/* Writes the words of the refusal of a text that has this number, 1 to 6 as phone_parse answers it, or
- * 7, to the front of `out`, and their length to `wrote`: as "not a number" of 1. It needs no database
- * and takes no memory. PHONE_NO_REFUSAL exactly where no refusal has the number, PHONE_TOO_SMALL as
- * phone_report has it. */
-uint32_t phone_refusal_words(uint32_t number, uint8_t *out, size_t out_len, size_t *wrote);
+/* Writes the words of a status, whichever call answered it, to the front of `out`, and their length to
+ * `wrote`: "not a number" of PHONE_NO_NUMBER. It needs no database and takes no memory. PHONE_NO_WORD
+ * exactly where no call answers the number; PHONE_TOO_SMALL as phone_report has it. */
+phone_status phone_status_words(phone_status status, uint8_t *out, size_t out_len, size_t *wrote);
 
-/* Writes the word of a value of a set, PHONE_KIND_WORDS .., or the words of a status, to the front of
- * `out`, and their length to `wrote`: "FixedLine" of a kind, "not a number" of PHONE_NO_NUMBER.
- * PHONE_STATUS_WORDS has the statuses of all calls but phone_open, whose are in
- * PHONE_OPEN_STATUS_WORDS. It needs no database and takes no memory. PHONE_NO_WORD exactly where the
- * set has no such value, or there is no such set; PHONE_TOO_SMALL as phone_report has it. */
-uint32_t phone_word(uint32_t set, uint32_t value, uint8_t *out, size_t out_len, size_t *wrote);
+/* Writes the word of a value of a set, PHONE_KIND_WORDS .., to the front of `out`, and its length to
+ * `wrote`: "FixedLine" of a kind. It needs no database and takes no memory. PHONE_NO_WORD exactly where
+ * the set has no such value, or there is no such set; PHONE_TOO_SMALL as phone_report has it. */
+phone_status phone_word(uint32_t set, uint32_t value, uint8_t *out, size_t out_len, size_t *wrote);
 
-/* The version of these calls: PHONE_VERSION where the library fits this header. */
+/* The version of these calls. From 3 on a version has the calls of those before it, with what they take
+ * and mean: a library serves this header where its version is PHONE_VERSION or a later one. */
 uint32_t phone_version(void);
-#define PHONE_VERSION 2u
+#define PHONE_VERSION 3u
 
 /* Writes the version of the table that this library was released with, as "libphonenumber 9.0.35", to
  * the front of `out`, and its length to `wrote`; a caller may open another table. It needs no database
  * and takes no memory. PHONE_OK, or PHONE_TOO_SMALL as phone_report has it. */
-uint32_t phone_table_version(uint8_t *out, size_t out_len, size_t *wrote);
+phone_status phone_table_version(uint8_t *out, size_t out_len, size_t *wrote);
 
 #ifdef __cplusplus
 }

@@ -38,7 +38,7 @@ typedef struct {
 
 static void open_both(phone_handle *world, phone_prefixes *prefixes) {
     size_t line = 0;
-    CHECK(1, phone_open(table, table_len, world) == PHONE_OK);
+    CHECK(1, phone_open(table, table_len, PHONE_LIBRARY, world) == PHONE_OK);
     CHECK(2, phone_prefixes_open((const uint8_t *)PREFIXES, sizeof PREFIXES - 1, prefixes, &line) == PHONE_OK);
 }
 
@@ -53,7 +53,7 @@ static void close_both(phone_handle *world, phone_prefixes *prefixes) {
     size_t wrote = 0;
     phone_close(world);
     phone_prefixes_close(prefixes);
-    CHECK(3, phone_text_possibility_by(world, PHONE_LIBRARY, phone_text("NZ", 2), 2, phone_text("3", 1), 1, &told) == PHONE_IS_CLOSED);
+    CHECK(3, phone_text_possibility(world, phone_text("NZ", 2), 2, phone_text("3", 1), 1, &told) == PHONE_IS_CLOSED);
     CHECK(4, phone_regions(world, out, sizeof out, &wrote) == PHONE_IS_CLOSED);
 }
 
@@ -67,14 +67,17 @@ static void ask(phone_handle *world, phone_prefixes *prefixes, const char *line,
     char *at = told;
     memset(told, 0, LINE);
     for (uint32_t rules = PHONE_LIBRARY; rules <= PHONE_CRATE; rules++) {
+        phone_handle by = PHONE_CLOSED;
         memset(out, 0, ROOM);
-        CHECK(5, phone_report_by(world, rules, hint, 2, text, len, out, ROOM - 1, &wrote) == PHONE_OK);
+        CHECK(21, phone_share_by(world, rules, &by) == PHONE_OK);
+        CHECK(5, phone_report(&by, hint, 2, text, len, out, ROOM - 1, &wrote) == PHONE_OK);
         at += sprintf(at, "%s\n", (char *)out);
+        phone_close(&by);
     }
     memset(out, 0, ROOM);
     CHECK(18, phone_typing_shown(world, hint, 2, text, len, out, ROOM - 1, &wrote) == PHONE_OK);
     at += sprintf(at, "%s\n", (char *)out);
-    CHECK(19, phone_find_by(world, PHONE_LIBRARY, hint, 2, PHONE_IF_VALID, text, len, &place, 1, &wrote) == PHONE_OK);
+    CHECK(19, phone_find(world, hint, 2, PHONE_IF_VALID, text, len, &place, 1, &wrote) == PHONE_OK);
     at += sprintf(at, "%zu %zu %zu\n", wrote, place.start, place.end);
     memset(out, 0, ROOM);
     CHECK(6, phone_prefixes_longest(prefixes, phone_text("6433316005", 10), 10, out, ROOM - 1, &wrote, &prefix_len) == PHONE_OK);

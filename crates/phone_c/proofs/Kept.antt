@@ -10,4 +10,4 @@ in_block null_ptr some = absurd (some refl)
 in_block (block_ptr b o) some = tt
 
 pub kept : (h : Handle) → IsKept h h
-kept h = (λ closed. closed, λ some. (in_block h.at some, refl))
+kept h = (λ closed. closed, λ some. (in_block h.at some, refl, refl))

@@ -1,6 +1,5 @@
 //! The calls that read a number, print it, or tell something of it.
 ghost use Rattle.std.specs.Prelude.{◌≡◌, ◌⊎◌, ◌↔◌, ◌<◌, None, IsUtf8};
-ghost use Rattle.phone_values.specs.declared.rules.Rules.TheVariants.{Crate};
 ghost use Rattle.phone_c_base.specs.Answers.{IsKey, IsKind, IsPrinted, IsRegion, IsUnprinted};
 ghost use Rattle.phone_c_base.specs.Answers.{IsValidity};
 ghost use Rattle.phone_c_base.specs.Buffers.{IsTooLongA, IsWrittenA};
@@ -10,7 +9,7 @@ ghost use Rattle.phone_c_base.specs.Numbers.{AreNoNumber, AreNone};
 ghost use Rattle.phone_c_base.specs.Parses.{IsParsed, IsParsedTooLong, IsRefusedAs};
 
 use phone_c_base::asked::{key, kind, region, validity};
-use phone_c_base::engines::{engine_of, engine_under};
+use phone_c_base::engines::{engine_of, under};
 use phone_c_base::handle::{Handle, put, take};
 use phone_c_base::number::Number;
 use phone_c_base::parse::parse;
@@ -18,17 +17,16 @@ use phone_c_base::print::print;
 use phone_c_base::status::{
     BAD_NUMBER, CLOSED, MEMORY, NO_MODE, NO_REGION, NOT_UTF8, OK, TOO_SMALL, UNKNOWN_CODE,
 };
-use phone_engine::Rules;
 use std::alloc::Global;
 
-/// Reads a text as a phone number, under the hint that `phone_report` takes, as `parse_with` reads
-/// it: into plain numbers, and its texts, the extension and then the carrier, into a buffer.
+/// Reads a text as a phone number, under the hint that `phone_report` takes, by the rules of the
+/// handle: into plain numbers, and its texts, the extension and then the carrier, into a buffer.
 ///
 /// `OK`: `number` is the number, with its texts at the front of `out`, which is else as it was, and
-/// `wrote` is their length. `TOO_SMALL` only where `out` is shorter than the texts: then `wrote`
-/// is the length that they need. `CLOSED`, `NO_REGION` and `MEMORY` as `phone_report` has them;
-/// else `NOT_UTF8` exactly where the text isn't UTF-8; 1 to 6: the number of the refusal. For each
-/// but `OK` `number` and `out` are as they were. The handle stays as it was.
+/// `wrote` is their length. `TOO_SMALL` only where `out` is shorter than the texts: then `wrote` is
+/// the length that they need. `CLOSED`, `NO_REGION` and `MEMORY` as `phone_report` has them; else
+/// `NOT_UTF8` exactly where the text isn't UTF-8; 1 to 6: the number of the refusal. For each but
+/// `OK` `number` and `out` are as they were.
 #[unsafe(no_mangle)]
 pub extern "C" fn phone_parse(
     alloc: Global,
@@ -39,10 +37,10 @@ pub extern "C" fn phone_parse(
     out: &mut [u8],
     wrote: &mut usize,
 ) -> u32
-    ensures read { result ≡ OK → UnderHint hint.now (λ h. IsParsed Crate handle.old.records h
-        text.now number.new out.old out.new wrote.new) }
-    ensures too_small { result ≡ TOO_SMALL → UnderHint hint.now (λ h. IsParsedTooLong Crate
-        handle.old.records h text.now out.old out.new wrote.new) }
+    ensures read { result ≡ OK → UnderHint hint.now (λ h. IsParsed handle.old.rules
+        handle.old.records h text.now number.new out.old out.new wrote.new) }
+    ensures too_small { result ≡ TOO_SMALL → UnderHint hint.now (λ h. IsParsedTooLong
+        handle.old.rules handle.old.records h text.now out.old out.new wrote.new) }
     ensures closed { (result ≡ CLOSED) ↔ IsClosed handle.old }
     ensures no_region { (result ≡ NO_REGION) ↔
         (¬ (IsClosed handle.old) × (hint_of hint.now ≡ None)) }
@@ -50,33 +48,34 @@ pub extern "C" fn phone_parse(
         (¬ (IsClosed handle.old) × ¬ (hint_of hint.now ≡ None) × ¬ (IsUtf8 text.now)) }
     ensures refused { ¬ (result ≡ OK) → ¬ (result ≡ TOO_SMALL) → ¬ (result ≡ CLOSED) →
         ¬ (result ≡ NO_REGION) → ¬ (result ≡ NOT_UTF8) →
-        (result ≡ MEMORY) ⊎ UnderHint hint.now (λ h. IsRefusedAs Crate handle.old.records h
-        text.now result) }
+        (result ≡ MEMORY) ⊎ UnderHint hint.now (λ h. IsRefusedAs handle.old.rules
+        handle.old.records h text.now result) }
     ensures untouched { ¬ (result ≡ OK) → (number.new ≡ number.old) × (out.new ≡ out.old) }
     ensures no_length { ¬ (result ≡ OK) → ¬ (result ≡ TOO_SMALL) → wrote.new ≡ 0 }
     ensures kept { IsKept handle.old handle.new }
 {
     *wrote = 0;
-    let Some(database) = take(alloc, handle) else {
+    let Some(opened) = take(alloc, handle) else {
         return CLOSED;
     };
-    let status = match engine_under(Rules::Crate, &*database, hint) {
+    let status = match under(engine_of(&opened), hint) {
         Some(engine) => parse(engine, text, number, out, wrote),
         None => NO_REGION,
     };
-    put(alloc, handle, database);
+    put(alloc, handle, opened);
     status
 }
 
-/// Writes the text of a number in a mode, as `Formatter::to_text` prints it. The number is given as
-/// plain numbers, with the bytes in which its texts stand; the mode is 0 for `E164`, 1 for
-/// `International`, 2 for `National`, 3 for `Rfc3966`.
+/// Writes the text of a number in a mode, as the rules of the handle print it: by those of
+/// libphonenumber without its carrier. The number is given as plain numbers, with the bytes in
+/// which its texts stand; the mode is 0 for `E164`, 1 for `International`, 2 for `National`, 3 for
+/// `Rfc3966`.
 ///
 /// `OK`, `TOO_SMALL`, `CLOSED` and `MEMORY` as `phone_report` has them; else `NO_MODE` exactly
 /// where the mode is above 3, then `BAD_NUMBER` exactly where plain numbers and bytes are no
 /// number: its source is above 3, its value 2^56 or more, a text lies outside the bytes or isn't
 /// UTF-8. `UNKNOWN_CODE` only where no territory has the number's calling code; there the answer is
-/// it or `MEMORY`. For each but `OK` `out` is as it was. The handle stays as it was.
+/// it or `MEMORY`. For each but `OK` `out` is as it was.
 #[unsafe(no_mangle)]
 pub extern "C" fn phone_format(
     alloc: Global,
@@ -88,15 +87,17 @@ pub extern "C" fn phone_format(
     wrote: &mut usize,
 ) -> u32
     ensures written { result ≡ OK → IsWrittenA
-        (IsPrinted Crate handle.old.records number.now bytes.now mode) out.old out.new wrote.new }
+        (IsPrinted handle.old.rules handle.old.records number.now bytes.now mode)
+        out.old out.new wrote.new }
     ensures too_small { result ≡ TOO_SMALL → IsTooLongA
-        (IsPrinted Crate handle.old.records number.now bytes.now mode) out.old out.new wrote.new }
+        (IsPrinted handle.old.rules handle.old.records number.now bytes.now mode)
+        out.old out.new wrote.new }
     ensures closed { (result ≡ CLOSED) ↔ IsClosed handle.old }
     ensures no_mode { (result ≡ NO_MODE) ↔ (¬ (IsClosed handle.old) × (3 < mode)) }
     ensures bad { (result ≡ BAD_NUMBER) ↔
         (¬ (IsClosed handle.old) × ¬ (3 < mode) × AreNoNumber number.now bytes.now) }
     ensures unknown { result ≡ UNKNOWN_CODE →
-        IsUnprinted Crate handle.old.records number.now bytes.now mode }
+        IsUnprinted handle.old.rules handle.old.records number.now bytes.now mode }
     ensures other { ¬ (result ≡ OK) → ¬ (result ≡ TOO_SMALL) → ¬ (result ≡ CLOSED) →
         ¬ (result ≡ NO_MODE) → ¬ (result ≡ BAD_NUMBER) → ¬ (result ≡ UNKNOWN_CODE) →
         result ≡ MEMORY }
@@ -105,12 +106,11 @@ pub extern "C" fn phone_format(
     ensures kept { IsKept handle.old handle.new }
 {
     *wrote = 0;
-    let Some(database) = take(alloc, handle) else {
+    let Some(opened) = take(alloc, handle) else {
         return CLOSED;
     };
-    let engine = engine_of(Rules::Crate, &*database);
-    let status = print(engine, number, bytes, mode, out, wrote);
-    put(alloc, handle, database);
+    let status = print(engine_of(&opened), number, bytes, mode, out, wrote);
+    put(alloc, handle, opened);
     status
 }
 
@@ -120,7 +120,7 @@ pub extern "C" fn phone_format(
 /// short code, 13 standard rate, 14 the carrier's, 15 not from abroad, 16 unknown.
 ///
 /// `CLOSED` exactly where the handle is closed, else `BAD_NUMBER` exactly where the plain numbers
-/// are no number's; `MEMORY`. For each but `OK` `told` is as it was. The handle stays as it was.
+/// are no number's; `MEMORY`. For each but `OK` `told` is as it was.
 #[unsafe(no_mangle)]
 pub extern "C" fn phone_kind(
     alloc: Global,
@@ -128,7 +128,7 @@ pub extern "C" fn phone_kind(
     number: &Number,
     told: &mut u32,
 ) -> u32
-    ensures told { result ≡ OK → IsKind Crate handle.old.records number.now told.new }
+    ensures told { result ≡ OK → IsKind handle.old.rules handle.old.records number.now told.new }
     ensures closed { (result ≡ CLOSED) ↔ IsClosed handle.old }
     ensures bad { (result ≡ BAD_NUMBER) ↔ (¬ (IsClosed handle.old) × AreNone number.now) }
     ensures other { ¬ (result ≡ OK) → ¬ (result ≡ CLOSED) → ¬ (result ≡ BAD_NUMBER) →
@@ -136,11 +136,11 @@ pub extern "C" fn phone_kind(
     ensures untouched { ¬ (result ≡ OK) → told.new ≡ told.old }
     ensures kept { IsKept handle.old handle.new }
 {
-    let Some(database) = take(alloc, handle) else {
+    let Some(opened) = take(alloc, handle) else {
         return CLOSED;
     };
-    let status = kind(engine_of(Rules::Crate, &*database), number, told);
-    put(alloc, handle, database);
+    let status = kind(engine_of(&opened), number, told);
+    put(alloc, handle, opened);
     status
 }
 
@@ -148,7 +148,7 @@ pub extern "C" fn phone_kind(
 /// none.
 ///
 /// `OK`, `TOO_SMALL`, `CLOSED` and `MEMORY` as `phone_report` has them; else `BAD_NUMBER` exactly
-/// where the plain numbers are no number's. The handle stays as it was.
+/// where the plain numbers are no number's.
 #[unsafe(no_mangle)]
 pub extern "C" fn phone_region(
     alloc: Global,
@@ -158,9 +158,9 @@ pub extern "C" fn phone_region(
     wrote: &mut usize,
 ) -> u32
     ensures written { result ≡ OK → IsWrittenA
-        (IsRegion Crate handle.old.records number.now) out.old out.new wrote.new }
+        (IsRegion handle.old.rules handle.old.records number.now) out.old out.new wrote.new }
     ensures too_small { result ≡ TOO_SMALL → IsTooLongA
-        (IsRegion Crate handle.old.records number.now) out.old out.new wrote.new }
+        (IsRegion handle.old.rules handle.old.records number.now) out.old out.new wrote.new }
     ensures closed { (result ≡ CLOSED) ↔ IsClosed handle.old }
     ensures bad { (result ≡ BAD_NUMBER) ↔ (¬ (IsClosed handle.old) × AreNone number.now) }
     ensures other { ¬ (result ≡ OK) → ¬ (result ≡ TOO_SMALL) → ¬ (result ≡ CLOSED) →
@@ -170,12 +170,11 @@ pub extern "C" fn phone_region(
     ensures kept { IsKept handle.old handle.new }
 {
     *wrote = 0;
-    let Some(database) = take(alloc, handle) else {
+    let Some(opened) = take(alloc, handle) else {
         return CLOSED;
     };
-    let engine = engine_of(Rules::Crate, &*database);
-    let status = region(engine, number, out, wrote);
-    put(alloc, handle, database);
+    let status = region(engine_of(&opened), number, out, wrote);
+    put(alloc, handle, opened);
     status
 }
 
@@ -188,7 +187,8 @@ pub extern "C" fn phone_is_valid(
     number: &Number,
     told: &mut u8,
 ) -> u32
-    ensures told { result ≡ OK → IsValidity Crate handle.old.records number.now told.new }
+    ensures told { result ≡ OK →
+        IsValidity handle.old.rules handle.old.records number.now told.new }
     ensures closed { (result ≡ CLOSED) ↔ IsClosed handle.old }
     ensures bad { (result ≡ BAD_NUMBER) ↔ (¬ (IsClosed handle.old) × AreNone number.now) }
     ensures other { ¬ (result ≡ OK) → ¬ (result ≡ CLOSED) → ¬ (result ≡ BAD_NUMBER) →
@@ -196,11 +196,11 @@ pub extern "C" fn phone_is_valid(
     ensures untouched { ¬ (result ≡ OK) → told.new ≡ told.old }
     ensures kept { IsKept handle.old handle.new }
 {
-    let Some(database) = take(alloc, handle) else {
+    let Some(opened) = take(alloc, handle) else {
         return CLOSED;
     };
-    let status = validity(engine_of(Rules::Crate, &*database), number, told);
-    put(alloc, handle, database);
+    let status = validity(engine_of(&opened), number, told);
+    put(alloc, handle, opened);
     status
 }
 

@@ -2,23 +2,20 @@
 //! buffers of the caller's.
 //!
 //! C's variable holds a handle, a struct of one pointer that begins as null; only these calls write
-//! it, one at a time; between two calls it may be passed to another thread. Several handles may
-//! stand on one database, and each serves one call at a time. Each call that asks takes what is
-//! held out of the handle and puts it back, which moves a pointer.
+//! it. Behind it stand a database and the rules by which it is asked, which are chosen where it is
+//! opened. A handle serves one call at a time: a call that asks takes what is open out of it and
+//! puts it back. Several handles may stand on one database, each asked in a thread of its own.
 #![tactic(auto)]
 
-ghost use Rattle.std.specs.Prelude.{◌≡◌, ◌⊎◌, ◌↔◌, None, Some, IsUtf8, chars, codes};
+ghost use Rattle.std.specs.Prelude.{◌≡◌, ◌⊎◌, ◌↔◌, ◌<◌, None, Some, IsUtf8, chars, codes};
 ghost use Rattle.phone_chars.specs.Viable.{IsViable};
 ghost use Rattle.phone_engine.specs.ReportLines.{IsReportLine};
-ghost use Rattle.phone_values.specs.declared.rules.Rules.TheVariants.{Crate};
 ghost use Rattle.phone_c_base.specs.Buffers.{IsTooLong, IsTooLongA, IsWritten, IsWrittenA};
-ghost use Rattle.phone_c_base.specs.Handles.{IsClosed, IsKept, IsOpen, IsOpenedBy};
+ghost use Rattle.phone_c_base.specs.Handles.{IsClosed, IsKept, IsOpen, IsOpenOf, IsOpenedBy};
 ghost use Rattle.phone_c_base.specs.Hints.{UnderHint, hint_of};
 ghost use Rattle.phone_c_base.specs.Openings.{HasForm, IsRefusalOf};
-ghost use Rattle.phone_c_base.specs.Parses.{IsNoRefusal, IsWordsOf};
-ghost use Rattle.phone_c_base.specs.Words.{word_of};
+ghost use Rattle.phone_c_base.specs.Words.{status_words, word_of};
 
-mod by_rules;
 mod calls;
 mod find;
 mod listed;
@@ -28,61 +25,88 @@ mod typing;
 mod util;
 
 use phone_c_base::buffer::give;
-use phone_c_base::engines::engine_under;
-use phone_c_base::handle::{Handle, put, take};
+use phone_c_base::engines::{engine_of, under};
+use phone_c_base::handle::{Handle, close, put, take};
 use phone_c_base::opening::open_database;
-use phone_c_base::refusal::refusal_words;
 use phone_c_base::report::report;
-use phone_c_base::sharing::share;
-use phone_c_base::status::{
-    CLOSED, MEMORY, NO_REFUSAL, NO_REGION, NO_WORD, NOT_UTF8, OK, TOO_SMALL,
-};
-use phone_c_base::words::word;
-use phone_engine::Rules;
+use phone_c_base::rules::rules_of;
+use phone_c_base::sharing::{share, share_by};
+use phone_c_base::status::{CLOSED, MEMORY, NO_REGION, NO_RULES, NO_WORD, NOT_UTF8, OK, TOO_SMALL};
+use phone_c_base::words::{word, words};
 use phonenumber::is_viable;
 use std::alloc::Global;
 
 /// Opens the database that bytes are, as `Plans::open` reads them: the compact form of its records,
-/// where they begin with that form's first line, else a JSON text. What the handle had open is
-/// closed first, whatever comes of them.
+/// where they begin with that form's first line, else a JSON text. It is asked by the rules of this
+/// number: 0 those of libphonenumber, 1 those of the crate. What the handle had open is closed
+/// first, whatever comes of them.
 ///
-/// `OK`: the database is open. `NOT_UTF8` exactly where the bytes don't begin so and aren't UTF-8.
-/// 1 to 5: the number of the refusal, as `LoadMetadata::number` gives it. `MEMORY`: memory was
-/// refused. For each but `OK` the handle is closed.
+/// `OK`: the database is open. `NO_RULES` exactly where the rules are above 1, else `NOT_UTF8`
+/// exactly where the bytes don't begin so and aren't UTF-8. 8 to 12: 7 more than the number of the
+/// refusal, as `LoadMetadata::number` gives it. `MEMORY`: memory was refused. For each but `OK` the
+/// handle is closed.
 #[unsafe(no_mangle)]
-pub extern "C" fn phone_open(alloc: Global, text: &[u8], handle: &mut Handle) -> u32
-    ensures opened { result ≡ OK → IsOpenedBy text.now handle.new }
-    ensures not_utf8 { (result ≡ NOT_UTF8) ↔ ¬ (HasForm text.now) }
-    ensures refused { ¬ (result ≡ OK) → ¬ (result ≡ NOT_UTF8) → IsRefusalOf text.now result }
+pub extern "C" fn phone_open(alloc: Global, text: &[u8], rules: u32, handle: &mut Handle) -> u32
+    ensures opened { result ≡ OK → IsOpenedBy text.now rules handle.new }
+    ensures no_rules { (result ≡ NO_RULES) ↔ (1 < rules) }
+    ensures not_utf8 { (result ≡ NOT_UTF8) ↔ (¬ (1 < rules) × ¬ (HasForm text.now)) }
+    ensures refused { ¬ (result ≡ OK) → ¬ (result ≡ NO_RULES) → ¬ (result ≡ NOT_UTF8) →
+        IsRefusalOf text.now result }
     ensures closed { ¬ (result ≡ OK) → IsClosed handle.new }
 {
-    if let Some(old) = take(alloc, handle) {
-        drop(old);
-    }
-    match open_database(alloc, text) {
-        Ok(database) => {
-            put(alloc, handle, database);
+    close(alloc, handle);
+    let Some(rules) = rules_of(rules) else {
+        return NO_RULES;
+    };
+    match open_database(alloc, text, rules) {
+        Ok(opened) => {
+            put(alloc, handle, opened);
             OK
         }
         Err(status) => status,
     }
 }
 
-/// Opens behind `mine` the database that is open behind `world`: both handles stand on it, and each
-/// serves one call at a time. It takes the memory of a few words, and copies no database. What
-/// `mine` had open is closed first, whatever comes.
+/// Opens behind `mine` the database that is open behind `world`, asked by the same rules. It takes
+/// the memory of a few words, and copies no database. What `mine` had open is closed first,
+/// whatever comes.
 ///
 /// `OK`: the database is open behind `mine`. `CLOSED` exactly where `world` is closed. `MEMORY`:
-/// memory was refused. For each but `OK` `mine` is closed. `world` stays as it was.
+/// memory was refused. For each but `OK` `mine` is closed.
 #[unsafe(no_mangle)]
 pub extern "C" fn phone_share(alloc: Global, world: &mut Handle, mine: &mut Handle) -> u32
-    ensures shared { result ≡ OK → IsOpen mine.new world.old.records }
+    ensures shared { result ≡ OK → IsOpen mine.new world.old.records world.old.rules }
     ensures closed { (result ≡ CLOSED) ↔ IsClosed world.old }
-    ensures other { ¬ (result ≡ OK) → ¬ (result ≡ CLOSED) → result ≡ MEMORY }
+    ensures status { (result ≡ OK) ⊎ (result ≡ CLOSED) ⊎ (result ≡ MEMORY) }
     ensures refused { ¬ (result ≡ OK) → IsClosed mine.new }
     ensures kept { IsKept world.old world.new }
 {
     share(alloc, world, mine)
+}
+
+/// The same, asked by the rules of this number, as `phone_open` takes them: two handles on one
+/// database may be asked by both. `NO_RULES` exactly where the rules are above 1, before all else.
+#[unsafe(no_mangle)]
+#[tactic(auto, using(crate::proofs::Kept::kept))]
+pub extern "C" fn phone_share_by(
+    alloc: Global,
+    world: &mut Handle,
+    rules: u32,
+    mine: &mut Handle,
+) -> u32
+    ensures shared { result ≡ OK → IsOpenOf mine.new world.old.records rules }
+    ensures no_rules { (result ≡ NO_RULES) ↔ (1 < rules) }
+    ensures closed { (result ≡ CLOSED) ↔ (¬ (1 < rules) × IsClosed world.old) }
+    ensures other { ¬ (result ≡ OK) → ¬ (result ≡ NO_RULES) → ¬ (result ≡ CLOSED) →
+        result ≡ MEMORY }
+    ensures refused { ¬ (result ≡ OK) → IsClosed mine.new }
+    ensures kept { IsKept world.old world.new }
+{
+    let Some(rules) = rules_of(rules) else {
+        close(alloc, mine);
+        return NO_RULES;
+    };
+    share_by(alloc, world, rules, mine)
 }
 
 /// Closes a handle; nothing where it is closed already. The database behind it is freed with the
@@ -91,9 +115,7 @@ pub extern "C" fn phone_share(alloc: Global, world: &mut Handle, mine: &mut Hand
 pub extern "C" fn phone_close(alloc: Global, handle: &mut Handle)
     ensures { IsClosed handle.new }
 {
-    if let Some(old) = take(alloc, handle) {
-        drop(old);
-    }
+    close(alloc, handle)
 }
 
 /// Writes the report line of a line of bytes, which is without its end, as the program writes it:
@@ -101,9 +123,9 @@ pub extern "C" fn phone_close(alloc: Global, handle: &mut Handle)
 ///
 /// `OK`: the answer stands at the front of `out`, which is else as it was, and `wrote` is its
 /// length. `TOO_SMALL` only where `out` is shorter than the answer: then `wrote` is the length that
-/// it needs. `CLOSED` exactly where the handle is closed; else `NO_REGION` exactly where the
-/// hint has a byte and is no region's id. `MEMORY`: memory was refused. For each but `OK` `out` is
-/// as it was, and for each but these two `wrote` is 0. The handle stays as it was.
+/// it needs. `CLOSED` exactly where the handle is closed; else `NO_REGION` exactly where the hint
+/// has a byte and is no region's id. `MEMORY`: memory was refused. For each but `OK` `out` is as it
+/// was, and for each but these two `wrote` is 0.
 #[unsafe(no_mangle)]
 pub extern "C" fn phone_report(
     alloc: Global,
@@ -114,9 +136,9 @@ pub extern "C" fn phone_report(
     wrote: &mut usize,
 ) -> u32
     ensures written { result ≡ OK → UnderHint hint.now (λ h. IsWrittenA
-        (IsReportLine Crate handle.old.records h line.now) out.old out.new wrote.new) }
+        (IsReportLine handle.old.rules handle.old.records h line.now) out.old out.new wrote.new) }
     ensures too_small { result ≡ TOO_SMALL → UnderHint hint.now (λ h. IsTooLongA
-        (IsReportLine Crate handle.old.records h line.now) out.old out.new wrote.new) }
+        (IsReportLine handle.old.rules handle.old.records h line.now) out.old out.new wrote.new) }
     ensures closed { (result ≡ CLOSED) ↔ IsClosed handle.old }
     ensures no_region { (result ≡ NO_REGION) ↔
         (¬ (IsClosed handle.old) × (hint_of hint.now ≡ None)) }
@@ -127,14 +149,14 @@ pub extern "C" fn phone_report(
     ensures kept { IsKept handle.old handle.new }
 {
     *wrote = 0;
-    let Some(database) = take(alloc, handle) else {
+    let Some(opened) = take(alloc, handle) else {
         return CLOSED;
     };
-    let status = match engine_under(Rules::Crate, &*database, hint) {
+    let status = match under(engine_of(&opened), hint) {
         Some(engine) => report(engine, line, out, wrote),
         None => NO_REGION,
     };
-    put(alloc, handle, database);
+    put(alloc, handle, opened);
     status
 }
 
@@ -155,31 +177,30 @@ pub extern "C" fn phone_is_viable(text: &[u8], told: &mut u8) -> u32
     OK
 }
 
-/// Writes the words of the refusal of a text that has this number, 1 to 7, as `phone_parse` answers
-/// it and as `ParseError` is displayed. It needs no database.
+/// Writes the words of a status, whichever call answered it. It needs no database and takes no
+/// memory.
 ///
 /// `OK`: the words stand at the front of `out`, which is else as it was, and `wrote` is their
-/// length. `TOO_SMALL` where `out` is shorter: then `out` is as it was, and `wrote` is the length
-/// of the words. `NO_REFUSAL` exactly where no refusal has this number: then `out` is as it was,
-/// and `wrote` is 0.
+/// length. `TOO_SMALL` where `out` is shorter: then `wrote` is the length of the words. `NO_WORD`
+/// exactly where no call answers the number: then `wrote` is 0. For each but `OK` `out` is as it
+/// was.
 #[unsafe(no_mangle)]
-pub extern "C" fn phone_refusal_words(number: u32, out: &mut [u8], wrote: &mut usize) -> u32
+pub extern "C" fn phone_status_words(status: u32, out: &mut [u8], wrote: &mut usize) -> u32
     ensures written { result ≡ OK →
-        IsWrittenA (IsWordsOf number) out.old out.new wrote.new }
+        IsWrittenA (λ text. status_words status ≡ Some text) out.old out.new wrote.new }
     ensures too_small { result ≡ TOO_SMALL →
-        IsTooLongA (IsWordsOf number) out.old out.new wrote.new }
-    ensures none { (result ≡ NO_REFUSAL) ↔ IsNoRefusal number }
-    ensures status { (result ≡ OK) ⊎ (result ≡ TOO_SMALL) ⊎ (result ≡ NO_REFUSAL) }
-    ensures untouched { result ≡ NO_REFUSAL → out.new ≡ out.old }
-    ensures no_length { result ≡ NO_REFUSAL → wrote.new ≡ 0 }
+        IsTooLongA (λ text. status_words status ≡ Some text) out.old out.new wrote.new }
+    ensures none { (result ≡ NO_WORD) ↔ (status_words status ≡ None) }
+    ensures status { (result ≡ OK) ⊎ (result ≡ TOO_SMALL) ⊎ (result ≡ NO_WORD) }
+    ensures untouched { ¬ (result ≡ OK) → out.new ≡ out.old }
+    ensures no_length { result ≡ NO_WORD → wrote.new ≡ 0 }
 {
-    refusal_words(number, out, wrote)
+    words(status, out, wrote)
 }
 
 /// Writes the word of a value that a call tells by its number. The set says of what it is: 0 of
 /// kinds, 1 of the ways in which a calling code was found, 2 of what a length says, 3 of how like
-/// two numbers are, 4 of costs, 5 of statuses, 6 of those of `phone_open`. It needs no database and
-/// takes no memory.
+/// two numbers are, 4 of costs. It needs no database and takes no memory.
 ///
 /// `OK`: the word stands at the front of `out`, which is else as it was, and `wrote` is its length.
 /// `TOO_SMALL` where `out` is shorter: then `wrote` is the length of the word. `NO_WORD` exactly
@@ -199,7 +220,8 @@ pub extern "C" fn phone_word(set: u32, value: u32, out: &mut [u8], wrote: &mut u
     word(set, value, out, wrote)
 }
 
-/// The version of these calls. A change to what one of them takes or means gives it a new number.
+/// The version of these calls. From 3 on a version has the calls of those before it, with what they
+/// take and mean: a call that takes or means something else gets another name.
 #[unsafe(no_mangle)]
 pub extern "C" fn phone_version() -> u32
     ensures { result ≡ VERSION }
@@ -208,7 +230,7 @@ pub extern "C" fn phone_version() -> u32
 }
 
 /// The version of these calls.
-pub const VERSION: u32 = 2;
+pub const VERSION: u32 = 3;
 
 /// Writes the version of the table of the world that this library was released with: whose numbers
 /// it has, and which release of them. A caller may open another table.

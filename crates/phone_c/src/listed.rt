@@ -14,7 +14,7 @@ use std::alloc::Global;
 /// each, one behind the other.
 ///
 /// `OK`, `TOO_SMALL`, `CLOSED` and `MEMORY` as `phone_report` has them. For each but `OK` `out` is
-/// as it was. The handle stays as it was.
+/// as it was.
 #[unsafe(no_mangle)]
 pub extern "C" fn phone_regions(
     alloc: Global,
@@ -34,11 +34,11 @@ pub extern "C" fn phone_regions(
     ensures kept { IsKept handle.old handle.new }
 {
     *wrote = 0;
-    let Some(database) = take(alloc, handle) else {
+    let Some(opened) = take(alloc, handle) else {
         return CLOSED;
     };
-    let status = regions(&*database, out, wrote);
-    put(alloc, handle, database);
+    let status = regions(opened.database(), out, wrote);
+    put(alloc, handle, opened);
     status
 }
 
@@ -46,7 +46,7 @@ pub extern "C" fn phone_regions(
 /// `wrote` are counts of codes.
 ///
 /// `OK`, `TOO_SMALL`, `CLOSED` and `MEMORY` as `phone_report` has them. For each but `OK` `out` is
-/// as it was. The handle stays as it was.
+/// as it was.
 #[unsafe(no_mangle)]
 pub extern "C" fn phone_codes(
     alloc: Global,
@@ -66,10 +66,10 @@ pub extern "C" fn phone_codes(
     ensures kept { IsKept handle.old handle.new }
 {
     *wrote = 0;
-    let Some(database) = take(alloc, handle) else {
+    let Some(opened) = take(alloc, handle) else {
         return CLOSED;
     };
-    let status = codes(&*database, out, wrote);
-    put(alloc, handle, database);
+    let status = codes(opened.database(), out, wrote);
+    put(alloc, handle, opened);
     status
 }

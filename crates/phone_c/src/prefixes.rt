@@ -9,7 +9,7 @@ ghost use Rattle.phone_c_base.specs.PrefixTables.{IsTextFor, IsTextOfLongest};
 use phone_c_base::prefixes::{longest, open_table};
 use phone_c_base::sharing::share_table;
 use phone_c_base::status::{CLOSED, MEMORY, NO_PREFIX, NOT_UTF8, OK, TOO_SMALL};
-use phone_c_base::table::{Table, put_table, take_table};
+use phone_c_base::table::{PrefixTable, close_table, put_table, take_table};
 use std::alloc::Global;
 
 /// Opens the table of prefixes that a text is, as `Prefixes::of` reads it: lines of a prefix of 1
@@ -24,7 +24,7 @@ use std::alloc::Global;
 pub extern "C" fn phone_prefixes_open(
     alloc: Global,
     text: &[u8],
-    table: &mut Table,
+    table: &mut PrefixTable,
     line: &mut usize,
 ) -> u32
     ensures opened { result ≡ OK → IsTableOpenedBy text.now table.new }
@@ -34,9 +34,7 @@ pub extern "C" fn phone_prefixes_open(
     ensures closed { ¬ (result ≡ OK) → IsTableClosed table.new }
 {
     *line = 0;
-    if let Some(old) = take_table(alloc, table) {
-        drop(old);
-    }
+    close_table(alloc, table);
     match open_table(alloc, text) {
         Ok(prefixes) => {
             put_table(alloc, table, prefixes);
@@ -49,17 +47,20 @@ pub extern "C" fn phone_prefixes_open(
     }
 }
 
-/// Opens behind `mine` the table of prefixes that is open behind `table`: both handles stand on it,
-/// and each serves one call at a time. It takes the memory of a few words, and copies no table.
-/// What `mine` had open is closed first, whatever comes.
+/// Opens behind `mine` the table of prefixes that is open behind `table`. It takes the memory of a
+/// few words, and copies no table. What `mine` had open is closed first, whatever comes.
 ///
 /// `OK`: the table is open behind `mine`. `CLOSED` exactly where `table` is closed. `MEMORY`:
-/// memory was refused. For each but `OK` `mine` is closed. `table` stays as it was.
+/// memory was refused. For each but `OK` `mine` is closed.
 #[unsafe(no_mangle)]
-pub extern "C" fn phone_prefixes_share(alloc: Global, table: &mut Table, mine: &mut Table) -> u32
+pub extern "C" fn phone_prefixes_share(
+    alloc: Global,
+    table: &mut PrefixTable,
+    mine: &mut PrefixTable,
+) -> u32
     ensures shared { result ≡ OK → IsTableOpen mine.new table.old.entries }
     ensures closed { (result ≡ CLOSED) ↔ IsTableClosed table.old }
-    ensures other { ¬ (result ≡ OK) → ¬ (result ≡ CLOSED) → result ≡ MEMORY }
+    ensures status { (result ≡ OK) ⊎ (result ≡ CLOSED) ⊎ (result ≡ MEMORY) }
     ensures refused { ¬ (result ≡ OK) → IsTableClosed mine.new }
     ensures kept { IsTableKept table.old table.new }
 {
@@ -69,12 +70,10 @@ pub extern "C" fn phone_prefixes_share(alloc: Global, table: &mut Table, mine: &
 /// Closes the handle of a table of prefixes; nothing where it is closed already. The table is freed
 /// with the last of the handles that stand on it.
 #[unsafe(no_mangle)]
-pub extern "C" fn phone_prefixes_close(alloc: Global, table: &mut Table)
+pub extern "C" fn phone_prefixes_close(alloc: Global, table: &mut PrefixTable)
     ensures { IsTableClosed table.new }
 {
-    if let Some(old) = take_table(alloc, table) {
-        drop(old);
-    }
+    close_table(alloc, table)
 }
 
 /// Looks up digits, as those of an E.164 text, in a table of prefixes: writes the text of the
@@ -85,11 +84,11 @@ pub extern "C" fn phone_prefixes_close(alloc: Global, table: &mut Table)
 /// `wrote` is the length that it needs. `CLOSED` exactly where the handle is closed, else
 /// `NOT_UTF8` exactly where the digits aren't UTF-8, else `NO_PREFIX` exactly where no prefix
 /// begins them. For each but `OK` `out` and `prefix_len` are as they were, and for each but `OK`
-/// and `TOO_SMALL` `wrote` is 0. The handle stays as it was.
+/// and `TOO_SMALL` `wrote` is 0.
 #[unsafe(no_mangle)]
 pub extern "C" fn phone_prefixes_longest(
     alloc: Global,
-    table: &mut Table,
+    table: &mut PrefixTable,
     digits: &[u8],
     out: &mut [u8],
     wrote: &mut usize,
@@ -112,10 +111,10 @@ pub extern "C" fn phone_prefixes_longest(
     ensures kept { IsTableKept table.old table.new }
 {
     *wrote = 0;
-    let Some(prefixes) = take_table(alloc, table) else {
+    let Some(owner) = take_table(alloc, table) else {
         return CLOSED;
     };
-    let status = longest(&*prefixes, digits, out, wrote, prefix_len);
-    put_table(alloc, table, prefixes);
+    let status = longest(owner.thing(), digits, out, wrote, prefix_len);
+    put_table(alloc, table, owner);
     status
 }

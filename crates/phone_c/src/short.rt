@@ -15,7 +15,7 @@ use std::alloc::Global;
 ///
 /// `CLOSED` exactly where the handle is closed, else `NO_REGION` exactly where the region is no
 /// region's id, else `NOT_UTF8` exactly where the text isn't UTF-8; `MEMORY`. For each but `OK`
-/// `facts` is as it was. The handle stays as it was.
+/// `facts` is as it was.
 #[unsafe(no_mangle)]
 pub extern "C" fn phone_short(
     alloc: Global,
@@ -36,10 +36,10 @@ pub extern "C" fn phone_short(
     ensures untouched { ¬ (result ≡ OK) → facts.new ≡ facts.old }
     ensures kept { IsKept handle.old handle.new }
 {
-    let Some(database) = take(alloc, handle) else {
+    let Some(opened) = take(alloc, handle) else {
         return CLOSED;
     };
-    let status = short(&*database, region, text, facts);
-    put(alloc, handle, database);
+    let status = short(opened.database(), region, text, facts);
+    put(alloc, handle, opened);
     status
 }

@@ -17,7 +17,7 @@ use std::alloc::Global;
 /// of it is kept for the next call.
 ///
 /// `OK`, `TOO_SMALL`, `CLOSED`, `NO_REGION` and `MEMORY` as `phone_report` has them; else
-/// `NOT_UTF8` exactly where the text isn't UTF-8. The handle stays as it was.
+/// `NOT_UTF8` exactly where the text isn't UTF-8.
 #[unsafe(no_mangle)]
 pub extern "C" fn phone_typing_shown(
     alloc: Global,
@@ -43,14 +43,14 @@ pub extern "C" fn phone_typing_shown(
     ensures kept { IsKept handle.old handle.new }
 {
     *wrote = 0;
-    let Some(database) = take(alloc, handle) else {
+    let Some(opened) = take(alloc, handle) else {
         return CLOSED;
     };
     let status = match hint_of(hint) {
-        Some(hint) => show(&*database, hint, keys, out, wrote),
+        Some(hint) => show(opened.database(), hint, keys, out, wrote),
         None => NO_REGION,
     };
-    put(alloc, handle, database);
+    put(alloc, handle, opened);
     status
 }
 
@@ -59,7 +59,7 @@ pub extern "C" fn phone_typing_shown(
 /// key on. Each character that is shown is one byte.
 ///
 /// Its statuses are those of `phone_typing_shown`, but for `TOO_SMALL`. For each but `OK` `told` is
-/// as it was. The handle stays as it was.
+/// as it was.
 #[unsafe(no_mangle)]
 pub extern "C" fn phone_typing_caret(
     alloc: Global,
@@ -81,13 +81,13 @@ pub extern "C" fn phone_typing_caret(
     ensures untouched { ¬ (result ≡ OK) → told.new ≡ told.old }
     ensures kept { IsKept handle.old handle.new }
 {
-    let Some(database) = take(alloc, handle) else {
+    let Some(opened) = take(alloc, handle) else {
         return CLOSED;
     };
     let status = match hint_of(hint) {
-        Some(hint) => caret(&*database, hint, keys, n, told),
+        Some(hint) => caret(opened.database(), hint, keys, n, told),
         None => NO_REGION,
     };
-    put(alloc, handle, database);
+    put(alloc, handle, opened);
     status
 }

@@ -1,5 +1,5 @@
-//! The calls that tell by rules whether a number or a text is possible, whether two texts are one
-//! number, and what an example number is; and the call that tells how a number is dialled.
+//! The calls that tell whether a number or a text is possible, whether two texts are one number,
+//! what an example number is, and how a number is dialled.
 ghost use Rattle.std.specs.Prelude.{◌≡◌, ◌⊎◌, ◌↔◌, ◌<◌, None, IsUtf8};
 ghost use Rattle.phone_values.specs.Ids.{id_of};
 ghost use Rattle.phone_util.specs.declared.dialled.DialError.TheVariants as dial;
@@ -14,56 +14,47 @@ ghost use Rattle.phone_c_base.specs.Kinds.{kind_of};
 ghost use Rattle.phone_c_base.specs.Numbers.{AreNoNumber, AreNone};
 ghost use Rattle.phone_c_base.specs.Possibilities.{IsNoPossibility, IsPossibility};
 ghost use Rattle.phone_c_base.specs.Possibilities.{IsTextPossibility};
-ghost use Rattle.phone_c_base.specs.Rules.{UnderRules};
 
 use phone_c_base::comparison::comparison;
 use phone_c_base::dialling::dialled;
-use phone_c_base::engines::{engine_of, engine_under};
+use phone_c_base::engines::{engine_of, under};
 use phone_c_base::example::example;
 use phone_c_base::handle::{Handle, put, take};
 use phone_c_base::number::Number;
 use phone_c_base::possibility::{possibility, text_possibility};
-use phone_c_base::rules::rules_of;
 use phone_c_base::status::{
-    BAD_NUMBER, CLOSED, MEMORY, NO_EXAMPLE, NO_KIND, NO_REGION, NO_RULES, NO_TERRITORY, NOT_UTF8,
-    OK, TOO_SMALL, UNKNOWN_CODE,
+    BAD_NUMBER, CLOSED, MEMORY, NO_EXAMPLE, NO_KIND, NO_REGION, NO_TERRITORY, NOT_UTF8, OK,
+    TOO_SMALL, UNKNOWN_CODE,
 };
 use std::alloc::Global;
 
-/// Tells what the count of a number's digits says, by rules, as `phone_util::possibility_of` does:
-/// 0 `Possible`, 1 `PossibleLocally`, 2 `TooShort`, 3 `TooLong`, 4 `WrongLength`, 5 `UnknownCode`.
+/// Tells what the count of a number's digits says, as `phone_util::possibility_of` does: 0
+/// `Possible`, 1 `PossibleLocally`, 2 `TooShort`, 3 `TooLong`, 4 `WrongLength`, 5 `UnknownCode`.
 /// The number's texts are not looked at.
 ///
-/// Its statuses are those of `phone_kind_by`. For each but `OK` `told` is as it was. The handle
-/// stays as it was.
+/// Its statuses are those of `phone_kind`. For each but `OK` `told` is as it was.
 #[unsafe(no_mangle)]
-#[tactic(auto, using(crate::proofs::Kept::kept))]
-pub extern "C" fn phone_possibility_by(
+pub extern "C" fn phone_possibility(
     alloc: Global,
     handle: &mut Handle,
-    rules: u32,
     number: &Number,
     told: &mut u32,
 ) -> u32
-    ensures told { result ≡ OK → UnderRules rules
-        (λ r. IsPossibility r handle.old.records number.now told.new) }
-    ensures no_rules { (result ≡ NO_RULES) ↔ (1 < rules) }
-    ensures closed { (result ≡ CLOSED) ↔ (¬ (1 < rules) × IsClosed handle.old) }
+    ensures told { result ≡ OK →
+        IsPossibility handle.old.rules handle.old.records number.now told.new }
+    ensures closed { (result ≡ CLOSED) ↔ IsClosed handle.old }
     ensures bad { (result ≡ BAD_NUMBER) ↔
-        (¬ (1 < rules) × ¬ (IsClosed handle.old) × AreNone number.now) }
-    ensures other { ¬ (result ≡ OK) → ¬ (result ≡ NO_RULES) → ¬ (result ≡ CLOSED) →
+        (¬ (IsClosed handle.old) × AreNone number.now) }
+    ensures other { ¬ (result ≡ OK) → ¬ (result ≡ CLOSED) →
         ¬ (result ≡ BAD_NUMBER) → result ≡ MEMORY }
     ensures untouched { ¬ (result ≡ OK) → told.new ≡ told.old }
     ensures kept { IsKept handle.old handle.new }
 {
-    let Some(rules) = rules_of(rules) else {
-        return NO_RULES;
-    };
-    let Some(database) = take(alloc, handle) else {
+    let Some(opened) = take(alloc, handle) else {
         return CLOSED;
     };
-    let status = possibility(engine_of(rules, &*database), number, told);
-    put(alloc, handle, database);
+    let status = possibility(engine_of(&opened), number, told);
+    put(alloc, handle, opened);
     status
 }
 
@@ -71,86 +62,71 @@ pub extern "C" fn phone_possibility_by(
 /// under the hint that `phone_report` takes: a text that is refused for its length or for its
 /// calling code has an answer.
 ///
-/// `NO_RULES`, `CLOSED`, `NO_REGION`, `NOT_UTF8` and `MEMORY` as `phone_parse_by` has them; 1 or 6:
-/// the number of another refusal. For each but `OK` `told` is as it was. The handle stays as it
-/// was.
+/// `CLOSED`, `NO_REGION`, `NOT_UTF8` and `MEMORY` as `phone_parse` has them; 1 or 6: the number of
+/// another refusal. For each but `OK` `told` is as it was.
 #[unsafe(no_mangle)]
-#[tactic(auto, using(crate::proofs::Kept::kept))]
-pub extern "C" fn phone_text_possibility_by(
+pub extern "C" fn phone_text_possibility(
     alloc: Global,
     handle: &mut Handle,
-    rules: u32,
     hint: &[u8],
     text: &[u8],
     told: &mut u32,
 ) -> u32
-    ensures told { result ≡ OK → UnderRules rules
-        (λ r. UnderHint hint.now (λ h.
-        IsTextPossibility r handle.old.records h text.now told.new)) }
-    ensures no_rules { (result ≡ NO_RULES) ↔ (1 < rules) }
-    ensures closed { (result ≡ CLOSED) ↔ (¬ (1 < rules) × IsClosed handle.old) }
+    ensures told { result ≡ OK → UnderHint hint.now (λ h.
+        IsTextPossibility handle.old.rules handle.old.records h text.now told.new) }
+    ensures closed { (result ≡ CLOSED) ↔ IsClosed handle.old }
     ensures no_region { (result ≡ NO_REGION) ↔
-        (¬ (1 < rules) × ¬ (IsClosed handle.old) × (hint_of hint.now ≡ None)) }
-    ensures not_utf8 { (result ≡ NOT_UTF8) ↔ (¬ (1 < rules) × ¬ (IsClosed handle.old) ×
+        (¬ (IsClosed handle.old) × (hint_of hint.now ≡ None)) }
+    ensures not_utf8 { (result ≡ NOT_UTF8) ↔ (¬ (IsClosed handle.old) ×
         ¬ (hint_of hint.now ≡ None) × ¬ (IsUtf8 text.now)) }
-    ensures refused { ¬ (result ≡ OK) → ¬ (result ≡ NO_RULES) → ¬ (result ≡ CLOSED) →
+    ensures refused { ¬ (result ≡ OK) → ¬ (result ≡ CLOSED) →
         ¬ (result ≡ NO_REGION) → ¬ (result ≡ NOT_UTF8) →
-        (result ≡ MEMORY) ⊎ UnderRules rules (λ r. UnderHint hint.now (λ h. IsNoPossibility r
-        handle.old.records h text.now result)) }
+        (result ≡ MEMORY) ⊎ UnderHint hint.now (λ h. IsNoPossibility handle.old.rules
+        handle.old.records h text.now result) }
     ensures untouched { ¬ (result ≡ OK) → told.new ≡ told.old }
     ensures kept { IsKept handle.old handle.new }
 {
-    let Some(rules) = rules_of(rules) else {
-        return NO_RULES;
-    };
-    let Some(database) = take(alloc, handle) else {
+    let Some(opened) = take(alloc, handle) else {
         return CLOSED;
     };
-    let status = match engine_under(rules, &*database, hint) {
+    let status = match under(engine_of(&opened), hint) {
         Some(engine) => text_possibility(engine, text, told),
         None => NO_REGION,
     };
-    put(alloc, handle, database);
+    put(alloc, handle, opened);
     status
 }
 
-/// Tells whether two texts are one number by rules, each perhaps without its calling code, as
+/// Tells whether two texts are one number, each perhaps without its calling code, as
 /// `phone_util::compare_texts` does: 0 `Exact`, 1 `Number`, 2 `National`, 3 `End`, 4 `Different`.
 ///
-/// `NO_RULES` exactly where the rules are above 1, else `CLOSED` exactly where the handle is
-/// closed, else `NOT_UTF8` exactly where one of the texts isn't UTF-8; 1 to 6: the number of the
-/// refusal of the first text, else of the second; `MEMORY`. For each but `OK` `told` is as it was.
-/// The handle stays as it was.
+/// `CLOSED` exactly where the handle is closed, else `NOT_UTF8` exactly where one of the texts
+/// isn't UTF-8; 1 to 6: the number of the refusal of the first text, else of the second; `MEMORY`.
+/// For each but `OK` `told` is as it was.
 #[unsafe(no_mangle)]
-#[tactic(auto, using(crate::proofs::Kept::kept))]
-pub extern "C" fn phone_compare_by(
+pub extern "C" fn phone_compare(
     alloc: Global,
     handle: &mut Handle,
-    rules: u32,
     first: &[u8],
     second: &[u8],
     told: &mut u32,
 ) -> u32
-    ensures told { result ≡ OK → UnderRules rules
-        (λ r. AreAlike r handle.old.records first.now second.now told.new) }
-    ensures no_rules { (result ≡ NO_RULES) ↔ (1 < rules) }
-    ensures closed { (result ≡ CLOSED) ↔ (¬ (1 < rules) × IsClosed handle.old) }
-    ensures not_utf8 { (result ≡ NOT_UTF8) ↔ (¬ (1 < rules) × ¬ (IsClosed handle.old) ×
+    ensures told { result ≡ OK → AreAlike handle.old.rules handle.old.records first.now
+        second.now told.new }
+    ensures closed { (result ≡ CLOSED) ↔ IsClosed handle.old }
+    ensures not_utf8 { (result ≡ NOT_UTF8) ↔ (¬ (IsClosed handle.old) ×
         ¬ (IsUtf8 first.now × IsUtf8 second.now)) }
-    ensures refused { ¬ (result ≡ OK) → ¬ (result ≡ NO_RULES) → ¬ (result ≡ CLOSED) →
-        ¬ (result ≡ NOT_UTF8) → (result ≡ MEMORY) ⊎ UnderRules rules
-        (λ r. AreRefusedAs r handle.old.records first.now second.now result) }
+    ensures refused { ¬ (result ≡ OK) → ¬ (result ≡ CLOSED) → ¬ (result ≡ NOT_UTF8) →
+        (result ≡ MEMORY) ⊎ AreRefusedAs handle.old.rules handle.old.records first.now second.now
+        result }
     ensures untouched { ¬ (result ≡ OK) → told.new ≡ told.old }
     ensures kept { IsKept handle.old handle.new }
 {
-    let Some(rules) = rules_of(rules) else {
-        return NO_RULES;
-    };
-    let Some(database) = take(alloc, handle) else {
+    let Some(opened) = take(alloc, handle) else {
         return CLOSED;
     };
-    let status = comparison(engine_of(rules, &*database), first, second, told);
-    put(alloc, handle, database);
+    let status = comparison(engine_of(&opened), first, second, told);
+    put(alloc, handle, opened);
     status
 }
 
@@ -159,11 +135,10 @@ pub extern "C" fn phone_compare_by(
 ///
 /// `OK`, `TOO_SMALL`, `CLOSED` and `MEMORY` as `phone_report` has them; else `NO_REGION` exactly
 /// where the region is no region's id, then `BAD_NUMBER` exactly where plain numbers and bytes are
-/// no number. `NO_TERRITORY` only where the database has no territory of the region;
-/// `UNKNOWN_CODE` only where it has one, but none of the number's calling code. For each but `OK`
-/// `out` is as it was. The handle stays as it was.
+/// no number. `NO_TERRITORY` only where the database has no territory of the region; `UNKNOWN_CODE`
+/// only where it has one, but none of the number's calling code. For each but `OK` `out` is as it
+/// was.
 #[unsafe(no_mangle)]
-#[tactic(auto, using(crate::proofs::Kept::kept))]
 pub extern "C" fn phone_dialled_from(
     alloc: Global,
     handle: &mut Handle,
@@ -196,66 +171,58 @@ pub extern "C" fn phone_dialled_from(
     ensures kept { IsKept handle.old handle.new }
 {
     *wrote = 0;
-    let Some(database) = take(alloc, handle) else {
+    let Some(opened) = take(alloc, handle) else {
         return CLOSED;
     };
-    let status = dialled(&*database, region, number, bytes, out, wrote);
-    put(alloc, handle, database);
+    let status = dialled(opened.database(), region, number, bytes, out, wrote);
+    put(alloc, handle, opened);
     status
 }
 
-/// Reads the example number of a region and a kind by rules, with the region as hint, as
+/// Reads the example number of a region and a kind, with the region as hint, as
 /// `phone_util::example` reads it: into plain numbers, and its texts, as `phone_parse` writes them,
 /// into a buffer. The region is given by its id, as `NZ`, the kind by the number by which
-/// `phone_kind_by` tells it.
+/// `phone_kind` tells it.
 ///
-/// `NO_RULES` exactly where the rules are above 1, else `CLOSED` exactly where the handle is
-/// closed, else `NO_REGION` exactly where the region is no region's id, else `NO_KIND` exactly
-/// where the kind is above 16, else `NO_EXAMPLE` exactly where the database gives no example of
-/// them. `TOO_SMALL` and `MEMORY` as `phone_parse_by` has them; 1 to 6: the number of the refusal
-/// of the example. For each but `OK` `number` and `out` are as they were. The handle stays as it
-/// was.
+/// `CLOSED` exactly where the handle is closed, else `NO_REGION` exactly where the region is no
+/// region's id, else `NO_KIND` exactly where the kind is above 16, else `NO_EXAMPLE` exactly where
+/// the database gives no example of them. `TOO_SMALL` and `MEMORY` as `phone_parse` has them; 1 to
+/// 6: the number of the refusal of the example. For each but `OK` `number` and `out` are as they
+/// were.
 #[unsafe(no_mangle)]
-#[tactic(auto, using(crate::proofs::Kept::kept))]
-pub extern "C" fn phone_example_by(
+pub extern "C" fn phone_example(
     alloc: Global,
     handle: &mut Handle,
-    rules: u32,
     region: &[u8],
     kind: u32,
     number: &mut Number,
     out: &mut [u8],
     wrote: &mut usize,
 ) -> u32
-    ensures read { result ≡ OK → UnderRules rules (λ r. IsExample r handle.old.records
-        region.now kind number.new out.old out.new wrote.new) }
-    ensures too_small { result ≡ TOO_SMALL → UnderRules rules (λ r. IsExampleTooLong r
-        handle.old.records region.now kind out.old out.new wrote.new) }
-    ensures no_rules { (result ≡ NO_RULES) ↔ (1 < rules) }
-    ensures closed { (result ≡ CLOSED) ↔ (¬ (1 < rules) × IsClosed handle.old) }
+    ensures read { result ≡ OK → IsExample handle.old.rules handle.old.records
+        region.now kind number.new out.old out.new wrote.new }
+    ensures too_small { result ≡ TOO_SMALL → IsExampleTooLong handle.old.rules
+        handle.old.records region.now kind out.old out.new wrote.new }
+    ensures closed { (result ≡ CLOSED) ↔ IsClosed handle.old }
     ensures no_region { (result ≡ NO_REGION) ↔
-        (¬ (1 < rules) × ¬ (IsClosed handle.old) × (id_of region.now ≡ None)) }
-    ensures no_kind { (result ≡ NO_KIND) ↔ (¬ (1 < rules) × ¬ (IsClosed handle.old) ×
+        (¬ (IsClosed handle.old) × (id_of region.now ≡ None)) }
+    ensures no_kind { (result ≡ NO_KIND) ↔ (¬ (IsClosed handle.old) ×
         ¬ (id_of region.now ≡ None) × (kind_of kind ≡ None)) }
-    ensures no_example { (result ≡ NO_EXAMPLE) ↔ (¬ (1 < rules) × ¬ (IsClosed handle.old) ×
+    ensures no_example { (result ≡ NO_EXAMPLE) ↔ (¬ (IsClosed handle.old) ×
         HasNoExample handle.old.records region.now kind) }
-    ensures refused { ¬ (result ≡ OK) → ¬ (result ≡ TOO_SMALL) → ¬ (result ≡ NO_RULES) →
-        ¬ (result ≡ CLOSED) → ¬ (result ≡ NO_REGION) → ¬ (result ≡ NO_KIND) →
-        ¬ (result ≡ NO_EXAMPLE) → (result ≡ MEMORY) ⊎ UnderRules rules
-        (λ r. IsExampleRefused r handle.old.records region.now kind result) }
+    ensures refused { ¬ (result ≡ OK) → ¬ (result ≡ TOO_SMALL) → ¬ (result ≡ CLOSED) →
+        ¬ (result ≡ NO_REGION) → ¬ (result ≡ NO_KIND) → ¬ (result ≡ NO_EXAMPLE) →
+        (result ≡ MEMORY) ⊎ IsExampleRefused handle.old.rules handle.old.records region.now kind
+        result }
     ensures untouched { ¬ (result ≡ OK) → (number.new ≡ number.old) × (out.new ≡ out.old) }
     ensures no_length { ¬ (result ≡ OK) → ¬ (result ≡ TOO_SMALL) → wrote.new ≡ 0 }
     ensures kept { IsKept handle.old handle.new }
 {
     *wrote = 0;
-    let Some(rules) = rules_of(rules) else {
-        return NO_RULES;
-    };
-    let Some(database) = take(alloc, handle) else {
+    let Some(opened) = take(alloc, handle) else {
         return CLOSED;
     };
-    let engine = engine_of(rules, &*database);
-    let status = example(engine, region, kind, number, out, wrote);
-    put(alloc, handle, database);
+    let status = example(engine_of(&opened), region, kind, number, out, wrote);
+    put(alloc, handle, opened);
     status
 }

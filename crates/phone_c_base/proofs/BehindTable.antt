@@ -1,48 +1,32 @@
--- What is owned behind the handle of a table of prefixes. Assumes `Logic`.
-use Rattle.std.proofs.Common.{◌≡◌, ℕ, List, [], ◌∷◌, ◌++◌, refl, subst}
+-- The machine values of the handle of a table of prefixes, and what is owned behind it. Assumes
+-- `Logic`.
+use Rattle.std.proofs.Common.{◌≡◌, List, [], ◌∷◌, ◌++◌, refl, subst}
 use seplogic.Ra.Ura.{Ura}
-use mir.Syntax.{impl, tnil, dnil}
 use mir.Val.{Val, vstruct, of_list}
-use mir.Raw.{raw as bare}
-use base.Fraction.{full_share}
-use base.Logic.{ent, via, snd∗, guard, guard_i}
-use types.Logic.{Logic, sem}
-use types.Kit.{given, learn, use1, Item, Goal, Seq, Step, step, ‵, ◌$◌, drop, fsplit, fjoin, fpick, fpack, feq_i, feq_l}
-use contract.Monad.{fact_use}
-use denote.Builtin.{RawPtr}
-use denote.Memory.{lone}
+use types.Logic.{Logic}
+use types.Kit.{Item, Goal, Seq, Step, step, ‵, ◌$◌, drop, fsplit, fjoin, fpick, fpack, feq_i, feq_l}
 use denote.RattleType.{RattleType, Valss}
-use denote.RawPtr.{Ptr, Testable, block_ptr, lies_at, null_ptr, ptr_val}
+use denote.RawPtr.{Ptr, RawPtr, ptr_val}
 use denote.Steps.{nothing}
 use denote.Struct.Struct.{within}
 use denote.Struct.Owning.{shape}
-use Rattle.std.proofs.GlobalToken.{dealloc_token-Testable}
-use Rattle.std.proofs.alloc.Global.TheLaws as heap_laws
-use Rattle.std.specs.contracts.alloc.Global as heap
-use Rattle.std.specs.contracts.impls.GlobalAllocator.TheImpl.{ghosts}
 use Rattle.std_alloc.proofs.BoxSteps.Form.{Bx}
 use Rattle.phone_prefixes.proofs.prefixes.Prefixes.TheLaws as table_laws
 use Rattle.phone_prefixes.specs.contracts.prefixes.Prefixes as prefixes
 use Rattle.phone_prefixes.specs.Tables.{Entry}
-use Rattle.phone_c_base.proofs.Behind.{pointer}
-use Rattle.phone_c_base.specs.Owned.{boxed_table_at, c_heap, table_owns}
-use Rattle.phone_c_base.proofs.shared.Owner.TheLaws as owner_laws
+use Rattle.phone_c_base.specs.Owned.{table_owns}
+use Rattle.phone_c_base.proofs.Pointers.{box_of, pointer}
+use Rattle.phone_c_base.proofs.shared.Owner.TheLaws as laws_of
 use Rattle.phone_c_base.specs.contracts.shared.Owner as owner
-use Rattle.phone_c_base.specs.contracts.table.Table as table
+use Rattle.phone_c_base.specs.contracts.table.PrefixTable as table
 
--- an owner of a table
-abbrev owned : RattleType
-owned = owner.the_row prefixes.the_row
+-- what stands behind one
+abbrev pub behind : RattleType
+behind = owner.the_row prefixes.the_row
 
--- a box of one over the C library's heap, as the kit's steps for boxes take it
+-- a box of that
 abbrev pub E : Bx
-E = record { row = owned; laws = owner_laws.the_row_laws prefixes.the_row table_laws.the_row_laws; al = record { row = heap.the_row; laws = heap_laws.the_row_laws; g = ghosts; d = impl [] tnil dnil; drops = impl [] tnil dnil } }
-
-module _ {M : Type 1} {𝓤 : Ura M} (𝓛 : Logic 𝓤) where
-  -- a pointer that the heap may free may be compared with null
-  pub boxed_table_at-Testable : (p : Ptr) (x : List Entry) → ent 𝓤 (sem 𝓛 (boxed_table_at p x)) (guard 𝓤 (Testable p) (sem 𝓛 (boxed_table_at p x)))
-  boxed_table_at-Testable p x =
-      fact_use 𝓤 (Testable p) (via 𝓤 _ (snd∗ 𝓤 (sem 𝓛 (lies_at owned full_share p x)) (sem 𝓛 (ghosts.dealloc_token c_heap (bare (lone owned.mir)) p))) (dealloc_token-Testable 𝓛 c_heap (bare (lone owned.mir)) p)) (guard_i 𝓤 (Testable p) (sem 𝓛 (boxed_table_at p x)))
+E = box_of behind (laws_of.the_row_laws prefixes.the_row table_laws.the_row_laws)
 
 module _ {M : Type 1} {𝓤 : Ura M} {𝓛 : Logic 𝓤} {K : Type 0} {Γ : List (Item 𝓤)} {G : Goal 𝓤 𝓛.H} where
   -- what is owned at the pointer becomes the handle's
@@ -59,9 +43,3 @@ module _ {M : Type 1} {𝓤 : Ura M} {𝓛 : Logic 𝓤} {K : Type 0} {Γ : List
   let_out t h vs k =
       fsplit t $ fpick t (λ vss. fsplit t $ feq_l t (λ ev. fsplit t $ feq_l t (λ ep. drop t $
       k (subst (λ (ps : List Val). vs ≡ vstruct (of_list (ps ++ [])) ∷ []) ep ev))))
-
-  -- nothing is owned at null; a pointer to a block may be compared with null
-  pub null_or_block : K → (p : Ptr) (x : List Entry) → (p ≡ null_ptr → Seq K 𝓛 Γ G)
-      → ((b o : ℕ) → p ≡ block_ptr b o → Testable (block_ptr b o) → Seq K 𝓛 (‵ (boxed_table_at (block_ptr b o) x) ∷ Γ) G) → Seq K 𝓛 (‵ (table_owns p x) ∷ Γ) G
-  null_or_block t null_ptr x n k = drop t $ n refl
-  null_or_block t (block_ptr b o) x n k = use1 𝓛 (given (Testable (block_ptr b o)) (‵ (boxed_table_at (block_ptr b o) x))) (boxed_table_at-Testable 𝓛 (block_ptr b o) x) $ learn t (λ may. k b o refl may)

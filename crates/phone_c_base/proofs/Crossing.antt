@@ -66,6 +66,9 @@ use Rattle.phone_territory.proofs.territory.CompiledParts.TheSendSync as parts
 use Rattle.phone_plans.proofs.index.Index.TheSendSync as index
 use Rattle.phone_prefixes.proofs.prefixes.Prefixes.TheSendSync as prefixes
 use Rattle.phone_prefixes.specs.contracts.prefixes.Prefixes as Prefixes
+use Rattle.phone_values.proofs.rules.Rules.TheSendSync as rules
+use Rattle.phone_c_base.specs.contracts.opened.Opened as Opened
+use Rattle.phone_c_base.specs.contracts.opened.Opened.TheInside as Opened-in
 use Rattle.phone_c_base.specs.contracts.shared.Owner as Owner
 use Rattle.phone_c_base.specs.contracts.shared.Owner.TheInside as Owner-in
 
@@ -701,8 +704,15 @@ Owner-inside-send T send sync = recorded_send (Owner-in.the_field T).row _ _ (Ow
 Owner-send : (T : RattleType) → IsSend T → IsSync T → IsSend (Owner.the_row T)
 Owner-send T send sync = view_send _ _ _ _ _ (Owner-inside-send T send sync)
 
-pub Database-owner-send : IsSend (Owner.the_row Database.the_row)
+Database-owner-send : IsSend (Owner.the_row Database.the_row)
 Database-owner-send = Owner-send Database.the_row Database-send Database-sync
+
+Opened-inside-send : IsSend Opened-in.the_row
+Opened-inside-send = recorded_send (Opened-in.the_field).row _ _ (Opened-in.the_type).to_one
+    (struct_send (S.shape Opened-in.the_type) (Database-owner-send, (rules.the_field_send, tt)))
+
+pub Opened-send : IsSend Opened.the_row
+Opened-send = view_send _ _ _ _ _ Opened-inside-send
 
 pub Prefixes-owner-send : IsSend (Owner.the_row Prefixes.the_row)
 Prefixes-owner-send = Owner-send Prefixes.the_row prefixes.the_send prefixes.the_sync

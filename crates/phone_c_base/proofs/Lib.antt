@@ -3,12 +3,13 @@ pub mod BehindTable
 pub mod ByNumber
 pub mod CaretPlaces
 pub mod Crossing
+pub mod FoundRows
 pub mod IdsByPlace
 pub mod LongestFound
 pub mod OneAnswers
 pub mod OneShown
 pub mod OneTold
 pub mod Places
+pub mod Pointers
 pub mod ReadPlaces
-pub mod Statuses
 pub mod TheirWords

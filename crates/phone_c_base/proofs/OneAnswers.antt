@@ -1,13 +1,13 @@
 -- What is said of plain numbers is said of one number.
 use Rattle.std.proofs.Common.{◌≡◌, ℕ, ◌+◌, ◌==◌, if◌then◌else◌, List, [], Option, None, Some}
-use Rattle.std.proofs.Common.{length, slice_range, refl, ap, sym, ◌∙◌}
-use Rattle.std.proofs.Common.{arith}
+use Rattle.std.proofs.Common.{length, slice_range, refl, ap, sym, ◌∙◌, arith}
 use Rattle.std.specs.Option.{option_map_or}
 use Rattle.phone_values.specs.Ids.{name}
 use Rattle.phone_values.specs.declared.country.Source.{Source}
 use Rattle.phone_values.specs.declared.country.Source.TheVariants.{Plus, Idd, Number, Default}
 use Rattle.phone_values.specs.declared.mode.Mode.{Mode}
-use Rattle.phone_values.specs.declared.mode.Mode.TheVariants.{E164, International, National, Rfc3966}
+use Rattle.phone_values.specs.declared.mode.Mode.TheVariants.{E164, International, National}
+use Rattle.phone_values.specs.declared.mode.Mode.TheVariants.{Rfc3966}
 use Rattle.phone_values.specs.declared.reading.Reading.{Reading}
 use Rattle.phone_print.specs.Texts.{e164_text}
 use Rattle.phone_engine.specs.Facts.{is_valid_by, kind_by, printed_as, region_by}
@@ -50,7 +50,8 @@ one_source : (a b : Source) → source_number a ≡ source_number b → a ≡ b
 one_source a b e = sym (source_back a) ∙ ap source_at e ∙ source_back b
 
 -- a number of its parts
-abbrev reading_by : Source → (code zeros value : ℕ) → (extension carrier : Option (List ℕ)) → Reading
+abbrev reading_by : Source → (code zeros value : ℕ) → (extension carrier : Option (List ℕ)) →
+    Reading
 reading_by source code zeros value extension carrier = record {
   code = record { source = source; value = code };
   national = record { zeros = zeros; value = value };

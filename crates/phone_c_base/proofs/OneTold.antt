@@ -37,7 +37,8 @@ module _ (db : List Metadata) (rules : Rules) where
       IsTextPossibility rules db hint text j → IsTextPossibility rules db hint text k → j ≡ k
   one_text_possibility hint text j k h g =
       let read = reading_same rules db hint (chars text) h.1.0 g.1.0 h.1.1 g.1.1 in
-      let same = ok_same (possibility_read rules db h.1.0) h.0 g.0 (sym h.1.2) (ap (λ r. possibility_read rules db r) read ∙ sym g.1.2) in
+      let same = ok_same (possibility_read rules db h.1.0) h.0 g.0 (sym h.1.2)
+      (ap (λ r. possibility_read rules db r) read ∙ sym g.1.2) in
       h.2 ∙ ap possibility_number same ∙ sym g.2
 
   pub one_alike : (first second : List ℕ) (j k : ℕ) → AreAlike rules db first second j →
@@ -58,7 +59,8 @@ module _ (db : List Metadata) (rules : Rules) where
   one_example region kind r s = at (id_of region) (kind_of kind)
     where
       Reads : Option Id → Option «Type» → Result Reading ParseError → Type 0
-      Reads i k r = IsSomeAnd i (λ id. IsSomeAnd k (λ k. IsSomeAnd (example_text db id k) (λ t. ReadsBy rules db (Some id) (chars t) r)))
+      Reads i k r = IsSomeAnd i (λ id. IsSomeAnd k (λ k.
+          IsSomeAnd (example_text db id k) (λ t. ReadsBy rules db (Some id) (chars t) r)))
 
       at : (i : Option Id) (k : Option «Type») → Reads i k r → Reads i k s → r ≡ s
       at None k h g = absurd h
@@ -75,9 +77,11 @@ pub one_dialled : (db : List Metadata) (region : List ℕ) (x : plain.Number) (b
 one_dialled db region x bytes a b = at (id_of region)
   where
     Dialled : Option Id → List ℕ → Type 0
-    Dialled o text = IsSomeAnd o (λ id. (n : Reading) × IsNumber x bytes n × (dialled_text db id n ≡ Ok text))
+    Dialled o text = IsSomeAnd o
+        (λ id. (n : Reading) × IsNumber x bytes n × (dialled_text db id n ≡ Ok text))
 
     at : (o : Option Id) → Dialled o a → Dialled o b → a ≡ b
     at None h g = absurd h
     at (Some id) h g =
-        ok_same (dialled_text db id h.0) a b h.2 (ap (λ n. dialled_text db id n) (one_number x bytes h.0 g.0 h.1 g.1) ∙ g.2)
+        let number = one_number x bytes h.0 g.0 h.1 g.1 in
+        ok_same (dialled_text db id h.0) a b h.2 (ap (λ n. dialled_text db id n) number ∙ g.2)

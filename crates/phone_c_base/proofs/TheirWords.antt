@@ -21,7 +21,7 @@ use Rattle.phone_c_base.specs.Comparisons.{sameness_number}
 use Rattle.phone_c_base.specs.Numbers.{source_number}
 use Rattle.phone_c_base.specs.Possibilities.{possibility_number}
 use Rattle.phone_c_base.specs.ShortNumbers.{cost_number}
-use Rattle.phone_c_base.specs.Words.{possibility_word, sameness_word, word_of}
+use Rattle.phone_c_base.specs.Words.{possibility_word, sameness_word, status_words, word_of}
 
 pub kind_words : (k : «Type») → word_of 0 (kind_number k) ≡ Some (kind_name k)
 unfolding word_of
@@ -74,8 +74,8 @@ cost_words cost.StandardRate = refl
 cost_words cost.PremiumRate = refl
 cost_words cost.Unknown = refl
 
-pub refused_words : (e : ParseError) → word_of 5 (refusal_number e) ≡ Some (refusal_words e)
-unfolding word_of
+pub refused_words : (e : ParseError) → status_words (refusal_number e) ≡ Some (refusal_words e)
+unfolding status_words
 refused_words error.NoNumber = refl
 refused_words error.InvalidCountryCode = refl
 refused_words error.TooShortAfterIdd = refl

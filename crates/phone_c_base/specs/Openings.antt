@@ -1,5 +1,5 @@
 -- Which database the bytes of a text are, and by which status they are refused.
-use Rattle.std.specs.Prelude.{◌≡◌, ◌⊎◌, ℕ, List, None, IsUtf8}
+use Rattle.std.specs.Prelude.{◌≡◌, ◌⊎◌, ℕ, ◌+◌, ◌==◌, if◌then◌else◌, List, None, IsUtf8}
 use Rattle.std.specs.List.{AllByRecursion}
 use Rattle.phone_compact.specs.Records.{IsCompact}
 use Rattle.phone_base.specs.Errors.{told}
@@ -9,7 +9,7 @@ use Rattle.phone_records.specs.declared.loader.Metadata.{Metadata}
 use Rattle.phone_territory.specs.First.{IsPattern}
 use Rattle.phone_plans.specs.Refusals.{patterns}
 use Rattle.phone_plans.specs.Forms.{AreOf, IsFormRefusal}
-use Rattle.phone_c_base.specs.declared.status.TheConstants.{NOT_UTF8}
+use Rattle.phone_c_base.specs.declared.status.TheConstants.{MEMORY, NOT_UTF8}
 
 -- the bytes are these records, of which none lacks a value, and each of their patterns is one
 pub record IsDatabaseOf (text : List ℕ) (db : List Metadata) : Type 0 where
@@ -21,9 +21,14 @@ pub record IsDatabaseOf (text : List ℕ) (db : List Metadata) : Type 0 where
 abbrev pub HasForm : List ℕ → Type 0
 HasForm text = IsCompact text ⊎ IsUtf8 text
 
--- the status is the number of a refusal of the bytes
+-- the status of a refusal of bytes, by its number: none is that of a refusal of a text but memory's
+abbrev pub opening_status : ℕ → ℕ
+opening_status number = if number == MEMORY then MEMORY else number + 7
+
+-- the status is that of a refusal of the bytes
 abbrev pub IsRefusalOf : List ℕ → ℕ → Type 0
-IsRefusalOf text status = (e : LoadMetadata) × IsFormRefusal text e × (status ≡ (told e).0)
+IsRefusalOf text status =
+    (e : LoadMetadata) × IsFormRefusal text e × (status ≡ opening_status (told e).0)
 
 -- bytes that have no form are refused by that status, others by the number of a refusal
 abbrev pub IsRefused : List ℕ → ℕ → Type 0

@@ -1,6 +1,6 @@
 -- What a text is read as, told in plain numbers and a buffer.
 use Rattle.std.specs.Prelude.{◌≡◌, ℕ, List, Option, Ok, Err, chars}
-use Rattle.phone_values.specs.Refusals.{refusal_number, refusal_words}
+use Rattle.phone_values.specs.Refusals.{refusal_number}
 use Rattle.phone_values.specs.declared.country.Id.{Id}
 use Rattle.phone_values.specs.declared.error.ParseError.{ParseError}
 use Rattle.phone_records.specs.declared.loader.Metadata.{Metadata}
@@ -31,12 +31,3 @@ pub record IsParsedTooLong (rules : Rules) (db : List Metadata) (hint : Option I
 abbrev pub IsRefusedAs : Rules → List Metadata → Option Id → (text : List ℕ) → ℕ → Type 0
 IsRefusedAs rules db hint text status =
     (e : ParseError) × ReadsBy rules db hint (chars text) (Err e) × (status ≡ refusal_number e)
-
--- the words of the refusal that has this number
-abbrev pub IsWordsOf : ℕ → List ℕ → Type 0
-IsWordsOf number words =
-    (e : ParseError) × (number ≡ refusal_number e) × (words ≡ refusal_words e)
-
--- no refusal has this number
-abbrev pub IsNoRefusal : ℕ → Type 0
-IsNoRefusal number = (e : ParseError) → ¬ (number ≡ refusal_number e)

@@ -9,7 +9,7 @@ use Rattle.phone_prefixes.specs.declared.fault.LineFault.TheVariants.{Empty, NoT
 use Rattle.phone_prefixes.specs.declared.fault.LineFault.TheVariants.{NotUtf8, PrefixTwice}
 use Rattle.phone_c_base.specs.declared.status.TheConstants.{LINE_EMPTY, LINE_NO_TAB, LINE_NO_PREFIX}
 use Rattle.phone_c_base.specs.declared.status.TheConstants.{LINE_NOT_UTF8, LINE_TWICE}
-use Rattle.phone_c_base.specs.declared.table.Table.{Table}
+use Rattle.phone_c_base.specs.declared.table.PrefixTable.{PrefixTable}
 
 -- what is wrong with a line, by its number
 abbrev pub fault_number : LineFault → ℕ
@@ -20,19 +20,19 @@ fault_number NotUtf8 = LINE_NOT_UTF8
 fault_number PrefixTwice = LINE_TWICE
 
 -- nothing is open: the pointer is null
-abbrev pub IsTableClosed : Table → Type 0
+abbrev pub IsTableClosed : PrefixTable → Type 0
 IsTableClosed t = t.at ≡ null_ptr
 
 -- the table of these entries is open, at a block of memory
-abbrev pub IsTableOpen : Table → List Entry → Type 0
+abbrev pub IsTableOpen : PrefixTable → List Entry → Type 0
 IsTableOpen t entries = InBlock t.at × (t.entries ≡ entries)
 
 -- the table that a text is, is open
-abbrev pub IsTableOpenedBy : List ℕ → Table → Type 0
+abbrev pub IsTableOpenedBy : List ℕ → PrefixTable → Type 0
 IsTableOpenedBy text t = InBlock t.at × IsTable text t.entries
 
 -- the handle is as it was: closed, or the same table is open behind it
-abbrev pub IsTableKept : (before after : Table) → Type 0
+abbrev pub IsTableKept : (before after : PrefixTable) → Type 0
 IsTableKept before after = (IsTableClosed before → IsTableClosed after) ×
     (¬ (IsTableClosed before) → IsTableOpen after before.entries)
 

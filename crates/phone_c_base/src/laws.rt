@@ -31,7 +31,8 @@ ghost use Rattle.phone_util.specs.declared.possibilities.Possibility.{Possibilit
 ghost use Rattle.phone_util.specs.declared.sameness.Sameness.{Sameness};
 ghost use Rattle.phone_engine.specs.Words.{source_word};
 ghost use Rattle.phone_c_base.specs.Typing.{IsCaret, IsShown};
-ghost use Rattle.phone_c_base.specs.Words.{possibility_word, sameness_word, word_of};
+ghost use Rattle.phone_c_base.specs.Words.{possibility_word, sameness_word, status_words};
+ghost use Rattle.phone_c_base.specs.Words.{word_of};
 ghost use Rattle.phone_c_base.specs.declared.found.Place.{Place};
 ghost use Rattle.phone_c_base.specs.declared.number.Number as plain;
 ghost use Rattle.phone_c_base.specs.declared.short.PlainFacts.{PlainFacts};
@@ -120,5 +121,5 @@ pub fn words()
     ensures sameness { (s : Sameness) → word_of 3 (sameness_number s) ≡ Some (sameness_word s) }
     ensures cost { (c : Cost) → word_of 4 (cost_number c) ≡ Some (cost_word c) }
     ensures refusal { (e : ParseError) →
-        word_of 5 (refusal_number e) ≡ Some (refusal_words e) }
+        status_words (refusal_number e) ≡ Some (refusal_words e) }
 {}

@@ -8,13 +8,13 @@ ghost use Rattle.phone_c_base.specs.PrefixTables.{fault_number, IsLineRefusedAs}
 ghost use Rattle.phone_c_base.specs.PrefixTables.{IsTextFor, IsTextOfLongest};
 
 use crate::buffer::give;
-use crate::shared::Held;
+use crate::shared::Owner;
 use crate::status::{
     LINE_EMPTY, LINE_NO_PREFIX, LINE_NO_TAB, LINE_NOT_UTF8, LINE_TWICE, MEMORY, NO_PREFIX,
     NOT_UTF8, OK, TOO_SMALL,
 };
 use phone_prefixes::{LineFault, Prefixes, PrefixesError};
-use std::alloc::Global;
+use std::alloc::{AllocError, Global};
 
 /// What is wrong with a line, by its number.
 fn fault_number(what: LineFault) -> u32
@@ -40,21 +40,28 @@ fn read_table(alloc: Global, text: &[u8]) -> Result<Prefixes, PrefixesError>
     }
 }
 
-/// The table that a text is, as a handle holds it; or the status of the refusal, and the number of
-/// the line, 0 where none is refused.
-pub fn open_table(alloc: Global, text: &[u8]) -> Result<Held<Prefixes>, (u32, usize)>
-    ensures opened { IfOk result (λ held. IsTable text.now held) }
+/// The table that a text is, as it stands behind a handle; or the status of the refusal, and the
+/// number of the line, 0 where none is refused.
+pub fn open_table(alloc: Global, text: &[u8]) -> Result<Box<Owner<Prefixes>>, (u32, usize)>
+    ensures opened { IfOk result (λ owner. IsTable text.now owner.value) }
     ensures refused { IfErr result (λ e. ((e.0 ≡ MEMORY) × (e.1 ≡ 0)) ⊎
         IsLineRefusedAs text.now e.1 e.0) }
 {
     match read_table(alloc, text) {
-        Ok(prefixes) => match Held::of(alloc, prefixes) {
-            Ok(prefixes) => Ok(prefixes),
+        Ok(prefixes) => match owned(alloc, prefixes) {
+            Ok(owner) => Ok(owner),
             Err(_) => Err((MEMORY, 0)),
         },
         Err(PrefixesError::Line(line, what)) => Err((fault_number(what), line)),
         Err(_) => Err((MEMORY, 0)),
     }
+}
+
+/// The only owner of a table, in a box. Refused only for memory.
+fn owned(alloc: Global, prefixes: Prefixes) -> Result<Box<Owner<Prefixes>>, AllocError>
+    ensures { IfOk result (λ owner. owner.value ≡ prefixes) }
+{
+    Owner::of(alloc, prefixes)?.boxed(alloc)
 }
 
 /// Writes the text of an entry to the front of a buffer, its length, and that of the prefix; only

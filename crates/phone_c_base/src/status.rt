@@ -1,5 +1,5 @@
-//! The statuses: what a call answers. Those from 1 to 8 are the numbers of the errors, of a
-//! database where one is opened, and of a text where one is read.
+//! The statuses: what a call answers, each by a number of its own. Those from 1 to 6 say why a text
+//! is no number, those from 8 to 12 why bytes are no database, by the numbers of the refusals.
 
 /// It was done.
 pub const OK: u32 = 0;
@@ -27,9 +27,6 @@ pub const BAD_NUMBER: u32 = 21;
 
 /// The mode is none of the four.
 pub const NO_MODE: u32 = 22;
-
-/// No refusal of a text has the number.
-pub const NO_REFUSAL: u32 = 23;
 
 /// The rules are neither of the two.
 pub const NO_RULES: u32 = 24;

@@ -2,7 +2,7 @@
 //! functions is proved only while its type is `Send`, or `Sync`; none of them does anything.
 
 use crate::handle::Handle;
-use crate::table::Table;
+use crate::table::PrefixTable;
 use phone_plans::Plans;
 use phone_prefixes::Prefixes;
 
@@ -33,6 +33,6 @@ pub fn handle_crosses(handle: &Handle) {
 }
 
 /// The handle of a table of prefixes may be passed to another thread.
-pub fn table_crosses(table: &Table) {
+pub fn table_crosses(table: &PrefixTable) {
     crosses(table)
 }

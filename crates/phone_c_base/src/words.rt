@@ -1,151 +1,143 @@
 //! The words of values that calls tell by their numbers, as texts and in a buffer.
-ghost use Rattle.std.specs.Prelude.{◌≡◌, ◌⊎◌, ◌↔◌, None, Some, map};
+ghost use Rattle.std.specs.Prelude.{◌≡◌, ◌⊎◌, ◌↔◌, ◌==◌, ℕ, List, None, Some};
+ghost use Rattle.std.specs.Borrow.{Bor};
+ghost use Rattle.std.specs.List.{find};
 ghost use Rattle.std.specs.Option.{option_copied};
 ghost use Rattle.phone_c_base.specs.Buffers.{IsTooLongA, IsWrittenA};
-ghost use Rattle.phone_util.specs.Dialled.{if_some};
-ghost use Rattle.phone_c_base.specs.Words.{word_at, word_of};
+ghost use Rattle.phone_c_base.specs.Words.{rows_of, status_words, word_in, word_of};
 
 use crate::buffer::give;
 use crate::status::{NO_WORD, OK, TOO_SMALL};
 
 /// The words of kinds.
-const KIND_WORDS: [&str; 17] = [
-    "FixedLine",
-    "Mobile",
-    "FixedLineOrMobile",
-    "TollFree",
-    "PremiumRate",
-    "SharedCost",
-    "PersonalNumber",
-    "Voip",
-    "Pager",
-    "Uan",
-    "Emergency",
-    "Voicemail",
-    "ShortCode",
-    "StandardRate",
-    "Carrier",
-    "NoInternational",
-    "Unknown",
+const KIND_WORDS: [(u32, &str); 17] = [
+    (0, "FixedLine"),
+    (1, "Mobile"),
+    (2, "FixedLineOrMobile"),
+    (3, "TollFree"),
+    (4, "PremiumRate"),
+    (5, "SharedCost"),
+    (6, "PersonalNumber"),
+    (7, "Voip"),
+    (8, "Pager"),
+    (9, "Uan"),
+    (10, "Emergency"),
+    (11, "Voicemail"),
+    (12, "ShortCode"),
+    (13, "StandardRate"),
+    (14, "Carrier"),
+    (15, "NoInternational"),
+    (16, "Unknown"),
 ];
 
 /// The words of the ways in which a calling code was found.
-const SOURCE_WORDS: [&str; 4] = ["plus", "idd", "number", "default"];
+const SOURCE_WORDS: [(u32, &str); 4] = [(0, "plus"), (1, "idd"), (2, "number"), (3, "default")];
 
 /// The words of what a length says.
-const POSSIBILITY_WORDS: [&str; 6] = [
-    "possible",
-    "possible-locally",
-    "too-short",
-    "too-long",
-    "wrong-length",
-    "unknown-code",
+const POSSIBILITY_WORDS: [(u32, &str); 6] = [
+    (0, "possible"),
+    (1, "possible-locally"),
+    (2, "too-short"),
+    (3, "too-long"),
+    (4, "wrong-length"),
+    (5, "unknown-code"),
 ];
 
 /// The words of how like two numbers are.
-const SAMENESS_WORDS: [&str; 5] = ["exact", "number", "national", "end", "different"];
+const SAMENESS_WORDS: [(u32, &str); 5] = [
+    (0, "exact"),
+    (1, "number"),
+    (2, "national"),
+    (3, "end"),
+    (4, "different"),
+];
 
 /// The words of costs.
-const COST_WORDS: [&str; 4] = ["TOLL_FREE", "STANDARD_RATE", "PREMIUM_RATE", "UNKNOWN_COST"];
-
-/// The words of the statuses of a call other than `phone_open`, empty where there is none: those
-/// from 1 to 7 are the words of the refusals of a text.
-const STATUS_WORDS: [&str; 36] = [
-    "done",
-    "not a number",
-    "invalid country code",
-    "the number is too short after IDD",
-    "the number is too short after the country code",
-    "the number is too long",
-    "malformed integer part in phone number",
-    "out of memory",
-    "",
-    "",
-    "",
-    "",
-    "",
-    "",
-    "",
-    "",
-    "closed",
-    "the buffer is too short for the answer",
-    "not UTF-8",
-    "unknown region",
-    "unknown calling code",
-    "the plain numbers are no phone number",
-    "unknown mode",
-    "no refusal has the number",
-    "unknown rules",
-    "the line is empty",
-    "the line has no tab",
-    "the prefix isn't 1 to 15 digits",
-    "the text isn't UTF-8",
-    "the prefix stands in an earlier line",
-    "no prefix begins the digits",
-    "unknown kind",
-    "the table has no example",
-    "no value has the number",
-    "the table has no territory of the region",
-    "unknown leniency",
+const COST_WORDS: [(u32, &str); 4] = [
+    (0, "TOLL_FREE"),
+    (1, "STANDARD_RATE"),
+    (2, "PREMIUM_RATE"),
+    (3, "UNKNOWN_COST"),
 ];
 
-/// The words of the statuses of `phone_open`, empty where there is none.
-const OPENING_WORDS: [&str; 19] = [
-    "done",
-    "a record lacks a value that it must have",
-    "a record has a key that it may not have",
-    "malformed JSON",
-    "a value is of the wrong kind",
-    "a text is no pattern",
-    "",
-    "out of memory",
-    "",
-    "",
-    "",
-    "",
-    "",
-    "",
-    "",
-    "",
-    "",
-    "",
-    "not UTF-8",
+/// The words of the statuses: those from 1 to 6 are the words of the refusals of a text, and those
+/// from 8 to 12 say why bytes are no database.
+const STATUS_WORDS: [(u32, &str); 32] = [
+    (0, "done"),
+    (1, "not a number"),
+    (2, "invalid country code"),
+    (3, "the number is too short after IDD"),
+    (4, "the number is too short after the country code"),
+    (5, "the number is too long"),
+    (6, "malformed integer part in phone number"),
+    (7, "out of memory"),
+    (8, "a record lacks a value that it must have"),
+    (9, "a record has a key that it may not have"),
+    (10, "malformed JSON"),
+    (11, "a value is of the wrong kind"),
+    (12, "a text is no pattern"),
+    (16, "closed"),
+    (17, "the buffer is too short for the answer"),
+    (18, "not UTF-8"),
+    (19, "unknown region"),
+    (20, "unknown calling code"),
+    (21, "the plain numbers are no phone number"),
+    (22, "unknown mode"),
+    (24, "unknown rules"),
+    (25, "the line is empty"),
+    (26, "the line has no tab"),
+    (27, "the prefix isn't 1 to 15 digits"),
+    (28, "the text isn't UTF-8"),
+    (29, "the prefix stands in an earlier line"),
+    (30, "no prefix begins the digits"),
+    (31, "unknown kind"),
+    (32, "the table has no example"),
+    (33, "no value has the number"),
+    (34, "the table has no territory of the region"),
+    (35, "unknown leniency"),
 ];
 
-/// The word of a value in a table of them; none where that is empty or past the end.
-fn word_at(words: &[&'static str], value: u32) -> Option<&'static str>
-    ensures { option_copied result ≡ word_at (map (λ w. w.now) words.now) value }
+/// The first row of a table that has this number.
+fn row_of<'r>(rows: &'r [(u32, &'static str)], value: u32) -> Option<&'r (u32, &'static str)>
+    ensures { option_copied result ≡
+        find (λ (row : ℕ × Bor (List ℕ)). row.0 == value) rows.now }
 {
-    match words.get(value as usize) {
-        Some(word) => some(word),
+    rows.iter().find(|row| row.0 == value)
+}
+
+/// The word in the first row of a table that has this number; none where no row has it.
+#[tactic(auto, using(crate::proofs::FoundRows::found_rows))]
+fn word_in(rows: &[(u32, &'static str)], value: u32) -> Option<&'static str>
+    ensures { option_copied result ≡ word_in (rows_of rows.now) value }
+{
+    match row_of(rows, value) {
+        Some(row) => Some(row.1),
         None => None,
     }
 }
 
-/// A text that isn't empty.
-fn some(text: &'static str) -> Option<&'static str>
-    ensures { option_copied result ≡ if_some text.entry.now }
-{
-    if text.is_empty() { None } else { Some(text) }
-}
-
 /// The word of a value of a set: of kinds, 0; of the ways in which a calling code was found, 1; of
-/// what a length says, 2; of how like two numbers are, 3; of costs, 4; of statuses, 5; of those of
-/// `phone_open`, 6.
+/// what a length says, 2; of how like two numbers are, 3; of costs, 4.
 #[tactic(auto, unfolding(crate::specs::Words::word_of))]
 pub fn word_of(set: u32, value: u32) -> Option<&'static str>
     ensures { option_copied result ≡ word_of set value }
 {
     match set {
-        0 => word_at(&KIND_WORDS, value),
-        1 => word_at(&SOURCE_WORDS, value),
-        2 => word_at(&POSSIBILITY_WORDS, value),
-        3 => word_at(&SAMENESS_WORDS, value),
-        4 => word_at(&COST_WORDS, value),
-        5 => word_at(&STATUS_WORDS, value),
-        6 => word_at(&OPENING_WORDS, value),
+        0 => word_in(&KIND_WORDS, value),
+        1 => word_in(&SOURCE_WORDS, value),
+        2 => word_in(&POSSIBILITY_WORDS, value),
+        3 => word_in(&SAMENESS_WORDS, value),
+        4 => word_in(&COST_WORDS, value),
         _ => None,
     }
+}
+
+/// The words of a status.
+#[tactic(auto, unfolding(crate::specs::Words::status_words))]
+pub fn status_words_of(status: u32) -> Option<&'static str>
+    ensures { option_copied result ≡ status_words status }
+{
+    word_in(&STATUS_WORDS, status)
 }
 
 /// The word of a value of a set, in a buffer.
@@ -161,6 +153,24 @@ pub fn word(set: u32, value: u32, out: &mut [u8], wrote: &mut usize) -> u32
 {
     *wrote = 0;
     match word_of(set, value) {
+        Some(text) => give(text.as_bytes(), out, wrote),
+        None => NO_WORD,
+    }
+}
+
+/// The words of a status, in a buffer.
+pub fn words(status: u32, out: &mut [u8], wrote: &mut usize) -> u32
+    ensures written { result ≡ OK →
+        IsWrittenA (λ text. status_words status ≡ Some text) out.old out.new wrote.new }
+    ensures too_small { result ≡ TOO_SMALL →
+        IsTooLongA (λ text. status_words status ≡ Some text) out.old out.new wrote.new }
+    ensures none { (result ≡ NO_WORD) ↔ (status_words status ≡ None) }
+    ensures status { (result ≡ OK) ⊎ (result ≡ TOO_SMALL) ⊎ (result ≡ NO_WORD) }
+    ensures untouched { ¬ (result ≡ OK) → out.new ≡ out.old }
+    ensures no_length { result ≡ NO_WORD → wrote.new ≡ 0 }
+{
+    *wrote = 0;
+    match status_words_of(status) {
         Some(text) => give(text.as_bytes(), out, wrote),
         None => NO_WORD,
     }

@@ -9,4 +9,4 @@ has_form text db is = ⊎_elim (λ compact. inl (_, compact)) (λ json. inr json
 
 pub returns-in-Ok-clause-not_utf8 : goal.returns-in-Ok-clause-not_utf8
 returns-in-Ok-clause-not_utf8 c =
-    ((λ e form. omega (arith, e)), λ none. absurd (none (has_form _ _ c.in-Ok.ensures.opened)))
+    ((λ e. absurd (omega (arith, e))), λ none. absurd (none.1 (has_form _ _ c.in-Ok.ensures.opened)))

@@ -5,7 +5,7 @@ use Rattle.phone_c.proofs.prefixes.phone_prefixes_longest.Goals as goal
 
 pub returns-clause-none : goal.returns-clause-none
 returns-clause-none c =
-    let same : c.deref.result.now ≡ c.args.table.now.entries = search rules in
+    let same : c.thing.result.now ≡ c.args.table.now.entries = search rules in
     let IsSo = λ (es : List Entry).
     (c.longest-status.result ≡ NO_PREFIX) ↔ NoneBegins es c.args.digits.now
     in

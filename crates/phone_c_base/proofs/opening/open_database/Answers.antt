@@ -19,7 +19,7 @@ if_refused text (Err status) form known h = inr (form, (error.Memory, for_memory
 
 pub returns-in-Ok-clause-refused : goal.returns-in-Ok-clause-refused
 returns-in-Ok-clause-refused c =
-    if_refused c.args.text.now c.held.result (c.if-not-has_form.ensures.form refl) c.has_form.ensures.known c.held.ensures.refused
+    if_refused c.args.text.now c.opened.result (c.if-not-has_form.ensures.form refl) c.has_form.ensures.known c.opened.ensures.refused
 
 pub returns-in-Err-clause-refused : goal.returns-in-Err-clause-refused
 returns-in-Err-clause-refused c =

@@ -15,7 +15,9 @@ use denote.RawPtr.{null_ptr}
 use denote.Steps.{nothing}
 use denote.Triple.Walked.{walk_of}
 use Rattle.std.proofs.raw_atomic.Walks.{proved_at, leaves}
-use Rattle.phone_c_base.proofs.Behind.{pointer, shut_in}
+use Rattle.phone_values.specs.declared.rules.Rules.TheVariants.{Library}
+use Rattle.phone_c_base.proofs.Behind.{shut_in}
+use Rattle.phone_c_base.proofs.Pointers.{pointer}
 use Rattle.phone_c_base.specs.contracts.handle.Handle.empty.{ended as En, clauses}
 use Rattle.phone_c_base.specs.contracts.handle.Handle.empty.Key.{name as #self}
 use Rattle.phone_c_base.proofs.handle.Handle.empty.Statement.{statement}
@@ -29,6 +31,6 @@ empty_spec 𝓤 𝓛 𝓜 𝓡 wired =
     qed 𝓛 ((‵ ftrue ⊛ ‵ (owns (types_at En.signature.params κs) z.0.3 z.0.4)) ∷ raw ((c κs z.0.3).requires z.1) ∷ []) ∵ split ! $
     enter ! 𝓣.C 𝓣.Λ fn [] Post $ alloc_all ! (λ l. pass_all ! refl tt $
     sets ! (agg ! (and_then ! (lit ! tt) (no_more !))) refl (tt, (record { fits = lit< tt }, tt)) $
-    nothing ! $ shut_in ! null_ptr [] $
+    nothing ! $ shut_in ! null_ptr ([], Library) $
     use0 𝓛 (raw (fact 𝓤 (null_ptr ≡ null_ptr))) (fact_i 𝓤 (null_ptr ≡ null_ptr) (emp 𝓤) refl) $ nothing ! $
-    returns ! (look_at ! 0 refl) $ free_all ! refl $ keep ! (3 ∷ 0 ∷ 2 ∷ 1 ∷ []) $ by ! (leaves 𝓛 En tt c z (pointer null_ptr) (record { at = null_ptr; records = [] }) tt tt)))
+    returns ! (look_at ! 0 refl) $ free_all ! refl $ keep ! (3 ∷ 0 ∷ 2 ∷ 1 ∷ []) $ by ! (leaves 𝓛 En tt c z (pointer null_ptr) (record { at = null_ptr; records = []; rules = Library }) tt tt)))

@@ -27,9 +27,12 @@ use Rattle.std_alloc.proofs.BoxSteps.Steps.{box_in}
 use Rattle.std_alloc.proofs.ResultValues.{and_tt}
 use Rattle.std.specs.declared.option.Option.TheVariants.{None, Some}
 use Rattle.std.proofs.raw_atomic.Walks.{proved_at, leaves}
+use Rattle.phone_records.specs.declared.loader.Metadata.{Metadata}
+use Rattle.phone_values.specs.declared.rules.Rules.{Rules}
 use Rattle.phone_c_base.specs.contracts.raw_box.RawBox as loose
 use Rattle.phone_c_base.specs.contracts.handle.Handle as handle
-use Rattle.phone_c_base.proofs.Behind.{E, pointer, let_out, null_or_block}
+use Rattle.phone_c_base.proofs.Behind.{E, behind, let_out}
+use Rattle.phone_c_base.proofs.Pointers.{null_or_block, pointer}
 use Rattle.phone_c_base.specs.contracts.handle.Handle.into_raw.{ended as En, clauses}
 use Rattle.phone_c_base.specs.contracts.handle.Handle.into_raw.Key.{name as #self}
 use Rattle.phone_c_base.proofs.handle.Handle.into_raw.Statement.{statement}
@@ -41,11 +44,11 @@ into_raw_spec 𝓤 𝓛 𝓜 𝓡 wired =
     let Heap : RattleType = E.al.row in let To : RattleType = loose.the_row E.row Heap E.al.g in
     let hs : Stays En.signature.params En.kept = (stay_dropped (plain (λ _. handle.the_row)) yes, (stay_dropped (plain (λ _. Heap)) yes, tt)) in
     proved_at 𝓛 En hs c 𝓜 𝓡 (Goes-dropped 𝓛 0 (plain (λ _. handle.the_row)) yes (λ κs x f. refl), (Goes-dropped 𝓛 0 (plain (λ _. Heap)) yes (λ κs x f. refl), tt)) #self fn (code.unfolded 𝓤 H 𝓜 𝓡 wired) (λ z are.
-    let κs = z.0.0 in let d = z.0.3.0 in let x = d.records in let a = z.0.3.1.0 in
+    let κs = z.0.0 in let d = z.0.3.0 in let x : List Metadata × Rules = (d.records, d.rules) in let a = z.0.3.1.0 in
     let Post : Val → SProp 𝓤 = (walk_of 𝓛 En hs c).post z in let Run : List Val → SProp 𝓤 = λ ws. WpFn 𝓤 H 𝓣.C 𝓣.Λ fn ws Post in let Out : RattleType = type_at En.signature.result κs in
     qed 𝓛 ((‵ ftrue ⊛ ‵ (owns (types_at En.signature.params κs) z.0.3 z.0.4)) ∷ raw ((c κs z.0.3).requires z.1) ∷ []) ∵
     split ! $ move ! (1 ∷ []) $ fsplit ! $ let_out ! d z.0.4.0 (λ ws. move ! (1 ∷ []) $ fsplit ! $ handle_tells E.al ! a z.0.4.1.0 (λ h ea fits. move ! (2 ∷ []) $
-    null_or_block ! d.at x
+    null_or_block ! behind d.at x
     (λ is. let w = pointer null_ptr in let es = ws ∙ ap (λ (q : Ptr). pointer q ∷ []) is in
     suffices ! (Run (w ∷ h ∷ [])) (subst (λ (us : List Val). ent 𝓤 (Run (w ∷ h ∷ [])) (Run us)) (sym (λ i. es i ++ (ea i ++ []))) (id⊢ 𝓤 (Run (w ∷ h ∷ [])))) $
     enter ! 𝓣.C 𝓣.Λ fn (w ∷ h ∷ []) Post $ alloc_all ! (λ l. pass_all ! refl ((tt, (record { fits = lit< tt }, tt)), (fits, tt)) $ let Ev = env fn.locals l in
@@ -59,7 +62,7 @@ into_raw_spec 𝓤 𝓛 𝓜 𝓡 wired =
     let made = word E h b o in let typed = box_typed E h b o fits in let some_made : Val = live 1 (vcons made vnil) in
     let r : To.Denot = record { at = p; alloc = a; value = x } in let boxed : D E = record { ptr = p; alloc = a; value = x } in
     let good : Good (layout Out) some_made = (and_tt _ typed.0, (record { fits = lit< tt }, (typed.1, tt))) in
-    let Told : Type 0 = InBlock d.at × (x ≡ x) in let told : Told = (subst InBlock (sym is) tt, refl) in
+    let Told : Type 0 = InBlock d.at × (x.0 ≡ d.records) × (x.1 ≡ d.rules) in let told : Told = (subst InBlock (sym is) tt, refl, refl) in
     suffices ! (Run (w ∷ h ∷ [])) (subst (λ (us : List Val). ent 𝓤 (Run (w ∷ h ∷ [])) (Run us)) (sym (λ i. es i ++ (ea i ++ []))) (id⊢ 𝓤 (Run (w ∷ h ∷ [])))) $
     enter ! 𝓣.C 𝓣.Λ fn (w ∷ h ∷ []) Post $ alloc_all ! (λ l. pass_all ! refl ((tt, (tt, tt)), (fits, tt)) $ let Ev = env fn.locals l in
     sets ! (of_opd ! (get_in ! (fld ! refl (stop !)) (sub ! 0 refl (whole !)))) refl (tt, tt) $ sets ! (bin ! (get ! refl) (lit ! tt) (tests_null p may)) refl (tt, tt) $ first ! $ branches ! (get ! refl) (λ wrong. absurd wrong) (λ _.

@@ -19,7 +19,8 @@ use denote.Triple.Walked.{Stays, stay_dropped, walk_of, Goes-dropped}
 use Rattle.std.proofs.raw_atomic.Walks.{proved_at, leaves}
 use Rattle.std_alloc.proofs.BoxSteps.Form.{D, word, box_typed}
 use Rattle.std_alloc.proofs.BoxSteps.Steps.{box_out}
-use Rattle.phone_c_base.proofs.Behind.{E, pointer, shut_in}
+use Rattle.phone_c_base.proofs.Behind.{E, shut_in}
+use Rattle.phone_c_base.proofs.Pointers.{pointer}
 use Rattle.phone_c_base.specs.contracts.raw_box.RawBox as loose
 use Rattle.phone_c_base.specs.contracts.handle.Handle.of_raw.{ended as En, clauses}
 use Rattle.phone_c_base.specs.contracts.handle.Handle.of_raw.Key.{name as #self}
@@ -41,6 +42,7 @@ of_raw_spec 𝓤 𝓛 𝓜 𝓡 wired =
     sets ! (of_opd ! (get_in ! (fld ! refl (stop !)) (sub ! 0 refl (whole !)))) refl (tt, tt) $
     sets ! (of_opd ! (get ! refl)) refl (tt, tt) $ sets ! (agg ! (and_then ! (get ! refl) (no_more !))) refl (tt, (tt, tt)) $
     shut_in ! p x $
-    use0 𝓛 (raw (fact 𝓤 (x ≡ x))) (fact_i 𝓤 (x ≡ x) (emp 𝓤) refl) $ use0 𝓛 (raw (fact 𝓤 (InBlock p))) (fact_i 𝓤 (InBlock p) (emp 𝓤) tt) $ join ! $
+    use0 𝓛 (raw (fact 𝓤 (x.1 ≡ x.1))) (fact_i 𝓤 (x.1 ≡ x.1) (emp 𝓤) refl) $ use0 𝓛 (raw (fact 𝓤 (x.0 ≡ x.0))) (fact_i 𝓤 (x.0 ≡ x.0) (emp 𝓤) refl) $ join ! $
+    use0 𝓛 (raw (fact 𝓤 (InBlock p))) (fact_i 𝓤 (InBlock p) (emp 𝓤) tt) $ join ! $
     nothing ! $ nothing ! $ fjoin ! $
-    returns ! (look_at ! 0 refl) $ free_all ! refl $ keep ! (4 ∷ 0 ∷ 2 ∷ 1 ∷ []) $ by ! (leaves 𝓛 En hs c z (pointer p) (record { at = p; records = x }) (tt, tt) (tt, tt)))))
+    returns ! (look_at ! 0 refl) $ free_all ! refl $ keep ! (4 ∷ 0 ∷ 2 ∷ 1 ∷ []) $ by ! (leaves 𝓛 En hs c z (pointer p) (record { at = p; records = x.0; rules = x.1 }) (tt, tt) (tt, tt)))))

@@ -28,13 +28,13 @@ use Rattle.std_alloc.proofs.ResultValues.{and_tt}
 use Rattle.std.specs.declared.option.Option.TheVariants.{None, Some}
 use Rattle.std.proofs.raw_atomic.Walks.{proved_at, leaves}
 use Rattle.phone_c_base.specs.contracts.raw_box.RawBox as loose
-use Rattle.phone_c_base.specs.contracts.table.Table as table
-use Rattle.phone_c_base.proofs.Behind.{pointer}
-use Rattle.phone_c_base.proofs.BehindTable.{E, let_out, null_or_block}
-use Rattle.phone_c_base.specs.contracts.table.Table.into_raw.{ended as En, clauses}
-use Rattle.phone_c_base.specs.contracts.table.Table.into_raw.Key.{name as #self}
-use Rattle.phone_c_base.proofs.table.Table.into_raw.Statement.{statement}
-use Rattle.phone_c_base.proofs.table.Table.into_raw.Code as code
+use Rattle.phone_c_base.specs.contracts.table.PrefixTable as table
+use Rattle.phone_c_base.proofs.BehindTable.{E, behind, let_out}
+use Rattle.phone_c_base.proofs.Pointers.{null_or_block, pointer}
+use Rattle.phone_c_base.specs.contracts.table.PrefixTable.into_raw.{ended as En, clauses}
+use Rattle.phone_c_base.specs.contracts.table.PrefixTable.into_raw.Key.{name as #self}
+use Rattle.phone_c_base.proofs.table.PrefixTable.into_raw.Statement.{statement}
+use Rattle.phone_c_base.proofs.table.PrefixTable.into_raw.Code as code
 
 pub into_raw_spec : {M : Type 1} → statement M
 into_raw_spec 𝓤 𝓛 𝓜 𝓡 wired =
@@ -46,7 +46,7 @@ into_raw_spec 𝓤 𝓛 𝓜 𝓡 wired =
     let Post : Val → SProp 𝓤 = (walk_of 𝓛 En hs c).post z in let Run : List Val → SProp 𝓤 = λ ws. WpFn 𝓤 H 𝓣.C 𝓣.Λ fn ws Post in let Out : RattleType = type_at En.signature.result κs in
     qed 𝓛 ((‵ ftrue ⊛ ‵ (owns (types_at En.signature.params κs) z.0.3 z.0.4)) ∷ raw ((c κs z.0.3).requires z.1) ∷ []) ∵
     split ! $ move ! (1 ∷ []) $ fsplit ! $ let_out ! d z.0.4.0 (λ ws. move ! (1 ∷ []) $ fsplit ! $ handle_tells E.al ! a z.0.4.1.0 (λ h ea fits. move ! (2 ∷ []) $
-    null_or_block ! d.at x
+    null_or_block ! behind d.at x
     (λ is. let w = pointer null_ptr in let es = ws ∙ ap (λ (q : Ptr). pointer q ∷ []) is in
     suffices ! (Run (w ∷ h ∷ [])) (subst (λ (us : List Val). ent 𝓤 (Run (w ∷ h ∷ [])) (Run us)) (sym (λ i. es i ++ (ea i ++ []))) (id⊢ 𝓤 (Run (w ∷ h ∷ [])))) $
     enter ! 𝓣.C 𝓣.Λ fn (w ∷ h ∷ []) Post $ alloc_all ! (λ l. pass_all ! refl ((tt, (record { fits = lit< tt }, tt)), (fits, tt)) $ let Ev = env fn.locals l in

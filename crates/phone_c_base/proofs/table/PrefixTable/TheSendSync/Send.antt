@@ -8,19 +8,19 @@ use denote.Param.Send.{IsSend, AllSend, owning_send, struct_send, sendable}
 use Rattle.std.proofs.Common.{List}
 use Rattle.std.proofs.Crossing as heap
 use Rattle.std_alloc.proofs.SendSync.{quiet, lies}
-use Rattle.phone_prefixes.specs.contracts.prefixes.Prefixes as Prefixes
 use Rattle.phone_prefixes.specs.Tables.{Entry}
 use Rattle.phone_c_base.specs.Owned.{c_heap, table_owns}
-use Rattle.phone_c_base.specs.contracts.shared.Owner as Owner
-use Rattle.phone_c_base.specs.contracts.table.Table.{the_row, the_type}
+use Rattle.phone_c_base.specs.contracts.table.PrefixTable.{the_row, the_type}
+use Rattle.phone_c_base.proofs.BehindTable.{behind}
 use Rattle.phone_c_base.proofs.Crossing.{Prefixes-owner-send}
 
 -- what a table owns says the same to every thread
 owned : (p : Ptr) (entries : List Entry) → Keyless (table_owns p entries)
 owned null_ptr entries = tt
-owned (block_ptr b o) entries =
-    let R = Owner.the_row Prefixes.the_row in
-    (lies R Prefixes-owner-send (block_ptr b o) entries, heap.frees.frees c_heap (raw (lone R.mir)) (block_ptr b o))
+owned (block_ptr b o) entries = (
+  lies behind Prefixes-owner-send (block_ptr b o) entries,
+  heap.frees.frees c_heap (raw (lone behind.mir)) (block_ptr b o),
+)
 
 pub send : IsSend the_row
 send =

@@ -19,13 +19,13 @@ use denote.Triple.Walked.{Stays, stay_dropped, walk_of, Goes-dropped}
 use Rattle.std.proofs.raw_atomic.Walks.{proved_at, leaves}
 use Rattle.std_alloc.proofs.BoxSteps.Form.{D, word, box_typed}
 use Rattle.std_alloc.proofs.BoxSteps.Steps.{box_out}
-use Rattle.phone_c_base.proofs.Behind.{pointer}
 use Rattle.phone_c_base.proofs.BehindTable.{E, shut_in}
+use Rattle.phone_c_base.proofs.Pointers.{pointer}
 use Rattle.phone_c_base.specs.contracts.raw_box.RawBox as loose
-use Rattle.phone_c_base.specs.contracts.table.Table.of_raw.{ended as En, clauses}
-use Rattle.phone_c_base.specs.contracts.table.Table.of_raw.Key.{name as #self}
-use Rattle.phone_c_base.proofs.table.Table.of_raw.Statement.{statement}
-use Rattle.phone_c_base.proofs.table.Table.of_raw.Code as code
+use Rattle.phone_c_base.specs.contracts.table.PrefixTable.of_raw.{ended as En, clauses}
+use Rattle.phone_c_base.specs.contracts.table.PrefixTable.of_raw.Key.{name as #self}
+use Rattle.phone_c_base.proofs.table.PrefixTable.of_raw.Statement.{statement}
+use Rattle.phone_c_base.proofs.table.PrefixTable.of_raw.Code as code
 
 pub of_raw_spec : {M : Type 1} → statement M
 of_raw_spec 𝓤 𝓛 𝓜 𝓡 wired =

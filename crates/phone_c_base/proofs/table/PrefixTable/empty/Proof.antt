@@ -15,12 +15,12 @@ use denote.RawPtr.{null_ptr}
 use denote.Steps.{nothing}
 use denote.Triple.Walked.{walk_of}
 use Rattle.std.proofs.raw_atomic.Walks.{proved_at, leaves}
-use Rattle.phone_c_base.proofs.Behind.{pointer}
 use Rattle.phone_c_base.proofs.BehindTable.{shut_in}
-use Rattle.phone_c_base.specs.contracts.table.Table.empty.{ended as En, clauses}
-use Rattle.phone_c_base.specs.contracts.table.Table.empty.Key.{name as #self}
-use Rattle.phone_c_base.proofs.table.Table.empty.Statement.{statement}
-use Rattle.phone_c_base.proofs.table.Table.empty.Code as code
+use Rattle.phone_c_base.proofs.Pointers.{pointer}
+use Rattle.phone_c_base.specs.contracts.table.PrefixTable.empty.{ended as En, clauses}
+use Rattle.phone_c_base.specs.contracts.table.PrefixTable.empty.Key.{name as #self}
+use Rattle.phone_c_base.proofs.table.PrefixTable.empty.Statement.{statement}
+use Rattle.phone_c_base.proofs.table.PrefixTable.empty.Code as code
 
 pub empty_spec : {M : Type 1} → statement M
 empty_spec 𝓤 𝓛 𝓜 𝓡 wired =
