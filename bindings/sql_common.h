@@ -75,7 +75,7 @@ static int sql_mode(sql_text name, uint32_t *mode) {
 }
 
 /* Reads the text of a call as a number, whose own texts go to `texts`. */
-static phone_status sql_parse(const phone_handle *world, const sql_call *call, phone_number *number,
+static phone_status sql_parse(phone_handle *world, const sql_call *call, phone_number *number,
                               sql_bytes *texts) {
     const uint8_t *text = phone_text(call->text.at, call->text.len);
     const uint8_t *region = phone_text(call->region.at, call->region.len);
@@ -87,7 +87,7 @@ static phone_status sql_parse(const phone_handle *world, const sql_call *call, p
 }
 
 /* Prints a number in a mode, to the bytes of the answer. */
-static phone_status sql_print(const phone_handle *world, const phone_number *number, sql_bytes *texts,
+static phone_status sql_print(phone_handle *world, const phone_number *number, sql_bytes *texts,
                               uint32_t mode, sql_answer *answer) {
     sql_bytes *out = &answer->bytes;
     phone_status status;
@@ -98,7 +98,7 @@ static phone_status sql_print(const phone_handle *world, const phone_number *num
 }
 
 /* Answers what is asked of a number that was read. */
-static phone_status sql_describe(const phone_handle *world, const sql_call *call, const phone_number *number,
+static phone_status sql_describe(phone_handle *world, const sql_call *call, const phone_number *number,
                                  sql_bytes *texts, uint32_t mode, sql_answer *answer) {
     sql_bytes *out = &answer->bytes;
     uint8_t truth = 0;
@@ -137,7 +137,7 @@ static phone_status sql_describe(const phone_handle *world, const sql_call *call
 }
 
 /* Answers a call under an open table. sql_end gives back what the answer holds. */
-static void sql_ask(const phone_handle *world, const sql_call *call, sql_answer *answer) {
+static void sql_ask(phone_handle *world, const sql_call *call, sql_answer *answer) {
     phone_number number;
     sql_bytes texts, *out = &answer->bytes;
     uint32_t mode = PHONE_MODE_E164;

@@ -23,7 +23,8 @@
 
 /* A line of the file, and where its region and its text stand. */
 typedef struct { const uint8_t *hint, *text; size_t hint_len, text_len; } line;
-/* What one thread or process found, and a thread's handle. Neither shares a line of the processor's cache with another thread's. */
+/* What one thread or process found, and a thread's handle, which each call writes. Neither shares a line of the processor's cache
+ * with another thread's. */
 typedef struct { _Alignas(128) uint64_t numbers, sum; } found;
 typedef struct { _Alignas(128) phone_handle handle; int place; } worker;
 /* What processes share with the one that forked them. */
@@ -64,7 +65,7 @@ static void cut(const uint8_t *text, size_t len) {
 }
 
 /* The lines from a place to before another, where those of the file come again and again. */
-static found go(const phone_handle *handle, size_t from, size_t to) {
+static found go(phone_handle *handle, size_t from, size_t to) {
     found it = {0, 0};
     uint8_t out[1024] = {0};
     phone_number number = {0};
@@ -88,7 +89,7 @@ static found go(const phone_handle *handle, size_t from, size_t to) {
 }
 
 /* A part of all lines, once everybody is there. */
-static void work(const phone_handle *handle, int place) {
+static void work(phone_handle *handle, int place) {
     pthread_barrier_wait(&all->start);
     all->found[place] = go(handle, total * (size_t)place / count, total * ((size_t)place + 1) / count);
     pthread_barrier_wait(&all->end);
@@ -120,7 +121,7 @@ static void make_barriers(void) {
 }
 
 /* By threads whose handles are made of this one. */
-static double by_threads(const phone_handle *world) {
+static double by_threads(phone_handle *world) {
     static worker workers[MOST];
     pthread_t threads[MOST];
     double took;

@@ -56,7 +56,7 @@ static void make_key(void) {
 }
 
 /* The handle of this thread; NULL, and an error as the result, where there is none. */
-static const phone_handle *world_of_thread(sqlite3_context *context) {
+static phone_handle *world_of_thread(sqlite3_context *context) {
     char why[1024] = "";
     phone_handle *mine;
     pthread_once(&once, make_key);
@@ -96,7 +96,7 @@ static void ask(sqlite3_context *context, int count, sqlite3_value **values) {
     sql_call call = {*(const sql_question *)sqlite3_user_data(context), {0}, {0}, {0}};
     sql_text *const parts[] = {&call.text, &call.region, &call.mode};
     sql_answer answer;
-    const phone_handle *mine;
+    phone_handle *mine;
     for (int i = 0; i < count; i++)
         if (sqlite3_value_type(values[i]) == SQLITE_NULL) return;
     for (int i = 0; i < count; i++) {

@@ -10,7 +10,7 @@ pub(crate) trait Kind: Sized {
     const CLOSED: Self;
 
     /// Opens a second handle on what is open behind this one, and gives the status.
-    fn share(&self, mine: &mut Self) -> u32;
+    fn share(&mut self, mine: &mut Self) -> u32;
 
     fn close(&mut self);
 }
@@ -18,7 +18,7 @@ pub(crate) trait Kind: Sized {
 impl Kind for ffi::Handle {
     const CLOSED: Self = ffi::Handle { at: std::ptr::null_mut() };
 
-    fn share(&self, mine: &mut Self) -> u32 {
+    fn share(&mut self, mine: &mut Self) -> u32 {
         // SAFETY: both handles are lent to the call alone.
         unsafe { ffi::phone_share(self, mine) }
     }
@@ -32,7 +32,7 @@ impl Kind for ffi::Handle {
 impl Kind for ffi::Prefixes {
     const CLOSED: Self = ffi::Prefixes { at: std::ptr::null_mut() };
 
-    fn share(&self, mine: &mut Self) -> u32 {
+    fn share(&mut self, mine: &mut Self) -> u32 {
         // SAFETY: both handles are lent to the call alone.
         unsafe { ffi::phone_prefixes_share(self, mine) }
     }
@@ -109,12 +109,12 @@ impl<H: Kind> Shared<H> {
     }
 
     /// The status of a call on a handle, which is open, and lent to the call alone; `MEMORY` where none can be made for it.
-    pub(crate) fn with(&self, call: impl FnOnce(&H) -> u32) -> u32 {
+    pub(crate) fn with(&self, call: impl FnOnce(&mut H) -> u32) -> u32 {
         let idle = &self.0.idle[place()].0;
         let known = locked(idle).pop();
         match known.map_or_else(|| self.another(), Ok) {
-            Ok(handle) => {
-                let status = call(&handle.0);
+            Ok(mut handle) => {
+                let status = call(&mut handle.0);
                 locked(idle).push(handle);
                 status
             }
@@ -146,8 +146,8 @@ impl Records {
 
     /// The same records, asked by these rules.
     pub(crate) fn asked_by(&self, rules: Rules) -> Result<Records, Error> {
-        let first = locked(&self.0.first);
+        let mut first = locked(&self.0.first);
         // SAFETY: both handles are lent to the call alone.
-        Shared::by(|mine| unsafe { ffi::phone_share_by(&first.0, rules as u32, mine) }).map_err(Error::of)
+        Shared::by(|mine| unsafe { ffi::phone_share_by(&mut first.0, rules as u32, mine) }).map_err(Error::of)
     }
 }

@@ -70,12 +70,12 @@ pub const NO_TERRITORY: u32 = 34;
 unsafe extern "C" {
     pub fn phone_open(text: *const u8, len: usize, rules: u32, handle: *mut Handle) -> u32;
     pub fn phone_open_world(handle: *mut Handle, rules: u32) -> u32;
-    pub fn phone_share(world: *const Handle, mine: *mut Handle) -> u32;
-    pub fn phone_share_by(world: *const Handle, rules: u32, mine: *mut Handle) -> u32;
+    pub fn phone_share(world: *mut Handle, mine: *mut Handle) -> u32;
+    pub fn phone_share_by(world: *mut Handle, rules: u32, mine: *mut Handle) -> u32;
     pub fn phone_world_text(text_len: *mut usize) -> *const u8;
     pub fn phone_close(handle: *mut Handle);
     pub fn phone_report(
-        handle: *const Handle,
+        handle: *mut Handle,
         hint: *const u8,
         hint_len: usize,
         line: *const u8,
@@ -85,7 +85,7 @@ unsafe extern "C" {
         wrote: *mut usize,
     ) -> u32;
     pub fn phone_parse(
-        handle: *const Handle,
+        handle: *mut Handle,
         hint: *const u8,
         hint_len: usize,
         text: *const u8,
@@ -96,7 +96,7 @@ unsafe extern "C" {
         wrote: *mut usize,
     ) -> u32;
     pub fn phone_format(
-        handle: *const Handle,
+        handle: *mut Handle,
         number: *const Number,
         bytes: *const u8,
         bytes_len: usize,
@@ -105,18 +105,18 @@ unsafe extern "C" {
         out_len: usize,
         wrote: *mut usize,
     ) -> u32;
-    pub fn phone_kind(handle: *const Handle, number: *const Number, told: *mut u32) -> u32;
+    pub fn phone_kind(handle: *mut Handle, number: *const Number, told: *mut u32) -> u32;
     pub fn phone_region(
-        handle: *const Handle,
+        handle: *mut Handle,
         number: *const Number,
         out: *mut u8,
         out_len: usize,
         wrote: *mut usize,
     ) -> u32;
-    pub fn phone_is_valid(handle: *const Handle, number: *const Number, told: *mut u8) -> u32;
-    pub fn phone_possibility(handle: *const Handle, number: *const Number, told: *mut u32) -> u32;
+    pub fn phone_is_valid(handle: *mut Handle, number: *const Number, told: *mut u8) -> u32;
+    pub fn phone_possibility(handle: *mut Handle, number: *const Number, told: *mut u32) -> u32;
     pub fn phone_text_possibility(
-        handle: *const Handle,
+        handle: *mut Handle,
         hint: *const u8,
         hint_len: usize,
         text: *const u8,
@@ -124,7 +124,7 @@ unsafe extern "C" {
         told: *mut u32,
     ) -> u32;
     pub fn phone_compare(
-        handle: *const Handle,
+        handle: *mut Handle,
         first: *const u8,
         first_len: usize,
         second: *const u8,
@@ -132,7 +132,7 @@ unsafe extern "C" {
         told: *mut u32,
     ) -> u32;
     pub fn phone_dialled_from(
-        handle: *const Handle,
+        handle: *mut Handle,
         region: *const u8,
         region_len: usize,
         number: *const Number,
@@ -143,7 +143,7 @@ unsafe extern "C" {
         wrote: *mut usize,
     ) -> u32;
     pub fn phone_example(
-        handle: *const Handle,
+        handle: *mut Handle,
         region: *const u8,
         region_len: usize,
         kind: u32,
@@ -152,10 +152,10 @@ unsafe extern "C" {
         out_len: usize,
         wrote: *mut usize,
     ) -> u32;
-    pub fn phone_regions(handle: *const Handle, out: *mut u8, out_len: usize, wrote: *mut usize) -> u32;
-    pub fn phone_codes(handle: *const Handle, out: *mut u16, out_len: usize, wrote: *mut usize) -> u32;
+    pub fn phone_regions(handle: *mut Handle, out: *mut u8, out_len: usize, wrote: *mut usize) -> u32;
+    pub fn phone_codes(handle: *mut Handle, out: *mut u16, out_len: usize, wrote: *mut usize) -> u32;
     pub fn phone_find(
-        handle: *const Handle,
+        handle: *mut Handle,
         hint: *const u8,
         hint_len: usize,
         leniency: u32,
@@ -166,7 +166,7 @@ unsafe extern "C" {
         wrote: *mut usize,
     ) -> u32;
     pub fn phone_typing_shown(
-        handle: *const Handle,
+        handle: *mut Handle,
         hint: *const u8,
         hint_len: usize,
         keys: *const u8,
@@ -176,7 +176,7 @@ unsafe extern "C" {
         wrote: *mut usize,
     ) -> u32;
     pub fn phone_typing_caret(
-        handle: *const Handle,
+        handle: *mut Handle,
         hint: *const u8,
         hint_len: usize,
         keys: *const u8,
@@ -185,7 +185,7 @@ unsafe extern "C" {
         told: *mut usize,
     ) -> u32;
     pub fn phone_short(
-        handle: *const Handle,
+        handle: *mut Handle,
         region: *const u8,
         region_len: usize,
         text: *const u8,
@@ -193,10 +193,10 @@ unsafe extern "C" {
         facts: *mut ShortFacts,
     ) -> u32;
     pub fn phone_prefixes_open(text: *const u8, len: usize, prefixes: *mut Prefixes, line: *mut usize) -> u32;
-    pub fn phone_prefixes_share(prefixes: *const Prefixes, mine: *mut Prefixes) -> u32;
+    pub fn phone_prefixes_share(prefixes: *mut Prefixes, mine: *mut Prefixes) -> u32;
     pub fn phone_prefixes_close(prefixes: *mut Prefixes);
     pub fn phone_prefixes_longest(
-        prefixes: *const Prefixes,
+        prefixes: *mut Prefixes,
         digits: *const u8,
         digits_len: usize,
         out: *mut u8,
