@@ -50,7 +50,7 @@ static uint8_t *sql_at(sql_bytes *bytes) { return bytes->many ? bytes->many : by
 
 /* Makes room for `len` bytes where `status` says that there was too little. 0: there is nothing to be
  * done again, and `status` is PHONE_MEMORY where room was refused. */
-static int sql_again(sql_bytes *bytes, uint32_t *status) {
+static int sql_again(sql_bytes *bytes, phone_status *status) {
     if (*status != PHONE_TOO_SMALL) return 0;
     sql_forget(bytes->many);
     bytes->many = sql_memory(bytes->len);
@@ -75,40 +75,35 @@ static int sql_mode(sql_text name, uint32_t *mode) {
 }
 
 /* Reads the text of a call as a number, whose own texts go to `texts`. */
-static uint32_t sql_parse(phone_handle *world, const sql_call *call, phone_number *number, sql_bytes *texts) {
+static phone_status sql_parse(phone_handle *world, const sql_call *call, phone_number *number,
+                              sql_bytes *texts) {
     const uint8_t *text = phone_text(call->text.at, call->text.len);
     const uint8_t *region = phone_text(call->region.at, call->region.len);
-    uint32_t status;
-    do status = phone_parse_by(world, PHONE_LIBRARY, region, call->region.len, text, call->text.len, number,
-                               sql_at(texts), texts->room, &texts->len);
+    phone_status status;
+    do status = phone_parse(world, region, call->region.len, text, call->text.len, number, sql_at(texts),
+                            texts->room, &texts->len);
     while (sql_again(texts, &status));
     return status;
 }
 
 /* Prints a number in a mode, to the bytes of the answer. */
-static uint32_t sql_print(phone_handle *world, const phone_number *number, sql_bytes *texts, uint32_t mode,
-                          sql_answer *answer) {
+static phone_status sql_print(phone_handle *world, const phone_number *number, sql_bytes *texts,
+                              uint32_t mode, sql_answer *answer) {
     sql_bytes *out = &answer->bytes;
-    uint32_t status;
-    do status = phone_format_by(world, PHONE_LIBRARY, number, sql_at(texts), texts->len, mode, sql_at(out),
-                                out->room, &out->len);
+    phone_status status;
+    do status = phone_format(world, number, sql_at(texts), texts->len, mode, sql_at(out), out->room,
+                             &out->len);
     while (sql_again(out, &status));
     return status;
 }
 
-/* Puts the word of a value of a set of phone_word into the bytes of the answer, which have room for each. */
-static void sql_word(uint32_t set, uint32_t value, sql_answer *answer) {
-    sql_bytes *out = &answer->bytes;
-    if (phone_word(set, value, sql_at(out), out->room, &out->len) != PHONE_OK) out->len = 0;
-    answer->text = (sql_text){(const char *)sql_at(out), out->len};
-}
-
 /* Answers what is asked of a number that was read. */
-static uint32_t sql_describe(phone_handle *world, const sql_call *call, const phone_number *number,
-                             sql_bytes *texts, uint32_t mode, sql_answer *answer) {
+static phone_status sql_describe(phone_handle *world, const sql_call *call, const phone_number *number,
+                                 sql_bytes *texts, uint32_t mode, sql_answer *answer) {
     sql_bytes *out = &answer->bytes;
     uint8_t truth = 0;
-    uint32_t kind = PHONE_UNKNOWN, status = PHONE_OK;
+    uint32_t kind = PHONE_KIND_UNKNOWN;
+    phone_status status = PHONE_OK;
     answer->kind = SQL_TEXT;
     switch (call->question) {
     case SQL_E164:
@@ -119,15 +114,16 @@ static uint32_t sql_describe(phone_handle *world, const sql_call *call, const ph
         status = sql_print(world, number, texts, mode, answer);
         break;
     case SQL_TYPE:
-        status = phone_kind_by(world, PHONE_LIBRARY, number, &kind);
-        return sql_word(PHONE_KIND_WORDS, kind, answer), status;
+        status = phone_kind(world, number, &kind);
+        if (status == PHONE_OK) status = phone_word(PHONE_KIND_WORDS, kind, sql_at(out), out->room, &out->len);
+        break;
     case SQL_REGION:
-        do status = phone_region_by(world, PHONE_LIBRARY, number, sql_at(out), out->room, &out->len);
+        do status = phone_region(world, number, sql_at(out), out->room, &out->len);
         while (sql_again(out, &status));
         if (!out->len) answer->kind = SQL_NOTHING;
         break;
     case SQL_IS_VALID:
-        status = phone_is_valid_by(world, PHONE_LIBRARY, number, &truth);
+        status = phone_is_valid(world, number, &truth);
         answer->kind = SQL_TRUTH;
         answer->truth = truth != 0;
         break;
@@ -143,18 +139,22 @@ static uint32_t sql_describe(phone_handle *world, const sql_call *call, const ph
 /* Answers a call under an open table. sql_end gives back what the answer holds. */
 static void sql_ask(phone_handle *world, const sql_call *call, sql_answer *answer) {
     phone_number number;
-    sql_bytes texts;
-    uint32_t mode = PHONE_E164, status;
+    sql_bytes texts, *out = &answer->bytes;
+    uint32_t mode = PHONE_MODE_E164;
+    phone_status status;
     memset(&number, 0, sizeof number);
     sql_begin(&texts);
-    sql_begin(&answer->bytes);
+    sql_begin(out);
     status = sql_parse(world, call, &number, &texts);
     if (status == PHONE_OK && call->mode.at && !sql_mode(call->mode, &mode)) status = PHONE_NO_MODE;
     if (status == PHONE_OK) status = sql_describe(world, call, &number, &texts, mode, answer);
     if (status == PHONE_MEMORY) answer->kind = SQL_NO_MEMORY;
-    else if (status != PHONE_OK && call->question == SQL_REFUSAL)
-        answer->kind = SQL_TEXT, sql_word(PHONE_STATUS_WORDS, status, answer);
-    else if (status != PHONE_OK) answer->kind = SQL_NOTHING;
+    else if (status != PHONE_OK) {
+        int has_words = call->question == SQL_REFUSAL &&
+                        phone_status_words(status, sql_at(out), out->room, &out->len) == PHONE_OK;
+        answer->kind = has_words ? SQL_TEXT : SQL_NOTHING;
+        answer->text = (sql_text){(const char *)sql_at(out), out->len};
+    }
     sql_forget(texts.many);
 }
 static void sql_end(sql_answer *answer) { sql_forget(answer->bytes.many); }
@@ -181,13 +181,13 @@ static uint8_t *sql_read(const char *path, size_t *len, char *why, size_t why_le
 static int sql_open(const char *path, phone_handle *world, char *why, size_t why_len) {
     uint8_t *text = NULL, words[128];
     size_t len = 0, words_len = 0;
-    uint32_t status;
+    phone_status status;
     errno = 0;
     if (*path && !(text = sql_read(path, &len, why, why_len))) return phone_close(world), 0;
-    status = *path ? phone_open(text, len, world) : phone_open_world(world);
+    status = *path ? phone_open(text, len, PHONE_LIBRARY, world) : phone_open_world(world, PHONE_LIBRARY);
     sql_forget(text);
     if (status != PHONE_OK) {
-        phone_word(PHONE_OPEN_STATUS_WORDS, status, words, sizeof words, &words_len);
+        phone_status_words(status, words, sizeof words, &words_len);
         snprintf(why, why_len, "the table of phone numbers %s is refused: %.*s", path, (int)words_len, (const char *)words);
     }
     return status == PHONE_OK;

@@ -72,14 +72,14 @@ static found go(phone_handle *handle, size_t from, size_t to) {
     for (size_t at = from, place = from % line_count; at < to; at++) {
         const line *this = &lines[place];
         size_t wrote = 0;
-        uint32_t status;
+        phone_status status;
         if (reports) {
-            status = phone_report_by(handle, rules, this->hint, this->hint_len, this->text, this->text_len, out, sizeof out, &wrote);
+            status = phone_report(handle, this->hint, this->hint_len, this->text, this->text_len, out, sizeof out, &wrote);
             OUGHT(status == PHONE_OK);
             if (*out == 'o') it.numbers++;
             it.sum += wrote * 31 + out[wrote / 2];
         } else {
-            status = phone_parse_by(handle, rules, this->hint, this->hint_len, this->text, this->text_len, &number, out, sizeof out, &wrote);
+            status = phone_parse(handle, this->hint, this->hint_len, this->text, this->text_len, &number, out, sizeof out, &wrote);
             if (status == PHONE_OK) it.numbers++, it.sum += number.value * 31 + number.code;
             it.sum += status;
         }
@@ -102,7 +102,7 @@ static void *in_thread(void *it) {
 }
 static void in_process(int place) {
     phone_handle handle = PHONE_CLOSED;
-    OUGHT(phone_open(table, table_len, &handle) == PHONE_OK);
+    OUGHT(phone_open(table, table_len, rules, &handle) == PHONE_OK);
     work(&handle, place);
     _exit(0);
 }
@@ -187,7 +187,7 @@ int main(int argc, char **words) {
         took = by_processes();
         return tell(now() - start, took), 0;
     }
-    OUGHT(phone_open(table, table_len, &world) == PHONE_OK);
+    OUGHT(phone_open(table, table_len, rules, &world) == PHONE_OK);
     if (!strcmp(words[5], "once")) {
         all->found[0] = go(&world, 0, total);
         count = 1;

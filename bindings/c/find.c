@@ -7,7 +7,8 @@ int main(void) {
     size_t count;
     phone_handle world = PHONE_CLOSED;
     if (phone_open_world(&world, PHONE_LIBRARY) != PHONE_OK) return 1;
-    if (phone_find(&world, hint, 2, PHONE_IF_VALID, bytes, sizeof text - 1, found, 8, &count) == PHONE_OK)
+    if (phone_find(&world, hint, 2, PHONE_IF_VALID, bytes, sizeof text - 1, found, 8, &count)
+        == PHONE_OK)
         for (size_t i = 0; i < count; i++)
             printf("%.*s\n", (int)(found[i].end - found[i].start), text + found[i].start);
     phone_close(&world);

@@ -10,7 +10,7 @@ import warnings
 from concurrent.futures import ProcessPoolExecutor, ThreadPoolExecutor
 
 from phonenumber_proved import (
-    CARRIERS_TABLE, Closed, Database, Mode, NoNumber, Prefixes, ShortNumbers, _locks, _regions, held, phonenumbers,
+    CARRIERS_TABLE, Closed, Database, Mode, NoNumber, Prefixes, Rules, ShortNumbers, _locks, _regions, held, phonenumbers,
 )
 
 failed = []
@@ -36,7 +36,8 @@ def asked(world, text):
         number = world.parse(text, "NZ")
     except NoNumber as error:
         return str(error)
-    return number.e164, number.format(Mode.NATIONAL), number.kind, number.region, number.is_valid, world.typed(text, "NZ")
+    by_crate = world.report(text, "NZ", Rules.CRATE)
+    return number.e164, number.format(Mode.NATIONAL), number.kind, number.region, number.is_valid, world.typed(text, "NZ"), by_crate
 
 
 def threads_use_one_database(world, prefixes, table):
@@ -48,7 +49,7 @@ def threads_use_one_database(world, prefixes, table):
         check("at once", list(threads.map(told, TEXTS)), wanted)
         check("found at once", set(threads.map(lambda _: len(world.find(LONG, "NZ")), range(40))), {1})
     check("one table", memory() - before < 30_000_000, True)
-    check("handles", [len(it._idle) <= 8 for it in (world, prefixes, table)], [True] * 3)
+    check("handles", [len(idle) <= 8 for it in (world, prefixes, table) for idle in it._idle], [True] * 6)
 
 
 def memory():
@@ -103,7 +104,7 @@ def what_is_closed_beside_calls_is_freed():
         world.close()
         check("ended", [it.result() for it in ended], [True] * 4)
     check("answered", all(told), True)
-    check("no handle is open", [it.at for it in world._idle if it.at], [])
+    check("no handle is open", [it.at for idle in world._idle for it in idle if it.at], [])
 
 
 def a_signal_may_ask_too(world):

@@ -13,14 +13,11 @@ from typing import Any, Callable, NoReturn, Type, TypeVar, Union
 from .errors import Closed, Error, NoNumber, UnknownCode, UnknownRegion
 
 #: The version of the calls that is declared here.
-VERSION = 2
+VERSION = 3
 
 #: The statuses that are looked at; `phone.h` has all.
 OK, MEMORY, IS_CLOSED, TOO_SMALL, NOT_UTF8, NO_REGION, UNKNOWN_CODE = 0, 7, 16, 17, 18, 19, 20
 NO_PREFIX, NO_EXAMPLE, NO_TERRITORY = 30, 32, 34
-
-#: The sets of words that are looked at: of the statuses of all calls but `phone_open`, and of those.
-STATUS_WORDS, OPEN_STATUS_WORDS = 5, 6
 
 #: The errors of statuses that any call may give; 1 to 6 are those of a text that is no number.
 _ERRORS = {
@@ -92,23 +89,23 @@ def _declare(lib: Library) -> None:
     text = [ctypes.c_char_p, size]
     out = [ctypes.c_char_p, size, count]
     calls = {
-        "open": [*text, handle],
-        "open_world": [handle],
-        "share": [handle, handle],
-        "report_by": [handle, u32, *text, *text, *out],
-        "parse_by": [handle, u32, *text, *text, number, *out],
-        "format_by": [handle, u32, number, *text, u32, *out],
-        "kind_by": [handle, u32, number, ctypes.POINTER(u32)],
-        "region_by": [handle, u32, number, *out],
-        "is_valid_by": [handle, u32, number, ctypes.POINTER(u8)],
-        "possibility_by": [handle, u32, number, ctypes.POINTER(u32)],
-        "text_possibility_by": [handle, u32, *text, *text, ctypes.POINTER(u32)],
-        "compare_by": [handle, u32, *text, *text, ctypes.POINTER(u32)],
+        "open": [*text, u32, handle],
+        "open_world": [handle, u32],
+        "share_by": [handle, u32, handle],
+        "report": [handle, *text, *text, *out],
+        "parse": [handle, *text, *text, number, *out],
+        "format": [handle, number, *text, u32, *out],
+        "kind": [handle, number, ctypes.POINTER(u32)],
+        "region": [handle, number, *out],
+        "is_valid": [handle, number, ctypes.POINTER(u8)],
+        "possibility": [handle, number, ctypes.POINTER(u32)],
+        "text_possibility": [handle, *text, *text, ctypes.POINTER(u32)],
+        "compare": [handle, *text, *text, ctypes.POINTER(u32)],
         "dialled_from": [handle, *text, number, *text, *out],
-        "example_by": [handle, u32, *text, u32, number, *out],
+        "example": [handle, *text, u32, number, *out],
         "regions": [handle, *out],
         "codes": [handle, ctypes.POINTER(ctypes.c_uint16), size, count],
-        "find_by": [handle, u32, *text, u32, *text, ctypes.POINTER(Place), size, count],
+        "find": [handle, *text, u32, *text, ctypes.POINTER(Place), size, count],
         "typing_shown": [handle, *text, *text, *out],
         "typing_caret": [handle, *text, *text, size, count],
         "short": [handle, *text, *text, ctypes.POINTER(Facts)],
@@ -117,7 +114,7 @@ def _declare(lib: Library) -> None:
         "prefixes_longest": [prefixes, *text, *out, count],
         "key": [number, *out],
         "is_viable": [*text, ctypes.POINTER(u8)],
-        "refusal_words": [u32, *out],
+        "status_words": [u32, *out],
         "word": [u32, u32, *out],
         "table_version": out,
     }
@@ -130,7 +127,7 @@ def _declare(lib: Library) -> None:
 
 
 def _library(kind: Type[Library]) -> Library:
-    """The shared library, once its version is seen to be that of the declarations."""
+    """The shared library, once its version is seen to be at least that of the declarations."""
     places = [_HERE / "libphone.so", _HERE.parents[1] / "c" / "out" / "libphone.so"]
     named = os.environ.get("PHONE_LIBRARY")
     path = named or next((str(place) for place in places if place.exists()), None)
@@ -140,8 +137,8 @@ def _library(kind: Type[Library]) -> Library:
         lib = kind(path)
         lib.phone_version.argtypes, lib.phone_version.restype = [], ctypes.c_uint32
         version = lib.phone_version()
-        if version != VERSION:
-            raise ImportError(f"{path} has version {version} of these calls, not {VERSION}")
+        if version < VERSION:
+            raise ImportError(f"{path} has version {version} of these calls, not {VERSION} or later")
         _declare(lib)
     except (OSError, AttributeError) as error:
         raise ImportError(f"{path} is not the library: {error}") from error
@@ -205,10 +202,10 @@ def items(
         room = wrote.value
 
 
-def words_of(status: int, among: int = STATUS_WORDS) -> str:
+def words_of(status: int) -> str:
     """The words of a status."""
     out, wrote = ctypes.create_string_buffer(128), ctypes.c_size_t()
-    if lib.phone_word(among, status, out, len(out), ctypes.byref(wrote)) != OK:
+    if lib.phone_status_words(status, out, len(out), ctypes.byref(wrote)) != OK:
         return f"status {status} of the library"
     return out.raw[: wrote.value].decode()
 

@@ -7,8 +7,8 @@ import enum
 from typing import Any, Callable, List, NamedTuple, Optional
 
 from ._calls import (
-    MEMORY, NO_EXAMPLE, OK, OPEN_STATUS_WORDS, Number, Place, Text, bytes_of, hint_of, items, lib,
-    long_lib, refuse, words_of, written,
+    MEMORY, NO_EXAMPLE, OK, Number, Place, Text, bytes_of, hint_of, items, lib, long_lib, refuse,
+    words_of, written,
 )
 from .errors import BadDatabase
 from .field import Typing
@@ -64,14 +64,16 @@ class Records(Held):
         `BadDatabase` where there are none.
         """
         data = bytes_of(text)
-        self._opened(lambda handle: long_lib.phone_open(data, len(data), handle))
+        self._opened(
+            lambda handle: long_lib.phone_open(data, len(data), Rules.LIBRARY, handle)
+        )
 
     def _opened(self, call: Callable[[Any], int]) -> None:
         status = self._open(call)
         if status == MEMORY:
             raise MemoryError
         if status != OK:
-            raise BadDatabase(status, words_of(status, OPEN_STATUS_WORDS))
+            raise BadDatabase(status, words_of(status))
 
 
 class Database(Records):
@@ -90,7 +92,7 @@ class Database(Records):
     def world(cls) -> "Database":
         """Opens the table of the world that stands in the library, and needs no file."""
         database = cls.__new__(cls)
-        database._opened(long_lib.phone_open_world)
+        database._opened(lambda handle: long_lib.phone_open_world(handle, Rules.LIBRARY))
         return database
 
     def parse(
@@ -110,8 +112,8 @@ class Database(Records):
         number = Number()
         texts = written(
             lambda *out: self._call(
-                lib.phone_parse_by, by, region, len(region), data, len(data),
-                ctypes.byref(number), *out,
+                lib.phone_parse, region, len(region), data, len(data), ctypes.byref(number), *out,
+                rules=by,
             ),
             region=hint,
         )
@@ -124,7 +126,7 @@ class Database(Records):
         data, region, by = bytes_of(line), hint_of(hint), Rules(rules)
         return written(
             lambda *out: self._call(
-                lib.phone_report_by, by, region, len(region), data, len(data), *out
+                lib.phone_report, region, len(region), data, len(data), *out, rules=by
             ),
             512,
             hint,
@@ -181,7 +183,7 @@ class Database(Records):
         data, region, told = bytes_of(text), hint_of(hint), ctypes.c_uint32()
         by, at = Rules(rules), ctypes.byref(told)
         status = self._call(
-            lib.phone_text_possibility_by, by, region, len(region), data, len(data), at
+            lib.phone_text_possibility, region, len(region), data, len(data), at, rules=by
         )
         return Possibility(told.value) if status == OK else refuse(status, hint)
 
@@ -197,7 +199,7 @@ class Database(Records):
         """
         one, two, told = bytes_of(first), bytes_of(second), ctypes.c_uint32()
         by, at = Rules(rules), ctypes.byref(told)
-        status = self._call(lib.phone_compare_by, by, one, len(one), two, len(two), at)
+        status = self._call(lib.phone_compare, one, len(one), two, len(two), at, rules=by)
         return Sameness(told.value) if status == OK else refuse(status)
 
     def find(
@@ -213,10 +215,10 @@ class Database(Records):
         """
         data, region = bytes_of(text), hint_of(hint)
         by, level = Rules(rules), Leniency(leniency)
-        call = (lib if len(data) < _LONG else long_lib).phone_find_by
+        call = (lib if len(data) < _LONG else long_lib).phone_find
         places = items(
             Place, 8, lambda *out: self._call(
-                call, by, region, len(region), level, data, len(data), *out
+                call, region, len(region), level, data, len(data), *out, rules=by
             ), hint,
         )
         found, last, end = [], 0, 0
@@ -245,8 +247,8 @@ class Database(Records):
 
         def call(*out: Any) -> int:
             into = ctypes.byref(number)
-            args = by, at, len(at), of_kind, into
-            status: int = self._call(lib.phone_example_by, *args, *out)
+            args = at, len(at), of_kind, into
+            status: int = self._call(lib.phone_example, *args, *out, rules=by)
             is_there.append(status != NO_EXAMPLE)
             return status if is_there[-1] else OK
 

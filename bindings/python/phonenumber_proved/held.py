@@ -4,7 +4,7 @@ from __future__ import annotations
 
 from pathlib import Path
 from types import TracebackType
-from typing import Any, Callable, List, NoReturn, Optional, Type, TypeVar, Union
+from typing import Any, Callable, List, NoReturn, Optional, Tuple, Type, TypeVar, Union
 
 import os
 
@@ -21,16 +21,23 @@ _sharing = new_lock()
 class OwnHandle(Handle):
     """A handle that is closed once nothing holds it."""
 
-    _share, _close = lib.phone_share, long_lib.phone_close
+    _close = long_lib.phone_close
+
+    def _share(self, rules: int, mine: Handle) -> Any:
+        """Opens a second handle on what is open behind this one, and gives the status."""
+        return lib.phone_share_by(self, rules, mine)
 
     def __del__(self) -> None:
         self._close(self)
 
 
 class OwnPrefixesHandle(PrefixesHandle):
-    """The same of a table of prefixes."""
+    """The same of a table of prefixes, which has no rules."""
 
-    _share, _close = lib.phone_prefixes_share, long_lib.phone_prefixes_close
+    _close = long_lib.phone_prefixes_close
+
+    def _share(self, _: int, mine: PrefixesHandle) -> Any:
+        return lib.phone_prefixes_share(self, mine)
 
     def __del__(self) -> None:
         self._close(self)
@@ -45,7 +52,7 @@ class Held:
 
     _kind: Type[Any] = OwnHandle
     _first: Any
-    _idle: List[Any]
+    _idle: Tuple[List[Any], List[Any]]
 
     def __init__(self, text: Text) -> None:
         raise NotImplementedError
@@ -60,27 +67,27 @@ class Held:
         first = self._kind()
         status = call(first)
         if status == OK:
-            self._first, self._idle = first, []
+            self._first, self._idle = first, ([], [])
         return status
 
-    def _call(self, call: Callable[..., Any], *args: Any) -> Any:
-        """What a call gives on a handle that no other call is on."""
-        idle = self._idle
+    def _call(self, call: Callable[..., Any], *args: Any, rules: int = 0) -> Any:
+        """What a call gives on a handle by these rules that no other call is on."""
+        idle = self._idle[rules]
         try:
             handle = idle.pop()
         except IndexError:
-            handle = self._another()
+            handle = self._another(rules)
         try:
             return call(handle, *args)
         finally:
             # Where all was closed meanwhile, nothing else has the list: the handle goes with it.
             idle.append(handle)
 
-    def _another(self) -> Any:
+    def _another(self, rules: int) -> Any:
         """A handle more, closed where the first is."""
         handle = self._kind()
         with _sharing:
-            status = self._kind._share(self._first, handle)
+            status = self._first._share(rules, handle)
         if status == MEMORY:
             raise MemoryError
         return handle
@@ -88,7 +95,7 @@ class Held:
     def close(self) -> None:
         """Frees it, once no call is on it; nothing where that was done. A later call is refused."""
         self._first = self._kind()
-        self._idle = []
+        self._idle = ([], [])
 
     def __enter__(self: Self) -> Self:
         return self

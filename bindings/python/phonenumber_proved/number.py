@@ -168,7 +168,7 @@ class PhoneNumber:
         number, texts, printed = ctypes.byref(self._number), self._texts, int(Mode(mode))
         return written(
             lambda *out: self._call(
-                lib.phone_format_by, self._rules, number, texts, len(texts), printed, *out
+                lib.phone_format, number, texts, len(texts), printed, *out
             )
         ).decode()
 
@@ -182,14 +182,14 @@ class PhoneNumber:
         """The kind of the number."""
         told = ctypes.c_uint32()
         number, answer = ctypes.byref(self._number), ctypes.byref(told)
-        status = self._call(lib.phone_kind_by, self._rules, number, answer)
+        status = self._call(lib.phone_kind, number, answer)
         return Kind(told.value) if status == OK else refuse(status)
 
     @property
     def region(self) -> Optional[str]:
         """The id of the number's region, as `NZ`; `None` where it has none."""
-        number, rules = ctypes.byref(self._number), self._rules
-        region = written(lambda *out: self._call(lib.phone_region_by, rules, number, *out), 8)
+        number = ctypes.byref(self._number)
+        region = written(lambda *out: self._call(lib.phone_region, number, *out), 8)
         return region.decode() or None
 
     @property
@@ -197,7 +197,7 @@ class PhoneNumber:
         """Whether such numbers are given out."""
         told = ctypes.c_uint8()
         number, answer = ctypes.byref(self._number), ctypes.byref(told)
-        status = self._call(lib.phone_is_valid_by, self._rules, number, answer)
+        status = self._call(lib.phone_is_valid, number, answer)
         return told.value == 1 if status == OK else refuse(status)
 
     @property
@@ -205,7 +205,7 @@ class PhoneNumber:
         """Whether the count of its digits is possible."""
         told = ctypes.c_uint32()
         number, answer = ctypes.byref(self._number), ctypes.byref(told)
-        status = self._call(lib.phone_possibility_by, self._rules, number, answer)
+        status = self._call(lib.phone_possibility, number, answer)
         return Possibility(told.value) if status == OK else refuse(status)
 
     def dialled_from(self, region: str) -> str:
@@ -226,10 +226,10 @@ class PhoneNumber:
         ).decode()
 
     def _call(self, call: Callable[..., int], *args: Any) -> Any:
-        """What a call on the number's database gives."""
+        """What a call on the number's database gives, by the number's rules."""
         if self._database is None:
             raise Closed(IS_CLOSED, "the number has no database: on(database) gives it one")
-        return self._database._call(call, *args)
+        return self._database._call(call, *args, rules=self._rules)
 
     def _part(self, part: Part) -> Optional[str]:
         if not part.is_there:

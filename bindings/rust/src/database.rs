@@ -37,7 +37,8 @@ pub enum Rules {
 /// ```
 #[derive(Clone)]
 pub struct Database {
-    records: Records,
+    /// One table, by the rules of each number.
+    by_rules: [Records; 2],
 }
 
 impl fmt::Debug for Database {
@@ -71,18 +72,23 @@ impl Database {
     /// # Ok::<(), phonenumber_proved::Error>(())
     /// ```
     pub fn world() -> Result<Database, Error> {
-        Ok(Database { records: Records::world()? })
+        Database::of(Records::world()?)
     }
 
     /// The database that a JSON text is, or the compact form of its records (`world.compact` is one).
     ///
     /// ```
     /// use phonenumber_proved::{Database, Error};
-    /// assert_eq!(Database::from_json("[").unwrap_err(), Error::Database(3));
+    /// assert_eq!(Database::from_json("[").unwrap_err(), Error::Database(10));
     /// assert_eq!(Database::from_json(b"\xff").unwrap_err(), Error::NotUtf8);
     /// ```
     pub fn from_json(text: impl AsRef<[u8]>) -> Result<Database, Error> {
-        Ok(Database { records: Records::open(text.as_ref())? })
+        Database::of(Records::open(text.as_ref())?)
+    }
+
+    fn of(records: Records) -> Result<Database, Error> {
+        let by_crate = records.asked_by(Rules::Crate)?;
+        Ok(Database { by_rules: [records, by_crate] })
     }
 
     /// The database that a file is.
@@ -154,7 +160,7 @@ impl Database {
         let (hint, keys) = (hint_of(hint)?, keys.as_ref());
         text_of(64, |out, len, wrote| {
             // SAFETY: as in `By::parse`.
-            self.records.with(|handle| unsafe {
+            self.by(Rules::Library).records().with(|handle| unsafe {
                 ffi::phone_typing_shown(handle, hint.as_ptr(), hint.len(), keys.as_ptr(), keys.len(), out, len, wrote)
             })
         })
@@ -165,7 +171,7 @@ impl Database {
     pub fn caret(&self, hint: Option<&str>, keys: impl AsRef<str>, n: usize) -> Result<usize, Error> {
         let (hint, keys, mut told) = (hint_of(hint)?, keys.as_ref(), 0);
         // SAFETY: as in `By::parse`.
-        check(self.records.with(|handle| unsafe {
+        check(self.by(Rules::Library).records().with(|handle| unsafe {
             ffi::phone_typing_caret(handle, hint.as_ptr(), hint.len(), keys.as_ptr(), keys.len(), n, &mut told)
         }))?;
         Ok(told)
@@ -186,7 +192,7 @@ pub struct By<'d> {
 
 impl<'d> By<'d> {
     pub(crate) fn records(&self) -> &'d Records {
-        &self.database.records
+        &self.database.by_rules[self.rules as usize]
     }
 
     /// The rules.
@@ -197,14 +203,12 @@ impl<'d> By<'d> {
     /// The number that a text is. The hint is the id of the region in which it was written.
     pub fn parse(&self, hint: Option<&str>, text: impl AsRef<str>) -> Result<PhoneNumber, Error> {
         let (hint, text) = (hint_of(hint)?, text.as_ref());
-        let (mut number, rules) = (ffi::Number::default(), self.rules as u32);
+        let mut number = ffi::Number::default();
         let texts = bytes_of(64, |out, len, wrote| {
             let (at, hint_len) = (text.as_ptr(), hint.len());
             // SAFETY: the handle is open, and lent to the call alone; the slices are valid, apart and initialized.
-            self.database.records.with(|handle| unsafe {
-                ffi::phone_parse_by(
-                    handle, rules, hint.as_ptr(), hint_len, at, text.len(), &mut number, out, len, wrote,
-                )
+            self.records().with(|handle| unsafe {
+                ffi::phone_parse(handle, hint.as_ptr(), hint_len, at, text.len(), &mut number, out, len, wrote)
             })
         })?;
         Ok(PhoneNumber::of(&number, &texts))
@@ -212,42 +216,38 @@ impl<'d> By<'d> {
 
     /// The report line of a line, without a line feed.
     pub fn report(&self, hint: Option<&str>, line: impl AsRef<[u8]>) -> Result<String, Error> {
-        let (hint, line, rules) = (hint_of(hint)?, line.as_ref(), self.rules as u32);
+        let (hint, line) = (hint_of(hint)?, line.as_ref());
         text_of(512, |out, len, wrote| {
-            let (at, hint_len) = (line.as_ptr(), hint.len());
             // SAFETY: as in `parse`.
-            self.database.records.with(|handle| unsafe {
-                ffi::phone_report_by(handle, rules, hint.as_ptr(), hint_len, at, line.len(), out, len, wrote)
+            self.records().with(|handle| unsafe {
+                ffi::phone_report(handle, hint.as_ptr(), hint.len(), line.as_ptr(), line.len(), out, len, wrote)
             })
         })
     }
 
     /// The kind of a number.
     pub fn number_type(&self, number: &PhoneNumber) -> Result<Type, Error> {
-        let (number, rules, mut told) = (number.plain(), self.rules as u32, 0);
-        let records = &self.database.records;
+        let (number, mut told) = (number.plain(), 0);
         // SAFETY: the handle is open, and lent to the call alone.
-        check(records.with(|handle| unsafe { ffi::phone_kind_by(handle, rules, &number, &mut told) }))?;
+        check(self.records().with(|handle| unsafe { ffi::phone_kind(handle, &number, &mut told) }))?;
         TYPES.get(told as usize).copied().ok_or(Error::Other(told))
     }
 
     /// The id of a number's region, as `NZ`.
     pub fn region(&self, number: &PhoneNumber) -> Result<Option<String>, Error> {
-        let (number, rules) = (number.plain(), self.rules as u32);
-        let records = &self.database.records;
+        let number = number.plain();
         let id = text_of(8, |out, len, wrote| {
             // SAFETY: as in `parse`.
-            records.with(|handle| unsafe { ffi::phone_region_by(handle, rules, &number, out, len, wrote) })
+            self.records().with(|handle| unsafe { ffi::phone_region(handle, &number, out, len, wrote) })
         })?;
         Ok(Some(id).filter(|id| !id.is_empty()))
     }
 
     /// Whether such numbers are given out.
     pub fn is_valid(&self, number: &PhoneNumber) -> Result<bool, Error> {
-        let (number, rules, mut told) = (number.plain(), self.rules as u32, 0);
-        let records = &self.database.records;
+        let (number, mut told) = (number.plain(), 0);
         // SAFETY: as in `number_type`.
-        check(records.with(|handle| unsafe { ffi::phone_is_valid_by(handle, rules, &number, &mut told) }))?;
+        check(self.records().with(|handle| unsafe { ffi::phone_is_valid(handle, &number, &mut told) }))?;
         Ok(told == 1)
     }
 
@@ -276,13 +276,11 @@ impl Formatter<'_> {
 
     /// The text; `UnknownCode` where the database lists no territory of the number's code.
     pub fn to_text(&self) -> Result<String, Error> {
-        let (number, texts) = self.number.to_ffi();
-        let (rules, mode) = (self.by.rules as u32, self.mode as u32);
+        let ((number, texts), mode) = (self.number.to_ffi(), self.mode as u32);
         text_of(64, |out, len, wrote| {
-            let (at, bytes) = (texts.as_ptr(), texts.len());
             // SAFETY: as in `By::parse`.
-            self.by.database.records.with(|handle| unsafe {
-                ffi::phone_format_by(handle, rules, &number, at, bytes, mode, out, len, wrote)
+            self.by.records().with(|handle| unsafe {
+                ffi::phone_format(handle, &number, texts.as_ptr(), texts.len(), mode, out, len, wrote)
             })
         })
     }

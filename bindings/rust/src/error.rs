@@ -27,7 +27,7 @@ pub enum Error {
     MalformedInteger,
     /// No territory of the database has the number's calling code.
     UnknownCode,
-    /// The text is no database: the number of the refusal, as `phone.h` has it.
+    /// The text is no database: the status, as `phone.h` has it.
     Database(u32),
     /// The text is no table of prefixes: its first line that is no entry, counted from 1.
     Line(usize, LineFault),
@@ -61,7 +61,7 @@ pub enum LineFault {
 }
 
 impl Error {
-    /// The error of a status that a call on a number, a text or a line gives.
+    /// The error of a status.
     pub(crate) fn of(status: u32) -> Error {
         match status {
             1 => Error::NoNumber,
@@ -71,17 +71,13 @@ impl Error {
             5 => Error::TooLong,
             6 => Error::MalformedInteger,
             ffi::MEMORY => Error::Memory,
+            8..=12 => Error::Database(status),
             ffi::NOT_UTF8 => Error::NotUtf8,
             ffi::NO_REGION => Error::NoRegion,
             ffi::UNKNOWN_CODE => Error::UnknownCode,
             ffi::NO_TERRITORY => Error::NoTerritory,
             _ => Error::Other(status),
         }
-    }
-
-    /// The error of a status that the opening of a database gives.
-    pub(crate) fn of_database(status: u32) -> Error {
-        if (1..=5).contains(&status) { Error::Database(status) } else { Error::of(status) }
     }
 
     /// The error of a status that the opening of a table of prefixes gives, and of its line.
@@ -97,15 +93,11 @@ impl Error {
     }
 }
 
-/// The sets of words that `phone.h` has for statuses: those of all calls but `phone_open`, and its own.
-const STATUSES: u32 = 5;
-const OPEN_STATUSES: u32 = 6;
-
 /// Writes the words of a status; none takes more than 128 bytes.
-fn write_words(set: u32, status: u32, f: &mut fmt::Formatter<'_>) -> fmt::Result {
+fn write_words(status: u32, f: &mut fmt::Formatter<'_>) -> fmt::Result {
     let (mut out, mut wrote) = ([0u8; 128], 0);
     // SAFETY: the buffer is valid for its length, and apart from the length that is written.
-    let answer = unsafe { ffi::phone_word(set, status, out.as_mut_ptr(), out.len(), &mut wrote) };
+    let answer = unsafe { ffi::phone_status_words(status, out.as_mut_ptr(), out.len(), &mut wrote) };
     match out.get(..wrote).map(std::str::from_utf8) {
         Some(Ok(words)) if answer == ffi::OK => f.write_str(words),
         _ => write!(f, "status {status} of the library"),
@@ -126,19 +118,18 @@ impl fmt::Display for Error {
             Error::NoRegion => ffi::NO_REGION,
             Error::NoTerritory => ffi::NO_TERRITORY,
             Error::UnknownCode => ffi::UNKNOWN_CODE,
-            Error::Other(status) => *status,
-            Error::Database(number) => return write_words(OPEN_STATUSES, *number, f),
+            Error::Database(status) | Error::Other(status) => *status,
             Error::Line(line, fault) => return write!(f, "line {line}: {fault}"),
             Error::Io(kind) => return write!(f, "I/O error: {kind}"),
         };
-        write_words(STATUSES, status, f)
+        write_words(status, f)
     }
 }
 
 /// The words of the fault.
 impl fmt::Display for LineFault {
     fn fmt(&self, f: &mut fmt::Formatter<'_>) -> fmt::Result {
-        write_words(STATUSES, 25 + *self as u32, f)
+        write_words(25 + *self as u32, f)
     }
 }
 

@@ -109,14 +109,12 @@ impl By<'_> {
         leniency: Leniency,
         text: impl AsRef<str>,
     ) -> Result<Vec<Found>, Error> {
-        let (id, text, rules) = (hint_of(hint)?, text.as_ref(), self.rules() as u32);
+        let (id, text, leniency) = (hint_of(hint)?, text.as_ref(), leniency as u32);
         let places = items_of(4, |out: *mut ffi::Place, len, wrote| {
             let (at, id_len) = (text.as_ptr(), id.len());
             // SAFETY: the handle is open, and lent to the call alone; the slices are valid, apart and initialized.
             self.records().with(|handle| unsafe {
-                ffi::phone_find_by(
-                    handle, rules, id.as_ptr(), id_len, leniency as u32, at, text.len(), out, len, wrote,
-                )
+                ffi::phone_find(handle, id.as_ptr(), id_len, leniency, at, text.len(), out, len, wrote)
             })
         })?;
         let found = |place: ffi::Place| {
@@ -128,12 +126,12 @@ impl By<'_> {
 
     /// The example number of a region and a kind; none where the database has none.
     pub fn example(&self, region: &str, kind: Type) -> Result<Option<PhoneNumber>, Error> {
-        let (mut number, rules, mut is_there) = (ffi::Number::default(), self.rules() as u32, true);
+        let (mut number, mut is_there) = (ffi::Number::default(), true);
         let texts = bytes_of(64, |out, len, wrote| {
             let (id, id_len) = (region.as_ptr(), region.len());
             // SAFETY: as in `find`.
             let status = self.records().with(|handle| unsafe {
-                ffi::phone_example_by(handle, rules, id, id_len, kind as u32, &mut number, out, len, wrote)
+                ffi::phone_example(handle, id, id_len, kind as u32, &mut number, out, len, wrote)
             });
             is_there = status != ffi::NO_EXAMPLE;
             if is_there { status } else { ffi::OK }

@@ -86,30 +86,28 @@ impl Database {
 impl By<'_> {
     /// Whether the count of a number's digits is possible.
     pub fn possibility(&self, number: &PhoneNumber) -> Result<Possibility, Error> {
-        let (number, rules, mut told) = (number.plain(), self.rules() as u32, 0);
+        let (number, mut told) = (number.plain(), 0);
         // SAFETY: the handle is open, and lent to the call alone.
-        check(self.records().with(|handle| unsafe { ffi::phone_possibility_by(handle, rules, &number, &mut told) }))?;
+        check(self.records().with(|handle| unsafe { ffi::phone_possibility(handle, &number, &mut told) }))?;
         POSSIBILITIES.get(told as usize).copied().ok_or(Error::Other(told))
     }
 
     /// The same of a text, which may not be whole yet.
     pub fn possibility_of_text(&self, hint: Option<&str>, text: impl AsRef<str>) -> Result<Possibility, Error> {
-        let (hint, text, rules, mut told) = (hint_of(hint)?, text.as_ref(), self.rules() as u32, 0);
-        let (at, hint_len) = (text.as_ptr(), hint.len());
+        let (hint, text, mut told) = (hint_of(hint)?, text.as_ref(), 0);
         // SAFETY: the handle is open, and lent to the call alone; the slices are valid, apart and initialized.
         check(self.records().with(|handle| unsafe {
-            ffi::phone_text_possibility_by(handle, rules, hint.as_ptr(), hint_len, at, text.len(), &mut told)
+            ffi::phone_text_possibility(handle, hint.as_ptr(), hint.len(), text.as_ptr(), text.len(), &mut told)
         }))?;
         POSSIBILITIES.get(told as usize).copied().ok_or(Error::Other(told))
     }
 
     /// How like the numbers of two texts are, each perhaps without its calling code.
     pub fn compare(&self, first: impl AsRef<str>, second: impl AsRef<str>) -> Result<Sameness, Error> {
-        let (first, second, rules, mut told) = (first.as_ref(), second.as_ref(), self.rules() as u32, 0);
-        let (at, other) = (first.as_ptr(), second.as_ptr());
+        let (first, second, mut told) = (first.as_ref(), second.as_ref(), 0);
         // SAFETY: as in `possibility_of_text`.
         check(self.records().with(|handle| unsafe {
-            ffi::phone_compare_by(handle, rules, at, first.len(), other, second.len(), &mut told)
+            ffi::phone_compare(handle, first.as_ptr(), first.len(), second.as_ptr(), second.len(), &mut told)
         }))?;
         SAMENESSES.get(told as usize).copied().ok_or(Error::Other(told))
     }

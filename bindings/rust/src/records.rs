@@ -1,4 +1,5 @@
 //! What is open, which any number of threads may use at once: each call is on a handle of its own.
+use crate::database::Rules;
 use crate::error::Error;
 use crate::ffi;
 use std::sync::atomic::{AtomicUsize, Ordering};
@@ -63,7 +64,7 @@ impl<H: Kind> Drop for Open<H> {
 }
 
 // SAFETY: a handle is of no thread. The crate phone_c_base proves that of a database and of a table of prefixes (`Handle`
-// and `Table`, by `Send`), and phone.h lets one thread after another use and close it, by one call at a time.
+// and `PrefixTable`, by `Send`), and phone.h lets one thread after another use and close it, by one call at a time.
 unsafe impl<H: Kind> Send for Open<H> {}
 
 /// What is open behind handles, of which each call has one to itself. A clone shares it; the last one closes it.
@@ -127,18 +128,26 @@ impl<H: Kind> Shared<H> {
     }
 }
 
-/// The records that a JSON text has.
+/// The records that a JSON text has, and the rules by which they are asked.
 pub(crate) type Records = Shared<ffi::Handle>;
 
 impl Records {
     pub(crate) fn open(text: &[u8]) -> Result<Records, Error> {
+        let (at, len, rules) = (text.as_ptr(), text.len(), Rules::Library as u32);
         // SAFETY: the slice is valid for its length, and the handle is closed and lent to the call alone.
-        Shared::by(|handle| unsafe { ffi::phone_open(text.as_ptr(), text.len(), handle) }).map_err(Error::of_database)
+        Shared::by(|handle| unsafe { ffi::phone_open(at, len, rules, handle) }).map_err(Error::of)
     }
 
     /// The table of the world that stands in the library.
     pub(crate) fn world() -> Result<Records, Error> {
         // SAFETY: the handle is closed and lent to the call alone.
-        Shared::by(|handle| unsafe { ffi::phone_open_world(handle) }).map_err(Error::of_database)
+        Shared::by(|handle| unsafe { ffi::phone_open_world(handle, Rules::Library as u32) }).map_err(Error::of)
+    }
+
+    /// The same records, asked by these rules.
+    pub(crate) fn asked_by(&self, rules: Rules) -> Result<Records, Error> {
+        let mut first = locked(&self.0.first);
+        // SAFETY: both handles are lent to the call alone.
+        Shared::by(|mine| unsafe { ffi::phone_share_by(&mut first.0, rules as u32, mine) }).map_err(Error::of)
     }
 }

@@ -252,6 +252,7 @@ fn threads_use_one_table_at_once() {
                     let number = world.parse(None, text).unwrap();
                     assert_eq!(world.region(&number).unwrap().as_deref(), *region, "{text}");
                     assert_eq!(world.number_type(&number).unwrap(), *kind, "{text}");
+                    assert_eq!(world.by(Rules::Crate).parse(None, text).unwrap(), number, "{text}");
                     let has_zone = zones.longest(&number.to_string()[1..]).unwrap().is_some();
                     assert_eq!(has_zone, region.is_some(), "{text}");
                 }
@@ -333,7 +334,7 @@ const WORDS: [(Error, &str); 12] = [
     (Error::MalformedInteger, "malformed integer part in phone number"),
     (Error::Memory, "out of memory"),
     (Error::UnknownCode, "unknown calling code"),
-    (Error::Database(3), "malformed JSON"),
+    (Error::Database(10), "malformed JSON"),
     (Error::Line(2, LineFault::NoTab), "line 2: the line has no tab"),
     (Error::NoRegion, "unknown region"),
     (Error::Other(99), "status 99 of the library"),

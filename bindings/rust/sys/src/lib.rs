@@ -68,14 +68,14 @@ pub const NO_EXAMPLE: u32 = 32;
 pub const NO_TERRITORY: u32 = 34;
 
 unsafe extern "C" {
-    pub fn phone_open(text: *const u8, len: usize, handle: *mut Handle) -> u32;
-    pub fn phone_open_world(handle: *mut Handle) -> u32;
+    pub fn phone_open(text: *const u8, len: usize, rules: u32, handle: *mut Handle) -> u32;
+    pub fn phone_open_world(handle: *mut Handle, rules: u32) -> u32;
     pub fn phone_share(world: *mut Handle, mine: *mut Handle) -> u32;
+    pub fn phone_share_by(world: *mut Handle, rules: u32, mine: *mut Handle) -> u32;
     pub fn phone_world_text(text_len: *mut usize) -> *const u8;
     pub fn phone_close(handle: *mut Handle);
-    pub fn phone_report_by(
+    pub fn phone_report(
         handle: *mut Handle,
-        rules: u32,
         hint: *const u8,
         hint_len: usize,
         line: *const u8,
@@ -84,9 +84,8 @@ unsafe extern "C" {
         out_len: usize,
         wrote: *mut usize,
     ) -> u32;
-    pub fn phone_parse_by(
+    pub fn phone_parse(
         handle: *mut Handle,
-        rules: u32,
         hint: *const u8,
         hint_len: usize,
         text: *const u8,
@@ -96,9 +95,8 @@ unsafe extern "C" {
         out_len: usize,
         wrote: *mut usize,
     ) -> u32;
-    pub fn phone_format_by(
+    pub fn phone_format(
         handle: *mut Handle,
-        rules: u32,
         number: *const Number,
         bytes: *const u8,
         bytes_len: usize,
@@ -107,29 +105,26 @@ unsafe extern "C" {
         out_len: usize,
         wrote: *mut usize,
     ) -> u32;
-    pub fn phone_kind_by(handle: *mut Handle, rules: u32, number: *const Number, told: *mut u32) -> u32;
-    pub fn phone_region_by(
+    pub fn phone_kind(handle: *mut Handle, number: *const Number, told: *mut u32) -> u32;
+    pub fn phone_region(
         handle: *mut Handle,
-        rules: u32,
         number: *const Number,
         out: *mut u8,
         out_len: usize,
         wrote: *mut usize,
     ) -> u32;
-    pub fn phone_is_valid_by(handle: *mut Handle, rules: u32, number: *const Number, told: *mut u8) -> u32;
-    pub fn phone_possibility_by(handle: *mut Handle, rules: u32, number: *const Number, told: *mut u32) -> u32;
-    pub fn phone_text_possibility_by(
+    pub fn phone_is_valid(handle: *mut Handle, number: *const Number, told: *mut u8) -> u32;
+    pub fn phone_possibility(handle: *mut Handle, number: *const Number, told: *mut u32) -> u32;
+    pub fn phone_text_possibility(
         handle: *mut Handle,
-        rules: u32,
         hint: *const u8,
         hint_len: usize,
         text: *const u8,
         text_len: usize,
         told: *mut u32,
     ) -> u32;
-    pub fn phone_compare_by(
+    pub fn phone_compare(
         handle: *mut Handle,
-        rules: u32,
         first: *const u8,
         first_len: usize,
         second: *const u8,
@@ -147,9 +142,8 @@ unsafe extern "C" {
         out_len: usize,
         wrote: *mut usize,
     ) -> u32;
-    pub fn phone_example_by(
+    pub fn phone_example(
         handle: *mut Handle,
-        rules: u32,
         region: *const u8,
         region_len: usize,
         kind: u32,
@@ -160,9 +154,8 @@ unsafe extern "C" {
     ) -> u32;
     pub fn phone_regions(handle: *mut Handle, out: *mut u8, out_len: usize, wrote: *mut usize) -> u32;
     pub fn phone_codes(handle: *mut Handle, out: *mut u16, out_len: usize, wrote: *mut usize) -> u32;
-    pub fn phone_find_by(
+    pub fn phone_find(
         handle: *mut Handle,
-        rules: u32,
         hint: *const u8,
         hint_len: usize,
         leniency: u32,
@@ -213,11 +206,11 @@ unsafe extern "C" {
     ) -> u32;
     pub fn phone_key(number: *const Number, out: *mut u8, out_len: usize, wrote: *mut usize) -> u32;
     pub fn phone_is_viable(text: *const u8, len: usize, told: *mut u8) -> u32;
-    pub fn phone_refusal_words(number: u32, out: *mut u8, out_len: usize, wrote: *mut usize) -> u32;
+    pub fn phone_status_words(status: u32, out: *mut u8, out_len: usize, wrote: *mut usize) -> u32;
     pub fn phone_word(set: u32, value: u32, out: *mut u8, out_len: usize, wrote: *mut usize) -> u32;
     pub fn phone_version() -> u32;
     pub fn phone_table_version(out: *mut u8, out_len: usize, wrote: *mut usize) -> u32;
 }
 
 /// The version of the calls that is declared here.
-pub const VERSION: u32 = 2;
+pub const VERSION: u32 = 3;
