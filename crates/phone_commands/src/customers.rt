@@ -1,4 +1,5 @@
 //! What a call does with a table of customers.
+ghost use Rattle.std.specs.Prelude.{◌≡◌};
 ghost use Rattle.phone_commands.specs.TableJobs.{AnswersTable, table_error};
 ghost use Rattle.phone_lines.specs.Ends.{seen};
 
