@@ -63,8 +63,8 @@ items form = record {
   holds = items_hold form.holds;
 }
 
--- two things: the first, and then the second
 infixr 20 ◌then◌
+-- two things: the first, and then the second
 abbrev pub ◌then◌ : {A B : Type 0} → Form A → Form B → Form (A × B)
 first then second = record {
   written = λ both. first.written both.0 ++ second.written both.1;

@@ -13,18 +13,23 @@ use Rattle.phone_compact.specs.Records.{layouts_of, metadata}
 use Rattle.phone_compact.specs.Unique.{number_unique, truth_unique, text_unique, UniqueForm}
 use Rattle.phone_compact.specs.Unique.{option_of, items_of, ◌before◌, fields_of}
 
+-- a number, with the law that what stands in front of a text is at most one number's form
 abbrev number_form : UniqueForm ℕ
 number_form = record { form = number; unique = number_unique }
 
+-- numbers in a row, with that law
 abbrev numbers : UniqueForm (List ℕ)
 numbers = items_of number_form
 
+-- a truth value, with that law
 abbrev truths : UniqueForm Bool
 truths = record { form = truth; unique = truth_unique }
 
+-- a text, with that law
 abbrev texts : UniqueForm (List ℕ)
 texts = record { form = text; unique = text_unique }
 
+-- a text or none, with that law
 abbrev words : UniqueForm Word
 words = option_of texts
 
@@ -37,10 +42,12 @@ descriptor_of (national_number, (possible_length, (possible_local_length, exampl
   example = example;
 }
 
+-- a descriptor, its fields in a row, with that law
 abbrev descriptors : UniqueForm Descriptor
 descriptors = fields_of descriptor_fields (words before numbers before numbers before words)
     descriptor_of (λ d. refl)
 
+-- no bytes begin with the forms of two descriptors
 pub descriptor_unique : IsUnique descriptor
 descriptor_unique = descriptors.unique
 
@@ -55,32 +62,40 @@ format_of (pattern, (format, (leading_digits, (rule, (optional, carrier))))) = r
   domestic_carrier = carrier;
 }
 
+-- a layout, its fields in a row, with that law
 abbrev formats : UniqueForm Format
 formats = fields_of format_fields
     (words before words before items_of texts before words before truths before words)
     format_of (λ f. refl)
 
+-- no bytes begin with the forms of two layouts
 pub format_unique : IsUnique format
 format_unique = formats.unique
 
+-- the defaults, their layout and then their descriptor, with that law
 abbrev all_defaults : UniqueForm Defaults
 all_defaults = fields_of (λ (d : Defaults). (d.format, d.descriptor)) (formats before descriptors)
     (λ (d : Format × Descriptor). record { format = d.0; descriptor = d.1 }) (λ d. refl)
 
+-- nor with those of two territories' defaults
 pub defaults_unique : IsUnique defaults
 defaults_unique = all_defaults.unique
 
+-- four descriptors, each there or not
 abbrev four : UniqueForm FourKinds
 four = option_of descriptors before option_of descriptors before option_of descriptors before
     option_of descriptors
 
+-- the sixteen descriptors of a territory
 abbrev all_kinds : UniqueForm Kinds
 all_kinds = four before four before four before four
 
+-- what a territory is called and dialled by
 abbrev all_prefixes : UniqueForm Prefixes
 all_prefixes = words before option_of number_form before words before words before words before
     words before words before words
 
+-- how a territory's numbers are laid out
 abbrev all_layouts : UniqueForm Layouts
 all_layouts = items_of formats before items_of formats before truths before words before truths
     before all_defaults
@@ -120,6 +135,7 @@ metadata_of (k, (p, l)) = record {
   defaults = l.1.1.1.1.1;
 }
 
+-- nor with those of two territories
 pub metadata_unique : IsUnique metadata
 metadata_unique =
     (fields_of (λ (m : Metadata). (kinds_of m, (prefixes_of m, layouts_of m)))

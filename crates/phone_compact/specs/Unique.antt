@@ -27,6 +27,7 @@ same_runs (suc k) (suc l) r s a b r_small s_small e =
 same_parts : (m n : ℕ) → m / 255 ≡ n / 255 → m % 255 ≡ n % 255 → m ≡ n
 same_parts m n quotients remainders = omega arith
 
+-- numbers that begin the same bytes are one number
 pub same_numbers : (m n : ℕ) (a b : List ℕ) → number_written m ++ a ≡ number_written n ++ b →
     (m ≡ n) × (a ≡ b)
 same_numbers m n a b e =
@@ -37,9 +38,11 @@ same_numbers m n a b e =
     (n % 255 ∷ []) b e) in
     (same_parts m n h.0 h.1.0, h.1.1)
 
+-- a number's form is read in one way
 pub number_unique : IsUnique number
 number_unique = same_numbers
 
+-- so is that of a truth value
 pub truth_unique : IsUnique truth
 truth_unique false false a b e = (refl, cc)
 truth_unique true true a b e = (refl, cc)
@@ -58,12 +61,14 @@ same_fronts (x ∷ s) (y ∷ t) a b e h =
     let r = same_fronts s t a b lengths tails in
     (ap₂ (λ z zs. z ∷ zs) heads r.0, r.1)
 
+-- of a text
 pub text_unique : IsUnique text
 text_unique s t a b e =
     let whole = regrouped (number_written (length s)) s a (number_written (length t)) t b e in
     let h = same_numbers (length s) (length t) (s ++ a) (t ++ b) whole in
     same_fronts s t a b h.0 h.1
 
+-- of a value that may be absent
 pub option_unique : {A : Type 0} (form : Form A) → IsUnique form → IsUnique (option form)
 option_unique form unique None None a b e = (refl, cc)
 option_unique form unique None (Some y) a b e = cc
@@ -73,6 +78,7 @@ option_unique form unique (Some x) (Some y) a b e =
     let h = unique x y a b rest in
     (ap Some h.0, h.1)
 
+-- of a list
 pub items_unique : {A : Type 0} (form : Form A) → IsUnique form → IsUnique (items form)
 items_unique form unique [] [] a b e = (refl, cc)
 items_unique form unique [] (y ∷ ys) a b e = cc
@@ -86,6 +92,7 @@ items_unique form unique (x ∷ xs) (y ∷ ys) a b e =
     let t = items_unique form unique xs ys a b h.1 in
     (ap₂ (λ z zs. z ∷ zs) h.0 t.0, t.1)
 
+-- of two things
 pub then_unique : {A B : Type 0} (first : Form A) (second : Form B) → IsUnique first →
     IsUnique second → IsUnique (first then second)
 then_unique first second unique_first unique_second x y a b e =
@@ -118,8 +125,8 @@ option_of f = record { form = option f.form; unique = option_unique f.form f.uni
 abbrev pub items_of : {A : Type 0} → UniqueForm A → UniqueForm (List A)
 items_of f = record { form = items f.form; unique = items_unique f.form f.unique }
 
--- two things, one before the other, in one way
 infixr 20 ◌before◌
+-- two things, one before the other, in one way
 abbrev pub ◌before◌ : {A B : Type 0} → UniqueForm A → UniqueForm B → UniqueForm (A × B)
 f before g = record {
   form = f.form then g.form;

@@ -1,4 +1,5 @@
 pub mod Announcing
+pub mod BehindPrefix
 pub mod CodedNumbers
 pub mod DialledInside
 pub mod Exactly

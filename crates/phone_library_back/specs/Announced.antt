@@ -34,9 +34,10 @@ abbrev pub IsParameterIfAny : Option (List ℕ) → Type 0
 IsParameterIfAny None = Unit {0}
 IsParameterIfAny (Some e) = IsDigits e × (length (chars e) ≤ 20)
 
--- prefixes that announce up to 20 digits, by a word, and others that announce up to nine, by a sign
+-- prefixes that announce up to 20 digits, by a word
 abbrev pub word_prefixes : List (List ℕ)
 word_prefixes = codes " ext. " ∷ codes " Anexo " ∷ []
 
+-- prefixes that announce up to nine digits, by a sign
 abbrev pub sign_prefixes : List (List ℕ)
 sign_prefixes = codes " x" ∷ codes " int " ∷ codes " int. " ∷ codes "#" ∷ []

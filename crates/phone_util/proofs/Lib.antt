@@ -1,4 +1,5 @@
 pub mod CodesBelow
+pub mod DialledAgain
 pub mod DialledParts
 pub mod DialledReads
 pub mod DialledTexts

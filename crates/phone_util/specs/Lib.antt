@@ -1,5 +1,6 @@
 pub mod Back
 pub mod Dialled
+pub mod LibraryBack
 pub mod Listed
 pub mod Possibilities
 pub mod Sameness
