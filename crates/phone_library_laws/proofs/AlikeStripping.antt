@@ -1,5 +1,6 @@
 -- Digits that both readings strip alike: those that are dialled alone, or behind a national prefix.
-use Rattle.std.proofs.Common.{◌≡◌, ℕ, ◌==◌, ◌&&◌, nat_eq, not, Bool, true, false, if◌then◌else◌, List, [], length, Option, None, Some, option_map, Result, Ok, refl, ap, sym, subst, ◌∙◌, arith, true≢false}
+use Rattle.std.proofs.Common.{◌≡◌, ℕ, ◌==◌, ◌&&◌, nat_eq, not, Bool, true, false, if◌then◌else◌, List, [], length, drop, Option, None, Some, option_map, Result, Ok, refl, ap, sym, subst, ◌∙◌, arith, true≢false}
+use Rattle.std.proofs.Math.Seq.{drop-append_seam}
 use Rattle.std.proofs.lemmas.Bool.{cond-false, cond-true}
 use Rattle.std.specs.List.{list_all, list_any}
 use Rattle.std.specs.Option.{option_map_or}
@@ -10,7 +11,7 @@ use Rattle.phone_values.specs.declared.reading.Reading.{Reading}
 use Rattle.phone_values.specs.declared.validator.Validation.{Validation}
 use Rattle.phone_values.specs.declared.validator.Validation.TheVariants.{IsPossible, IsPossibleLocalOnly, InvalidCountryCode, InvalidLength, TooLong, TooShort}
 use Rattle.phone_rules.specs.Strips as strips
-use Rattle.phone_rules.specs.Strips.{Stripped, by_match, cut_by, left_by, off_prefix, stay, step}
+use Rattle.phone_rules.specs.Strips.{Stripped, by_match, cut_by, left_by, off_match, off_prefix, stay, step}
 use Rattle.phone_rules.specs.Verdicts.{is_too_short, verdict, verdict_of}
 use Rattle.phone_library.specs.Kinds.{matches_whole}
 use Rattle.phone_library.specs.Lengths.{length_in, local_lengths, may_be_left}
@@ -22,7 +23,7 @@ use Rattle.phone_library.specs.Stripping.{left_by_match, left_by_pattern, left_b
 use Rattle.phone_library_laws.specs.Agreement
 use Rattle.phone_library_laws.specs.Agreement.{IsOwnNumber, IsReadAlike, IsStrippedAlike, after_prefix}
 use Rattle.phone_library_laws.specs.Prefixes
-use Rattle.phone_library_laws.specs.Prefixes.{IsBare, IsDialledAlike, IsDialledFor, IsHomeNumber, IsPrefixed}
+use Rattle.phone_library_laws.specs.Prefixes.{IsBare, IsDialledAlike, IsDialledFor, IsHomeNumber, IsPrefixed, front_alone}
 use Rattle.phone_parts.specs.Texts.{is_front, without_front}
 use Rattle.phone_parts.proofs.Prefixes.{without_front-append}
 use Rattle.phone_read.specs.Hints.{Coded, hinted}
@@ -30,7 +31,7 @@ use Rattle.phone_read.specs.Readings as first
 use Rattle.phone_read.specs.Readings.{Reads}
 use Rattle.phone_records.specs.declared.loader.Descriptor.{Descriptor}
 use Rattle.phone_records.specs.declared.loader.Metadata.{Metadata}
-use Rattle.phone_territory.specs.First.{Captured, Seen, at_start, captured_by, first_match, last_group}
+use Rattle.phone_territory.specs.First.{Captured, Seen, at_start, captured, captured_by, first_match, last_group}
 use Rattle.phone_territory.specs.Records.{code_of}
 use Rattle.phone_library_laws.proofs.AlikeCodes.{second_own}
 use Rattle.phone_library_laws.proofs.AlikeNumbers.{same_code}
@@ -65,6 +66,12 @@ not_too_short m n h = by (nat_eq (length (option_map_or (λ (d : Descriptor). d.
         may_be_left (if b then local else verdict m n) ≡ true → is_too_short (verdict m n) ≡ false
     by true e local h = no_lengths m.general n e
     by false e local h = left_not_short (verdict m n) h
+
+-- what isn't lost is kept
+not_lost : (before after : Bool) → (before ≡ true → after ≡ true) → (before && not after) ≡ false
+not_lost false after h = refl
+not_lost true true h = refl
+not_lost true false h = sym (h refl)
 
 -- ---- in a territory
 
@@ -106,6 +113,16 @@ module _ (m : Metadata) (digits : List ℕ) where
   second_stays pattern None h = refl
   second_stays pattern (Some s) h = cond-false _ _ _ h
 
+  -- a match of a front alone
+  first_off : (pattern : List ℕ) (rule : Option (List ℕ)) (n : ℕ) → by_match m pattern rule digits (front_alone n) None ≡ off_match n None
+  first_off pattern None n = refl
+  first_off pattern (Some rule) n = refl
+
+  second_off : (pattern : List ℕ) (rule : Option (List ℕ)) (n : ℕ) →
+      left_by_match pattern rule digits (front_alone n) None ≡ untouched (drop n digits)
+  second_off pattern None n = refl
+  second_off pattern (Some rule) n = refl
+
   module _ (h : IsBare m digits) where
     same : without_front m.national_prefix digits ≡ digits
     same = no_front m.national_prefix digits h.no_prefix
@@ -138,18 +155,37 @@ module _ (m : Metadata) (digits : List ℕ) where
     once : without_front m.national_prefix national ≡ national
     once = ap (λ o. without_front o national) h.is_prefix ∙ cond-false _ _ _ h.once
 
+    dropped : drop (length h.prefix) digits ≡ national
+    dropped = ap (drop (length h.prefix)) h.whole ∙ drop-append_seam h.prefix national
+
+    abbrev MatchesPrefix : Option (List ℕ) → Type 0
+    MatchesPrefix o = (pattern : List ℕ) → o ≡ Some pattern → captured pattern digits ≡ Some (front_alone (length h.prefix))
+
+    prefixed_step : (o : Option (List ℕ)) → MatchesPrefix o →
+        left_by m digits None (option_map_or (λ pattern. cut_by m pattern digits) o off_prefix) ≡ untouched national
+    prefixed_step None e = ap untouched cut_off
+    prefixed_step (Some pattern) e =
+        ap (λ o. left_by m digits None (option_map_or (λ (found : Captured).
+        if found.span.0 == 0 then by_match m pattern m.national_prefix_transform_rule digits found found.last else stay) o stay)) (e pattern refl)
+        ∙ ap (left_by m digits None) (first_off pattern m.national_prefix_transform_rule (length h.prefix)) ∙ ap untouched dropped
+
+    prefixed_left : (o : Option (List ℕ)) → MatchesPrefix o →
+        option_map_or (λ (pattern : List ℕ). left_by_pattern pattern m.national_prefix_transform_rule digits) o (left_by_text m.national_prefix digits) ≡ untouched national
+    prefixed_left None e = ap untouched cut_off
+    prefixed_left (Some pattern) e =
+        ap (λ o. option_map_or (λ (found : Captured).
+        if found.span.0 == 0 then left_by_match pattern m.national_prefix_transform_rule digits found found.last else untouched digits) o (untouched digits)) (e pattern refl)
+        ∙ second_off pattern m.national_prefix_transform_rule (length h.prefix) ∙ ap untouched dropped
+
     first_prefixed : strips.stripped (Some m) digits ≡ untouched national
     first_prefixed =
-        first_from national
-        (ap (λ o. left_by m digits None (option_map_or (λ pattern. cut_by m pattern digits) o off_prefix)) h.no_pattern ∙ ap untouched cut_off)
-        once (cond-false _ _ _ (not_too_short m (length national) h.enough))
+        first_from national (prefixed_step m.national_prefix_for_parsing h.by_pattern) once
+        (cond-false _ _ _ (not_too_short m (length national) h.enough))
 
     second_prefixed : stripping.stripped (Some m) digits ≡ untouched national
     second_prefixed =
-        second_from national
-        (ap (λ o. option_map_or (λ (pattern : List ℕ). left_by_pattern pattern m.national_prefix_transform_rule digits) o (left_by_text m.national_prefix digits)) h.no_pattern
-        ∙ ap untouched cut_off)
-        (cond-false _ _ _ h.no_number) (cond-true _ _ _ h.enough)
+        second_from national (prefixed_left m.national_prefix_for_parsing h.by_pattern)
+        (cond-false _ _ _ (not_lost (matches_whole m.general digits) (matches_whole m.general national) h.general)) (cond-true _ _ _ h.enough)
 
 first_left : (o : Option Metadata) (digits national : List ℕ) → IsDialledFor o digits national → strips.stripped o digits ≡ untouched national
 first_left _ _ _ (Prefixes.unknown digits) = refl

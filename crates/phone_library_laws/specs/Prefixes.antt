@@ -1,6 +1,6 @@
--- How digits stand for a national number in a territory that has no parsing pattern, or whose
--- pattern has nothing to do with them: alone, or behind the national prefix.
-use Rattle.std.specs.Prelude.{◌≡◌, ◌≤◌, ◌==◌, ◌&&◌, ℕ, not, Bool, true, false, List, ◌++◌, length}
+-- How digits stand for a national number in a territory: alone, or behind the national prefix, with
+-- no carrier's code and nothing that is written anew.
+use Rattle.std.specs.Prelude.{◌≡◌, ◌≤◌, ◌==◌, ℕ, Bool, true, false, List, ◌++◌, length}
 use Rattle.std.specs.Prelude.{Option, None, Some}
 use Rattle.std.specs.Fmt.{decimal}
 use Rattle.std.specs.List.{list_all}
@@ -16,7 +16,7 @@ use Rattle.phone_parts.specs.Texts.{is_front}
 use Rattle.phone_read.specs.Hints.{Coded, hinted}
 use Rattle.phone_read.specs.Readings as first
 use Rattle.phone_records.specs.declared.loader.Metadata.{Metadata}
-use Rattle.phone_territory.specs.First.{at_start}
+use Rattle.phone_territory.specs.First.{Captured, at_start, captured}
 use Rattle.phone_territory.specs.Records.{code_of}
 
 -- neither the national prefix stands at the front of the digits, nor a match of the parsing pattern
@@ -25,17 +25,22 @@ pub record IsBare (m : Metadata) (digits : List ℕ) : Type 0 where
   pub no_match : option_map_or (λ pattern. at_start pattern digits) m.national_prefix_for_parsing
       false ≡ false
 
--- the national prefix stands once before a national number, which has as many digits as one of the
--- territory can have, or more; the digits with the prefix aren't of the general pattern, or those
--- without it are as well. There is no parsing pattern
+-- so many bytes at the front are matched, and neither the first group nor the last takes part
+abbrev pub front_alone : ℕ → Captured
+front_alone n = record { span = (0, n); first = None; last = None }
+
+-- the national prefix stands once before a national number, and a parsing pattern, if there is one,
+-- matches the prefix alone; the number has as many digits as one of the territory can have, or
+-- more, and is of the general pattern if the digits are so with the prefix
 pub record IsPrefixed (m : Metadata) (digits national : List ℕ) : Type 0 where
   pub prefix : List ℕ
   pub is_prefix : m.national_prefix ≡ Some prefix
-  pub no_pattern : m.national_prefix_for_parsing ≡ None
   pub whole : digits ≡ prefix ++ national
   pub once : is_front prefix national ≡ false
+  pub by_pattern : (pattern : List ℕ) → m.national_prefix_for_parsing ≡ Some pattern →
+      captured pattern digits ≡ Some (front_alone (length prefix))
   pub enough : may_be_left (length_in m (length national)) ≡ true
-  pub no_number : (matches_whole m.general digits && not (matches_whole m.general national)) ≡ false
+  pub general : matches_whole m.general digits ≡ true → matches_whole m.general national ≡ true
 
 -- digits are dialled for a national number: alone, or behind the national prefix; alone where
 -- there is no territory

@@ -42,8 +42,8 @@ pub fn e164_alike()
 }
 
 /// Both readings strip the same off what follows a calling code, as `read_alike` asks, where it is
-/// dialled for a national number: alone, or behind the national prefix of a territory without a
-/// parsing pattern.
+/// dialled for a national number: alone, or behind the national prefix, which a parsing pattern, if
+/// there is one, matches alone.
 pub fn stripped_alike()
     ensures { (db : List loader.Metadata) (hint : Option Id) (c : Coded) →
         IsDialledAlike db hint c → IsStrippedAlike db hint c }
