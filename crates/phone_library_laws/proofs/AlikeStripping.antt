@@ -1,5 +1,5 @@
 -- Digits that both readings strip alike: those that are dialled alone, or behind a national prefix.
-use Rattle.std.proofs.Common.{◌≡◌, ℕ, ◌==◌, ◌&&◌, nat_eq, not, Bool, true, false, if◌then◌else◌, List, [], length, drop, Option, None, Some, option_map, Result, Ok, refl, ap, sym, subst, ◌∙◌, arith, true≢false}
+use Rattle.std.proofs.Common.{◌≡◌, ℕ, ◌==◌, ◌&&◌, nat_eq, not, Bool, true, false, if◌then◌else◌, List, [], length, drop, Option, None, Some, option_map, Result, refl, ap, sym, subst, ◌∙◌, arith, true≢false}
 use Rattle.std.proofs.Math.Seq.{drop-append_seam}
 use Rattle.std.proofs.lemmas.Bool.{cond-false, cond-true}
 use Rattle.std.specs.List.{list_all, list_any}
