@@ -20,7 +20,7 @@ ghost use Rattle.phone_table.specs.Objects.{IsObject, IsObjectLine};
 ghost use Rattle.phone_table.specs.Ends.{by};
 ghost use Rattle.phone_table.specs.Runs.{WritesTable, names_in};
 ghost use Rattle.phone_table.specs.declared.counts.Counts.{Counts};
-ghost use Rattle.phone_table.specs.Shorts.{short_answer};
+ghost use Rattle.phone_table.specs.Shorts.{is_number_alone, short_answer};
 ghost use Rattle.phone_table.specs.Tables.{IsReadAgain, IsTable};
 ghost use Rattle.phone_table.specs.declared.header.Columns as header;
 ghost use Rattle.phone_table.specs.declared.run.Asked as run;
@@ -31,12 +31,12 @@ use crate::table::{field_in, region_of};
 use csv::ByteRecord;
 use phone_engine::laws::some_reading;
 
-/// A field that is an emergency number of the hint's region is answered as one, whatever number
-/// could be read in it.
+/// A field that is nothing but an emergency number of the hint's region is answered as one,
+/// whatever number could be read in it.
 pub fn emergency_alone()
     ensures { (rules : Rules) (db short : List loader.Metadata) (region : Id) (field : List ℕ)
         (number : Option Reading) (answer : Record) → IsUtf8 field →
-        short_kind short region (chars field) ≡ Some kind.Emergency →
+        is_number_alone field ≡ true → short_kind short region (chars field) ≡ Some kind.Emergency →
         IsFieldAnswer rules db (Some short) (Some region) field number answer →
         (number ≡ None) × (answer ≡ short_answer region kind.Emergency) }
 {}
