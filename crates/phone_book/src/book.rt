@@ -25,11 +25,12 @@ use std::alloc::AllocError;
 use std::marker::Model;
 
 /// Numbers under one database, in order of arrival, of which no two have one calling code and one
-/// national number: each stays as it was first written. Contracts see the records of the database
-/// and the numbers.
+/// national number: each stays as it was first written. Contracts see the records of the database,
+/// the rules by which lines are read, and the numbers.
 #[derive(Drop)]
 pub struct Book {
     database: Plans,
+    rules: Rules,
     entries: IndexMap<String, PhoneNumber>,
 }
 
@@ -43,9 +44,9 @@ impl Model for Book {
     ghost Value = { Contacts };
 
     ghost view = { λ b. record {
-        database = b.database;
-        rules = b.rules;
-        entries = values b.entries;
+      database = b.database;
+      rules = b.rules;
+      entries = values b.entries;
     } };
 
     ghost invariant = { λ b. (is_prefix_free b.database ≡ true) ×

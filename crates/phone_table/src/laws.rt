@@ -1,6 +1,6 @@
 //! What holds of answers. These functions do nothing, but for those that read a text to show that
 //! it has an answer; their contracts are the statements.
-ghost use Rattle.std.specs.Prelude.{◌≡◌, ◌⊎◌, ℕ, List, None, Option, Some, chars};
+ghost use Rattle.std.specs.Prelude.{◌≡◌, ◌⊎◌, ℕ, List, None, Option, Some, chars, true};
 ghost use Rattle.std.specs.Str.{IsUtf8};
 ghost use Rattle.csv.specs.Records.{fields_of};
 ghost use Rattle.serde_json.specs.Data.{Data};
