@@ -1,6 +1,6 @@
 -- How many rows a table has, and what their last four fields say: the kind of a number, its region,
 -- its validity, and the words of a refusal.
-use Rattle.std.specs.Prelude.{◌≡◌, ℕ, ◌+◌, ◌-◌, ◌&&◌, ◌||◌, not, Bool, true, if◌then◌else◌, List}
+use Rattle.std.specs.Prelude.{ℕ, ◌+◌, ◌-◌, ◌&&◌, ◌||◌, not, Bool, true, if◌then◌else◌, List}
 use Rattle.std.specs.Prelude.{codes, length}
 use Rattle.std.specs.Str.{bytes_eq}
 use Rattle.phone_csv.specs.Feeds.{counted}

@@ -10,7 +10,7 @@ ghost use Rattle.phone_table.specs.Shorts.{is_number_alone, may_stand, short_in}
 ghost use Rattle.phone_table.specs.Spelled.{IsKnown, IsKnownIn, is_valid_in, number_in, spelled};
 ghost use Rattle.phone_table.specs.Spelled.{spelled_known};
 
-use crate::names::push_three;
+use crate::names::push_texts;
 use crate::objects::{Fields, parts_of};
 use crate::words::refusal_words;
 use csv::ByteRecord;
@@ -189,12 +189,30 @@ pub(crate) fn push_answer(fields: &mut ByteRecord, answer: &Answer) -> Result<()
     push_parts(fields, parts_of(answer))
 }
 
-/// Puts seven fields behind those of a record. Refused only for memory.
+/// Puts an answer's fields behind those of a record. Refused only for memory.
 fn push_parts(fields: &mut ByteRecord, parts: Fields<'_>) -> Result<(), AllocError>
     requires { partial_of fields.old ≡ [] }
     ensures { OnOk result (fields_of fields.new ≡ fields_of fields.old ++ spelled_by parts.entry) }
 {
-    push_three(fields, parts.e164, parts.international, parts.national)?;
-    push_three(fields, parts.kind, parts.region, parts.validity)?;
-    fields.push_field(parts.refusal.as_bytes())
+    let Fields {
+        e164,
+        international,
+        national,
+        kind,
+        region,
+        validity,
+        refusal,
+    } = parts;
+    push_texts(
+        fields,
+        &[
+            e164,
+            international,
+            national,
+            kind,
+            region,
+            validity,
+            refusal,
+        ],
+    )
 }
