@@ -1,7 +1,6 @@
 -- Texts that stand side by side at the front of a buffer.
 use Rattle.std.proofs.Common.{◌≡◌, ℕ, ◌+◌, ◌-◌, ◌≤◌, List, [], ◌++◌, length, take, drop, refl, sym, subst, arith, length-append, take_at, drop_at}
 use mathlib.Core.List.{append_assoc}
-use Rattle.std.proofs.lemmas.List.{take-append-drop}
 use Rattle.std.proofs.lemmas.Slice.{drop-append-drop}
 use Rattle.phone_c_base.specs.Numbers.{IsAt}
 
@@ -17,14 +16,6 @@ copies-append a b xs room =
       drop-append-drop (length a) xs a (length a + length b) (omega arith) refl,
       length-append a b,
     ) refl
-
--- no value is copied
-pub copies-none : {A : Type 0} (at : ℕ) (from xs : List A) → length from ≡ 0 →
-    xs ≡ take at xs ++ from ++ drop (at + length from) xs
-copies-none at [] xs none =
-    let same : at + 0 ≡ at = omega arith in
-    rw same (sym (take-append-drop at xs))
-copies-none at (x ∷ from) xs none = absurd (omega arith)
 
 IsAt-append : (before text after : List ℕ) → IsAt (before ++ (text ++ after)) (length before) text
 IsAt-append before text after = (
