@@ -179,6 +179,17 @@ kp = record (territory (codes "KP") 850 (numbers (codes "\\d{8}") 8)) {
 abbrev pub db_kp : List Metadata
 db_kp = kp ∷ nz ∷ []
 
+-- the short numbers of New Zealand: its emergency number alone
+abbrev pub nz_short : Metadata
+nz_short = record (territory (codes "NZ") 64 (numbers (codes "111") 3)) {
+  short_code = Some (numbers (codes "111") 3);
+  emergency = Some (numbers (codes "111") 3);
+}
+
+-- the database of short numbers
+abbrev pub db_short : List Metadata
+db_short = nz_short ∷ []
+
 -- a number of a calling code: zeros, a value, perhaps an extension
 abbrev pub number : ℕ → ℕ → ℕ → Option (List ℕ) → Reading
 number code zeros value extension = record {
