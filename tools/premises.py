@@ -1,5 +1,6 @@
-"""Whether numbers lie within the premises of the laws of libphonenumber's rules (phone_library_laws, phone_library_back) and of
-what is typed (phone_typed), decided on the records of a table and not by reading a text. Names are those of the definitions."""
+"""Whether numbers lie within the premises of the laws of libphonenumber's rules (phone_library_laws, phone_library_back, and of
+phone_util::dialled) and of what is typed (phone_typed), decided on the records of a table and not by reading a text. Names are
+those of the definitions."""
 import functools
 import json
 import re
@@ -87,6 +88,9 @@ class Territory:
         self.local = (self.general or {}).get("possible_local_length", [])
         self.parsing, self.rule = record.get("national_prefix_for_parsing"), record.get("national_prefix_transform_rule")
         self.prefix, self.abroad = record.get("national_prefix"), record.get("international_prefix")
+        # What is dialled for abroad: nothing where a plus sign is written.
+        self.dialled = record.get("preferred_international_prefix") or (
+            self.abroad if self.abroad and is_digits(self.abroad) else "")
         self.announcing = record.get("preferred_extension_prefix", " ext. ")
         self.national_layouts = record.get("formats", [])
         self.international_layouts = record.get("international_formats") or self.national_layouts
@@ -251,14 +255,32 @@ class Table:
 
     def is_plain_national(self, n):
         """IsPlainNational, inside the number's region."""
-        inside = self.by_id.get(n.region)
+        return self.is_plain_in(n, n.region)
+
+    def is_plain_in(self, n, region):
+        """IsPlainNational, inside a region."""
+        inside = self.by_id.get(region)
         if inside is None:
             return False
         laid = self.laid_out(n, n.national)
         keys = "".join(filter(is_digits, laid))
+        enough = len(keys) >= 3 or (len(keys) == 2 and laid.endswith(keys) and n.extension is None)
         return (is_laid_out(QUIET, laid, keys) and self.is_announced(n) and len(n.national) <= MOST_CHARACTERS
-                and inside.code == n.code and len(keys) >= 3 and after_match(keys, inside.abroad) is None
+                and inside.code == n.code and enough and after_match(keys, inside.abroad) is None
                 and not inside.has_code(keys) and inside.stripped(keys)[0] == n.digits and 2 <= len(n.digits) <= 17)
+
+    def is_dialled_again(self, n, region):
+        """The premises of dialled_again."""
+        start = self.by_id[region]
+        if start.code == n.code:
+            return self.is_plain_in(n, region)
+        return self.is_back_from_international(n) and (start.dialled == "" or self.is_after_prefix(n, start))
+
+    def is_after_prefix(self, n, start):
+        """IsAfterPrefix, and the text isn't too long."""
+        found = first_match(start.abroad, f"{start.dialled}{n.code}{n.digits}")
+        return (found is not None and found.span() == (0, len(start.dialled)) and is_digits(start.dialled)
+                and len(start.dialled) + len(n.international) <= MOST_CHARACTERS)
 
     def is_shown(self, n, layouts, laid, keys):
         """IsPlain of phone_typed: the layout that prints the number shows these keys."""

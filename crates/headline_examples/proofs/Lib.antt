@@ -2,7 +2,7 @@ mod ByText
 mod Digits
 mod Kept
 mod Laid
+mod NewZealand
 mod Prefixed
 mod Searches
-mod Settled
 mod SideBySide

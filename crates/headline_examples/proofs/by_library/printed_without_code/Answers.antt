@@ -1,5 +1,5 @@
 use Rattle.std.proofs.Common.{◌≡◌, ◌≤◌, ◌++◌, [], ℕ, List, length, leb-true, ltb-true, IsUtf8}
-use Rattle.std.proofs.Common.{None, codes, refl, ap, sym, subst, ◌∙◌}
+use Rattle.std.proofs.Common.{None, codes, refl, ap, inl, sym, subst, ◌∙◌}
 use Rattle.std.specs.Fmt.{digits}
 use Rattle.std.specs.Str.{chars}
 use Rattle.phone_values.specs.Ids.{name}
@@ -31,7 +31,6 @@ inside : IsDialledInside am_by_anexo (number 374 0 123456 None) (codes "123456")
 unfolding digits
 inside = record {
   code = refl;
-  enough = leb-true 3 _ refl;
   no_prefix = refl;
   no_code = refl;
   left = ap (λ (s : Stripped). s.national) (stripped_kept am_by_anexo (codes "123456") refl);
@@ -44,14 +43,17 @@ pub returns : goal.returns
 unfolding digits name
 returns c = record {
   national = record {
-    territory = am_by_anexo;
-    first = refl;
-    utf8 = subst IsUtf8 laid_is (IsUtf8-low (codes "123 456") refl);
-    digits = codes "123456";
-    laid = subst (λ t. IsLaidOut is_quiet (chars t) (codes "123456")) laid_is quietly;
+    layout = record {
+      territory = am_by_anexo;
+      first = refl;
+      utf8 = subst IsUtf8 laid_is (IsUtf8-low (codes "123 456") refl);
+      digits = codes "123456";
+      laid = subst (λ t. IsLaidOut is_quiet (chars t) (codes "123456")) laid_is quietly;
+      enough = inl (leb-true 3 _ refl);
+      announced = tt;
+      few = subst (λ (t : List ℕ). length (chars (t ++ [])) ≤ most_characters) laid_is few;
+    };
     dialled = inside;
-    announced = tt;
-    few = subst (λ (t : List ℕ). length (chars (t ++ [])) ≤ most_characters) laid_is few;
   };
   hinted = refl;
 }

@@ -3,7 +3,7 @@ use Rattle.std.specs.Fmt.{digits}
 use Rattle.phone_values.specs.Ids.{id_of, name}
 use Rattle.phone_plans.specs.CodeLookUps.{begins}
 use Rattle.headline_examples.proofs.Kept.{stripped_kept}
-use Rattle.headline_examples.proofs.Settled.{nz_settled}
+use Rattle.headline_examples.proofs.NewZealand.{nz_settled}
 use Rattle.headline_examples.specs.Samples.{nz}
 use Rattle.headline_examples.proofs.by_library.settled.Goals as goal
 
