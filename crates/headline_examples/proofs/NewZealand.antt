@@ -67,6 +67,7 @@ nz_laid_plainly = record {
 }
 
 pub nz_plain : IsPlainInternational db_b (number 64 0 33316005 (Some (codes "5")))
+unfolding nz_laid_plainly
 nz_plain = record {
   layout = nz_laid_plainly;
   announced = announced_by_default nz (Some (codes "5")) refl five;
