@@ -35,6 +35,7 @@ class Told(typing.NamedTuple):
     international: str
     national: str
     rfc3966: str
+    is_valid: bool
 
 
 def is_digits(text):
@@ -351,9 +352,13 @@ class Table:
         return (len(rest) >= 2 and left == (by_crate.stripped_by_crate(rest) if by_crate else (rest, None))
                 and left[0].strip("0") != "")
 
+    def has_no_prefix(self, hint):
+        """A hint's territory has neither a national prefix nor a parsing pattern."""
+        inside = self.by_id.get(hint)
+        return inside is not None and inside.prefix is None and inside.parsing is None
+
     def is_own_number(self, hint, digits):
         """IsOwnNumber."""
         inside = self.by_id.get(hint)
-        return (inside is not None and inside.prefix is None and inside.parsing is None and 3 <= len(digits) <= MOST_CHARACTERS
-                and digits.strip("0") != "" and after_match(digits, inside.abroad) is None
-                and not digits.startswith(str(inside.code)))
+        return (self.has_no_prefix(hint) and 3 <= len(digits) <= MOST_CHARACTERS and digits.strip("0") != ""
+                and after_match(digits, inside.abroad) is None and not digits.startswith(str(inside.code)))
