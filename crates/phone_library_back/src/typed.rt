@@ -1,4 +1,4 @@
-//! That what is shown is read as the keys are.
+//! That what is shown of a number while it is typed is read as the keys are.
 ghost use Rattle.std.specs.Prelude.{◌≡◌, ◌≤◌, ◌∷◌, ℕ, List, Option, Result, length, true};
 ghost use Rattle.std.specs.List.{list_all};
 ghost use Rattle.phone_chars.specs.Characters.{is_digit};

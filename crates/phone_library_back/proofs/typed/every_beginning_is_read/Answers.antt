@@ -1,7 +1,7 @@
 use Rattle.std.proofs.Common.{◌∷◌}
 use Rattle.phone_typed.specs.Typed.{typed}
-use Rattle.phone_typed_laws.proofs.ReadAlike.{read_alike}
-use Rattle.phone_typed_laws.proofs.laws.every_beginning_is_read.Goals as goal
+use Rattle.phone_library_back.proofs.ReadAlike.{read_alike}
+use Rattle.phone_library_back.proofs.typed.every_beginning_is_read.Goals as goal
 
 pub returns-clause-signed : goal.returns-clause-signed
 returns-clause-signed c db hint other digits all some le =
