@@ -8,7 +8,8 @@ use Rattle.std.specs.Option.{option_map_or, option_or}
 use Rattle.regex.proofs.OnLiterals.{regex_on_literals, IsReadAs, ◌then◌, alone, alt-fail}
 use Rattle.regex.specs.Patterns.{Re, find_str}
 use Rattle.phone_values.specs.declared.mode.Mode.TheVariants.{International, Rfc3966}
-use Rattle.phone_territory.specs.First.{Seen, at_start, first_match, is_whole_match, names_in, replaced}
+use Rattle.phone_territory.specs.First.{Seen, at_start, first_match, first_span, is_whole_match}
+use Rattle.phone_territory.specs.First.{names_in, replaced}
 use Rattle.phone_territory.specs.First.{seen_of, verbose, with_first_replaced}
 use Rattle.phone_print.specs.Layouts.{laid}
 use Rattle.phone_print.specs.Texts.{laid_out}
@@ -16,7 +17,7 @@ use Rattle.phone_territory.specs.Layouts.{layout_pattern, suits}
 use Rattle.headline_examples.proofs.Digits.{digit, groups, nd_ranges, read_groups-groups, run, runs}
 use Rattle.headline_examples.proofs.Searches.{searching, first_match-as_read}
 use Rattle.headline_examples.specs.Samples.{ad, am, announcing, at, at_by_x, number}
-use Rattle.headline_examples.specs.Samples.{nz, nz_layout, us}
+use Rattle.headline_examples.specs.Samples.{long_layout, long_number, long_numbers, nz, nz_layout, us}
 
 -- a pattern's text is read as a tree with so many groups, none of which has a name
 record IsTree (pattern : List ℕ) (re : Re) (count : ℕ) : Type 0 where
@@ -147,3 +148,31 @@ pub at_by_x_laid : (e : Option (List ℕ)) →
 unfolding searching nd_ranges digits
 at_by_x_laid e =
     replaced-as_read halves (codes "$1/$2/") (codes "123456") (codes "123/456/") refl refl
+
+-- fifteen digits, of which three stand apart
+long_tree : IsTree (codes "(\\d{3})(\\d{12})") (groups 1 (3 ∷ 12 ∷ [])) 2
+unfolding regex_on_literals names_in
+long_tree = record { read = alt-fail _ then read_groups-groups 1 (3 ∷ 12 ∷ []); names = refl }
+
+-- all of the digits match, and fewer don't
+pub long_span : first_span (layout_pattern long_layout) (codes "333199999999999") ≡ Some (0, 15)
+unfolding searching nd_ranges
+long_span =
+    ap (option_map (λ (s : Seen). (s.0, s.1)))
+    (first_match-as_read _ (codes "333199999999999") _ refl long_tree.read)
+
+pub short_span : first_span (layout_pattern long_layout) (codes "3331") ≡ None
+unfolding searching nd_ranges
+short_span =
+    ap (option_map (λ (s : Seen). (s.0, s.1))) (first_match-as_read _ (codes "3331") _ refl long_tree.read)
+
+pub long_text : replaced (layout_pattern long_layout) (codes "$1 $2") (codes "333199999999999")
+    ≡ codes "333 199999999999"
+unfolding searching nd_ranges
+long_text =
+    replaced-as_read long_tree (codes "$1 $2") (codes "333199999999999") (codes "333 199999999999")
+    refl refl
+
+pub long_laid : laid_out long_numbers International None long_number ≡ codes "333 199999999999"
+unfolding digits
+long_laid = long_text

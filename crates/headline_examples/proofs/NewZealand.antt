@@ -16,7 +16,7 @@ use Rattle.phone_library_back.specs.Plain.{IsLaidInternational, IsPlainInternati
 use Rattle.phone_library_laws.specs.Again.{IsSettled}
 use Rattle.headline_examples.proofs.Kept.{stripped_kept}
 use Rattle.headline_examples.proofs.Laid.{nz_laid}
-use Rattle.headline_examples.specs.Samples.{db_b, number, nz}
+use Rattle.headline_examples.specs.Samples.{db_b, extended, number, nz}
 
 pub nz_settled : (e : Option (List ℕ)) → IsSettled db_b (number 64 0 33316005 e)
 unfolding digits begins
@@ -44,7 +44,7 @@ five = (
 )
 
 -- the text of the layout
-laid_is : codes "3 331 6005" ≡ laid_out nz International None (number 64 0 33316005 (Some (codes "5")))
+laid_is : codes "3 331 6005" ≡ laid_out nz International None extended
 laid_is = sym (nz_laid (Some (codes "5")))
 
 quietly : IsLaidOut is_quiet (chars (codes "3 331 6005")) (codes "33316005")
@@ -55,7 +55,7 @@ few : length (chars (43 ∷ (decimal 64 ++ 32 ∷ (codes "3 331 6005" ++ codes "
 unfolding chars digits
 few = leb-true _ 250 refl
 
-pub nz_laid_plainly : IsLaidInternational db_b (number 64 0 33316005 (Some (codes "5")))
+pub nz_laid_plainly : IsLaidInternational db_b extended
 unfolding digits
 nz_laid_plainly = record {
   territory = nz;
@@ -66,7 +66,7 @@ nz_laid_plainly = record {
       laid_is few;
 }
 
-pub nz_plain : IsPlainInternational db_b (number 64 0 33316005 (Some (codes "5")))
+pub nz_plain : IsPlainInternational db_b extended
 unfolding nz_laid_plainly
 nz_plain = record {
   layout = nz_laid_plainly;

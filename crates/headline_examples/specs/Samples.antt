@@ -190,6 +190,16 @@ nz_short = record (territory (codes "NZ") 64 (numbers (codes "111") 3)) {
 abbrev pub db_short : List Metadata
 db_short = nz_short ∷ []
 
+-- the layout of fifteen digits, the first three apart
+abbrev pub long_layout : Format
+long_layout = layout (codes "(\\d{3})(\\d{12})") (codes "$1 $2")
+
+-- a territory of such numbers
+abbrev pub long_numbers : Metadata
+long_numbers = record (territory (codes "001") 979 (numbers (codes "\\d{15}") 15)) {
+  formats = long_layout ∷ [];
+}
+
 -- a number of a calling code: zeros, a value, perhaps an extension
 abbrev pub number : ℕ → ℕ → ℕ → Option (List ℕ) → Reading
 number code zeros value extension = record {
@@ -198,3 +208,11 @@ number code zeros value extension = record {
   extension = extension;
   carrier = None;
 }
+
+-- a number of New Zealand with the extension 5
+abbrev pub extended : Reading
+extended = number 64 0 33316005 (Some (codes "5"))
+
+-- a number of fifteen digits
+abbrev pub long_number : Reading
+long_number = number 979 0 333199999999999 None

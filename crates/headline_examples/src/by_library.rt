@@ -10,7 +10,7 @@ ghost use Rattle.phone_library_back.specs.Coded.{IsCoded, IsLeftAlone};
 ghost use Rattle.phone_library_back.specs.Plain.{IsLaidInternational, IsLaidRfc3966};
 ghost use Rattle.phone_library_back.specs.Plain.{IsPlainInternational, IsPlainNational};
 ghost use Rattle.phone_library_back.specs.Plain.{IsPlainRfc3966};
-ghost use Rattle.headline_examples.specs.Samples.{am_by_anexo, db_b, db_d, db_e, number};
+ghost use Rattle.headline_examples.specs.Samples.{am_by_anexo, db_b, db_d, db_e, extended, number};
 
 /// A number of New Zealand is read again from its E.164 text, under every hint, and by both rules
 /// alike: no transform rule has a plus sign, and nothing is stripped off it.
@@ -39,12 +39,11 @@ pub fn own_number()
 /// The texts of a number of New Zealand with an extension are read again under every hint: the
 /// international one and that of RFC 3966.
 pub fn printed_with_code()
-    ensures international { IsPlainInternational db_b
-        (number 64 0 33316005 (Some (codes "5"))) }
-    ensures laid { IsLaidInternational db_b (number 64 0 33316005 (Some (codes "5"))) }
-    ensures rfc3966 { IsPlainRfc3966 db_b (number 64 0 33316005 (Some (codes "5"))) }
-    ensures laid_rfc3966 { IsLaidRfc3966 db_b (number 64 0 33316005 (Some (codes "5"))) }
-    ensures parameter { IsParameterIfAny (Some (codes "5")) }
+    ensures international { IsPlainInternational db_b extended }
+    ensures laid { IsLaidInternational db_b extended }
+    ensures rfc3966 { IsPlainRfc3966 db_b extended }
+    ensures laid_rfc3966 { IsLaidRfc3966 db_b extended }
+    ensures parameter { IsParameterIfAny extended.extension }
 {}
 
 /// The national text of a number of Armenia is read again under Armenia's hint.

@@ -1,5 +1,5 @@
 //! Numbers that the premises of dialling and of finding take, a real one each.
-ghost use Rattle.std.specs.Prelude.{◌≡◌, codes, None, Some, true};
+ghost use Rattle.std.specs.Prelude.{◌≡◌, codes, None, true};
 ghost use Rattle.phone_values.specs.declared.country.Id.TheVariants as id;
 ghost use Rattle.phone_find.specs.Alone.{EndsInDigits, IsAmong, IsPlainEnough, IsShaped};
 ghost use Rattle.phone_find.specs.Leniencies.{suffices};
@@ -7,15 +7,15 @@ ghost use Rattle.phone_values.specs.declared.rules.Rules.TheVariants as rules;
 ghost use Rattle.phone_find.specs.declared.leniency.Leniency.TheVariants as leniency;
 ghost use Rattle.phone_util.specs.Back.{IsAfterPlus, IsAfterPrefix, IsPlainDialled};
 ghost use Rattle.phone_util.specs.LibraryBack.{IsSettledDialled};
-ghost use Rattle.headline_examples.specs.Samples.{db_b, db_kp, number, nz};
+ghost use Rattle.headline_examples.specs.Samples.{db_b, db_kp, extended, number, nz};
 
-/// A number of New Zealand that is dialled from the United States, behind `011`; by libphonenumber's
-/// rules one with an extension.
+/// A number of New Zealand that is dialled from the United States, behind `011`; for
+/// libphonenumber's rules it has an extension.
 pub fn dialled_behind_a_prefix()
     ensures by_crate { (plain : IsPlainDialled db_b id.US (number 64 0 33316005 None)) ×
         IsAfterPrefix plain.from (number 64 0 33316005 None) }
-    ensures by_library { (dialled : IsSettledDialled db_b id.US (number 64 0 33316005 (Some (codes "5")))) ×
-        IsAfterPrefix dialled.from (number 64 0 33316005 (Some (codes "5"))) }
+    ensures by_library { (dialled : IsSettledDialled db_b id.US extended) ×
+        IsAfterPrefix dialled.from extended }
 {}
 
 /// The same number dialled from North Korea, behind a plus sign: of two international prefixes none

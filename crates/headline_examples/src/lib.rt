@@ -1,7 +1,7 @@
 //! What the premises of reading back take, and why each is there, on the databases B, C, D and E of
-//! the replayed tables; what those of dialling, of finding, of what is typed, and of libphonenumber's
-//! rules take; and why a text may be read in parts. These functions do nothing; their contracts say
-//! it. And every public name, under its path.
+//! the replayed tables; what those of dialling, of finding, of what is typed, and of
+//! libphonenumber's rules take; and why a text may be read in parts. These functions do nothing;
+//! their contracts say it. And every public name, under its path.
 #![tactic(auto)]
 
 mod by_library;
@@ -25,4 +25,4 @@ pub use plain::{
 };
 pub use side_by_side::report_of_two_parts;
 pub use told::{short_number, valid_number};
-pub use typed::{typed_abroad, typed_at_home};
+pub use typed::{typed_abroad, typed_at_home, typed_in_part};

@@ -11,10 +11,10 @@ use Rattle.phone_library_back.specs.Layouts.{IsLaidOut}
 use Rattle.phone_library_back.specs.Plain.{IsLaidRfc3966}
 use Rattle.headline_examples.proofs.Laid.{nz_laid_rfc3966}
 use Rattle.headline_examples.proofs.NewZealand.{five, nz_laid_plainly, nz_plain}
-use Rattle.headline_examples.specs.Samples.{db_b, number, nz}
+use Rattle.headline_examples.specs.Samples.{db_b, extended, nz}
 use Rattle.headline_examples.proofs.by_library.printed_with_code.Goals as goal
 
-laid_apart : codes "3 331 6005" ≡ laid_out nz Rfc3966 None (number 64 0 33316005 (Some (codes "5")))
+laid_apart : codes "3 331 6005" ≡ laid_out nz Rfc3966 None extended
 laid_apart = sym (nz_laid_rfc3966 (Some (codes "5")))
 
 apart : IsLaidOut is_separator (chars (codes "3 331 6005")) (codes "33316005")
@@ -26,7 +26,7 @@ few_apart : length (chars (codes "tel:+" ++ (decimal 64 ++ 45 ∷
 unfolding chars digits encode_utf8
 few_apart = leb-true _ 250 refl
 
-laid_rfc3966 : IsLaidRfc3966 db_b (number 64 0 33316005 (Some (codes "5")))
+laid_rfc3966 : IsLaidRfc3966 db_b extended
 unfolding digits
 laid_rfc3966 = record {
   territory = nz;
