@@ -154,17 +154,24 @@ long_tree : IsTree (codes "(\\d{3})(\\d{12})") (groups 1 (3 ∷ 12 ∷ [])) 2
 unfolding regex_on_literals names_in
 long_tree = record { read = alt-fail _ then read_groups-groups 1 (3 ∷ 12 ∷ []); names = refl }
 
+-- what it matches first, by that
+long_match : (hay : List ℕ) → list_all (λ c. nat_lt c 256) hay ≡ true →
+    first_span (layout_pattern long_layout) hay ≡
+    option_map (λ (s : Seen). (s.0, s.1))
+    (option_map seen_of (find_str (groups 1 (3 ∷ 12 ∷ [])) hay 0))
+long_match hay bytes =
+    ap (option_map (λ (s : Seen). (s.0, s.1)))
+    (first_match-as_read (codes "(\\d{3})(\\d{12})") hay (groups 1 (3 ∷ 12 ∷ [])) bytes
+    long_tree.read)
+
 -- all of the digits match, and fewer don't
 pub long_span : first_span (layout_pattern long_layout) (codes "333199999999999") ≡ Some (0, 15)
 unfolding searching nd_ranges
-long_span =
-    ap (option_map (λ (s : Seen). (s.0, s.1)))
-    (first_match-as_read _ (codes "333199999999999") _ refl long_tree.read)
+long_span = long_match (codes "333199999999999") refl
 
 pub short_span : first_span (layout_pattern long_layout) (codes "3331") ≡ None
 unfolding searching nd_ranges
-short_span =
-    ap (option_map (λ (s : Seen). (s.0, s.1))) (first_match-as_read _ (codes "3331") _ refl long_tree.read)
+short_span = long_match (codes "3331") refl
 
 pub long_text : replaced (layout_pattern long_layout) (codes "$1 $2") (codes "333199999999999")
     ≡ codes "333 199999999999"

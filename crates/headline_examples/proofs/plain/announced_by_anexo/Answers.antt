@@ -22,11 +22,13 @@ pub returns : goal.returns
 unfolding digits chars id_of name
 returns c =
     let laid = spaced_laid (codes "AM") 374 (codes " anexo ") in
+    let twelve = number 374 0 123456 (Some (codes "12")) in
+    let safely = benign am_by_anexo twelve (laid (Some (codes "12"))) refl refl in
     record {
       international = international am_by_anexo (laid (Some (codes "12"))) (is_plain refl refl) refl (omega arith) refl refl;
-      benign = benign am_by_anexo (number 374 0 123456 (Some (codes "12"))) (laid (Some (codes "12"))) refl refl;
+      benign = safely;
       empty = international am_by_anexo (laid (Some [])) (is_plain refl refl) refl (omega arith) refl refl;
       empty_benign = benign am_by_anexo (number 374 0 123456 (Some [])) (laid (Some [])) refl refl;
       idle = inr (am_by_anexo, refl, refl);
-      by_word = by_word (announced_safely am_by_anexo (number 374 0 123456 (Some (codes "12"))) (inr (benign am_by_anexo (number 374 0 123456 (Some (codes "12"))) (laid (Some (codes "12"))) refl refl)));
+      by_word = by_word (announced_safely am_by_anexo twelve (inr safely));
     }
