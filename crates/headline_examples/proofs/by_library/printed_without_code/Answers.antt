@@ -1,5 +1,5 @@
 use Rattle.std.proofs.Common.{◌≡◌, ◌≤◌, ◌++◌, [], ℕ, List, length, leb-true, ltb-true, IsUtf8}
-use Rattle.std.proofs.Common.{None, codes, refl, ap, inl, sym, subst, ◌∙◌}
+use Rattle.std.proofs.Common.{None, codes, refl, ap, inl, sym, subst}
 use Rattle.std.specs.Fmt.{digits}
 use Rattle.std.specs.Str.{chars}
 use Rattle.phone_values.specs.Ids.{name}

@@ -1,4 +1,4 @@
-use Rattle.std.proofs.Common.{◌≡◌, ℕ, List, Bool, true, false, if◌then◌else◌, codes, None, Option}
+use Rattle.std.proofs.Common.{◌≡◌, Bool, false, if◌then◌else◌, codes, None, Option}
 use Rattle.std.proofs.Common.{Some, refl, ap}
 use Rattle.std.specs.Fmt.{digits}
 use Rattle.std.specs.Option.{option_map_or}
