@@ -124,6 +124,10 @@ pub eight_whole : is_whole_match (codes "\\d{8}") (codes "12345678") ≡ true
 unfolding searching nd_ranges
 eight_whole = is_whole_match-as_read am_tree (codes "12345678") refl refl
 
+pub nz_general : is_whole_match (codes "\\d{8}") (codes "33316005") ≡ true
+unfolding searching nd_ranges
+nz_general = is_whole_match-as_read am_tree (codes "33316005") refl refl
+
 pub eight_front : at_start (codes "\\d{8}") (codes "12345678") ≡ true
 unfolding searching nd_ranges
 eight_front =

@@ -1,6 +1,7 @@
 -- The databases B, C, D and E of the replayed tables, territory by territory, and numbers.
 use Rattle.std.specs.Prelude.{ℕ, true, List, [], ◌∷◌, codes, Option, None, Some}
 use Rattle.phone_values.specs.declared.country.Source.TheVariants.{Default}
+use Rattle.phone_read.specs.Hints.{Coded}
 use Rattle.phone_records.specs.Empty.{no_descriptor, no_format, no_metadata}
 use Rattle.phone_records.specs.declared.loader.Descriptor.{Descriptor}
 use Rattle.phone_records.specs.declared.loader.Format.{Format}
@@ -216,3 +217,7 @@ extended = number 64 0 33316005 (Some (codes "5"))
 -- a number of fifteen digits
 abbrev pub long_number : Reading
 long_number = number 979 0 333199999999999 None
+
+-- what follows New Zealand's code, which the hint tells, where the national prefix is dialled
+abbrev pub dialled_at_home : Coded
+dialled_at_home = record { source = Default; value = 64; rest = codes "033316005" }

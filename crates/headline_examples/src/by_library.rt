@@ -5,12 +5,14 @@ ghost use Rattle.phone_read.specs.Hints.{hinted};
 ghost use Rattle.phone_read.specs.TransformRules.{rules_have_no_plus};
 ghost use Rattle.phone_library_laws.specs.Again.{IsSettled, IsSettledIfRead};
 ghost use Rattle.phone_library_laws.specs.Agreement.{IsOwnNumber, IsReadAlike, IsSettledAlike};
+ghost use Rattle.phone_library_laws.specs.Prefixes.{IsDialledAlike, IsHomeNumber};
 ghost use Rattle.phone_library_back.specs.Announced.{IsParameterIfAny};
 ghost use Rattle.phone_library_back.specs.Coded.{IsCoded, IsLeftAlone};
 ghost use Rattle.phone_library_back.specs.Plain.{IsLaidInternational, IsLaidRfc3966};
 ghost use Rattle.phone_library_back.specs.Plain.{IsPlainInternational, IsPlainNational};
 ghost use Rattle.phone_library_back.specs.Plain.{IsPlainRfc3966};
-ghost use Rattle.headline_examples.specs.Samples.{am_by_anexo, db_b, db_d, db_e, extended, number};
+ghost use Rattle.headline_examples.specs.Samples.{am_by_anexo, db_b, db_d, db_e};
+ghost use Rattle.headline_examples.specs.Samples.{dialled_at_home, extended, number};
 
 /// A number of New Zealand is read again from its E.164 text, under every hint, and by both rules
 /// alike: no transform rule has a plus sign, and nothing is stripped off it.
@@ -34,6 +36,13 @@ pub fn read_alike()
 /// A number of Andorra, which has no national prefix, as it is dialled there.
 pub fn own_number()
     ensures { IsOwnNumber db_d (Some id.AD) (codes "123456") }
+{}
+
+/// The first number as it is dialled in New Zealand, behind the national prefix; by both rules the
+/// prefix is stripped.
+pub fn home_number()
+    ensures home { IsHomeNumber db_b (Some id.NZ) (codes "033316005") }
+    ensures dialled { IsDialledAlike db_b (Some id.NZ) dialled_at_home }
 {}
 
 /// The texts of a number of New Zealand with an extension are read again under every hint: the

@@ -13,7 +13,9 @@ mod side_by_side;
 mod told;
 mod typed;
 
-pub use by_library::{own_number, printed_with_code, printed_without_code, read_alike, settled};
+pub use by_library::{
+    home_number, own_number, printed_with_code, printed_without_code, read_alike, settled,
+};
 pub use dialled::{dialled_behind_a_plus, dialled_behind_a_prefix, found_in_a_text};
 pub use needed::{
     announced_by_layout, announced_otherwise, codes_apart, digits_dropped, extensions,
