@@ -132,7 +132,7 @@ class Territory:
 
     def stripped(self, digits):
         left = self.strip(digits)
-        return left if self.length_in(len(left[0])) in ("possible", "long") else (digits, None)
+        return left if self.may_be_left(left[0]) else (digits, None)
 
     def step(self, digits):
         """What the crate's rules cut off in one step leaves, and the carrier."""
@@ -161,6 +161,24 @@ class Territory:
         if leading is not None:
             return at_start(leading, digits)
         return self.is_of("general", digits) and any(self.is_of(kind, digits) for kind in KINDS)
+
+    def dialled_for(self, digits):
+        """The national number that digits are dialled for by IsDialledFor, alone or behind the national prefix; none where they
+        are for none."""
+        is_front = self.prefix is not None and digits.startswith(self.prefix)
+        found = first_match(self.parsing, digits)
+        is_matched = found is not None and found.start() == 0
+        if not is_front:
+            return None if is_matched else digits
+        national = digits[len(self.prefix) :]
+        alone = self.parsing is None or (is_matched and found.end() == len(self.prefix) and found.re.groups > 0
+                                         and found[1] is None and found[found.re.groups] is None)
+        return national if (alone and not national.startswith(self.prefix) and self.may_be_left(national)
+                            and (self.matches_whole(national) or not self.matches_whole(digits))) else None
+
+    def may_be_left(self, digits):
+        """So many digits may be left."""
+        return self.length_in(len(digits)) in ("possible", "long")
 
     def has_code(self, digits):
         """Digits begin with the code, and are a number only without it, or too long."""
@@ -352,13 +370,9 @@ class Table:
         return (len(rest) >= 2 and left == (by_crate.stripped_by_crate(rest) if by_crate else (rest, None))
                 and left[0].strip("0") != "")
 
-    def has_no_prefix(self, hint):
-        """A hint's territory has neither a national prefix nor a parsing pattern."""
-        inside = self.by_id.get(hint)
-        return inside is not None and inside.prefix is None and inside.parsing is None
-
-    def is_own_number(self, hint, digits):
-        """IsOwnNumber."""
-        inside = self.by_id.get(hint)
-        return (self.has_no_prefix(hint) and 3 <= len(digits) <= MOST_CHARACTERS and digits.strip("0") != ""
+    def is_home_number(self, hint, digits):
+        """IsHomeNumber, of which those under a hint without national prefix and parsing pattern are IsOwnNumber."""
+        inside = self.by_id[hint]
+        national = inside.dialled_for(digits)
+        return (national is not None and national.strip("0") != "" and 3 <= len(digits) <= MOST_CHARACTERS
                 and after_match(digits, inside.abroad) is None and not digits.startswith(str(inside.code)))
