@@ -1,6 +1,5 @@
 #!/usr/bin/env python3
-"""Compares the declarations of the calls: crates/phone_c, c/world.c, c/phone.h, c/phone.map, Rust's sys/src/lib.rs and Python's
-_calls.py.
+"""Compares the declarations of the calls: crates/phone_c, c/world.c, c/phone.h, Rust's sys/src/lib.rs and Python's _calls.py.
 
 usage: bindings/declarations.py
 
@@ -60,13 +59,6 @@ def header():
         numbers[name] = at
     numbers["VERSION"] = int(re.search(r"PHONE_VERSION (\d+)u", text)[1])
     return calls, structs, numbers
-
-
-def exported():
-    """The calls that the shared library gives, each by its name."""
-    text = re.sub(r"/\*.*?\*/", "", (BINDINGS / "c" / "phone.map").read_text(), flags=re.DOTALL)
-    names = re.findall(r"\S+(?=;)", text[text.index("global:"):text.index("local:")])
-    return {name.removeprefix("phone_"): True for name in names}
 
 
 def of_rust(text):
@@ -171,7 +163,6 @@ def main():
     ffi = (BINDINGS / "rust" / "sys" / "src" / "lib.rs").read_text()
     world = c_calls((BINDINGS / "c" / "world.c").read_text(), r" \{")
     compare("crates/phone_c, c/world.c", "call", rust_calls(crate, 'extern "C"') | world, calls, whole=True)
-    compare("c/phone.map", "call", exported(), dict.fromkeys(calls, True), whole=True)
     compare("crates/phone_c", "struct", rust_structs(crate), structs)
     compare("crates/phone_c", "number", crate_numbers(crate), numbers)
     compare("sys/src/lib.rs", "call", rust_calls(ffi, "pub"), calls)
