@@ -148,7 +148,7 @@ impl Book {
         }
     }
 
-    /// Reads a line under a hint, as an engine of the book's rules does, and adds its number, unless
+    /// Reads a line under a hint, as an engine of the book's rules does, and adds its number unless
     /// one of the same calling code and national number is there: source, extension and carrier
     /// don't count, and the first one stays as it was written.
     ///
