@@ -1,19 +1,40 @@
 -- The statuses that the program ends with.
-use Rattle.std.specs.Prelude.{ℕ, ◌≤◌, List}
-use Rattle.phone_words.specs.Calls.{IsCall, IsNoCall}
-use Rattle.phone_words.specs.declared.call.Call.{Call}
+use Rattle.std.specs.Prelude.{ℕ, ⊤, List, Result, Ok, Err}
+use Rattle.phone_csv.specs.declared.blocks.RunError.TheVariants as rows
+use Rattle.phone_csv.specs.declared.first.FirstError.TheVariants as header
+use Rattle.phone_commands.specs.declared.inputs.Failure.{Failure}
+use Rattle.phone_commands.specs.declared.inputs.Failure.TheVariants.{In, Unopened}
+use Rattle.phone_commands.specs.declared.jobs.JobError.{JobError}
+use Rattle.phone_commands.specs.declared.jobs.JobError.TheVariants as job
+use Rattle.phone_table.specs.declared.run.TableError.{TableError}
+use Rattle.phone_table.specs.declared.run.TableError.TheVariants as table
 use Rattle.phone_words.specs.declared.parts.Why.{Why}
 use Rattle.phone_words.specs.declared.parts.Why.TheVariants as why
-use Rattle.phone_words.specs.declared.parts.WordError.{WordError}
 
 -- the status for words that are no call: 1 where there was no memory for them
 abbrev pub status_of_words : Why → ℕ
 status_of_words why.Memory = 1
 status_of_words other = 2
 
--- what the program does by its words, and its status: where they are no call, it reads and writes
--- nothing, and ends with 2; with 1 where there was no memory for them; else with at most 3
-pub data Acts (words : List (List ℕ)) (idle : Type 0) : ℕ → Type 0 where
-  no_memory : idle → Acts words idle 1
-  no_call : (e : WordError) → IsNoCall words e → idle → Acts words idle (status_of_words e.why)
-  called : (c : Call) (status : ℕ) → IsCall words c → status ≤ 3 → Acts words idle status
+-- the status for a table that was not answered whole: 1 where a record has another count of fields
+-- than the header, or a quote is never closed; 2 where a header or a column is missing
+abbrev pub status_of_table : TableError → ℕ
+status_of_table (table.Rows (rows.Record feeds)) = 1
+status_of_table (table.Rows (rows.Quote line)) = 1
+status_of_table (table.Header (header.Quote line)) = 1
+status_of_table other = 2
+
+-- the status for an input that was not answered whole
+abbrev pub status_of_input : JobError → ℕ
+status_of_input (job.Table e) = status_of_table e
+status_of_input other = 1
+
+-- the status for inputs that were not all answered whole
+abbrev pub status_of_failure : Failure → ℕ
+status_of_failure (Unopened name) = 1
+status_of_failure (In name e) = status_of_input e
+
+-- the status after the inputs: 0 where all were answered whole
+abbrev pub status_of : Result ⊤ Failure → ℕ
+status_of (Ok done) = 0
+status_of (Err failure) = status_of_failure failure

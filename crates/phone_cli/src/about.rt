@@ -1,5 +1,10 @@
 //! What the program says of itself, and of what words it knows.
-use phone_device::{ByteSink, Fault, write_all};
+ghost use Rattle.std.specs.Prelude.{◌≡◌, ℕ, List, None, OnOk, Option, option_map};
+ghost use Rattle.phone_cli.specs.Abouts.{id_line, id_lines, regions_text, rules_line, table_line};
+ghost use Rattle.phone_cli.specs.Abouts.{version_text};
+ghost use Rattle.phone_cli.specs.Streams.{Writes};
+
+use phone_device::{ByteSink, Fault, write_all, write_out};
 use phone_engine::Rules;
 use phone_values::country::{ALL, Id};
 use std::alloc::AllocGlobal;
@@ -9,21 +14,40 @@ use std::fs::{self, Files};
 const NAME: &str = "phonenumber, a port of the Rust crate phonenumber 0.3.10 to Rattle\n";
 
 /// Writes a text that the program tells of itself.
-pub(crate) fn write_text<W: ByteSink>(output: &mut W, text: &str) -> Result<(), Fault> {
-    write_all(output, text.as_bytes())?;
-    output.flush()
+pub(crate) fn write_text<W: ByteSink>(output: &mut W, text: &str) -> Result<(), Fault>
+    ensures written { Writes text.now (W.taken output.old) (W.faults output.old)
+        (W.taken output.new) (W.faults output.new) result }
+    ensures handed_on { OnOk result (W.unflushed output.new ≡ 0) }
+{
+    write_out(output, text.as_bytes())
 }
 
 /// Writes each region's id, one a line.
-pub(crate) fn write_regions<W: ByteSink>(output: &mut W) -> Result<(), Fault> {
-    for id in &ALL {
-        write_id(output, *id)?;
-    }
+pub(crate) fn write_regions<W: ByteSink>(output: &mut W) -> Result<(), Fault>
+    ensures written { Writes regions_text (W.taken output.old) (W.faults output.old)
+        (W.taken output.new) (W.faults output.new) result }
+    ensures handed_on { OnOk result (W.unflushed output.new ≡ 0) }
+{
+    write_ids(output, &ALL)?;
     output.flush()
 }
 
+/// Writes ids, one a line.
+fn write_ids<W: ByteSink>(output: &mut W, ids: &[Id]) -> Result<(), Fault>
+    ensures written { Writes (id_lines ids.now) (W.taken output.old) (W.faults output.old)
+        (W.taken output.new) (W.faults output.new) result }
+{
+    for id in ids {
+        write_id(output, *id)?;
+    }
+    Ok(())
+}
+
 /// Writes an id and a line feed.
-fn write_id<W: ByteSink>(output: &mut W, id: Id) -> Result<(), Fault> {
+fn write_id<W: ByteSink>(output: &mut W, id: Id) -> Result<(), Fault>
+    ensures written { Writes (id_line id) (W.taken output.old) (W.faults output.old)
+        (W.taken output.new) (W.faults output.new) result }
+{
     write_all(output, id.as_str().as_bytes())?;
     write_all(output, "\n".as_bytes())
 }
@@ -44,30 +68,60 @@ fn table_version<R: Files + AllocGlobal>(rt: &R, path: &str) -> Option<String> {
 }
 
 /// By whose rules numbers are read, in a line.
-fn rules_line(rules: Rules) -> &'static str {
+fn rules_line(rules: Rules) -> &'static str
+    ensures { result.now ≡ rules_line rules }
+{
     match rules {
         Rules::Library => "rules: those of libphonenumber (--rules library)\n",
         Rules::Crate => "rules: those of the Rust crate phonenumber (--rules crate)\n",
     }
 }
 
-/// Writes which program this is, by whose rules it reads, and the version of the table, where that
+/// Writes the version of the table, where that is known.
+fn write_table_line<W: ByteSink>(output: &mut W, version: Option<&str>) -> Result<(), Fault>
+    ensures written { Writes (table_line (option_map (λ v. v.now) version.entry))
+        (W.taken output.old) (W.faults output.old) (W.taken output.new) (W.faults output.new) result }
+{
+    let Some(version) = version else {
+        return Ok(());
+    };
+    write_all(output, "table of the world: ".as_bytes())?;
+    write_all(output, version.as_bytes())
+}
+
+/// Writes which program this is, by whose rules it reads, and this version of the table, where that
 /// is known.
+fn write_lines<W: ByteSink>(
+    output: &mut W,
+    rules: Rules,
+    version: Option<&str>,
+) -> Result<(), Fault>
+    ensures written { Writes (version_text rules (option_map (λ v. v.now) version.entry))
+        (W.taken output.old) (W.faults output.old) (W.taken output.new) (W.faults output.new) result }
+{
+    write_all(output, NAME.as_bytes())?;
+    write_all(output, rules_line(rules).as_bytes())?;
+    write_table_line(output, version)
+}
+
+/// Writes which program this is, by whose rules it reads, and the version of the table, where that
+/// is known: what a file beside it holds, of which no contract tells.
 pub(crate) fn write_version<R: Files + AllocGlobal, W: ByteSink>(
     rt: &R,
     path: Option<&str>,
     rules: Rules,
     output: &mut W,
-) -> Result<(), Fault> {
-    write_all(output, NAME.as_bytes())?;
-    write_all(output, rules_line(rules).as_bytes())?;
+) -> Result<(), Fault>
+    ensures written { (version : Option (List ℕ)) × (path.entry ≡ None → version ≡ None) ×
+        Writes (version_text rules version) (W.taken output.old) (W.faults output.old)
+        (W.taken output.new) (W.faults output.new) result }
+    ensures handed_on { OnOk result (W.unflushed output.new ≡ 0) }
+{
     let version = match path {
         Some(path) => table_version(rt, path),
         None => None,
     };
-    if let Some(version) = version {
-        write_all(output, "table of the world: ".as_bytes())?;
-        write_all(output, version.as_bytes())?;
-    }
+    let version = version.as_ref().map(|version| version.as_str());
+    write_lines(output, rules, version)?;
     output.flush()
 }

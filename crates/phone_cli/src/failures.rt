@@ -1,5 +1,8 @@
 //! What is told of a failure, by file and cause.
-ghost use Rattle.std.specs.Prelude.{◌≡◌, ◌≤◌};
+ghost use Rattle.std.specs.Prelude.{◌≡◌, ◌⊎◌, ℕ, List, codes};
+ghost use Rattle.phone_cli.specs.Statuses.{status_of_failure, status_of_table};
+ghost use Rattle.phone_cli.specs.Streams.{line_of};
+ghost use Rattle.phone_engine.specs.Programs.{IsTold};
 
 use crate::say::{say, say_columns};
 use itoa::Buffer;
@@ -19,7 +22,9 @@ pub(crate) fn say_refusal<E: ByteSink>(
     refusal: &LoadMetadata,
     errors: &mut E,
 ) -> u8
-    ensures { result ≡ 3 }
+    ensures status { result ≡ 3 }
+    ensures told { (text : List ℕ) × IsTold (E.taken errors.old) (E.faults errors.old)
+        (line_of text) (E.taken errors.new) (E.faults errors.new) }
 {
     let mut number = Buffer::new();
     let number = number.format(refusal.number());
@@ -43,7 +48,7 @@ pub(crate) fn say_failure<E: ByteSink>(
     is_closed: bool,
     errors: &mut E,
 ) -> u8
-    ensures { result ≤ 3 }
+    ensures { result ≡ status_of_failure failure.now }
 {
     match failure {
         Failure::Unopened(name) => say(errors, &[*name, " can't be read"], 1),
@@ -60,7 +65,7 @@ pub(crate) fn say_failure<E: ByteSink>(
 
 /// Tells what is wrong with a table, and gives the status.
 fn say_table<E: ByteSink>(call: &Call<'_>, error: &TableError, errors: &mut E) -> u8
-    ensures { result ≤ 3 }
+    ensures { result ≡ status_of_table error.now }
 {
     match error {
         TableError::NoColumn(column, header) => {
@@ -103,7 +108,10 @@ fn no_pair(alloc: Global, line: usize) -> Result<String, AllocError> {
 
 /// Tells why a file holds no table of prefixes, and gives the status.
 fn say_refused<E: ByteSink>(alloc: Global, name: &str, error: PrefixesError, errors: &mut E) -> u8
-    ensures { result ≤ 3 }
+    ensures { ((result ≡ 3) × ((text : List ℕ) × IsTold (E.taken errors.old) (E.faults errors.old)
+        (line_of text) (E.taken errors.new) (E.faults errors.new))) ⊎
+        ((result ≡ 1) × IsTold (E.taken errors.old) (E.faults errors.old)
+        (line_of (codes "out of memory")) (E.taken errors.new) (E.faults errors.new)) }
 {
     let words = match error {
         PrefixesError::Line(line, LineFault::NoTab) => no_pair(alloc, line),
@@ -121,7 +129,10 @@ fn say_refused<E: ByteSink>(alloc: Global, name: &str, error: PrefixesError, err
 
 /// Tells why further columns are not there, and gives the status.
 pub(crate) fn say_no_columns<E: ByteSink>(alloc: Global, why: NoColumns<'_>, errors: &mut E) -> u8
-    ensures { result ≤ 3 }
+    ensures { ((result ≡ 3) × ((text : List ℕ) × IsTold (E.taken errors.old) (E.faults errors.old)
+        (line_of text) (E.taken errors.new) (E.faults errors.new))) ⊎
+        ((result ≡ 1) × IsTold (E.taken errors.old) (E.faults errors.old)
+        (line_of (codes "out of memory")) (E.taken errors.new) (E.faults errors.new)) }
 {
     match why {
         NoColumns::Unopened(name) => say(errors, &["the table ", name, " can't be read"], 3),

@@ -1,5 +1,9 @@
 //! The region and the files that a call names.
-ghost use Rattle.std.specs.Prelude.{◌≡◌, IfSome};
+ghost use Rattle.std.specs.Prelude.{◌≡◌, ℕ, IfSome, IsNone, List, Some, slice_get};
+ghost use Rattle.phone_cli.specs.Operands.{region_and_files};
+ghost use Rattle.phone_cli.specs.Streams.{line_of};
+ghost use Rattle.phone_commands.specs.Inputs.{IsStandard, Name};
+ghost use Rattle.phone_engine.specs.Programs.{IsTold};
 
 use crate::say::say;
 use phone_commands::is_standard;
@@ -10,7 +14,9 @@ use std::fs::{self, Files};
 
 /// The region and the files that operands name: the first one is a region's id, in capital or small
 /// letters, or a file.
-pub(crate) fn hint_and_files<'l, 'w>(operands: &'l [&'w str]) -> (Option<Id>, &'l [&'w str]) {
+pub(crate) fn hint_and_files<'l, 'w>(operands: &'l [&'w str]) -> (Option<Id>, &'l [&'w str])
+    ensures { (result.0, result.1.now) ≡ region_and_files operands.now }
+{
     match operands {
         [first, rest @ ..] => match id_in(first) {
             Some(id) => (Some(id), rest),
@@ -33,7 +39,9 @@ enum Wrong {
 }
 
 /// What is wrong with the file of a name, where anything is.
-fn wrong_file<R: Files>(rt: &R, name: &str) -> Option<Wrong> {
+fn wrong_file<R: Files>(rt: &R, name: &str) -> Option<Wrong>
+    ensures { IfSome result (λ _. ¬ (IsStandard name.entry)) }
+{
     if is_standard(name) {
         return None;
     }
@@ -52,7 +60,12 @@ pub(crate) fn say_missing<R: Files, E: ByteSink>(
     files: &[&str],
     errors: &mut E,
 ) -> Option<u8>
-    ensures { IfSome result (λ status. status ≡ 2) }
+    ensures status { IfSome result (λ status. status ≡ 2) }
+    ensures absent { IfSome result (λ _. (name : Name) × (at : ℕ) ×
+        (slice_get files.now at ≡ Some name) × ¬ (IsStandard name)) }
+    ensures told { IfSome result (λ _. (text : List ℕ) × IsTold (E.taken errors.old)
+        (E.faults errors.old) (line_of text) (E.taken errors.new) (E.faults errors.new)) }
+    ensures silent { IsNone result → errors.new ≡ errors.old }
 {
     let mut is_first = hint.is_none();
     for name in files {

@@ -10,8 +10,12 @@ pub trait Outlet: ByteSink {
     /// Whether what read it is gone, as behind `head`: then it is no failure that is to be told.
     fn is_closed(&self) -> bool;
 
-    /// Ends what it tells of how far the writing is, so that a line can be told.
-    fn end_progress(&mut self);
+    /// Ends what it tells of how far the writing is, so that a line can be told. What was written
+    /// stays.
+    fn end_progress(&mut self)
+        ensures taken { Self.taken self.new ≡ Self.taken self.old }
+        ensures faults { Self.faults self.new ≡ Self.faults self.old }
+        ensures unflushed { Self.unflushed self.new ≡ Self.unflushed self.old };
 }
 
 impl Outlet for Limit {

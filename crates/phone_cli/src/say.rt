@@ -1,6 +1,9 @@
 //! The lines that are told of what failed, and the statuses that go with them.
-ghost use Rattle.std.specs.Prelude.{◌≡◌};
+ghost use Rattle.std.specs.Prelude.{◌≡◌, ℕ, List, codes};
 ghost use Rattle.phone_cli.specs.Statuses.{status_of_words};
+ghost use Rattle.phone_cli.specs.Streams.{Writes, joined, line_of};
+ghost use Rattle.phone_engine.specs.Programs.{IsTold};
+ghost use Rattle.phone_words.specs.declared.parts.Why.TheVariants as why;
 
 use csv::ByteRecord;
 use itoa::Buffer;
@@ -8,19 +11,35 @@ use phone_commands::{Customers, FirstLines};
 use phone_device::{ByteSink, Fault, write_all};
 use phone_words::{Why, WordError, value_word};
 
-/// Writes the program's name, these texts and a line feed.
-fn write_line<E: ByteSink>(errors: &mut E, texts: &[&str]) -> Result<(), Fault> {
-    write_all(errors, "phone: ".as_bytes())?;
+/// Writes these texts, one after the other. At `Err` the sink failed, and has taken a beginning of
+/// them.
+fn write_texts<E: ByteSink>(errors: &mut E, texts: &[&str]) -> Result<(), Fault>
+    ensures { Writes (joined texts.now) (E.taken errors.old) (E.faults errors.old)
+        (E.taken errors.new) (E.faults errors.new) result }
+{
     for text in texts {
         write_all(errors, text.as_bytes())?;
     }
+    Ok(())
+}
+
+/// Writes the program's name, these texts and a line feed. At `Err` the sink failed, and has taken
+/// a beginning of that line.
+fn write_line<E: ByteSink>(errors: &mut E, texts: &[&str]) -> Result<(), Fault>
+    ensures { Writes (line_of (joined texts.now)) (E.taken errors.old) (E.faults errors.old)
+        (E.taken errors.new) (E.faults errors.new) result }
+{
+    write_all(errors, "phone: ".as_bytes())?;
+    write_texts(errors, texts)?;
     write_all(errors, "\n".as_bytes())
 }
 
 /// Writes a line to the sink for errors: the program's name and these texts. It gives the status.
 /// That the sink fails changes nothing.
 pub(crate) fn say<E: ByteSink>(errors: &mut E, texts: &[&str], status: u8) -> u8
-    ensures { result ≡ status }
+    ensures status { result ≡ status }
+    ensures told { IsTold (E.taken errors.old) (E.faults errors.old)
+        (line_of (joined texts.now)) (E.taken errors.new) (E.faults errors.new) }
 {
     let _written = write_line(errors, texts);
     status
@@ -41,7 +60,11 @@ const LIBRARY: &str = " knows libphonenumber's rules alone";
 
 /// Tells why words are no call, by which of them, and gives the status.
 fn say_why<E: ByteSink>(errors: &mut E, why: Why, word: &str, other: &str, value: &str) -> u8
-    ensures { result ≡ status_of_words why }
+    ensures status { result ≡ status_of_words why }
+    ensures told { (text : List ℕ) × IsTold (E.taken errors.old) (E.faults errors.old)
+        (line_of text) (E.taken errors.new) (E.faults errors.new) }
+    ensures memory { why ≡ why.Memory → IsTold (E.taken errors.old) (E.faults errors.old)
+        (line_of (codes "out of memory")) (E.taken errors.new) (E.faults errors.new) }
 {
     match why {
         Why::Unknown => say(errors, &["there is no option ", word, OPTIONS], 2),
@@ -58,7 +81,12 @@ fn say_why<E: ByteSink>(errors: &mut E, why: Why, word: &str, other: &str, value
 
 /// Tells why words are no call, and gives the status.
 pub(crate) fn say_word_error<E: ByteSink>(errors: &mut E, error: WordError<'_>) -> u8
-    ensures { result ≡ status_of_words error.entry.why }
+    ensures status { result ≡ status_of_words error.entry.why }
+    ensures told { (text : List ℕ) × IsTold (E.taken errors.old) (E.faults errors.old)
+        (line_of text) (E.taken errors.new) (E.faults errors.new) }
+    ensures memory { error.entry.why ≡ why.Memory → IsTold (E.taken errors.old)
+        (E.faults errors.old) (line_of (codes "out of memory")) (E.taken errors.new)
+        (E.faults errors.new) }
 {
     let value = value_word(error.other);
     say_why(errors, error.why, error.word, error.other, value)

@@ -1,7 +1,21 @@
 //! The program over its words, files and devices.
-ghost use Rattle.std.specs.Prelude.{◌≡◌, ◌≤◌};
+ghost use Rattle.std.specs.Prelude.{◌≡◌, ◌⊎◌, ℕ, List, MatchResult, Option, Result, Some, ⊤};
+ghost use Rattle.std.specs.Prelude.{codes, is_some, option_map, false, true};
+ghost use Rattle.phone_cli.specs.Abouts.{Tells};
+ghost use Rattle.phone_cli.specs.Answers.{Answers, AnswersReading, Does, IsAsked, IsLoaded, reads};
+ghost use Rattle.phone_cli.specs.Commands.{AnswersCustomers, AnswersInputs, found_form};
+ghost use Rattle.phone_cli.specs.Operands.{database_of, files_of, has_reader, is_misfit, region_of};
+ghost use Rattle.phone_cli.specs.Operands.{shorts_of};
+ghost use Rattle.phone_cli.specs.Programs.{Acts};
+ghost use Rattle.phone_cli.specs.Statuses.{status_of};
+ghost use Rattle.phone_cli.specs.Streams.{Refuses, streams};
+ghost use Rattle.phone_commands.specs.Jobs.{TakesLines};
+ghost use Rattle.phone_commands.specs.ObjectLines.{after_one};
+ghost use Rattle.phone_commands.specs.declared.inputs.Failure.{Failure};
+ghost use Rattle.phone_lines.specs.Ends.{seen};
+ghost use Rattle.phone_words.specs.Help.{help_text};
 ghost use Rattle.phone_words.specs.Rows.{texts_of};
-ghost use Rattle.phone_cli.specs.Statuses.{Acts};
+ghost use Rattle.phone_words.specs.declared.command.Command.TheVariants as command;
 
 use crate::about::{write_regions, write_text, write_version};
 use crate::failures::{say_failure, say_no_columns, say_refusal};
@@ -40,8 +54,14 @@ pub fn program<R: Files + AllocGlobal, S: ByteSource, W: Outlet, E: ByteSink>(
     output: &mut W,
     errors: &mut E,
 ) -> u8
-    ensures { Acts (texts_of words.now) ((input.new ≡ input.old) × (output.new ≡ output.old))
-        result }
+    ensures { Acts (texts_of words.now)
+        (streams (seen (S.to_come input.old) (S.faults input.old) (W.taken output.old)
+        (W.faults output.old) (W.unflushed output.old)) (E.taken errors.old)
+        (E.faults errors.old))
+        (streams (seen (S.to_come input.new) (S.faults input.new) (W.taken output.new)
+        (W.faults output.new) (W.unflushed output.new)) (E.taken errors.new)
+        (E.faults errors.new))
+        ((input.new ≡ input.old) × (output.new ≡ output.old)) result }
 {
     match call_of(rt.alloc(), words) {
         Ok(call) => on_call(rt, &call, input, output, errors),
@@ -57,7 +77,14 @@ fn on_call<R: Files + AllocGlobal, S: ByteSource, W: Outlet, E: ByteSink>(
     output: &mut W,
     errors: &mut E,
 ) -> u8
-    ensures { result ≤ 3 }
+    ensures { Answers call.now
+        (streams (seen (S.to_come input.old) (S.faults input.old) (W.taken output.old)
+        (W.faults output.old) (W.unflushed output.old)) (E.taken errors.old)
+        (E.faults errors.old))
+        (streams (seen (S.to_come input.new) (S.faults input.new) (W.taken output.new)
+        (W.faults output.new) (W.unflushed output.new)) (E.taken errors.new)
+        (E.faults errors.new))
+        result }
 {
     match call.command {
         Command::Help => on_help(rt, output, errors),
@@ -75,7 +102,16 @@ fn on_call<R: Files + AllocGlobal, S: ByteSource, W: Outlet, E: ByteSink>(
 
 /// The program where help is asked for.
 fn on_help<R: AllocGlobal, W: Outlet, E: ByteSink>(rt: &R, output: &mut W, errors: &mut E) -> u8
-    ensures { result ≤ 3 }
+    ensures { (to_come : Option (List ℕ)) → (faults : ℕ) →
+        (Tells help_text (seen to_come faults (W.taken output.old) (W.faults output.old)
+        (W.unflushed output.old))
+        (seen to_come faults (W.taken output.new) (W.faults output.new)
+        (W.unflushed output.new)) result) ⊎
+        ((result ≡ 1) × Refuses (codes "out of memory")
+        (streams (seen to_come faults (W.taken output.old) (W.faults output.old)
+        (W.unflushed output.old)) (E.taken errors.old) (E.faults errors.old))
+        (streams (seen to_come faults (W.taken output.new) (W.faults output.new)
+        (W.unflushed output.new)) (E.taken errors.new) (E.faults errors.new))) }
 {
     let Ok(text) = help(rt.alloc()) else {
         return say(errors, &["out of memory"], 1);
@@ -86,7 +122,7 @@ fn on_help<R: AllocGlobal, W: Outlet, E: ByteSink>(rt: &R, output: &mut W, error
 
 /// The status after the program has told of itself.
 fn ended<W: Outlet, E: ByteSink>(end: Result<(), Fault>, output: &W, errors: &mut E) -> u8
-    ensures { result ≤ 3 }
+    ensures { MatchResult end (λ _. result ≡ 0) (λ _. result ≡ 1) }
 {
     match end {
         Ok(()) => 0,
@@ -116,7 +152,15 @@ fn on_files<R: Files + AllocGlobal, S: ByteSource, W: Outlet, E: ByteSink>(
     output: &mut W,
     errors: &mut E,
 ) -> u8
-    ensures { result ≤ 3 }
+    ensures { reads call.now.command ≡ true →
+        AnswersReading call.now (region_of call.now) (files_of call.now)
+        (streams (seen (S.to_come input.old) (S.faults input.old) (W.taken output.old)
+        (W.faults output.old) (W.unflushed output.old)) (E.taken errors.old)
+        (E.faults errors.old))
+        (streams (seen (S.to_come input.new) (S.faults input.new) (W.taken output.new)
+        (W.faults output.new) (W.unflushed output.new)) (E.taken errors.new)
+        (E.faults errors.new))
+        result }
 {
     let (hint, files) = hint_and_files(call.operands.as_slice());
     if let Some(status) = say_missing(rt, hint, files, errors) {
@@ -141,7 +185,9 @@ fn on_files<R: Files + AllocGlobal, S: ByteSource, W: Outlet, E: ByteSink>(
 }
 
 /// Why a command doesn't go with the region and the files that are named; none where it does.
-fn misfit(command: Command, hint: Option<Id>, files: &[&str]) -> Option<&'static str> {
+fn misfit(command: Command, hint: Option<Id>, files: &[&str]) -> Option<&'static str>
+    ensures { is_some result ≡ is_misfit command hint files.now }
+{
     match (command, hint, files) {
         (Command::Table, _, [_, _, ..]) => Some("--csv reads one file at a time"),
         (Command::FoundObjects, _, [_, _, ..]) => {
@@ -153,7 +199,9 @@ fn misfit(command: Command, hint: Option<Id>, files: &[&str]) -> Option<&'static
 }
 
 /// The file of the database that a call reads by.
-fn database_of<'w>(call: &Call<'w>) -> Option<&'w str> {
+fn database_of<'w>(call: &Call<'w>) -> Option<&'w str>
+    ensures { result ≡ database_of call.now call.now.command }
+{
     match call.command {
         Command::Short => call.short_database,
         _ => call.database,
@@ -176,7 +224,18 @@ fn to_file<R: Files + AllocGlobal, S: ByteSource, E: ByteSink>(
     input: &mut S,
     errors: &mut E,
 ) -> u8
-    ensures { result ≤ 3 }
+    ensures { (taken : Option (List ℕ)) → (faults unflushed : ℕ) →
+        reads reading.entry.call.now.command ≡ true →
+        is_misfit reading.entry.call.now.command reading.entry.hint reading.entry.files.now ≡ false →
+        database_of reading.entry.call.now reading.entry.call.now.command ≡ Some reading.entry.path →
+        reading.entry.call.now.output ≡ Some name.entry →
+        AnswersReading reading.entry.call.now
+        reading.entry.hint reading.entry.files.now
+        (streams (seen (S.to_come input.old) (S.faults input.old) taken faults unflushed)
+        (E.taken errors.old) (E.faults errors.old))
+        (streams (seen (S.to_come input.new) (S.faults input.new) taken faults unflushed)
+        (E.taken errors.new) (E.faults errors.new))
+        result }
 {
     if is_read(rt, reading, name) {
         return say(errors, &[name, " is read, so it can't be written"], 2);
@@ -195,7 +254,17 @@ fn on_reading<R: Files + AllocGlobal, S: ByteSource, W: Outlet, E: ByteSink>(
     output: &mut W,
     errors: &mut E,
 ) -> u8
-    ensures { result ≤ 3 }
+    ensures { reads reading.entry.call.now.command ≡ true →
+        is_misfit reading.entry.call.now.command reading.entry.hint reading.entry.files.now ≡ false →
+        Does reading.entry.call.now
+        reading.entry.hint reading.entry.files.now
+        (streams (seen (S.to_come input.old) (S.faults input.old) (W.taken output.old)
+        (W.faults output.old) (W.unflushed output.old)) (E.taken errors.old)
+        (E.faults errors.old))
+        (streams (seen (S.to_come input.new) (S.faults input.new) (W.taken output.new)
+        (W.faults output.new) (W.unflushed output.new)) (E.taken errors.new)
+        (E.faults errors.new))
+        result }
 {
     match Plans::load(rt, reading.path) {
         Ok(database) => on_database(rt, reading, database, input, output, errors),
@@ -212,7 +281,17 @@ fn on_database<R: Files + AllocGlobal, S: ByteSource, W: Outlet, E: ByteSink>(
     output: &mut W,
     errors: &mut E,
 ) -> u8
-    ensures { result ≤ 3 }
+    ensures { reads reading.entry.call.now.command ≡ true →
+        is_misfit reading.entry.call.now.command reading.entry.hint reading.entry.files.now ≡ false →
+        Does reading.entry.call.now
+        reading.entry.hint reading.entry.files.now
+        (streams (seen (S.to_come input.old) (S.faults input.old) (W.taken output.old)
+        (W.faults output.old) (W.unflushed output.old)) (E.taken errors.old)
+        (E.faults errors.old))
+        (streams (seen (S.to_come input.new) (S.faults input.new) (W.taken output.new)
+        (W.faults output.new) (W.unflushed output.new)) (E.taken errors.new)
+        (E.faults errors.new))
+        result }
 {
     match (reading.call.command, reading.hint) {
         (Command::Unique, _) => firsts(rt, reading, database, input, output, errors),
@@ -227,7 +306,9 @@ fn on_database<R: Files + AllocGlobal, S: ByteSource, W: Outlet, E: ByteSink>(
 
 /// The file of the database that tells which numbers of a call are short numbers: for objects and
 /// tables, by libphonenumber's rules.
-fn shorts_of<'w>(reading: Reading<'_, 'w>) -> Option<&'w str> {
+fn shorts_of<'w>(reading: Reading<'_, 'w>) -> Option<&'w str>
+    ensures { result ≡ shorts_of reading.entry.call.now reading.entry.call.now.rules reading.entry.call.now.command }
+{
     match reading.call.rules {
         Rules::Library => match reading.call.command {
             Command::Objects | Command::Table => reading.call.short_database,
@@ -246,17 +327,22 @@ fn with_shorts<R: Files + AllocGlobal, S: ByteSource, W: Outlet, E: ByteSink>(
     output: &mut W,
     errors: &mut E,
 ) -> u8
-    ensures { result ≤ 3 }
+    ensures { has_reader reading.entry.call.now.command ≡ true →
+        Does reading.entry.call.now
+        reading.entry.hint reading.entry.files.now
+        (streams (seen (S.to_come input.old) (S.faults input.old) (W.taken output.old)
+        (W.faults output.old) (W.unflushed output.old)) (E.taken errors.old)
+        (E.faults errors.old))
+        (streams (seen (S.to_come input.new) (S.faults input.new) (W.taken output.new)
+        (W.faults output.new) (W.unflushed output.new)) (E.taken errors.new)
+        (E.faults errors.new))
+        result }
 {
     let Some(path) = shorts_of(reading) else {
-        let reader = reader_of(reading, database, None);
-        return by_reader(rt, reading, reader, input, output, errors);
+        return by_reader(rt, reading, database, None, input, output, errors);
     };
     match Plans::load(rt, path) {
-        Ok(short) => {
-            let reader = reader_of(reading, database, Some(&short));
-            by_reader(rt, reading, reader, input, output, errors)
-        }
+        Ok(short) => by_reader(rt, reading, database, Some(&short), input, output, errors),
         Err(refusal) => say_refusal(rt.alloc(), path, &refusal, errors),
     }
 }
@@ -270,6 +356,7 @@ fn reader_of<'d>(
     ensures rules { result.engine.rules ≡ reading.entry.call.now.rules }
     ensures hint { result.engine.hint ≡ reading.entry.hint }
     ensures database { result.engine.database.now ≡ database.now }
+    ensures short { result.short ≡ short.entry }
 {
     let Reading { call, hint, .. } = reading;
     let engine = Engine {
@@ -280,17 +367,30 @@ fn reader_of<'d>(
     Reader { engine, short }
 }
 
-/// The program where a reader reads the numbers.
+/// The program where all databases are loaded, so that a reader reads the numbers.
 fn by_reader<R: Files + AllocGlobal, S: ByteSource, W: Outlet, E: ByteSink>(
     rt: &R,
     reading: Reading<'_, '_>,
-    reader: Reader<'_>,
+    database: &Plans,
+    short: Option<&Plans>,
     input: &mut S,
     output: &mut W,
     errors: &mut E,
 ) -> u8
-    ensures { result ≤ 3 }
+    ensures { has_reader reading.entry.call.now.command ≡ true →
+        IsLoaded (shorts_of reading.entry.call.now reading.entry.call.now.rules reading.entry.call.now.command)
+        (option_map (λ d. d.now) short.entry) →
+        Does reading.entry.call.now
+        reading.entry.hint reading.entry.files.now
+        (streams (seen (S.to_come input.old) (S.faults input.old) (W.taken output.old)
+        (W.faults output.old) (W.unflushed output.old)) (E.taken errors.old)
+        (E.faults errors.old))
+        (streams (seen (S.to_come input.new) (S.faults input.new) (W.taken output.new)
+        (W.faults output.new) (W.unflushed output.new)) (E.taken errors.new)
+        (E.faults errors.new))
+        result }
 {
+    let reader = reader_of(reading, database, short);
     match reading.call.command {
         Command::Objects => {
             let mut taker = objects_of(reading, reader);
@@ -318,7 +418,12 @@ fn run<R: Files + AllocGlobal, S: ByteSource, W: Outlet, E: ByteSink, J: Job>(
     output: &mut W,
     errors: &mut E,
 ) -> u8
-    ensures { result ≤ 3 }
+    ensures { (end : Result ⊤ Failure) × AnswersInputs J.acts reading.entry.files.now job.old
+        (seen (S.to_come input.old) (S.faults input.old) (W.taken output.old)
+        (W.faults output.old) (W.unflushed output.old))
+        (seen (S.to_come input.new) (S.faults input.new) (W.taken output.new)
+        (W.faults output.new) (W.unflushed output.new))
+        job.new end × (result ≡ status_of end) }
 {
     let end = on_inputs(rt, reading.files, input, output, job);
     output.end_progress();
@@ -337,20 +442,31 @@ fn run_lines<R: Files + AllocGlobal, S: ByteSource, W: Outlet, E: ByteSink, T: L
     output: &mut W,
     errors: &mut E,
 ) -> u8
-    ensures { result ≤ 3 }
+    ensures { (end : Result ⊤ Failure) × AnswersInputs (TakesLines T.begins T.gives)
+        reading.entry.files.now taker.old
+        (seen (S.to_come input.old) (S.faults input.old) (W.taken output.old)
+        (W.faults output.old) (W.unflushed output.old))
+        (seen (S.to_come input.new) (S.faults input.new) (W.taken output.new)
+        (W.faults output.new) (W.unflushed output.new))
+        taker.new end × (result ≡ status_of end) }
 {
     let mut job = ByLines { taker };
     run(rt, reading, &mut job, input, output, errors)
 }
 
 /// What answers each line by an object.
-fn objects_of<'d>(reading: Reading<'_, '_>, reader: Reader<'d>) -> Objects<'d> {
+fn objects_of<'d>(reading: Reading<'_, '_>, reader: Reader<'d>) -> Objects<'d>
+    ensures reader { result.reader ≡ reader.entry }
+    ensures place { result.place ≡ after_one reading.entry.call.now.skipped }
+{
     let place = reading.call.skipped.saturating_add(1);
     Objects { reader, place }
 }
 
 /// How a command tells the numbers that it finds.
-fn found_form(command: Command) -> FoundForm {
+fn found_form(command: Command) -> FoundForm
+    ensures { result ≡ found_form command }
+{
     match command {
         Command::FoundObjects => FoundForm::Object,
         Command::FoundRecords => FoundForm::Record,
@@ -359,7 +475,14 @@ fn found_form(command: Command) -> FoundForm {
 }
 
 /// What finds the numbers that stand in the inputs.
-fn finder_of<'d, 'l>(reading: Reading<'l, 'l>, reader: Reader<'d>) -> Finder<'d, 'l> {
+fn finder_of<'d, 'l>(reading: Reading<'l, 'l>, reader: Reader<'d>) -> Finder<'d, 'l>
+    ensures reader { result.reader ≡ reader.entry }
+    ensures form { result.form ≡ found_form reading.entry.call.now.command }
+    ensures first { result.first ≡ after_one reading.entry.call.now.skipped }
+    ensures place { result.place ≡ after_one reading.entry.call.now.skipped }
+    ensures names { result.names ≡ reading.entry.files }
+    ensures begun { result.begun ≡ 0 }
+{
     let first = reading.call.skipped.saturating_add(1);
     Finder {
         reader,
@@ -380,7 +503,16 @@ fn firsts<R: Files + AllocGlobal, S: ByteSource, W: Outlet, E: ByteSink>(
     output: &mut W,
     errors: &mut E,
 ) -> u8
-    ensures { result ≤ 3 }
+    ensures { reading.entry.call.now.command ≡ command.Unique →
+        Does reading.entry.call.now
+        reading.entry.hint reading.entry.files.now
+        (streams (seen (S.to_come input.old) (S.faults input.old) (W.taken output.old)
+        (W.faults output.old) (W.unflushed output.old)) (E.taken errors.old)
+        (E.faults errors.old))
+        (streams (seen (S.to_come input.new) (S.faults input.new) (W.taken output.new)
+        (W.faults output.new) (W.unflushed output.new)) (E.taken errors.new)
+        (E.faults errors.new))
+        result }
 {
     let Some(mut taker) = FirstLines::new(database, reading.call.rules, reading.hint) else {
         let more = " can't tell numbers apart: a calling code begins another";
@@ -401,7 +533,19 @@ fn customers<R: Files + AllocGlobal, S: ByteSource, W: Outlet, E: ByteSink>(
     output: &mut W,
     errors: &mut E,
 ) -> u8
-    ensures { result ≤ 3 }
+    ensures { reading.entry.call.now.command ≡ command.Table →
+        reader.entry.engine.rules ≡ reading.entry.call.now.rules → reader.entry.engine.hint ≡ reading.entry.hint →
+        IsLoaded (shorts_of reading.entry.call.now reading.entry.call.now.rules reading.entry.call.now.command)
+        (option_map (λ d. d.now) reader.entry.short) →
+        Does reading.entry.call.now
+        reading.entry.hint reading.entry.files.now
+        (streams (seen (S.to_come input.old) (S.faults input.old) (W.taken output.old)
+        (W.faults output.old) (W.unflushed output.old)) (E.taken errors.old)
+        (E.faults errors.old))
+        (streams (seen (S.to_come input.new) (S.faults input.new) (W.taken output.new)
+        (W.faults output.new) (W.unflushed output.new)) (E.taken errors.new)
+        (E.faults errors.new))
+        result }
 {
     let table = reading.call.table;
     let loaded = match Loaded::new(rt, table.further) {
@@ -428,7 +572,14 @@ fn run_table<R: Files + AllocGlobal, S: ByteSource, W: Outlet, E: ByteSink>(
     output: &mut W,
     errors: &mut E,
 ) -> u8
-    ensures { result ≤ 3 }
+    ensures { (end : Result ⊤ Failure) × AnswersInputs (AnswersCustomers
+        job.old.engine.rules job.old.engine.database.now job.old.engine.hint job.old.is_unique
+        job.old.asked) reading.entry.files.now job.old.counts
+        (seen (S.to_come input.old) (S.faults input.old) (W.taken output.old)
+        (W.faults output.old) (W.unflushed output.old))
+        (seen (S.to_come input.new) (S.faults input.new) (W.taken output.new)
+        (W.faults output.new) (W.unflushed output.new))
+        job.new.counts end × (result ≡ status_of end) }
 {
     match run(rt, reading, job, input, output, errors) {
         0 => say_records(job, errors),
@@ -438,7 +589,7 @@ fn run_table<R: Files + AllocGlobal, S: ByteSource, W: Outlet, E: ByteSink>(
 
 /// What is asked of a table that this reads, with these further columns.
 fn asked<'t>(table: Table<'t>, reader: Reader<'t>, extra: &'t [Extra<'t>]) -> Asked<'t>
-    ensures mark_bad { result.mark_bad ≡ table.entry.mark_bad }
+    ensures { IsAsked table.entry (option_map (λ d. d.now) reader.entry.short) result }
 {
     Asked {
         number: table.column,

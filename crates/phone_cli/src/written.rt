@@ -1,4 +1,9 @@
 //! The file that is written, and whether a call reads it too.
+ghost use Rattle.std.specs.Prelude.{◌≡◌, ◌∷◌, [], Some, false};
+ghost use Rattle.std.specs.List.{list_any};
+ghost use Rattle.std.specs.Str.{bytes_eq};
+ghost use Rattle.phone_cli.specs.Operands.{further_files, input_names, named_files, names_read};
+
 use crate::tool::Reading;
 use phone_commands::is_standard;
 use phone_words::Further;
@@ -30,7 +35,9 @@ struct Written<'n> {
 
 /// Whether a name is that of the file that is to be written, or is another name of it, as `./f` and
 /// a link are of `f`.
-fn is_written<R: Files>(rt: &R, written: Written<'_>, name: &str) -> bool {
+fn is_written<R: Files>(rt: &R, written: Written<'_>, name: &str) -> bool
+    ensures { result ≡ false → bytes_eq written.entry.name.now name.now ≡ false }
+{
     if name == written.name {
         return true;
     }
@@ -41,7 +48,10 @@ fn is_written<R: Files>(rt: &R, written: Written<'_>, name: &str) -> bool {
 }
 
 /// Whether one of some files is the one that is to be written.
-fn is_any_written<R: Files>(rt: &R, written: Written<'_>, names: &[Option<&str>]) -> bool {
+fn is_any_written<R: Files>(rt: &R, written: Written<'_>, names: &[Option<&str>]) -> bool
+    ensures { result ≡ false →
+        list_any (bytes_eq written.entry.name.now) (named_files names.now) ≡ false }
+{
     for name in names {
         if let Some(name) = *name {
             if is_written(rt, written, name) {
@@ -54,7 +64,10 @@ fn is_any_written<R: Files>(rt: &R, written: Written<'_>, names: &[Option<&str>]
 
 /// Whether the file that is to be written is one of the input's. Standard input is, where it comes
 /// from that file.
-fn is_input<R: Files>(rt: &R, written: Written<'_>, files: &[&str]) -> bool {
+fn is_input<R: Files>(rt: &R, written: Written<'_>, files: &[&str]) -> bool
+    ensures { result ≡ false →
+        list_any (bytes_eq written.entry.name.now) (input_names files.now) ≡ false }
+{
     for name in files {
         let name = if is_standard(name) {
             STANDARD_INPUT
@@ -69,7 +82,10 @@ fn is_input<R: Files>(rt: &R, written: Written<'_>, files: &[&str]) -> bool {
 }
 
 /// Whether further columns are told by the file that is to be written.
-fn is_of_columns<R: Files>(rt: &R, written: Written<'_>, further: Further<'_>) -> bool {
+fn is_of_columns<R: Files>(rt: &R, written: Written<'_>, further: Further<'_>) -> bool
+    ensures { result ≡ false → list_any (bytes_eq written.entry.name.now)
+        (named_files (further_files further.entry)) ≡ false }
+{
     let Further {
         prefixes,
         time_zones,
@@ -87,7 +103,10 @@ fn is_of_columns<R: Files>(rt: &R, written: Written<'_>, further: Further<'_>) -
 
 /// Whether the file of a name is read, under that name or another one, so that it can't be written
 /// as well.
-pub(crate) fn is_read<R: Files>(rt: &R, reading: Reading<'_, '_>, name: &str) -> bool {
+pub(crate) fn is_read<R: Files>(rt: &R, reading: Reading<'_, '_>, name: &str) -> bool
+    ensures { result ≡ false → list_any (bytes_eq name.now)
+        (names_read reading.entry.call.now reading.entry.path reading.entry.files.now) ≡ false }
+{
     let written = Written {
         name,
         place: place_of(rt, name),

@@ -1,0 +1,293 @@
+-- What each command answers to its inputs, by what its taker keeps.
+use Rattle.std.proofs.Common.{◌≡◌, ℕ, List, [], ◌∷◌, ◌++◌, Bool, true, false, Option, None, Some}
+use Rattle.std.proofs.Common.{Result, Ok, Err, ap, ap₂, refl, subst, sym, ◌∙◌}
+use Rattle.std.specs.Prelude.{⊤, option_map}
+use Rattle.phone_commands.specs.FoundLines.{IsFoundLine, in_front, name_told}
+use Rattle.phone_commands.specs.Inputs.{InputsEnd, IsAnswered, IsStandard, Name}
+use Rattle.phone_commands.specs.Jobs.{AnswersLines, TakesLines}
+use Rattle.phone_commands.specs.ObjectLines.{IsObjectLine, after_one}
+use Rattle.phone_commands.specs.ShortLines.{IsShortLine}
+use Rattle.phone_commands.specs.TableJobs.{AnswersBehind, AnswersTable}
+use Rattle.phone_commands.specs.TypedLines.{after_line, barred, emptied, shown_after_each}
+use Rattle.phone_commands.specs.TypedLines.{typed_chars, typed_line}
+use Rattle.phone_commands.specs.declared.customers.Customers.{Customers}
+use Rattle.phone_commands.specs.declared.finder.Finder.{Finder}
+use Rattle.phone_commands.specs.declared.finder.FoundForm.{FoundForm}
+use Rattle.phone_commands.specs.declared.inputs.Failure.{Failure}
+use Rattle.phone_commands.specs.declared.jobs.JobError.{JobError}
+use Rattle.phone_commands.specs.declared.jobs.Report.{Report}
+use Rattle.phone_commands.specs.declared.reader.Reader.{Reader}
+use Rattle.phone_commands.specs.declared.shorts.Shorts.{Shorts}
+use Rattle.phone_commands.specs.declared.takers.Objects.{Objects}
+use Rattle.phone_commands.specs.declared.typist.Typist.{Typist}
+use Rattle.phone_engine.specs.ReportLines.{IsReportLine}
+use Rattle.phone_engine.specs.declared.engine.Engine.{Engine}
+use Rattle.phone_lines.specs.Ends.{Devices}
+use Rattle.phone_lines.specs.Taken.{begins_with_nothing, each_by_itself}
+use Rattle.phone_records.specs.declared.loader.Metadata.{Metadata}
+use Rattle.phone_table.specs.declared.counts.Counts.{Counts}
+use Rattle.phone_table.specs.declared.run.Asked.{Asked}
+use Rattle.phone_typed.specs.Fields.{Field}
+use Rattle.phone_values.specs.declared.country.Id.{Id}
+use Rattle.phone_cli.specs.Commands.{AnswersCustomers, AnswersInputs, BeginsFound, Finding}
+use Rattle.phone_cli.specs.Commands.{GivesFound, GivesObjects, GivesShorts, GivesTyped, Reports}
+use Rattle.phone_cli.specs.Commands.AnswersInputs.{named, standard}
+use Rattle.phone_cli.proofs.Carried.{answers_by, lines_by}
+
+not_empty : (name : Name) (names : List Name) → ¬ (name ∷ names ≡ [])
+not_empty name names e = cc
+
+-- inputs are answered: standard input where there is no file, else the files
+pub answers_of : {Kept : Type 0}
+    (acts : Kept → Devices → Devices → Kept → Result ⊤ JobError → Type 0) (files : List Name)
+    (first : Kept) (before after : Devices) (last : Kept) (end : Result ⊤ Failure) →
+    (files ≡ [] → (name : Name) × IsStandard name ×
+    IsAnswered acts name first before after last end) →
+    (¬ (files ≡ []) → InputsEnd acts files first before after last end) →
+    AnswersInputs acts files first before after last end
+answers_of acts [] first before after last end s n =
+    let t = s refl in standard t.0 refl t.1 t.2
+answers_of acts (f ∷ fs) first before after last end s n =
+    let some = not_empty f fs in named some (n some)
+
+-- the report
+pub report_by : (files : List Name) (r : Report) (before after : Devices) (last : Report)
+    (end : Result ⊤ Failure) →
+    AnswersInputs (λ (r : Report) (before after : Devices) (r' : Report)
+    (result : Result ⊤ JobError). AnswersLines
+    (IsReportLine r.reader.engine.rules r.reader.engine.database.now r.reader.engine.hint)
+    before after result × (r' ≡ r)) files r before after last end →
+    AnswersInputs (Reports r.reader.engine.rules r.reader.engine.database.now
+    r.reader.engine.hint) files tt before after tt end
+report_by files r before after last end =
+    answers_by (λ (r : Report) (before after : Devices) (r' : Report)
+    (result : Result ⊤ JobError). AnswersLines
+    (IsReportLine r.reader.engine.rules r.reader.engine.database.now r.reader.engine.hint)
+    before after result × (r' ≡ r))
+    (Reports r.reader.engine.rules r.reader.engine.database.now r.reader.engine.hint)
+    (λ _. tt) (λ k. k ≡ r)
+    (λ a before after b end h act. (
+      subst (λ k. AnswersLines (IsReportLine k.reader.engine.rules
+          k.reader.engine.database.now k.reader.engine.hint) before after end) h act.0,
+      λ _. act.1 ∙ h,
+    )) files r before after last end refl
+
+-- objects
+abbrev pub ObjectsGive : Objects → List ℕ → List ℕ → Objects → Type 0
+ObjectsGive o line answer after = IsObjectLine o.reader.engine.rules
+    o.reader.engine.database.now (option_map (λ d. d.now) o.reader.short) o.reader.engine.hint
+    o.place line answer × (after ≡ record o { place = after_one o.place })
+
+abbrev pub ReaderGives : Reader → ℕ → List ℕ → List ℕ → ℕ → Type 0
+ReaderGives r = GivesObjects r.engine.rules r.engine.database.now
+    (option_map (λ d. d.now) r.short) r.engine.hint
+
+pub objects_by : (files : List Name) (o : Objects) (before after : Devices) (last : Objects)
+    (end : Result ⊤ Failure) →
+    AnswersInputs (TakesLines begins_with_nothing ObjectsGive) files o before after last end →
+    AnswersInputs (TakesLines begins_with_nothing (ReaderGives o.reader)) files o.place before
+    after last.place end
+objects_by files o before after last end =
+    answers_by (TakesLines begins_with_nothing ObjectsGive)
+    (TakesLines begins_with_nothing (ReaderGives o.reader))
+    (λ k. k.place) (λ k. k.reader ≡ o.reader)
+    (lines_by begins_with_nothing ObjectsGive begins_with_nothing (ReaderGives o.reader)
+    (λ k. k.place) (λ k. k.reader ≡ o.reader)
+    (λ a head b h is. (
+      (is.0, ap (λ (k : Objects). k.place) is.1),
+      ap (λ (k : Objects). k.reader) is.1 ∙ h,
+    ))
+    (λ a line answer b h is. (
+      (
+        subst (λ (r : Reader). IsObjectLine r.engine.rules r.engine.database.now
+            (option_map (λ d. d.now) r.short) r.engine.hint a.place line answer) h is.0,
+        ap (λ (k : Objects). k.place) is.1,
+      ),
+      ap (λ (k : Objects). k.reader) is.1 ∙ h,
+    ))) files o before after last end refl
+
+-- found numbers
+abbrev pub FinderBegins : Finder → List ℕ → Finder → Type 0
+FinderBegins f head after =
+    (head ≡ in_front f.form f.begun (name_told f.names.now (after_one f.begun))) ×
+    (after ≡ record f { place = f.first; begun = after_one f.begun })
+
+abbrev pub FinderGives : Finder → List ℕ → List ℕ → Finder → Type 0
+FinderGives f line answer after = IsFoundLine f.reader.engine.rules
+    f.reader.engine.database.now f.reader.engine.hint f.form (name_told f.names.now f.begun)
+    f.place line answer × (after ≡ record f { place = after_one f.place })
+
+abbrev pub finding : Finder → Finding
+finding f = record { place = f.place; begun = f.begun }
+
+abbrev pub ReaderFinds : Reader → FoundForm → List Name → Finding → List ℕ → List ℕ → Finding → Type 0
+ReaderFinds r form names =
+    GivesFound r.engine.rules r.engine.database.now r.engine.hint form names
+
+-- what a finder has that stays
+record IsFinderOf (f k : Finder) : Type 0 where
+  reader : k.reader ≡ f.reader
+  form : k.form ≡ f.form
+  first : k.first ≡ f.first
+  names : k.names ≡ f.names
+
+after_same : (f a b : Finder) (place begun : ℕ) → IsFinderOf f a →
+    b ≡ record a { place = place; begun = begun } → IsFinderOf f b
+after_same f a b place begun h e = record {
+  reader = ap (λ (k : Finder). k.reader) e ∙ h.reader;
+  form = ap (λ (k : Finder). k.form) e ∙ h.form;
+  first = ap (λ (k : Finder). k.first) e ∙ h.first;
+  names = ap (λ (k : Finder). k.names) e ∙ h.names;
+}
+
+finder_begun : (f a : Finder) (head : List ℕ) (b : Finder) → IsFinderOf f a →
+    FinderBegins a head b →
+    BeginsFound f.form f.names.now f.first (finding a) head (finding b) × IsFinderOf f b
+finder_begun f a head b h is = (
+  (
+    is.0 ∙ ap₂ (λ form names. in_front form a.begun (name_told names (after_one a.begun)))
+        h.form (ap (λ n. n.now) h.names),
+    ap finding is.1 ∙
+        ap (λ (p : ℕ). record { place = p; begun = after_one a.begun }) h.first,
+  ),
+  after_same f a b a.first (after_one a.begun) h is.1,
+)
+
+finder_given : (f a : Finder) (line answer : List ℕ) (b : Finder) → IsFinderOf f a →
+    FinderGives a line answer b →
+    ReaderFinds f.reader f.form f.names.now (finding a) line answer (finding b) ×
+    IsFinderOf f b
+finder_given f a line answer b h is =
+    let by_reader = subst (λ (r : Reader). IsFoundLine r.engine.rules r.engine.database.now
+    r.engine.hint a.form (name_told a.names.now a.begun) a.place line answer) h.reader is.0 in
+    let by_form = subst (λ form. IsFoundLine f.reader.engine.rules
+    f.reader.engine.database.now f.reader.engine.hint form (name_told a.names.now a.begun)
+    a.place line answer) h.form by_reader in
+    let by_names = subst (λ names. IsFoundLine f.reader.engine.rules
+    f.reader.engine.database.now f.reader.engine.hint f.form (name_told names a.begun)
+    a.place line answer) (ap (λ n. n.now) h.names) by_form in
+    ((by_names, ap finding is.1), after_same f a b (after_one a.place) a.begun h is.1)
+
+pub found_by : (files : List Name) (f : Finder) (before after : Devices) (last : Finder)
+    (end : Result ⊤ Failure) →
+    AnswersInputs (TakesLines FinderBegins FinderGives) files f before after last end →
+    AnswersInputs (TakesLines (BeginsFound f.form f.names.now f.first)
+    (ReaderFinds f.reader f.form f.names.now)) files (finding f) before after (finding last) end
+found_by files f before after last end =
+    answers_by (TakesLines FinderBegins FinderGives)
+    (TakesLines (BeginsFound f.form f.names.now f.first)
+    (ReaderFinds f.reader f.form f.names.now)) finding (IsFinderOf f)
+    (lines_by FinderBegins FinderGives (BeginsFound f.form f.names.now f.first)
+    (ReaderFinds f.reader f.form f.names.now) finding (IsFinderOf f)
+    (finder_begun f) (finder_given f)) files f before after last end
+    (record { reader = refl; form = refl; first = refl; names = refl })
+
+-- what is typed
+abbrev pub TypistGives : Typist → List ℕ → List ℕ → Typist → Type 0
+TypistGives t line answer after =
+    (answer ≡ typed_line t.field line) × (after.field ≡ after_line t.field line)
+
+pub typed_by : (files : List Name) (t : Typist) (db : List Metadata) (hint : Option Id)
+    (before after : Devices) (last : Typist) (end : Result ⊤ Failure) →
+    t.field ≡ record { database = db; hint = hint; keys = [] } →
+    AnswersInputs (TakesLines begins_with_nothing TypistGives) files t before after last end →
+    AnswersInputs (TakesLines begins_with_nothing (GivesTyped db hint)) files tt before after tt
+    end
+typed_by files t db hint before after last end is =
+    let field : Field = record { database = db; hint = hint; keys = [] } in
+    answers_by (TakesLines begins_with_nothing TypistGives)
+    (TakesLines begins_with_nothing (GivesTyped db hint))
+    (λ _. tt) (λ (k : Typist). emptied k.field ≡ field)
+    (lines_by begins_with_nothing TypistGives begins_with_nothing (GivesTyped db hint)
+    (λ _. tt) (λ (k : Typist). emptied k.field ≡ field)
+    (λ a head b h s. ((s.0, refl), ap (λ (k : Typist). emptied k.field) s.1 ∙ h))
+    (λ a line answer b h s. (
+      s.0 ∙ ap (λ f. barred (shown_after_each f (typed_chars line)) ++ 10 ∷ []) h,
+      ap emptied s.1 ∙ h,
+    ))) files t before after last end (ap emptied is)
+
+-- short numbers
+abbrev pub ShortsGive : Shorts → List ℕ → List ℕ → Shorts → Type 0
+ShortsGive = each_by_itself (λ (s : Shorts). IsShortLine s.database.now s.region)
+
+pub short_by : (files : List Name) (s : Shorts) (before after : Devices) (last : Shorts)
+    (end : Result ⊤ Failure) →
+    AnswersInputs (TakesLines begins_with_nothing ShortsGive) files s before after last end →
+    AnswersInputs (TakesLines begins_with_nothing (GivesShorts s.database.now s.region)) files tt
+    before after tt end
+short_by files s before after last end =
+    answers_by (TakesLines begins_with_nothing ShortsGive)
+    (TakesLines begins_with_nothing (GivesShorts s.database.now s.region))
+    (λ _. tt) (λ k. k ≡ s)
+    (lines_by begins_with_nothing ShortsGive begins_with_nothing
+    (GivesShorts s.database.now s.region) (λ _. tt) (λ k. k ≡ s)
+    (λ a head b h is. ((is.0, refl), is.1 ∙ h))
+    (λ a line answer b h is. (
+      (
+        is.0,
+        subst (λ (k : Shorts). IsShortLine k.database.now k.region line is.0) h is.1,
+        is.2,
+        refl,
+      ),
+      is.3 ∙ h,
+    ))) files s before after last end refl
+
+-- a table
+abbrev pub CustomersAct : Customers → Devices → Devices → Customers → Result ⊤ JobError → Type 0
+CustomersAct c before after c' result = (c' ≡ record c {
+  left_out = c'.left_out;
+  counts = c'.counts;
+}) × (c.is_unique ≡ false →
+    AnswersTable c.engine.rules c.engine.database.now c.engine.hint c.asked before after
+    c'.counts result) ×
+    (c.is_unique ≡ true →
+    AnswersBehind c.engine.rules c.engine.database.now c.engine.hint c.asked before after
+    c'.counts result)
+
+abbrev pub EngineAnswers : Engine → Bool → Asked → Counts → Devices → Devices → Counts →
+    Result ⊤ JobError → Type 0
+EngineAnswers e unique asked = AnswersCustomers e.rules e.database.now e.hint unique asked
+
+by_uniqueness : (e : Engine) (u : Bool) (asked : Asked) (kept : Counts) (before after : Devices)
+    (counts : Counts) (end : Result ⊤ JobError) →
+    (u ≡ false → AnswersTable e.rules e.database.now e.hint asked before after counts end) →
+    (u ≡ true → AnswersBehind e.rules e.database.now e.hint asked before after counts end) →
+    EngineAnswers e u asked kept before after counts end
+by_uniqueness e false asked kept before after counts end f t = f refl
+by_uniqueness e true asked kept before after counts end f t = t refl
+
+-- what a table's job has that stays
+record IsTableOf (c k : Customers) : Type 0 where
+  engine : k.engine ≡ c.engine
+  asked : k.asked ≡ c.asked
+  is_unique : k.is_unique ≡ c.is_unique
+
+customers_act : (c a : Customers) (before after : Devices) (b : Customers)
+    (end : Result ⊤ JobError) → IsTableOf c a → CustomersAct a before after b end →
+    EngineAnswers c.engine c.is_unique c.asked a.counts before after b.counts end ×
+    (end ≡ Ok tt → IsTableOf c b)
+customers_act c a before after b end h act =
+    let own : EngineAnswers a.engine a.is_unique a.asked a.counts before after b.counts end =
+    by_uniqueness a.engine a.is_unique a.asked a.counts before after b.counts end act.1 act.2 in
+    let by_engine = subst (λ (e : Engine). EngineAnswers e a.is_unique a.asked a.counts before
+    after b.counts end) h.engine own in
+    let by_asked = subst (λ (q : Asked). EngineAnswers c.engine a.is_unique q a.counts before
+    after b.counts end) h.asked by_engine in (
+      subst (λ u. EngineAnswers c.engine u c.asked a.counts before after b.counts end)
+          h.is_unique by_asked,
+      λ _. record {
+        engine = ap (λ (k : Customers). k.engine) act.0 ∙ h.engine;
+        asked = ap (λ (k : Customers). k.asked) act.0 ∙ h.asked;
+        is_unique = ap (λ (k : Customers). k.is_unique) act.0 ∙ h.is_unique;
+      },
+    )
+
+pub table_by : (files : List Name) (c : Customers) (before after : Devices) (last : Customers)
+    (end : Result ⊤ Failure) →
+    AnswersInputs CustomersAct files c before after last end →
+    AnswersInputs (EngineAnswers c.engine c.is_unique c.asked) files c.counts before after
+    last.counts end
+table_by files c before after last end =
+    answers_by CustomersAct (EngineAnswers c.engine c.is_unique c.asked)
+    (λ k. k.counts) (IsTableOf c) (customers_act c) files c before after last end
+    (record { engine = refl; asked = refl; is_unique = refl })

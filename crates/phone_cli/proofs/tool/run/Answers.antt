@@ -1,0 +1,29 @@
+use Rattle.std.proofs.Common.{refl}
+use Rattle.phone_cli.proofs.AnswerLemmas.{answers_of}
+use Rattle.phone_cli.proofs.tool.run.Goals as goal
+
+pub returns-in-Ok : goal.returns-in-Ok
+returns-in-Ok g c =
+    rw (
+      c.end_progress.ensures.taken,
+      c.end_progress.ensures.faults,
+      c.end_progress.ensures.unflushed,
+    ) (
+      c.on_inputs-end.result,
+      answers_of g.J.Job.acts _ _ _ _ _ _ c.on_inputs-end.ensures.standard
+          c.on_inputs-end.ensures.files,
+      refl,
+    )
+
+pub returns-in-Err : goal.returns-in-Err
+returns-in-Err g c =
+    rw (
+      c.end_progress.ensures.taken,
+      c.end_progress.ensures.faults,
+      c.end_progress.ensures.unflushed,
+    ) (
+      c.on_inputs-end.result,
+      answers_of g.J.Job.acts _ _ _ _ _ _ c.on_inputs-end.ensures.standard
+          c.on_inputs-end.ensures.files,
+      c.say_failure.ensures,
+    )

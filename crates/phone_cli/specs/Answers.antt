@@ -1,0 +1,152 @@
+-- What a call does.
+use Rattle.std.specs.Prelude.{◌≡◌, ◌⊎◌, ℕ, ⊤, Bool, false, true, List, [], ◌∷◌, ◌++◌, codes}
+use Rattle.std.specs.Prelude.{IsSome, Option, None, Some, Result, option_map, slice_get}
+use Rattle.std.specs.List.{list_any}
+use Rattle.std.specs.Str.{bytes_eq}
+use Rattle.phone_commands.specs.FirstLines.{IsFirstLine}
+use Rattle.phone_commands.specs.Inputs.{IsStandard, Name}
+use Rattle.phone_commands.specs.Jobs.{TakesLines}
+use Rattle.phone_commands.specs.ObjectLines.{after_one}
+use Rattle.phone_commands.specs.declared.inputs.Failure.{Failure}
+use Rattle.phone_commands.specs.declared.takers.FirstLines.{FirstLines}
+use Rattle.phone_lines.specs.Ends.{Devices}
+use Rattle.phone_lines.specs.Taken.{begins_with_nothing}
+use Rattle.phone_plans.specs.CodeLookUps.{is_prefix_free}
+use Rattle.phone_records.specs.declared.loader.Metadata.{Metadata}
+use Rattle.phone_table.specs.declared.counts.Counts.{Counts}
+use Rattle.phone_table.specs.declared.run.Asked.{Asked}
+use Rattle.phone_values.specs.declared.country.Id.{Id}
+use Rattle.phone_words.specs.Help.{help_text}
+use Rattle.phone_words.specs.Rows.{Lent}
+use Rattle.phone_words.specs.declared.call.Call.{Call}
+use Rattle.phone_words.specs.declared.command.Command.{Command}
+use Rattle.phone_words.specs.declared.command.Command.TheVariants as command
+use Rattle.phone_words.specs.declared.table.Table.{Table}
+use Rattle.phone_cli.specs.Abouts.{Tells, regions_text, version_text}
+use Rattle.phone_cli.specs.Commands.{AnswersCustomers, AnswersInputs, BeginsFound, Finding}
+use Rattle.phone_cli.specs.Commands.{GivesFound, GivesObjects, GivesShorts, GivesTyped, Reports}
+use Rattle.phone_cli.specs.Commands.{found_form, no_first_lines}
+use Rattle.phone_cli.specs.Operands.{database_of, files_of, is_misfit, names_read, region_of}
+use Rattle.phone_cli.specs.Operands.{shorts_of}
+use Rattle.phone_cli.specs.Statuses.{status_of}
+use Rattle.phone_cli.specs.Streams.{IsSinkKept, Refuses, RefusesBySome, Streams, into_file}
+
+-- the database of short numbers is there where a file of it is named, and only there
+abbrev pub IsLoaded : Option Lent → Option (List Metadata) → Type 0
+IsLoaded None short = short ≡ None
+IsLoaded (Some path) short = IsSome short
+
+-- this is asked of a table by the options for it, with this database of short numbers
+pub record IsAsked (t : Table) (short : Option (List Metadata)) (a : Asked) : Type 0 where
+  pub number : a.number ≡ t.column
+  pub region : a.region ≡ t.region_column
+  pub delimiter : a.delimiter ≡ t.delimiter
+  pub else_hint : a.else_hint ≡ t.fallback_region
+  pub mark_bad : a.mark_bad ≡ t.mark_bad
+  pub short : option_map (λ d. d.now) a.short ≡ short
+
+-- a command finds the numbers in a text
+abbrev pub finds : Command → Bool
+finds command.Find = true
+finds command.FoundObjects = true
+finds command.FoundRecords = true
+finds other = false
+
+-- what was written is the answer of a call's command to its inputs, under the region, over some
+-- database; or, where that failed, a beginning of it
+pub data Runs (c : Call) (hint : Option Id) (files : List Name) (before after : Devices)
+    (end : Result ⊤ Failure) : Type 0 where
+  report : (db : List Metadata) → c.command ≡ command.Report →
+      AnswersInputs (Reports c.rules db hint) files tt before after tt end →
+      Runs c hint files before after end
+  objects : (db : List Metadata) → (short : Option (List Metadata)) → (last : ℕ) →
+      c.command ≡ command.Objects → IsLoaded (shorts_of c c.rules c.command) short →
+      AnswersInputs (TakesLines begins_with_nothing (GivesObjects c.rules db short hint)) files
+      (after_one c.skipped) before after last end →
+      Runs c hint files before after end
+  found : (db : List Metadata) → (last : Finding) → finds c.command ≡ true →
+      AnswersInputs (TakesLines
+      (BeginsFound (found_form c.command) files (after_one c.skipped))
+      (GivesFound c.rules db hint (found_form c.command) files)) files
+      (record { place = after_one c.skipped; begun = 0 }) before after last end →
+      Runs c hint files before after end
+  typed : (db : List Metadata) → c.command ≡ command.Typed →
+      AnswersInputs (TakesLines begins_with_nothing (GivesTyped db hint)) files tt before after tt
+      end → Runs c hint files before after end
+  short : (db : List Metadata) → (region : Id) → c.command ≡ command.Short →
+      hint ≡ Some region →
+      AnswersInputs (TakesLines begins_with_nothing (GivesShorts db region)) files tt before after
+      tt end → Runs c hint files before after end
+  firsts : (db : List Metadata) → (last : FirstLines) → c.command ≡ command.Unique →
+      is_prefix_free db ≡ true →
+      AnswersInputs (TakesLines begins_with_nothing IsFirstLine) files
+      (no_first_lines db c.rules hint) before after last end →
+      Runs c hint files before after end
+  table : (db : List Metadata) → (short : Option (List Metadata)) → (asked : Asked) →
+      (first last : Counts) → c.command ≡ command.Table →
+      IsLoaded (shorts_of c c.rules c.command) short → IsAsked c.table short asked →
+      AnswersInputs (AnswersCustomers c.rules db hint c.table.is_unique asked) files first before
+      after last end → Runs c hint files before after end
+
+-- what a call does once it reads and writes, and its status: a database or a table of prefixes is
+-- refused; there is no memory for further columns; or it answers its inputs
+pub data Does (c : Call) (hint : Option Id) (files : List Name) (before after : Streams) :
+    ℕ → Type 0 where
+  refused : RefusesBySome before after → Does c hint files before after 3
+  no_memory : c.command ≡ command.Table → Refuses (codes "out of memory") before after →
+      Does c hint files before after 1
+  ran : (end : Result ⊤ Failure) → Runs c hint files before.devices after.devices end →
+      Does c hint files before after (status_of end)
+
+-- a call reads numbers
+abbrev pub reads : Command → Bool
+reads command.Help = false
+reads command.Version = false
+reads command.Regions = false
+reads other = true
+
+-- what a call that reads numbers does, and its status: a file isn't there; the command doesn't go
+-- with region and files; no database is named; the file that is to be written is read, or can't be
+-- written; or it reads, and writes to the output or to a file that isn't named as one that is read
+pub data AnswersReading (c : Call) (hint : Option Id) (files : List Name)
+    (before after : Streams) : ℕ → Type 0 where
+  no_file : (name : Name) → (at : ℕ) → slice_get files at ≡ Some name → ¬ (IsStandard name) →
+      RefusesBySome before after → AnswersReading c hint files before after 2
+  misfit : is_misfit c.command hint files ≡ true → RefusesBySome before after →
+      AnswersReading c hint files before after 2
+  no_database : database_of c c.command ≡ None → RefusesBySome before after →
+      AnswersReading c hint files before after 2
+  is_read : (name : Name) → c.output ≡ Some name →
+      Refuses (name.now ++ codes " is read, so it can't be written") before after →
+      AnswersReading c hint files before after 2
+  unwritten : (name : Name) → c.output ≡ Some name →
+      Refuses (name.now ++ codes " can't be written") before after →
+      AnswersReading c hint files before after 1
+  to_output : (status : ℕ) → (database : Name) → is_misfit c.command hint files ≡ false →
+      database_of c c.command ≡ Some database → c.output ≡ None →
+      Does c hint files before after status → AnswersReading c hint files before after status
+  to_file : (status : ℕ) → (database name : Name) → (faults unflushed : ℕ) →
+      is_misfit c.command hint files ≡ false → database_of c c.command ≡ Some database →
+      c.output ≡ Some name →
+      list_any (bytes_eq name.now) (names_read c database files) ≡ false →
+      IsSinkKept before.devices after.devices →
+      Does c hint files (record before { devices = into_file before.devices 0 0 })
+      (record after { devices = into_file after.devices faults unflushed }) status →
+      AnswersReading c hint files before after status
+
+-- what a call does, and its status: it tells of itself, or it reads numbers under the region and
+-- from the files that it names
+pub data Answers (c : Call) (before after : Streams) : ℕ → Type 0 where
+  help : (status : ℕ) → c.command ≡ command.Help →
+      Tells help_text before.devices after.devices status → Answers c before after status
+  no_help : c.command ≡ command.Help → Refuses (codes "out of memory") before after →
+      Answers c before after 1
+  version : (status : ℕ) → (version : Option (List ℕ)) → c.command ≡ command.Version →
+      (c.database ≡ None → version ≡ None) →
+      Tells (version_text c.rules version) before.devices after.devices status →
+      Answers c before after status
+  regions : (status : ℕ) → c.command ≡ command.Regions →
+      Tells regions_text before.devices after.devices status → Answers c before after status
+  reading : (status : ℕ) → reads c.command ≡ true →
+      AnswersReading c (region_of c) (files_of c) before after status →
+      Answers c before after status

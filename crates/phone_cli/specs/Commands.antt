@@ -1,0 +1,99 @@
+-- What each command answers to its inputs, one after the other.
+use Rattle.std.specs.Prelude.{◌≡◌, ℕ, ⊤, Bool, List, [], Option, None, Some, Result, Ok, Err}
+use Rattle.std.specs.Prelude.{false, true, option_map}
+use Rattle.phone_commands.specs.FirstLines.{IsFirstLine}
+use Rattle.phone_commands.specs.FoundLines.{IsFoundLine, in_front, name_told}
+use Rattle.phone_commands.specs.Inputs.{InputsEnd, IsAnswered, IsStandard, Name}
+use Rattle.phone_commands.specs.Jobs.{Acts, AnswersLines, TakesLines}
+use Rattle.phone_commands.specs.ObjectLines.{IsObjectLine, after_one}
+use Rattle.phone_commands.specs.ShortLines.{IsShortLine}
+use Rattle.phone_commands.specs.TableJobs.{AnswersBehind, AnswersTable}
+use Rattle.phone_commands.specs.TypedLines.{typed_line}
+use Rattle.phone_commands.specs.declared.finder.FoundForm.{FoundForm}
+use Rattle.phone_commands.specs.declared.finder.FoundForm.TheVariants as form
+use Rattle.phone_commands.specs.declared.inputs.Failure.{Failure}
+use Rattle.phone_commands.specs.declared.jobs.JobError.{JobError}
+use Rattle.phone_commands.specs.declared.takers.FirstLines.{FirstLines}
+use Rattle.phone_engine.specs.ReportLines.{IsReportLine}
+use Rattle.phone_lines.specs.Ends.{Devices}
+use Rattle.phone_lines.specs.Taken.{Begins, Gives, begins_with_nothing, each_by_itself}
+use Rattle.phone_records.specs.declared.loader.Metadata.{Metadata}
+use Rattle.phone_table.specs.declared.counts.Counts.{Counts}
+use Rattle.phone_table.specs.declared.run.Asked.{Asked}
+use Rattle.phone_values.specs.declared.country.Id.{Id}
+use Rattle.phone_values.specs.declared.rules.Rules.{Rules}
+use Rattle.phone_words.specs.declared.command.Command.{Command}
+use Rattle.phone_words.specs.declared.command.Command.TheVariants as command
+
+-- inputs are answered so, where `acts` tells how one is: standard input where no file is named, else
+-- the files, one after the other, until one fails
+pub data AnswersInputs {Kept : Type 0}
+    (acts : Kept → Devices → Devices → Kept → Result ⊤ JobError → Type 0) (files : List Name)
+    (first : Kept) (before after : Devices) (last : Kept) (end : Result ⊤ Failure) : Type 0 where
+  standard : (name : Name) → files ≡ [] → IsStandard name →
+      IsAnswered acts name first before after last end →
+      AnswersInputs acts files first before after last end
+  named : ¬ (files ≡ []) → InputsEnd acts files first before after last end →
+      AnswersInputs acts files first before after last end
+
+-- the report: each line by itself
+abbrev pub Reports : Rules → List Metadata → Option Id → Acts ⊤
+Reports rules db hint kept before after kept' end =
+    AnswersLines (IsReportLine rules db hint) before after end
+
+-- `--json`: the object of each line; what is kept is the number of the next line
+abbrev pub GivesObjects : Rules → List Metadata → Option (List Metadata) → Option Id → Gives ℕ
+GivesObjects rules db short hint place line answer after =
+    IsObjectLine rules db short hint place line answer × (after ≡ after_one place)
+
+-- what `--find` keeps: the number of the next line, and how many inputs were begun
+pub record Finding : Type 0 where
+  pub place : ℕ
+  pub begun : ℕ
+
+-- `--find` counts lines anew in each input, from the first one's number; of records the header
+-- stands in front of the first input's
+abbrev pub BeginsFound : FoundForm → List Name → (first : ℕ) → Begins Finding
+BeginsFound form names first f head after =
+    (head ≡ in_front form f.begun (name_told names (after_one f.begun))) ×
+    (after ≡ record { place = first; begun = after_one f.begun })
+
+-- `--find`: what is told of the numbers that stand in each line
+abbrev pub GivesFound : Rules → List Metadata → Option Id → FoundForm → List Name → Gives Finding
+GivesFound rules db hint form names f line answer after =
+    IsFoundLine rules db hint form (name_told names f.begun) f.place line answer ×
+    (after ≡ record f { place = after_one f.place })
+
+-- `--typed`: what a field that is empty first shows after each character of a line
+abbrev pub GivesTyped : List Metadata → Option Id → Gives ⊤
+GivesTyped db hint kept line answer kept' =
+    answer ≡ typed_line record { database = db; hint = hint; keys = [] } line
+
+-- `--short`: the six answers on each line
+abbrev pub GivesShorts : List Metadata → Id → Gives ⊤
+GivesShorts db region = each_by_itself (λ _. IsShortLine db region)
+
+-- what `--unique` keeps first: no number
+abbrev pub no_first_lines : List Metadata → Rules → Option Id → FirstLines
+no_first_lines db rules hint = record {
+  book = record { database = db; entries = [] };
+  rules = rules;
+  hint = hint;
+  added = 0;
+  present = 0;
+  refused = 0;
+}
+
+-- a table: its answers; with `--unique` only what was read is told, and how the run ended
+abbrev pub AnswersCustomers : Rules → List Metadata → Option Id → (is_unique : Bool) → Asked →
+    Acts Counts
+AnswersCustomers rules db hint false asked kept before after counts end =
+    AnswersTable rules db hint asked before after counts end
+AnswersCustomers rules db hint true asked kept before after counts end =
+    AnswersBehind rules db hint asked before after counts end
+
+-- how a command tells the numbers that it finds
+abbrev pub found_form : Command → FoundForm
+found_form command.FoundObjects = form.Object
+found_form command.FoundRecords = form.Record
+found_form other = form.Fields

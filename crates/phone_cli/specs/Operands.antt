@@ -1,0 +1,99 @@
+-- The region and the files that a call names.
+use Rattle.std.specs.Prelude.{ℕ, Bool, false, true, List, [], ◌∷◌, ◌++◌, Option, None, Some, codes}
+use Rattle.std.specs.Prelude.{if◌then◌else◌, map}
+use Rattle.std.specs.List.{filter_map}
+use Rattle.std.specs.Option.{option_map_or}
+use Rattle.std.specs.Str.{bytes_eq}
+use Rattle.phone_table.specs.Regions.{id_in}
+use Rattle.phone_values.specs.declared.country.Id.{Id}
+use Rattle.phone_values.specs.declared.rules.Rules.{Rules}
+use Rattle.phone_values.specs.declared.rules.Rules.TheVariants.{Crate, Library}
+use Rattle.phone_words.specs.Rows.{Lent, text_in}
+use Rattle.phone_words.specs.declared.call.Call.{Call}
+use Rattle.phone_words.specs.declared.command.Command.{Command}
+use Rattle.phone_words.specs.declared.command.Command.TheVariants as command
+use Rattle.phone_words.specs.declared.table.Further.{Further}
+
+-- the region and the files that operands name: the first one is a region's id, in capital or small
+-- letters, or a file
+abbrev pub region_and_files : List Lent → Option Id × List Lent
+region_and_files [] = (None, [])
+region_and_files (first ∷ rest) =
+    option_map_or (λ id. (Some id, rest)) (id_in first.now) (None, first ∷ rest)
+
+-- the region that a call names
+abbrev pub region_of : Call → Option Id
+region_of c = (region_and_files c.operands.items).0
+
+-- the files that a call names
+abbrev pub files_of : Call → List Lent
+files_of c = (region_and_files c.operands.items).1
+
+-- two files are named, or more
+abbrev pub are_several : List Lent → Bool
+are_several [] = false
+are_several (file ∷ []) = false
+are_several (file ∷ other ∷ files) = true
+
+-- no region is named
+abbrev pub is_none : Option Id → Bool
+is_none None = true
+is_none (Some id) = false
+
+-- a command doesn't go with the region and the files that are named: a table, and objects of found
+-- numbers, are of one input; a short number is dialled in a region
+abbrev pub is_misfit : Command → Option Id → List Lent → Bool
+is_misfit command.Table hint files = are_several files
+is_misfit command.FoundObjects hint files = are_several files
+is_misfit command.Short hint files = is_none hint
+is_misfit other hint files = false
+
+-- the file of the database that a command reads by: for short numbers theirs
+abbrev pub database_of : Call → Command → Option Lent
+database_of c command.Short = c.short_database
+database_of c other = c.database
+
+-- the file of the database that tells which numbers of a command are short numbers: for objects and
+-- tables, by libphonenumber's rules
+abbrev pub shorts_of : Call → Rules → Command → Option Lent
+shorts_of c Library command.Objects = c.short_database
+shorts_of c Library command.Table = c.short_database
+shorts_of c rules other = None
+
+-- a command reads numbers by an engine: neither as short numbers, nor to keep first lines
+abbrev pub has_reader : Command → Bool
+has_reader command.Help = false
+has_reader command.Version = false
+has_reader command.Regions = false
+has_reader command.Unique = false
+has_reader command.Short = false
+has_reader other = true
+
+-- the name under which the system has standard input
+abbrev pub standard_input : List ℕ
+standard_input = codes "/dev/stdin"
+
+-- the name of the file that an input is: of standard input the system's
+abbrev pub input_name : Lent → List ℕ
+input_name name = if bytes_eq name.now (codes "-") then standard_input else name.now
+
+-- the names of the files that the inputs are: standard input where no file is named
+abbrev pub input_names : List Lent → List (List ℕ)
+input_names [] = standard_input ∷ []
+input_names (file ∷ files) = map input_name (file ∷ files)
+
+-- the files by which further columns tell
+abbrev pub further_files : Further → List (Option Lent)
+further_files f =
+    f.prefixes ∷ f.time_zones ∷ f.carriers ∷ f.first_carriers ∷ f.areas ∷ []
+
+-- the names of some files that are there
+abbrev pub named_files : List (Option Lent) → List (List ℕ)
+named_files files = filter_map text_in files
+
+-- the names of the files that a call reads: inputs, the database, that of short numbers, tables of
+-- prefixes
+abbrev pub names_read : Call → (database : Lent) → (files : List Lent) → List (List ℕ)
+names_read c database files = input_names files ++
+    (named_files (Some database ∷ c.short_database ∷ []) ++
+    named_files (further_files c.table.further))
