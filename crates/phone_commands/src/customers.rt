@@ -49,6 +49,7 @@ impl<'d, 'w> Customers<'d, 'w> {
             (seen (S.to_come source.new) (S.faults source.new) (W.taken sink.new)
             (W.faults sink.new) (W.unflushed sink.new))
             self.new.counts result }
+        ensures kept { self.new ≡ record self.old { counts = self.new.counts } }
     {
         match write_table(self.engine, self.asked, source, sink) {
             Ok(counts) => {
@@ -61,10 +62,13 @@ impl<'d, 'w> Customers<'d, 'w> {
 }
 
 impl<'d, 'w> Job for Customers<'d, 'w> {
+    ghost use Rattle.std.specs.Prelude.{◌≡◌};
     ghost use Rattle.phone_commands.specs.TableJobs.{AnswersTable};
 
+    // The answer to a table, whose counts alone are kept anew.
     ghost acts = { λ c before after c' result. AnswersTable c.engine.rules c.engine.database.now
-        c.engine.hint c.asked before after c'.counts result };
+        c.engine.hint c.asked before after c'.counts result ×
+        (c' ≡ record c { counts = c'.counts }) };
 
     fn answer<S: ByteSource, W: ByteSink>(
         &mut self,
