@@ -1,5 +1,5 @@
 -- What each command answers to its inputs, by what its taker keeps.
-use Rattle.std.proofs.Common.{◌≡◌, ℕ, List, [], ◌∷◌, ◌++◌, Bool, true, false, Option, None, Some}
+use Rattle.std.proofs.Common.{◌≡◌, ℕ, List, [], ◌∷◌, ◌++◌, Option, None, Some}
 use Rattle.std.proofs.Common.{Result, Ok, Err, ap, ap₂, refl, subst, sym, ◌∙◌}
 use Rattle.std.specs.Prelude.{⊤, option_map}
 use Rattle.phone_commands.specs.FoundLines.{IsFoundLine, in_front, name_told}
@@ -7,7 +7,7 @@ use Rattle.phone_commands.specs.Inputs.{InputsEnd, IsAnswered, IsStandard, Name}
 use Rattle.phone_commands.specs.Jobs.{AnswersLines, TakesLines}
 use Rattle.phone_commands.specs.ObjectLines.{IsObjectLine, after_one}
 use Rattle.phone_commands.specs.ShortLines.{IsShortLine}
-use Rattle.phone_commands.specs.TableJobs.{AnswersBehind, AnswersTable}
+use Rattle.phone_commands.specs.TableJobs.{AnswersTable}
 use Rattle.phone_commands.specs.TypedLines.{after_line, barred, emptied, shown_after_each}
 use Rattle.phone_commands.specs.TypedLines.{typed_chars, typed_line}
 use Rattle.phone_commands.specs.declared.customers.Customers.{Customers}
@@ -29,8 +29,8 @@ use Rattle.phone_table.specs.declared.counts.Counts.{Counts}
 use Rattle.phone_table.specs.declared.run.Asked.{Asked}
 use Rattle.phone_typed.specs.Fields.{Field}
 use Rattle.phone_values.specs.declared.country.Id.{Id}
-use Rattle.phone_cli.specs.Commands.{AnswersCustomers, AnswersInputs, BeginsFound, Finding}
-use Rattle.phone_cli.specs.Commands.{GivesFound, GivesObjects, GivesShorts, GivesTyped, Reports}
+use Rattle.phone_cli.specs.Commands.{AnswersInputs, BeginsFound, Finding, GivesFound}
+use Rattle.phone_cli.specs.Commands.{GivesObjects, GivesShorts, GivesTyped, Reports, Tables}
 use Rattle.phone_cli.specs.Commands.AnswersInputs.{named, standard}
 use Rattle.phone_cli.proofs.Carried.{answers_by, lines_by}
 
@@ -234,60 +234,39 @@ short_by files s before after last end =
 
 -- a table
 abbrev pub CustomersAct : Customers → Devices → Devices → Customers → Result ⊤ JobError → Type 0
-CustomersAct c before after c' result = (c' ≡ record c {
-  left_out = c'.left_out;
-  counts = c'.counts;
-}) × (c.is_unique ≡ false →
-    AnswersTable c.engine.rules c.engine.database.now c.engine.hint c.asked before after
-    c'.counts result) ×
-    (c.is_unique ≡ true →
-    AnswersBehind c.engine.rules c.engine.database.now c.engine.hint c.asked before after
-    c'.counts result)
+CustomersAct c before after c' result = AnswersTable c.engine.rules c.engine.database.now
+    c.engine.hint c.asked before after c'.counts result ×
+    (c' ≡ record c { counts = c'.counts })
 
-abbrev pub EngineAnswers : Engine → Bool → Asked → Counts → Devices → Devices → Counts →
+abbrev pub EngineAnswers : Engine → Asked → Counts → Devices → Devices → Counts →
     Result ⊤ JobError → Type 0
-EngineAnswers e unique asked = AnswersCustomers e.rules e.database.now e.hint unique asked
-
-by_uniqueness : (e : Engine) (u : Bool) (asked : Asked) (kept : Counts) (before after : Devices)
-    (counts : Counts) (end : Result ⊤ JobError) →
-    (u ≡ false → AnswersTable e.rules e.database.now e.hint asked before after counts end) →
-    (u ≡ true → AnswersBehind e.rules e.database.now e.hint asked before after counts end) →
-    EngineAnswers e u asked kept before after counts end
-by_uniqueness e false asked kept before after counts end f t = f refl
-by_uniqueness e true asked kept before after counts end f t = t refl
+EngineAnswers e = Tables e.rules e.database.now e.hint
 
 -- what a table's job has that stays
 record IsTableOf (c k : Customers) : Type 0 where
   engine : k.engine ≡ c.engine
   asked : k.asked ≡ c.asked
-  is_unique : k.is_unique ≡ c.is_unique
 
 customers_act : (c a : Customers) (before after : Devices) (b : Customers)
     (end : Result ⊤ JobError) → IsTableOf c a → CustomersAct a before after b end →
-    EngineAnswers c.engine c.is_unique c.asked a.counts before after b.counts end ×
+    EngineAnswers c.engine c.asked a.counts before after b.counts end ×
     (end ≡ Ok tt → IsTableOf c b)
 customers_act c a before after b end h act =
-    let own : EngineAnswers a.engine a.is_unique a.asked a.counts before after b.counts end =
-    by_uniqueness a.engine a.is_unique a.asked a.counts before after b.counts end act.1 act.2 in
-    let by_engine = subst (λ (e : Engine). EngineAnswers e a.is_unique a.asked a.counts before
-    after b.counts end) h.engine own in
-    let by_asked = subst (λ (q : Asked). EngineAnswers c.engine a.is_unique q a.counts before
-    after b.counts end) h.asked by_engine in (
-      subst (λ u. EngineAnswers c.engine u c.asked a.counts before after b.counts end)
-          h.is_unique by_asked,
+    let by_engine = subst (λ (e : Engine). EngineAnswers e a.asked a.counts before after
+    b.counts end) h.engine act.0 in (
+      subst (λ (q : Asked). EngineAnswers c.engine q a.counts before after b.counts end)
+          h.asked by_engine,
       λ _. record {
-        engine = ap (λ (k : Customers). k.engine) act.0 ∙ h.engine;
-        asked = ap (λ (k : Customers). k.asked) act.0 ∙ h.asked;
-        is_unique = ap (λ (k : Customers). k.is_unique) act.0 ∙ h.is_unique;
+        engine = ap (λ (k : Customers). k.engine) act.1 ∙ h.engine;
+        asked = ap (λ (k : Customers). k.asked) act.1 ∙ h.asked;
       },
     )
 
 pub table_by : (files : List Name) (c : Customers) (before after : Devices) (last : Customers)
     (end : Result ⊤ Failure) →
     AnswersInputs CustomersAct files c before after last end →
-    AnswersInputs (EngineAnswers c.engine c.is_unique c.asked) files c.counts before after
-    last.counts end
+    AnswersInputs (EngineAnswers c.engine c.asked) files c.counts before after last.counts end
 table_by files c before after last end =
-    answers_by CustomersAct (EngineAnswers c.engine c.is_unique c.asked)
+    answers_by CustomersAct (EngineAnswers c.engine c.asked)
     (λ k. k.counts) (IsTableOf c) (customers_act c) files c before after last end
-    (record { engine = refl; asked = refl; is_unique = refl })
+    (record { engine = refl; asked = refl })

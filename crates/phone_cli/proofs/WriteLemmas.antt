@@ -1,7 +1,8 @@
 -- Bytes that are written one after the other.
 use Rattle.std.proofs.Common.{◌≡◌, ℕ, ◌+◌, List, [], ◌∷◌, ◌++◌, Option, None, Some, Result, Ok, Err}
-use Rattle.std.proofs.Common.{append_assoc, ap, refl, subst, sym, ◌∙◌, inl, inr}
-use Rattle.std.specs.Prelude.{MatchResult, OnErr, OnOk, ⊤}
+use Rattle.std.proofs.Common.{append_assoc, ap, arith, drop, get_or, length, refl, subst, suc, sym}
+use Rattle.std.proofs.Common.{take, zero, ◌<◌, ◌∙◌, inl, inr}
+use Rattle.std.specs.Prelude.{IsErr, MatchResult, OnErr, OnOk, flat_map, ⊤}
 use Rattle.std.proofs.lemmas.List.{append-nil}
 use Rattle.phone_device.specs.Passing.{Takes, TakesFront}
 use Rattle.phone_engine.specs.Programs.{IsTold}
@@ -41,10 +42,60 @@ front_more a b x y f = record {
   taken = f.taken;
 }
 
+-- all bytes were taken, without a failure
+abbrev pub AreWritten : List ℕ → Option (List ℕ) → ℕ → Option (List ℕ) → ℕ → Type 0
+AreWritten x a m b n = Takes a x b × (n ≡ m)
+
+-- the sink failed once, and took a beginning of the bytes
+abbrev pub AreBroken : List ℕ → Option (List ℕ) → ℕ → Option (List ℕ) → ℕ → Type 0
+AreBroken x a m b n = TakesFront a x b × (n ≡ m + 1)
+
 -- nothing was written
-pub writes_nothing : (E : Type 0) (a : Option (List ℕ)) (n : ℕ) →
-    Writes {E = E} [] a n a n (Ok tt)
-writes_nothing E a n = (takes_nothing a, refl)
+pub none_written : (a : Option (List ℕ)) (n : ℕ) → AreWritten [] a n a n
+none_written a n = (takes_nothing a, refl)
+
+-- what was written behind what was written
+pub written_then : (x y : List ℕ) (a b c : Option (List ℕ)) (m n k : ℕ) →
+    AreWritten x a m b n → AreWritten y b n c k → AreWritten (x ++ y) a m c k
+written_then x y a b c m n k p q = (takes_then a b c x y p.0 q.0, q.1 ∙ p.1)
+
+-- what was broken off behind what was written
+pub broken_then : (x y : List ℕ) (a b c : Option (List ℕ)) (m n k : ℕ) →
+    AreWritten x a m b n → AreBroken y b n c k → AreBroken (x ++ y) a m c k
+broken_then x y a b c m n k p q =
+    (front_then a b c x y p.0 q.0, q.1 ∙ ap (λ i. i + 1) p.1)
+
+-- what was broken off, where more was to be written
+pub broken_more : (x y : List ℕ) (a b : Option (List ℕ)) (m n : ℕ) → AreBroken x a m b n →
+    AreBroken (x ++ y) a m b n
+broken_more x y a b m n w = (front_more a b x y w.0, w.1)
+
+-- items that are written one after the other: those before a place, the one there, the others
+joined_at : {X : Type 0} (f : X → List ℕ) (xs : List X) (i : ℕ) (d : X) → i < length xs →
+    flat_map f xs ≡ flat_map f (take i xs) ++ (f (get_or xs i d) ++ flat_map f (drop (suc i) xs))
+joined_at f [] i d h = absurd (omega arith)
+joined_at f (x ∷ xs) zero d h = refl
+joined_at f (x ∷ xs) (suc i) d h =
+    ap (λ t. f x ++ t) (joined_at f xs i d (omega arith)) ∙
+    sym (append_assoc (f x) (flat_map f (take i xs))
+    (f (get_or xs i d) ++ flat_map f (drop (suc i) xs)))
+
+-- what was broken off in the item at a place, behind those before it
+pub broken_at : {X : Type 0} (f : X → List ℕ) (xs : List X) (i : ℕ) (d : X)
+    (a b c : Option (List ℕ)) (m n k : ℕ) → i < length xs →
+    AreWritten (flat_map f (take i xs)) a m b n → AreBroken (f (get_or xs i d)) b n c k →
+    AreBroken (flat_map f xs) a m c k
+broken_at f xs i d a b c m n k h p q =
+    subst (λ t. AreBroken t a m c k) (sym (joined_at f xs i d h))
+    (broken_then (flat_map f (take i xs)) (f (get_or xs i d) ++ flat_map f (drop (suc i) xs))
+    a b c m n k p
+    (broken_more (f (get_or xs i d)) (flat_map f (drop (suc i) xs)) b c n k q))
+
+-- a write that failed
+pub writes_broken : {E : Type 0} (x : List ℕ) (a b : Option (List ℕ)) (m n : ℕ)
+    (end : Result ⊤ E) → IsErr end → AreBroken x a m b n → Writes x a m b n end
+writes_broken x a b m n (Ok v) is w = absurd (cc)
+writes_broken x a b m n (Err e) is w = w
 
 -- a write of all bytes, by its four clauses
 pub writes_all : {E : Type 0} (x : List ℕ) (a b : Option (List ℕ)) (m n : ℕ) (end : Result ⊤ E) →
@@ -53,22 +104,16 @@ pub writes_all : {E : Type 0} (x : List ℕ) (a b : Option (List ℕ)) (m n : �
 writes_all x a b m n (Ok v) t e f g = (t, e)
 writes_all x a b m n (Err v) t e f g = (f, g)
 
--- the same behind what was written
+-- a write behind what was written
 pub writes_then : {E : Type 0} (x y : List ℕ) (a b c : Option (List ℕ)) (m n k : ℕ)
-    (end : Result ⊤ E) → Writes {E = E} x a m b n (Ok tt) → Writes y b n c k end →
+    (end : Result ⊤ E) → AreWritten x a m b n → Writes y b n c k end →
     Writes (x ++ y) a m c k end
-writes_then x y a b c m n k (Ok v) p q = (takes_then a b c x y p.0 q.0, q.1 ∙ p.1)
-writes_then x y a b c m n k (Err v) p q =
-    (front_then a b c x y p.0 q.0, q.1 ∙ ap (λ i. i + 1) p.1)
-
--- a write that failed, where more was to be written
-pub writes_more : {E : Type 0} (x y : List ℕ) (a b : Option (List ℕ)) (m n : ℕ) (e : E) →
-    Writes x a m b n (Err e) → Writes (x ++ y) a m b n (Err e)
-writes_more x y a b m n e w = (front_more a b x y w.0, w.1)
+writes_then x y a b c m n k (Ok v) p q = written_then x y a b c m n k p q
+writes_then x y a b c m n k (Err v) p q = broken_then x y a b c m n k p q
 
 -- a failed flush behind what was written leaves a beginning of it
 pub writes_unflushed : {E : Type 0} (x : List ℕ) (a b c : Option (List ℕ)) (m n k : ℕ)
-    (end : Result ⊤ E) → Writes {E = E} x a m b n (Ok tt) → c ≡ b → OnOk end (k ≡ n) →
+    (end : Result ⊤ E) → AreWritten x a m b n → c ≡ b → OnOk end (k ≡ n) →
     OnErr end (k ≡ n + 1) → Writes x a m c k end
 writes_unflushed x a b c m n k (Ok v) p same e g =
     (subst (λ o. Takes a x o) (sym same) p.0, e ∙ p.1)

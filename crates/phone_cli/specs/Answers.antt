@@ -13,6 +13,7 @@ use Rattle.phone_lines.specs.Ends.{Devices}
 use Rattle.phone_lines.specs.Taken.{begins_with_nothing}
 use Rattle.phone_plans.specs.CodeLookUps.{is_prefix_free}
 use Rattle.phone_records.specs.declared.loader.Metadata.{Metadata}
+use Rattle.phone_table.specs.Counts.{no_counts}
 use Rattle.phone_table.specs.declared.counts.Counts.{Counts}
 use Rattle.phone_table.specs.declared.run.Asked.{Asked}
 use Rattle.phone_values.specs.declared.country.Id.{Id}
@@ -23,7 +24,7 @@ use Rattle.phone_words.specs.declared.command.Command.{Command}
 use Rattle.phone_words.specs.declared.command.Command.TheVariants as command
 use Rattle.phone_words.specs.declared.table.Table.{Table}
 use Rattle.phone_cli.specs.Abouts.{Tells, regions_text, version_text}
-use Rattle.phone_cli.specs.Commands.{AnswersCustomers, AnswersInputs, BeginsFound, Finding}
+use Rattle.phone_cli.specs.Commands.{AnswersInputs, BeginsFound, Finding, Tables}
 use Rattle.phone_cli.specs.Commands.{GivesFound, GivesObjects, GivesShorts, GivesTyped, Reports}
 use Rattle.phone_cli.specs.Commands.{found_form, no_first_lines}
 use Rattle.phone_cli.specs.Operands.{database_of, files_of, is_misfit, names_read, region_of}
@@ -37,13 +38,14 @@ IsLoaded None short = short ≡ None
 IsLoaded (Some path) short = IsSome short
 
 -- this is asked of a table by the options for it, with this database of short numbers
-pub record IsAsked (t : Table) (short : Option (List Metadata)) (a : Asked) : Type 0 where
+pub record IsAsked (t : Table) (shorts : Option (List Metadata)) (a : Asked) : Type 0 where
   pub number : a.number ≡ t.column
   pub region : a.region ≡ t.region_column
   pub delimiter : a.delimiter ≡ t.delimiter
   pub else_hint : a.else_hint ≡ t.fallback_region
   pub mark_bad : a.mark_bad ≡ t.mark_bad
-  pub short : option_map (λ d. d.now) a.short ≡ short
+  pub is_unique : a.is_unique ≡ t.is_unique
+  pub short : option_map (λ d. d.now) a.short ≡ shorts
 
 -- a command finds the numbers in a text
 abbrev pub finds : Command → Bool
@@ -83,10 +85,10 @@ pub data Runs (c : Call) (hint : Option Id) (files : List Name) (before after : 
       (no_first_lines db c.rules hint) before after last end →
       Runs c hint files before after end
   table : (db : List Metadata) → (short : Option (List Metadata)) → (asked : Asked) →
-      (first last : Counts) → c.command ≡ command.Table →
+      (last : Counts) → c.command ≡ command.Table →
       IsLoaded (shorts_of c c.rules c.command) short → IsAsked c.table short asked →
-      AnswersInputs (AnswersCustomers c.rules db hint c.table.is_unique asked) files first before
-      after last end → Runs c hint files before after end
+      AnswersInputs (Tables c.rules db hint asked) files no_counts before after last end →
+      Runs c hint files before after end
 
 -- what a call does once it reads and writes, and its status: a database or a table of prefixes is
 -- refused; there is no memory for further columns; or it answers its inputs

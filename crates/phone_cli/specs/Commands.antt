@@ -1,13 +1,11 @@
 -- What each command answers to its inputs, one after the other.
-use Rattle.std.specs.Prelude.{◌≡◌, ℕ, ⊤, Bool, List, [], Option, None, Some, Result, Ok, Err}
-use Rattle.std.specs.Prelude.{false, true, option_map}
-use Rattle.phone_commands.specs.FirstLines.{IsFirstLine}
+use Rattle.std.specs.Prelude.{◌≡◌, ℕ, ⊤, List, [], Option, Result}
 use Rattle.phone_commands.specs.FoundLines.{IsFoundLine, in_front, name_told}
 use Rattle.phone_commands.specs.Inputs.{InputsEnd, IsAnswered, IsStandard, Name}
 use Rattle.phone_commands.specs.Jobs.{Acts, AnswersLines, TakesLines}
 use Rattle.phone_commands.specs.ObjectLines.{IsObjectLine, after_one}
 use Rattle.phone_commands.specs.ShortLines.{IsShortLine}
-use Rattle.phone_commands.specs.TableJobs.{AnswersBehind, AnswersTable}
+use Rattle.phone_commands.specs.TableJobs.{AnswersTable}
 use Rattle.phone_commands.specs.TypedLines.{typed_line}
 use Rattle.phone_commands.specs.declared.finder.FoundForm.{FoundForm}
 use Rattle.phone_commands.specs.declared.finder.FoundForm.TheVariants as form
@@ -84,13 +82,10 @@ no_first_lines db rules hint = record {
   refused = 0;
 }
 
--- a table: its answers; with `--unique` only what was read is told, and how the run ended
-abbrev pub AnswersCustomers : Rules → List Metadata → Option Id → (is_unique : Bool) → Asked →
-    Acts Counts
-AnswersCustomers rules db hint false asked kept before after counts end =
+-- a table: each by itself; what is kept are the counts of the last one
+abbrev pub Tables : Rules → List Metadata → Option Id → Asked → Acts Counts
+Tables rules db hint asked kept before after counts end =
     AnswersTable rules db hint asked before after counts end
-AnswersCustomers rules db hint true asked kept before after counts end =
-    AnswersBehind rules db hint asked before after counts end
 
 -- how a command tells the numbers that it finds
 abbrev pub found_form : Command → FoundForm

@@ -1,10 +1,11 @@
 //! What the program says of itself, and of what words it knows.
-ghost use Rattle.std.specs.Prelude.{◌≡◌, ℕ, List, None, OnOk, Option, option_map};
+ghost use Rattle.std.specs.Prelude.{◌≡◌, ℕ, List, None, OnOk, Option, option_map, string_bytes};
 ghost use Rattle.phone_cli.specs.Abouts.{id_line, id_lines, regions_text, rules_line, table_line};
 ghost use Rattle.phone_cli.specs.Abouts.{version_text};
 ghost use Rattle.phone_cli.specs.Streams.{Writes};
 
-use phone_device::{ByteSink, Fault, write_all, write_out};
+use crate::say::write_str;
+use phone_device::{ByteSink, Fault, write_out};
 use phone_engine::Rules;
 use phone_values::country::{ALL, Id};
 use std::alloc::AllocGlobal;
@@ -34,7 +35,7 @@ pub(crate) fn write_regions<W: ByteSink>(output: &mut W) -> Result<(), Fault>
 
 /// Writes ids, one a line.
 fn write_ids<W: ByteSink>(output: &mut W, ids: &[Id]) -> Result<(), Fault>
-    ensures written { Writes (id_lines ids.now) (W.taken output.old) (W.faults output.old)
+    ensures { Writes (id_lines ids.now) (W.taken output.old) (W.faults output.old)
         (W.taken output.new) (W.faults output.new) result }
 {
     for id in ids {
@@ -45,11 +46,11 @@ fn write_ids<W: ByteSink>(output: &mut W, ids: &[Id]) -> Result<(), Fault>
 
 /// Writes an id and a line feed.
 fn write_id<W: ByteSink>(output: &mut W, id: Id) -> Result<(), Fault>
-    ensures written { Writes (id_line id) (W.taken output.old) (W.faults output.old)
+    ensures { Writes (id_line id) (W.taken output.old) (W.faults output.old)
         (W.taken output.new) (W.faults output.new) result }
 {
-    write_all(output, id.as_str().as_bytes())?;
-    write_all(output, "\n".as_bytes())
+    write_str(output, id.as_str())?;
+    write_str(output, "\n")
 }
 
 /// The folder of a path, with its slash; empty where it names none.
@@ -78,15 +79,15 @@ fn rules_line(rules: Rules) -> &'static str
 }
 
 /// Writes the version of the table, where that is known.
-fn write_table_line<W: ByteSink>(output: &mut W, version: Option<&str>) -> Result<(), Fault>
-    ensures written { Writes (table_line (option_map (λ v. v.now) version.entry))
-        (W.taken output.old) (W.faults output.old) (W.taken output.new) (W.faults output.new) result }
+fn write_table_line<W: ByteSink>(output: &mut W, version: &Option<String>) -> Result<(), Fault>
+    ensures { Writes (table_line (option_map string_bytes version.now)) (W.taken output.old)
+        (W.faults output.old) (W.taken output.new) (W.faults output.new) result }
 {
     let Some(version) = version else {
         return Ok(());
     };
-    write_all(output, "table of the world: ".as_bytes())?;
-    write_all(output, version.as_bytes())
+    write_str(output, "table of the world: ")?;
+    write_str(output, version.as_str())
 }
 
 /// Writes which program this is, by whose rules it reads, and this version of the table, where that
@@ -94,14 +95,24 @@ fn write_table_line<W: ByteSink>(output: &mut W, version: Option<&str>) -> Resul
 fn write_lines<W: ByteSink>(
     output: &mut W,
     rules: Rules,
-    version: Option<&str>,
+    version: &Option<String>,
 ) -> Result<(), Fault>
-    ensures written { Writes (version_text rules (option_map (λ v. v.now) version.entry))
+    ensures { Writes (version_text rules (option_map string_bytes version.now))
         (W.taken output.old) (W.faults output.old) (W.taken output.new) (W.faults output.new) result }
 {
-    write_all(output, NAME.as_bytes())?;
-    write_all(output, rules_line(rules).as_bytes())?;
+    write_str(output, NAME)?;
+    write_str(output, rules_line(rules))?;
     write_table_line(output, version)
+}
+
+/// The version of the table in a file, where one is named and that is known.
+fn version_of<R: Files + AllocGlobal>(rt: &R, path: Option<&str>) -> Option<String>
+    ensures { path.entry ≡ None → result ≡ None }
+{
+    match path {
+        Some(path) => table_version(rt, path),
+        None => None,
+    }
 }
 
 /// Writes which program this is, by whose rules it reads, and the version of the table, where that
@@ -117,11 +128,7 @@ pub(crate) fn write_version<R: Files + AllocGlobal, W: ByteSink>(
         (W.taken output.new) (W.faults output.new) result }
     ensures handed_on { OnOk result (W.unflushed output.new ≡ 0) }
 {
-    let version = match path {
-        Some(path) => table_version(rt, path),
-        None => None,
-    };
-    let version = version.as_ref().map(|version| version.as_str());
-    write_lines(output, rules, version)?;
+    let version = version_of(rt, path);
+    write_lines(output, rules, &version)?;
     output.flush()
 }

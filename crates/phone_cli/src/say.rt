@@ -3,13 +3,21 @@ ghost use Rattle.std.specs.Prelude.{◌≡◌, ℕ, List, codes};
 ghost use Rattle.phone_cli.specs.Statuses.{status_of_words};
 ghost use Rattle.phone_cli.specs.Streams.{Writes, joined, line_of};
 ghost use Rattle.phone_engine.specs.Programs.{IsTold};
-ghost use Rattle.phone_words.specs.declared.parts.Why.TheVariants as why;
+ghost use Rattle.phone_words.specs.declared.parts.Why.TheVariants.{Memory};
 
 use csv::ByteRecord;
 use itoa::Buffer;
 use phone_commands::{Customers, FirstLines};
 use phone_device::{ByteSink, Fault, write_all};
 use phone_words::{Why, WordError, value_word};
+
+/// Writes a text. At `Err` the sink failed, and has taken a beginning of it.
+pub(crate) fn write_str<W: ByteSink>(sink: &mut W, text: &str) -> Result<(), Fault>
+    ensures { Writes text.now (W.taken sink.old) (W.faults sink.old) (W.taken sink.new)
+        (W.faults sink.new) result }
+{
+    write_all(sink, text.as_bytes())
+}
 
 /// Writes these texts, one after the other. At `Err` the sink failed, and has taken a beginning of
 /// them.
@@ -18,7 +26,7 @@ fn write_texts<E: ByteSink>(errors: &mut E, texts: &[&str]) -> Result<(), Fault>
         (E.taken errors.new) (E.faults errors.new) result }
 {
     for text in texts {
-        write_all(errors, text.as_bytes())?;
+        write_str(errors, text)?;
     }
     Ok(())
 }
@@ -29,9 +37,9 @@ fn write_line<E: ByteSink>(errors: &mut E, texts: &[&str]) -> Result<(), Fault>
     ensures { Writes (line_of (joined texts.now)) (E.taken errors.old) (E.faults errors.old)
         (E.taken errors.new) (E.faults errors.new) result }
 {
-    write_all(errors, "phone: ".as_bytes())?;
+    write_str(errors, "phone: ")?;
     write_texts(errors, texts)?;
-    write_all(errors, "\n".as_bytes())
+    write_str(errors, "\n")
 }
 
 /// Writes a line to the sink for errors: the program's name and these texts. It gives the status.
@@ -63,7 +71,7 @@ fn say_why<E: ByteSink>(errors: &mut E, why: Why, word: &str, other: &str, value
     ensures status { result ≡ status_of_words why }
     ensures told { (text : List ℕ) × IsTold (E.taken errors.old) (E.faults errors.old)
         (line_of text) (E.taken errors.new) (E.faults errors.new) }
-    ensures memory { why ≡ why.Memory → IsTold (E.taken errors.old) (E.faults errors.old)
+    ensures memory { why ≡ Memory → IsTold (E.taken errors.old) (E.faults errors.old)
         (line_of (codes "out of memory")) (E.taken errors.new) (E.faults errors.new) }
 {
     match why {
@@ -84,7 +92,7 @@ pub(crate) fn say_word_error<E: ByteSink>(errors: &mut E, error: WordError<'_>) 
     ensures status { result ≡ status_of_words error.entry.why }
     ensures told { (text : List ℕ) × IsTold (E.taken errors.old) (E.faults errors.old)
         (line_of text) (E.taken errors.new) (E.faults errors.new) }
-    ensures memory { error.entry.why ≡ why.Memory → IsTold (E.taken errors.old)
+    ensures memory { error.entry.why ≡ Memory → IsTold (E.taken errors.old)
         (E.faults errors.old) (line_of (codes "out of memory")) (E.taken errors.new)
         (E.faults errors.new) }
 {
@@ -98,18 +106,18 @@ fn write_columns<E: ByteSink>(
     name: &str,
     header: &ByteRecord,
 ) -> Result<(), Fault> {
-    write_all(errors, "phone: no column ".as_bytes())?;
-    write_all(errors, name.as_bytes())?;
-    write_all(errors, "; there are: ".as_bytes())?;
+    write_str(errors, "phone: no column ")?;
+    write_str(errors, name)?;
+    write_str(errors, "; there are: ")?;
     for column in 0..header.len() {
         if column > 0 {
-            write_all(errors, ", ".as_bytes())?;
+            write_str(errors, ", ")?;
         }
         if let Some(field) = header.get(column) {
             write_all(errors, field)?;
         }
     }
-    write_all(errors, "\n".as_bytes())
+    write_str(errors, "\n")
 }
 
 /// Tells that a header lacks a column, and gives the status.
@@ -142,8 +150,8 @@ pub(crate) fn say_firsts<E: ByteSink>(job: &FirstLines, errors: &mut E) -> u8
 /// Writes a count after its name.
 fn write_count<E: ByteSink>(errors: &mut E, name: &str, count: u64) -> Result<(), Fault> {
     let mut buffer = Buffer::new();
-    write_all(errors, name.as_bytes())?;
-    write_all(errors, buffer.format(count).as_bytes())
+    write_str(errors, name)?;
+    write_str(errors, buffer.format(count))
 }
 
 /// Writes how many records a table has, and how many of them gave what.
@@ -157,7 +165,7 @@ fn write_records<E: ByteSink>(job: &Customers<'_, '_>, errors: &mut E) -> Result
     if job.asked.is_unique {
         write_count(errors, ", repeated: ", job.counts.repeated)?;
     }
-    write_all(errors, "\n".as_bytes())
+    write_str(errors, "\n")
 }
 
 /// Tells how many records a table has, and how many of them gave what, and gives the status.

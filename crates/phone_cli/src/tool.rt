@@ -3,7 +3,7 @@ ghost use Rattle.std.specs.Prelude.{◌≡◌, ◌⊎◌, ℕ, List, MatchResult
 ghost use Rattle.std.specs.Prelude.{codes, is_some, option_map, false, true};
 ghost use Rattle.phone_cli.specs.Abouts.{Tells};
 ghost use Rattle.phone_cli.specs.Answers.{Answers, AnswersReading, Does, IsAsked, IsLoaded, reads};
-ghost use Rattle.phone_cli.specs.Commands.{AnswersCustomers, AnswersInputs, found_form};
+ghost use Rattle.phone_cli.specs.Commands.{AnswersInputs, Tables, found_form};
 ghost use Rattle.phone_cli.specs.Operands.{database_of, files_of, has_reader, is_misfit, region_of};
 ghost use Rattle.phone_cli.specs.Operands.{shorts_of};
 ghost use Rattle.phone_cli.specs.Programs.{Acts};
@@ -572,9 +572,9 @@ fn run_table<R: Files + AllocGlobal, S: ByteSource, W: Outlet, E: ByteSink>(
     output: &mut W,
     errors: &mut E,
 ) -> u8
-    ensures { (end : Result ⊤ Failure) × AnswersInputs (AnswersCustomers
-        job.old.engine.rules job.old.engine.database.now job.old.engine.hint job.old.is_unique
-        job.old.asked) reading.entry.files.now job.old.counts
+    ensures { (end : Result ⊤ Failure) × AnswersInputs (Tables
+        job.old.engine.rules job.old.engine.database.now job.old.engine.hint job.old.asked)
+        reading.entry.files.now job.old.counts
         (seen (S.to_come input.old) (S.faults input.old) (W.taken output.old)
         (W.faults output.old) (W.unflushed output.old))
         (seen (S.to_come input.new) (S.faults input.new) (W.taken output.new)

@@ -1,0 +1,13 @@
+use Rattle.std.proofs.Common.{codes, sym}
+use Rattle.phone_cli.proofs.WriteLemmas.{broken_more, writes_broken, writes_then}
+use Rattle.phone_cli.proofs.about.write_table_line.Goals as goal
+
+pub returns-in_err-write_str : goal.returns-in_err-write_str
+returns-in_err-write_str g c = rw c.in-Some.is
+    (writes_broken _ _ _ _ _ _ c.from_residual.ensures.0
+    (broken_more (codes "table of the world: ") _ _ _ _ _ c.in_err-write_str.ensures))
+
+pub returns : goal.returns
+returns g c = rw (c.in-Some.is, sym c.as_str.ensures.value)
+    (writes_then (codes "table of the world: ") _ _ _ _ _ _ _ _ c.in_ok-write_str.ensures
+    c.write_str-2.ensures)
