@@ -51,19 +51,17 @@ answers_of acts (f ∷ fs) first before after last end s n =
     let some = not_empty f fs in named some (n some)
 
 -- the report
-pub report_by : (files : List Name) (r : Report) (before after : Devices) (last : Report)
-    (end : Result ⊤ Failure) →
-    AnswersInputs (λ (r : Report) (before after : Devices) (r' : Report)
-    (result : Result ⊤ JobError). AnswersLines
+abbrev pub ReportActs : Report → Devices → Devices → Report → Result ⊤ JobError → Type 0
+ReportActs r before after r' result = AnswersLines
     (IsReportLine r.reader.engine.rules r.reader.engine.database.now r.reader.engine.hint)
-    before after result × (r' ≡ r)) files r before after last end →
+    before after result × (r' ≡ r)
+
+pub report_by : (files : List Name) (r : Report) (before after : Devices) (last : Report)
+    (end : Result ⊤ Failure) → AnswersInputs ReportActs files r before after last end →
     AnswersInputs (Reports r.reader.engine.rules r.reader.engine.database.now
     r.reader.engine.hint) files tt before after tt end
 report_by files r before after last end =
-    answers_by (λ (r : Report) (before after : Devices) (r' : Report)
-    (result : Result ⊤ JobError). AnswersLines
-    (IsReportLine r.reader.engine.rules r.reader.engine.database.now r.reader.engine.hint)
-    before after result × (r' ≡ r))
+    answers_by ReportActs
     (Reports r.reader.engine.rules r.reader.engine.database.now r.reader.engine.hint)
     (λ _. tt) (λ k. k ≡ r)
     (λ a before after b end h act. (

@@ -1,3 +1,5 @@
 pub mod AnswerLemmas
 pub mod Carried
+pub mod ReadLemmas
+pub mod RunLemmas
 pub mod WriteLemmas

@@ -29,6 +29,11 @@ joined texts = flat_map (λ (t : Lent). t.now) texts
 abbrev pub line_of : List ℕ → List ℕ
 line_of text = codes "phone: " ++ (text ++ 10 ∷ [])
 
+-- of some text a line was told, as `IsTold` has it
+abbrev pub IsSomeTold : Option (List ℕ) → ℕ → Option (List ℕ) → ℕ → Type 0
+IsSomeTold taken faults taken_then faults_then =
+    (text : List ℕ) × IsTold taken faults (line_of text) taken_then faults_then
+
 -- of this text a line was told: the sink for errors took it whole, or failed once and took a
 -- beginning of it
 abbrev pub Says : List ℕ → Streams → Streams → Type 0

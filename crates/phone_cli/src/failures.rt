@@ -1,7 +1,7 @@
 //! What is told of a failure, by file and cause.
 ghost use Rattle.std.specs.Prelude.{◌≡◌, ◌⊎◌, ℕ, List, codes};
 ghost use Rattle.phone_cli.specs.Statuses.{status_of_failure, status_of_table};
-ghost use Rattle.phone_cli.specs.Streams.{line_of};
+ghost use Rattle.phone_cli.specs.Streams.{IsSomeTold, line_of};
 ghost use Rattle.phone_engine.specs.Programs.{IsTold};
 
 use crate::say::{say, say_columns};
@@ -23,8 +23,8 @@ pub(crate) fn say_refusal<E: ByteSink>(
     errors: &mut E,
 ) -> u8
     ensures status { result ≡ 3 }
-    ensures told { (text : List ℕ) × IsTold (E.taken errors.old) (E.faults errors.old)
-        (line_of text) (E.taken errors.new) (E.faults errors.new) }
+    ensures told { IsSomeTold (E.taken errors.old) (E.faults errors.old)
+        (E.taken errors.new) (E.faults errors.new) }
 {
     let mut number = Buffer::new();
     let number = number.format(refusal.number());
@@ -108,8 +108,8 @@ fn no_pair(alloc: Global, line: usize) -> Result<String, AllocError> {
 
 /// Tells why a file holds no table of prefixes, and gives the status.
 fn say_refused<E: ByteSink>(alloc: Global, name: &str, error: PrefixesError, errors: &mut E) -> u8
-    ensures { ((result ≡ 3) × ((text : List ℕ) × IsTold (E.taken errors.old) (E.faults errors.old)
-        (line_of text) (E.taken errors.new) (E.faults errors.new))) ⊎
+    ensures { ((result ≡ 3) × (IsSomeTold (E.taken errors.old) (E.faults errors.old)
+        (E.taken errors.new) (E.faults errors.new))) ⊎
         ((result ≡ 1) × IsTold (E.taken errors.old) (E.faults errors.old)
         (line_of (codes "out of memory")) (E.taken errors.new) (E.faults errors.new)) }
 {
@@ -129,8 +129,8 @@ fn say_refused<E: ByteSink>(alloc: Global, name: &str, error: PrefixesError, err
 
 /// Tells why further columns are not there, and gives the status.
 pub(crate) fn say_no_columns<E: ByteSink>(alloc: Global, why: NoColumns<'_>, errors: &mut E) -> u8
-    ensures { ((result ≡ 3) × ((text : List ℕ) × IsTold (E.taken errors.old) (E.faults errors.old)
-        (line_of text) (E.taken errors.new) (E.faults errors.new))) ⊎
+    ensures { ((result ≡ 3) × (IsSomeTold (E.taken errors.old) (E.faults errors.old)
+        (E.taken errors.new) (E.faults errors.new))) ⊎
         ((result ≡ 1) × IsTold (E.taken errors.old) (E.faults errors.old)
         (line_of (codes "out of memory")) (E.taken errors.new) (E.faults errors.new)) }
 {

@@ -1,9 +1,8 @@
 //! The region and the files that a call names.
-ghost use Rattle.std.specs.Prelude.{◌≡◌, ℕ, IfSome, IsNone, List, Some, slice_get};
+ghost use Rattle.std.specs.Prelude.{◌≡◌, ℕ, IfSome, IsNone, Some, slice_get};
 ghost use Rattle.phone_cli.specs.Operands.{region_and_files};
-ghost use Rattle.phone_cli.specs.Streams.{line_of};
+ghost use Rattle.phone_cli.specs.Streams.{IsSomeTold};
 ghost use Rattle.phone_commands.specs.Inputs.{IsStandard, Name};
-ghost use Rattle.phone_engine.specs.Programs.{IsTold};
 
 use crate::say::say;
 use phone_commands::is_standard;
@@ -63,8 +62,8 @@ pub(crate) fn say_missing<R: Files, E: ByteSink>(
     ensures status { IfSome result (λ status. status ≡ 2) }
     ensures absent { IfSome result (λ _. (name : Name) × (at : ℕ) ×
         (slice_get files.now at ≡ Some name) × ¬ (IsStandard name)) }
-    ensures told { IfSome result (λ _. (text : List ℕ) × IsTold (E.taken errors.old)
-        (E.faults errors.old) (line_of text) (E.taken errors.new) (E.faults errors.new)) }
+    ensures told { IfSome result (λ _. IsSomeTold (E.taken errors.old) (E.faults errors.old)
+        (E.taken errors.new) (E.faults errors.new)) }
     ensures silent { IsNone result → errors.new ≡ errors.old }
 {
     let mut is_first = hint.is_none();

@@ -1,7 +1,7 @@
 //! The lines that are told of what failed, and the statuses that go with them.
 ghost use Rattle.std.specs.Prelude.{◌≡◌, ℕ, List, codes};
 ghost use Rattle.phone_cli.specs.Statuses.{status_of_words};
-ghost use Rattle.phone_cli.specs.Streams.{Writes, joined, line_of};
+ghost use Rattle.phone_cli.specs.Streams.{IsSomeTold, Writes, joined, line_of};
 ghost use Rattle.phone_engine.specs.Programs.{IsTold};
 ghost use Rattle.phone_words.specs.declared.parts.Why.TheVariants.{Memory};
 
@@ -48,6 +48,8 @@ pub(crate) fn say<E: ByteSink>(errors: &mut E, texts: &[&str], status: u8) -> u8
     ensures status { result ≡ status }
     ensures told { IsTold (E.taken errors.old) (E.faults errors.old)
         (line_of (joined texts.now)) (E.taken errors.new) (E.faults errors.new) }
+    ensures some { IsSomeTold (E.taken errors.old) (E.faults errors.old)
+        (E.taken errors.new) (E.faults errors.new) }
 {
     let _written = write_line(errors, texts);
     status
@@ -69,8 +71,8 @@ const LIBRARY: &str = " knows libphonenumber's rules alone";
 /// Tells why words are no call, by which of them, and gives the status.
 fn say_why<E: ByteSink>(errors: &mut E, why: Why, word: &str, other: &str, value: &str) -> u8
     ensures status { result ≡ status_of_words why }
-    ensures told { (text : List ℕ) × IsTold (E.taken errors.old) (E.faults errors.old)
-        (line_of text) (E.taken errors.new) (E.faults errors.new) }
+    ensures told { IsSomeTold (E.taken errors.old) (E.faults errors.old)
+        (E.taken errors.new) (E.faults errors.new) }
     ensures memory { why ≡ Memory → IsTold (E.taken errors.old) (E.faults errors.old)
         (line_of (codes "out of memory")) (E.taken errors.new) (E.faults errors.new) }
 {
@@ -90,8 +92,8 @@ fn say_why<E: ByteSink>(errors: &mut E, why: Why, word: &str, other: &str, value
 /// Tells why words are no call, and gives the status.
 pub(crate) fn say_word_error<E: ByteSink>(errors: &mut E, error: WordError<'_>) -> u8
     ensures status { result ≡ status_of_words error.entry.why }
-    ensures told { (text : List ℕ) × IsTold (E.taken errors.old) (E.faults errors.old)
-        (line_of text) (E.taken errors.new) (E.faults errors.new) }
+    ensures told { IsSomeTold (E.taken errors.old) (E.faults errors.old)
+        (E.taken errors.new) (E.faults errors.new) }
     ensures memory { error.entry.why ≡ Memory → IsTold (E.taken errors.old)
         (E.faults errors.old) (line_of (codes "out of memory")) (E.taken errors.new)
         (E.faults errors.new) }

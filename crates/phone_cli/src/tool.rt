@@ -442,13 +442,13 @@ fn run_lines<R: Files + AllocGlobal, S: ByteSource, W: Outlet, E: ByteSink, T: L
     output: &mut W,
     errors: &mut E,
 ) -> u8
-    ensures { (end : Result ⊤ Failure) × AnswersInputs (TakesLines T.begins T.gives)
-        reading.entry.files.now taker.old
+    ensures { (end : Result ⊤ Failure) × (last : T) × AnswersInputs
+        (TakesLines T.begins T.gives) reading.entry.files.now taker.old
         (seen (S.to_come input.old) (S.faults input.old) (W.taken output.old)
         (W.faults output.old) (W.unflushed output.old))
         (seen (S.to_come input.new) (S.faults input.new) (W.taken output.new)
         (W.faults output.new) (W.unflushed output.new))
-        taker.new end × (result ≡ status_of end) }
+        last end × (result ≡ status_of end) }
 {
     let mut job = ByLines { taker };
     run(rt, reading, &mut job, input, output, errors)

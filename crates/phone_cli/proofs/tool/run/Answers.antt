@@ -1,4 +1,5 @@
-use Rattle.std.proofs.Common.{refl}
+use Rattle.std.proofs.Common.{ap, sym, ◌∙◌}
+use Rattle.phone_cli.specs.Statuses.{status_of}
 use Rattle.phone_cli.proofs.AnswerLemmas.{answers_of}
 use Rattle.phone_cli.proofs.tool.run.Goals as goal
 
@@ -12,7 +13,7 @@ returns-in-Ok g c =
       c.on_inputs-end.result,
       answers_of g.J.Job.acts _ _ _ _ _ _ c.on_inputs-end.ensures.standard
           c.on_inputs-end.ensures.files,
-      refl,
+      sym (ap status_of c.in-Ok.is),
     )
 
 pub returns-in-Err : goal.returns-in-Err
@@ -25,5 +26,5 @@ returns-in-Err g c =
       c.on_inputs-end.result,
       answers_of g.J.Job.acts _ _ _ _ _ _ c.on_inputs-end.ensures.standard
           c.on_inputs-end.ensures.files,
-      c.say_failure.ensures,
+      c.say_failure.ensures ∙ sym (ap status_of c.in-Err.is),
     )

@@ -1,0 +1,179 @@
+-- What a call's command answers to its inputs, by what its taker or its job is made of.
+use Rattle.std.proofs.Common.{◌≡◌, ◌⊎◌, ℕ, List, [], true, Option, Some, Result, ap, inl, inr, refl}
+use Rattle.std.proofs.Common.{subst}
+use Rattle.std.specs.Prelude.{⊤, option_map}
+use Rattle.phone_commands.specs.FirstLines.{IsFirstLine}
+use Rattle.phone_commands.specs.Inputs.{Name}
+use Rattle.phone_commands.specs.Jobs.{TakesLines}
+use Rattle.phone_commands.specs.ObjectLines.{after_one}
+use Rattle.phone_commands.specs.declared.customers.Customers.{Customers}
+use Rattle.phone_commands.specs.declared.finder.Finder.{Finder}
+use Rattle.phone_commands.specs.declared.finder.FoundForm.{FoundForm}
+use Rattle.phone_commands.specs.declared.inputs.Failure.{Failure}
+use Rattle.phone_commands.specs.declared.jobs.Report.{Report}
+use Rattle.phone_commands.specs.declared.shorts.Shorts.{Shorts}
+use Rattle.phone_commands.specs.declared.takers.FirstLines.{FirstLines}
+use Rattle.phone_commands.specs.declared.takers.Objects.{Objects}
+use Rattle.phone_commands.specs.declared.typist.Typist.{Typist}
+use Rattle.phone_lines.specs.Ends.{Devices}
+use Rattle.phone_lines.specs.Taken.{begins_with_nothing}
+use Rattle.phone_plans.specs.CodeLookUps.{is_prefix_free}
+use Rattle.phone_records.specs.declared.loader.Metadata.{Metadata}
+use Rattle.phone_table.specs.Counts.{no_counts}
+use Rattle.phone_table.specs.declared.counts.Counts.{Counts}
+use Rattle.phone_values.specs.declared.country.Id.{Id}
+use Rattle.phone_values.specs.declared.rules.Rules.{Rules}
+use Rattle.phone_words.specs.declared.call.Call.{Call}
+use Rattle.phone_words.specs.declared.command.Command.{Command}
+use Rattle.phone_words.specs.declared.command.Command.TheVariants as command
+use Rattle.phone_cli.specs.Answers.{IsAsked, IsLoaded, Runs, finds}
+use Rattle.phone_cli.specs.Answers.Runs.{firsts, found, objects, report, short, table, typed}
+use Rattle.phone_cli.specs.Commands.{AnswersInputs, BeginsFound, Finding, GivesFound}
+use Rattle.phone_cli.specs.Commands.{GivesObjects, GivesShorts, GivesTyped, Reports, Tables}
+use Rattle.phone_cli.specs.Commands.{found_form, no_first_lines}
+use Rattle.phone_cli.specs.Operands.{has_reader, shorts_of}
+use Rattle.phone_cli.proofs.AnswerLemmas.{CustomersAct, FinderBegins, FinderGives, ObjectsGive}
+use Rattle.phone_cli.proofs.AnswerLemmas.{ReportActs, ShortsGive, TypistGives, finding, found_by}
+use Rattle.phone_cli.proofs.AnswerLemmas.{objects_by, report_by, short_by, table_by, typed_by}
+
+-- a command that finds numbers
+pub finds_by : (is : Command) → (is ≡ command.Find) ⊎
+    ((is ≡ command.FoundObjects) ⊎ (is ≡ command.FoundRecords)) → finds is ≡ true
+finds_by is (inl e) = ap finds e
+finds_by is (inr (inl e)) = ap finds e
+finds_by is (inr (inr e)) = ap finds e
+
+-- a command that reads by an engine, and is no other such, is the report
+pub is_report : (is : Command) → has_reader is ≡ true → ¬ (is ≡ command.Objects) →
+    ¬ (is ≡ command.Find) → ¬ (is ≡ command.FoundObjects) → ¬ (is ≡ command.FoundRecords) →
+    ¬ (is ≡ command.Typed) → ¬ (is ≡ command.Table) → is ≡ command.Report
+is_report command.Report r o f fo fr t ta = refl
+is_report command.Objects r o f fo fr t ta = absurd (o refl)
+is_report command.Find r o f fo fr t ta = absurd (f refl)
+is_report command.FoundObjects r o f fo fr t ta = absurd (fo refl)
+is_report command.FoundRecords r o f fo fr t ta = absurd (fr refl)
+is_report command.Typed r o f fo fr t ta = absurd (t refl)
+is_report command.Table r o f fo fr t ta = absurd (ta refl)
+is_report command.Help r o f fo fr t ta = absurd (cc)
+is_report command.Version r o f fo fr t ta = absurd (cc)
+is_report command.Regions r o f fo fr t ta = absurd (cc)
+is_report command.Unique r o f fo fr t ta = absurd (cc)
+is_report command.Short r o f fo fr t ta = absurd (cc)
+
+-- the report
+pub report_runs : (c : Call) (hint : Option Id) (files : List Name) (r : Report)
+    (before after : Devices) (last : Report) (end : Result ⊤ Failure) →
+    c.command ≡ command.Report → r.reader.engine.rules ≡ c.rules →
+    r.reader.engine.hint ≡ hint →
+    AnswersInputs ReportActs files r before after last end →
+    Runs c hint files before after end
+report_runs c hint files r before after last end is rules under act =
+    let db = r.reader.engine.database.now in
+    let own = report_by files r before after last end act in
+    let by_rules = subst (λ x. AnswersInputs (Reports x db r.reader.engine.hint) files tt before
+    after tt end) rules own in
+    report db is
+    (subst (λ x. AnswersInputs (Reports c.rules db x) files tt before after tt end) under by_rules)
+
+-- objects
+pub objects_runs : (c : Call) (hint : Option Id) (files : List Name) (o : Objects)
+    (shorts : Option (List Metadata)) (before after : Devices) (last : Objects)
+    (end : Result ⊤ Failure) → c.command ≡ command.Objects →
+    IsLoaded (shorts_of c c.rules c.command) shorts → o.reader.engine.rules ≡ c.rules →
+    o.reader.engine.hint ≡ hint → option_map (λ d. d.now) o.reader.short ≡ shorts →
+    o.place ≡ after_one c.skipped →
+    AnswersInputs (TakesLines begins_with_nothing ObjectsGive) files o before after last end →
+    Runs c hint files before after end
+objects_runs c hint files o shorts before after last end is loaded rules under with place act =
+    let db = o.reader.engine.database.now in
+    let own = objects_by files o before after last end act in
+    let by_rules = subst (λ x. AnswersInputs (TakesLines begins_with_nothing
+    (GivesObjects x db (option_map (λ d. d.now) o.reader.short) o.reader.engine.hint)) files
+    o.place before after last.place end) rules own in
+    let by_hint = subst (λ x. AnswersInputs (TakesLines begins_with_nothing
+    (GivesObjects c.rules db (option_map (λ d. d.now) o.reader.short) x)) files o.place before
+    after last.place end) under by_rules in
+    let by_shorts = subst (λ x. AnswersInputs (TakesLines begins_with_nothing
+    (GivesObjects c.rules db x hint)) files o.place before after last.place end) with by_hint in
+    objects db shorts last.place is loaded
+    (subst (λ x. AnswersInputs (TakesLines begins_with_nothing
+    (GivesObjects c.rules db shorts hint)) files x before after last.place end) place by_shorts)
+
+-- found numbers
+pub found_runs : (c : Call) (hint : Option Id) (files : List Name) (f : Finder)
+    (before after : Devices) (last : Finder) (end : Result ⊤ Failure) →
+    finds c.command ≡ true → f.reader.engine.rules ≡ c.rules → f.reader.engine.hint ≡ hint →
+    f.form ≡ found_form c.command → f.first ≡ after_one c.skipped →
+    f.place ≡ after_one c.skipped → f.names.now ≡ files → f.begun ≡ 0 →
+    AnswersInputs (TakesLines FinderBegins FinderGives) files f before after last end →
+    Runs c hint files before after end
+found_runs c hint files f before after last end is rules under form first place names begun act =
+    let db = f.reader.engine.database.now in
+    let Told = λ (r : Rules) (h : Option Id) (form : FoundForm) (first : ℕ) (names : List Name)
+    (from : Finding). AnswersInputs (TakesLines (BeginsFound form names first)
+    (GivesFound r db h form names)) files from before after (finding last) end in
+    let own : Told f.reader.engine.rules f.reader.engine.hint f.form f.first f.names.now
+    (finding f) = found_by files f before after last end act in
+    let by_rules = subst (λ x. Told x f.reader.engine.hint f.form f.first f.names.now
+    (finding f)) rules own in
+    let by_hint = subst (λ x. Told c.rules x f.form f.first f.names.now (finding f)) under
+    by_rules in
+    let by_form = subst (λ x. Told c.rules hint x f.first f.names.now (finding f)) form by_hint in
+    let by_first = subst (λ x. Told c.rules hint (found_form c.command) x f.names.now
+    (finding f)) first by_form in
+    let by_names = subst (λ x. Told c.rules hint (found_form c.command) (after_one c.skipped) x
+    (finding f)) names by_first in
+    let by_place = subst (λ x. Told c.rules hint (found_form c.command) (after_one c.skipped)
+    files (record { place = x; begun = f.begun })) place by_names in
+    found db (finding last) is
+    (subst (λ x. Told c.rules hint (found_form c.command) (after_one c.skipped) files
+    (record { place = after_one c.skipped; begun = x })) begun by_place)
+
+-- what is typed
+pub typed_runs : (c : Call) (hint : Option Id) (files : List Name) (t : Typist)
+    (db : List Metadata) (before after : Devices) (last : Typist) (end : Result ⊤ Failure) →
+    c.command ≡ command.Typed → t.field ≡ record { database = db; hint = hint; keys = [] } →
+    AnswersInputs (TakesLines begins_with_nothing TypistGives) files t before after last end →
+    Runs c hint files before after end
+typed_runs c hint files t db before after last end is field act =
+    typed db is (typed_by files t db hint before after last end field act)
+
+-- short numbers
+pub short_runs : (c : Call) (hint : Option Id) (files : List Name) (s : Shorts)
+    (before after : Devices) (last : Shorts) (end : Result ⊤ Failure) →
+    c.command ≡ command.Short → hint ≡ Some s.region →
+    AnswersInputs (TakesLines begins_with_nothing ShortsGive) files s before after last end →
+    Runs c hint files before after end
+short_runs c hint files s before after last end is region act =
+    short s.database.now s.region is region (short_by files s before after last end act)
+
+-- first lines
+pub firsts_runs : (c : Call) (hint : Option Id) (files : List Name) (db : List Metadata)
+    (f : FirstLines) (before after : Devices) (last : FirstLines) (end : Result ⊤ Failure) →
+    c.command ≡ command.Unique → is_prefix_free db ≡ true →
+    f ≡ no_first_lines db c.rules hint →
+    AnswersInputs (TakesLines begins_with_nothing IsFirstLine) files f before after last end →
+    Runs c hint files before after end
+firsts_runs c hint files db f before after last end is free none act =
+    firsts db last is free
+    (subst (λ x. AnswersInputs (TakesLines begins_with_nothing IsFirstLine) files x before after
+    last end) none act)
+
+-- a table
+pub table_runs : (c : Call) (hint : Option Id) (files : List Name) (k : Customers)
+    (shorts : Option (List Metadata)) (before after : Devices) (last : Counts)
+    (end : Result ⊤ Failure) → c.command ≡ command.Table →
+    IsLoaded (shorts_of c c.rules c.command) shorts → IsAsked c.table shorts k.asked →
+    k.engine.rules ≡ c.rules → k.engine.hint ≡ hint → k.counts ≡ no_counts →
+    AnswersInputs (Tables k.engine.rules k.engine.database.now k.engine.hint k.asked) files
+    k.counts before after last end →
+    Runs c hint files before after end
+table_runs c hint files k shorts before after last end is loaded asked rules under none act =
+    let db = k.engine.database.now in
+    let by_rules = subst (λ x. AnswersInputs (Tables x db k.engine.hint k.asked) files k.counts
+    before after last end) rules act in
+    let by_hint = subst (λ x. AnswersInputs (Tables c.rules db x k.asked) files k.counts before
+    after last end) under by_rules in
+    table db shorts k.asked last is loaded asked
+    (subst (λ x. AnswersInputs (Tables c.rules db hint k.asked) files x before after last end)
+    none by_hint)

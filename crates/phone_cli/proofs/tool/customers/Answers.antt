@@ -1,0 +1,24 @@
+use Rattle.std.proofs.Common.{inl, inr, refl}
+use Rattle.phone_commands.specs.declared.customers.Customers.{Customers}
+use Rattle.phone_cli.specs.Answers.Does.{no_memory, ran, refused}
+use Rattle.phone_cli.proofs.RunLemmas.{table_runs}
+use Rattle.phone_cli.proofs.tool.customers.Goals as goal
+
+pub returns-in-Err : goal.returns-in-Err
+returns-in-Err g c = λ is rules under loaded. elim c.say_no_columns.ensures [
+  | inl r ↦ rw r.0 (refused (r.1.0, record { idle = refl; said = r.1.1 }))
+  | inr m ↦ rw m.0 (no_memory is record { idle = refl; said = m.1 })
+]
+
+pub returns-in_default : goal.returns-in_default
+returns-in_default g c = λ is rules under loaded. rw c.say.ensures.status
+    (no_memory is record { idle = refl; said = c.say.ensures.told })
+
+pub returns : goal.returns
+returns g c = λ is rules under loaded.
+    let job : Customers = record {
+      engine = c.args.reader.engine;
+      asked = c.asked.result;
+      counts = c.new-2.result;
+    } in rw c.run_table.ensures.2 (ran c.run_table.ensures.0 (table_runs _ _ _ job _ _ _ _ _ is
+    loaded c.asked.ensures rules under c.new-2.ensures c.run_table.ensures.1))

@@ -1,0 +1,22 @@
+use Rattle.std.proofs.Common.{inl, inr, refl}
+use Rattle.phone_cli.specs.Abouts.{regions_text, version_text}
+use Rattle.phone_cli.specs.Answers.Answers.{help, no_help, reading, regions, version}
+use Rattle.phone_cli.proofs.WriteLemmas.{tells_of}
+use Rattle.phone_cli.proofs.tool.on_call.Goals as goal
+
+pub returns-in-Help : goal.returns-in-Help
+returns-in-Help g c = elim (c.on_help.ensures _ _) [
+  | inl t ↦ help _ c.in-Help.is t
+  | inr n ↦ rw n.0 (no_help c.in-Help.is n.1)
+]
+
+pub returns-in-Regions : goal.returns-in-Regions
+returns-in-Regions g c = regions _ c.in-Regions.is (tells_of regions_text _ _
+    _ _ _ _ _ _ c.write_regions-end.result c.ended.result c.write_regions-end.ensures.written
+    c.write_regions-end.ensures.handed_on c.ended.ensures)
+
+pub returns-in-Version : goal.returns-in-Version
+returns-in-Version g c = ?
+
+pub returns-in_default : goal.returns-in_default
+returns-in_default g c = ?
