@@ -26,12 +26,14 @@ use Rattle.phone_values.specs.declared.rules.Rules.{Rules}
 use Rattle.phone_words.specs.declared.call.Call.{Call}
 use Rattle.phone_words.specs.declared.command.Command.{Command}
 use Rattle.phone_words.specs.declared.command.Command.TheVariants as command
-use Rattle.phone_cli.specs.Answers.{IsAsked, IsLoaded, Runs, finds}
+use Rattle.phone_cli.specs.Answers.{AnswersReading, IsAsked, IsLoaded, Runs, finds, reads}
 use Rattle.phone_cli.specs.Answers.Runs.{firsts, found, objects, report, short, table, typed}
 use Rattle.phone_cli.specs.Commands.{AnswersInputs, BeginsFound, Finding, GivesFound}
 use Rattle.phone_cli.specs.Commands.{GivesObjects, GivesShorts, GivesTyped, Reports, Tables}
 use Rattle.phone_cli.specs.Commands.{found_form, no_first_lines}
-use Rattle.phone_cli.specs.Operands.{has_reader, shorts_of}
+use Rattle.phone_cli.specs.Operands.{files_of, has_reader, region_and_files, region_of}
+use Rattle.phone_cli.specs.Operands.{shorts_of}
+use Rattle.phone_cli.specs.Streams.{Streams}
 use Rattle.phone_cli.proofs.AnswerLemmas.{CustomersAct, FinderBegins, FinderGives, ObjectsGive}
 use Rattle.phone_cli.proofs.AnswerLemmas.{ReportActs, ShortsGive, TypistGives, finding, found_by}
 use Rattle.phone_cli.proofs.AnswerLemmas.{objects_by, report_by, short_by, table_by, typed_by}
@@ -59,6 +61,30 @@ is_report command.Version r o f fo fr t ta = absurd (cc)
 is_report command.Regions r o f fo fr t ta = absurd (cc)
 is_report command.Unique r o f fo fr t ta = absurd (cc)
 is_report command.Short r o f fo fr t ta = absurd (cc)
+
+-- a command that tells nothing of the program reads numbers
+pub reads_by : (is : Command) → ¬ (is ≡ command.Help) → ¬ (is ≡ command.Version) →
+    ¬ (is ≡ command.Regions) → reads is ≡ true
+reads_by command.Help h v r = absurd (h refl)
+reads_by command.Version h v r = absurd (v refl)
+reads_by command.Regions h v r = absurd (r refl)
+reads_by command.Report h v r = refl
+reads_by command.Objects h v r = refl
+reads_by command.Find h v r = refl
+reads_by command.FoundObjects h v r = refl
+reads_by command.FoundRecords h v r = refl
+reads_by command.Typed h v r = refl
+reads_by command.Table h v r = refl
+reads_by command.Unique h v r = refl
+reads_by command.Short h v r = refl
+
+-- what a call does that reads numbers, under the region and from the files that it names
+pub by_operands : (c : Call) (hint : Option Id) (files : List Name) (before after : Streams)
+    (status : ℕ) → (hint, files) ≡ region_and_files c.operands.items →
+    AnswersReading c hint files before after status →
+    AnswersReading c (region_of c) (files_of c) before after status
+by_operands c hint files before after status named act =
+    subst (λ (p : Option Id × List Name). AnswersReading c p.0 p.1 before after status) named act
 
 -- the report
 pub report_runs : (c : Call) (hint : Option Id) (files : List Name) (r : Report)

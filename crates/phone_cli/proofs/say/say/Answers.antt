@@ -5,5 +5,5 @@ use Rattle.phone_cli.proofs.say.say.Goals as goal
 pub returns-clause-some : goal.returns-clause-some
 returns-clause-some g c = (
   joined c.args.texts.now,
-  told_of _ _ _ _ _ _ c.write_line-_written.ensures,
+  told_of _ _ _ _ _ _ c.write_line-written.ensures,
 )

@@ -1,6 +1,7 @@
 use Rattle.std.proofs.Common.{inl, inr, refl}
 use Rattle.phone_cli.specs.Abouts.{regions_text, version_text}
 use Rattle.phone_cli.specs.Answers.Answers.{help, no_help, reading, regions, version}
+use Rattle.phone_cli.proofs.RunLemmas.{reads_by}
 use Rattle.phone_cli.proofs.WriteLemmas.{tells_of}
 use Rattle.phone_cli.proofs.tool.on_call.Goals as goal
 
@@ -16,7 +17,12 @@ returns-in-Regions g c = regions _ c.in-Regions.is (tells_of regions_text _ _
     c.write_regions-end.ensures.handed_on c.ended.ensures)
 
 pub returns-in-Version : goal.returns-in-Version
-returns-in-Version g c = ?
+returns-in-Version g c = let w = c.write_version-end.ensures.written in
+    version _ w.0 c.in-Version.is w.1 (tells_of (version_text c.args.call.now.rules w.0) _ _
+    _ _ _ _ _ _ c.write_version-end.result c.ended-in-Version.result w.2
+    c.write_version-end.ensures.handed_on c.ended-in-Version.ensures)
 
 pub returns-in_default : goal.returns-in_default
-returns-in_default g c = ?
+returns-in_default g c =
+    let reads = reads_by _ c.in_default.not-Help c.in_default.not-Version
+    c.in_default.not-Regions in reading _ reads (c.on_files.ensures reads)

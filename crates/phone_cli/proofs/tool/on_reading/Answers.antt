@@ -4,7 +4,10 @@ use Rattle.phone_cli.proofs.tool.on_reading.Goals as goal
 
 pub returns-in-Err : goal.returns-in-Err
 returns-in-Err g c = λ is fits. rw c.say_refusal.ensures.status
-    (refused (c.say_refusal.ensures.told.0, record {
-      idle = refl;
-      said = c.say_refusal.ensures.told.1;
-    }))
+    (refused (
+      c.say_refusal.ensures.told.0,
+      record {
+        idle = refl;
+        said = c.say_refusal.ensures.told.1;
+      },
+    ))

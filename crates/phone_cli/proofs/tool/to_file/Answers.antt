@@ -12,8 +12,10 @@ returns-then-is_read g c = λ taken faults unflushed reads fits database out.
 pub returns-in-Ok : goal.returns-in-Ok
 returns-in-Ok g c = λ taken faults unflushed reads fits database out.
     let free = c.is_read.ensures c.if-is_read.false in
+    let does = rw (c.new.ensures.faults, c.new.ensures.unflushed) at
+    (c.on_reading.ensures reads fits) in
     to_file _ _ _ _ _ fits database out free
-    (record { taken = refl; faults = refl; unflushed = refl }) ?
+    (record { taken = refl; faults = refl; unflushed = refl }) does
 
 pub returns-in-Err : goal.returns-in-Err
 returns-in-Err g c = λ taken faults unflushed reads fits database out.

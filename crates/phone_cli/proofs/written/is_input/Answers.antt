@@ -1,7 +1,17 @@
-use Rattle.phone_cli.proofs.ReadLemmas.{inputs_more}
+use Rattle.std.proofs.Common.{ap, false, refl, sym, true, ◌≡◌, ◌∙◌}
+use Rattle.std.specs.Str.{bytes_eq}
+use Rattle.phone_cli.proofs.ReadLemmas.{inputs_more, other_name, standard_name}
 use Rattle.phone_cli.proofs.written.is_input.Goals.{else-is_standard, then-is_standard}
 use Rattle.phone_cli.proofs.written.is_input.Goals as goal
 
 pub loop-name-preserved : goal.loop-name-preserved
-loop-name-preserved g c = inputs_more _ _ _ _ c.loop-name-test.true c.loop-name.invariant
-    (elim c.if-is_standard.branch [ then-is_standard w ↦ ? | else-is_standard w ↦ ? ])
+loop-name-preserved g c =
+    let other = c.is_written.ensures c.if-is_written.false in
+    inputs_more (bytes_eq c.args.written.name.now) c.args.files.now c.loop-name.name-index _
+    c.loop-name-test.true c.loop-name.invariant (elim c.if-is_standard.branch [
+      | then-is_standard w ↦ ap (bytes_eq c.args.written.name.now)
+          (standard_name _ (w.if-is_standard.ensures.0 refl) ∙ sym (ap (λ n. n.now) w.name-is)) ∙
+          other
+      | else-is_standard w ↦ ap (bytes_eq c.args.written.name.now)
+          (other_name _ (λ e. let is : false ≡ true = w.if-is_standard.ensures.1 e in cc) ∙ sym (ap (λ n. n.now) w.name-is)) ∙ other
+    ])
