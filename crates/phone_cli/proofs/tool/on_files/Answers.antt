@@ -17,13 +17,13 @@ returns-in-Some g c = λ reads. by_operands _ _ _ _ _ _ (c.hint_and_files-hint.e
     )))
 
 pub returns-in-Some-misfit : goal.returns-in-Some-misfit
-returns-in-Some-misfit g c = λ reads. let told = rw (c.in_default.ensures.silent tt) at c.say.ensures.some in
+returns-in-Some-misfit g c = λ reads. let told = rw (c.in_default.ensures.silent refl) at c.say.ensures.some in
     by_operands _ _ _ _ _ _ (c.hint_and_files-hint.ensures ∙
     ap region_and_files c.as_slice.ensures.value) (rw c.say.ensures.status
     (misfit (sym c.in-Some-misfit.ensures) (told.0, record { idle = refl; said = told.1 })))
 
 pub returns-in_default-database_of : goal.returns-in_default-database_of
-returns-in_default-database_of g c = λ reads. let told = rw (c.in_default.ensures.silent tt) at
+returns-in_default-database_of g c = λ reads. let told = rw (c.in_default.ensures.silent refl) at
     c.say-in_default-database_of.ensures.some in
     by_operands _ _ _ _ _ _ (c.hint_and_files-hint.ensures ∙
     ap region_and_files c.as_slice.ensures.value) (rw c.say-in_default-database_of.ensures.status
@@ -33,7 +33,7 @@ returns-in_default-database_of g c = λ reads. let told = rw (c.in_default.ensur
 pub returns-in-None : goal.returns-in-None
 returns-in-None g c = λ reads.
     let fits = sym c.in_default-misfit.ensures in
-    let does = rw (c.in_default.ensures.silent tt) at (c.on_reading.ensures reads fits) in
+    let does = rw (c.in_default.ensures.silent refl) at (c.on_reading.ensures reads fits) in
     by_operands _ _ _ _ _ _ (c.hint_and_files-hint.ensures ∙
     ap region_and_files c.as_slice.ensures.value) (to_output _ c.in-Some-database_of.path fits (sym c.in-Some-database_of.ensures)
     c.in-None.is does)
