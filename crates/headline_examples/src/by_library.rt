@@ -3,16 +3,19 @@ ghost use Rattle.std.specs.Prelude.{◌≡◌, codes, None, Some, true, false};
 ghost use Rattle.phone_values.specs.declared.country.Id.TheVariants as id;
 ghost use Rattle.phone_read.specs.Hints.{hinted};
 ghost use Rattle.phone_read.specs.TransformRules.{rules_have_no_plus};
-ghost use Rattle.phone_library_laws.specs.Again.{IsSettled, IsSettledIfRead};
+ghost use Rattle.phone_library_laws.specs.Again.{IsSettled, IsSettledIfRead, e164_reading};
 ghost use Rattle.phone_library_laws.specs.Agreement.{IsOwnNumber, IsReadAlike, IsSettledAlike};
 ghost use Rattle.phone_library_laws.specs.Prefixes.{IsDialledAlike, IsHomeNumber};
 ghost use Rattle.phone_library_back.specs.Announced.{IsParameterIfAny};
 ghost use Rattle.phone_library_back.specs.Coded.{IsCoded, IsLeftAlone};
+ghost use Rattle.phone_library_back.specs.Keys.{IsReadByEither};
 ghost use Rattle.phone_library_back.specs.Plain.{IsLaidInternational, IsLaidRfc3966};
 ghost use Rattle.phone_library_back.specs.Plain.{IsPlainInternational, IsPlainNational};
 ghost use Rattle.phone_library_back.specs.Plain.{IsPlainRfc3966};
-ghost use Rattle.headline_examples.specs.Samples.{am_by_anexo, db_b, db_d, db_e};
+ghost use Rattle.headline_examples.specs.Samples.{am_by_anexo, bare_ad, db_b, db_d, db_e};
 ghost use Rattle.headline_examples.specs.Samples.{dialled_at_home, extended, number};
+
+use phone_library_laws::again::e164_again;
 
 /// A number of New Zealand is read again from its E.164 text, under every hint, and by both rules
 /// alike: no transform rule has a plus sign, and nothing is stripped off it.
@@ -60,3 +63,18 @@ pub fn printed_without_code()
     ensures national { IsPlainNational db_e am_by_anexo (number 374 0 123456 None) }
     ensures hinted { hinted db_e (Some id.AM) ≡ Some am_by_anexo }
 {}
+
+/// The national text of a number of Andorra, which has no layout, is two digits alone, and is read
+/// again under Andorra's hint.
+pub fn two_digits_printed()
+    ensures national { IsPlainNational db_d bare_ad (number 376 0 12 None) }
+    ensures hinted { hinted db_d (Some id.AD) ≡ Some bare_ad }
+{}
+
+/// The first number, its code told by a plus sign, is read from its E.164 text: so it is one of
+/// those that either rules read.
+pub fn read_by_either()
+    ensures { IsReadByEither db_b (e164_reading (number 64 0 33316005 None)) }
+{
+    e164_again();
+}
