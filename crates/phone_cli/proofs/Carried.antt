@@ -1,8 +1,8 @@
 -- Answers to inputs, told by a part of what is kept.
-use Rattle.std.proofs.Common.{◌≡◌, ◌⊎◌, ⊎_elim, inl, inr, ℕ, List, [], ◌∷◌, ◌++◌, Option, Result, Ok}
-use Rattle.std.proofs.Common.{Err, ap, refl, subst, sym, ◌∙◌}
+use Rattle.std.proofs.Common.{◌≡◌, ◌⊎◌, ⊎_elim, inl, inr, ℕ, List, Result, Ok}
+use Rattle.std.proofs.Common.{Err, ap, refl, sym, ◌∙◌}
 use Rattle.std.specs.Prelude.{⊤}
-use Rattle.phone_commands.specs.Inputs.{AreAnswered, InputsEnd, IsAnswered, IsStandard, Name}
+use Rattle.phone_commands.specs.Inputs.{AreAnswered, InputsEnd, IsAnswered, Name}
 use Rattle.phone_commands.specs.Inputs.{failed_in}
 use Rattle.phone_commands.specs.Inputs.AreAnswered.{next, none}
 use Rattle.phone_commands.specs.Inputs.InputsEnd.{failed, whole}

@@ -29,14 +29,14 @@ use Rattle.phone_words.specs.declared.command.Command.TheVariants as command
 use Rattle.phone_cli.specs.Answers.{AnswersReading, IsAsked, IsLoaded, Runs, finds, reads}
 use Rattle.phone_cli.specs.Answers.Runs.{firsts, found, objects, report, short, table, typed}
 use Rattle.phone_cli.specs.Commands.{AnswersInputs, BeginsFound, Finding, GivesFound}
-use Rattle.phone_cli.specs.Commands.{GivesObjects, GivesShorts, GivesTyped, Reports, Tables}
+use Rattle.phone_cli.specs.Commands.{GivesObjects, Reports, Tables}
 use Rattle.phone_cli.specs.Commands.{found_form, no_first_lines}
 use Rattle.phone_cli.specs.Operands.{files_of, has_reader, region_and_files, region_of}
 use Rattle.phone_cli.specs.Operands.{shorts_of}
 use Rattle.phone_cli.specs.Streams.{Streams}
-use Rattle.phone_cli.proofs.AnswerLemmas.{CustomersAct, FinderBegins, FinderGives, ObjectsGive}
+use Rattle.phone_cli.proofs.AnswerLemmas.{FinderBegins, FinderGives, ObjectsGive}
 use Rattle.phone_cli.proofs.AnswerLemmas.{ReportActs, ShortsGive, TypistGives, finding, found_by}
-use Rattle.phone_cli.proofs.AnswerLemmas.{objects_by, report_by, short_by, table_by, typed_by}
+use Rattle.phone_cli.proofs.AnswerLemmas.{objects_by, report_by, short_by, typed_by}
 
 -- a command that finds numbers
 pub finds_by : (is : Command) → (is ≡ command.Find) ⊎
@@ -105,7 +105,7 @@ report_runs c hint files r before after last end is rules under act =
 pub objects_runs : (c : Call) (hint : Option Id) (files : List Name) (o : Objects)
     (shorts : Option (List Metadata)) (before after : Devices) (last : Objects)
     (end : Result ⊤ Failure) → c.command ≡ command.Objects →
-    IsLoaded (shorts_of c c.rules c.command) shorts → o.reader.engine.rules ≡ c.rules →
+    IsLoaded (shorts_of c) shorts → o.reader.engine.rules ≡ c.rules →
     o.reader.engine.hint ≡ hint → option_map (λ d. d.now) o.reader.short ≡ shorts →
     o.place ≡ after_one c.skipped →
     AnswersInputs (TakesLines begins_with_nothing ObjectsGive) files o before after last end →
@@ -189,7 +189,7 @@ firsts_runs c hint files db f before after last end is free none act =
 pub table_runs : (c : Call) (hint : Option Id) (files : List Name) (k : Customers)
     (shorts : Option (List Metadata)) (before after : Devices) (last : Counts)
     (end : Result ⊤ Failure) → c.command ≡ command.Table →
-    IsLoaded (shorts_of c c.rules c.command) shorts → IsAsked c.table shorts k.asked →
+    IsLoaded (shorts_of c) shorts → IsAsked c.table shorts k.asked →
     k.engine.rules ≡ c.rules → k.engine.hint ≡ hint → k.counts ≡ no_counts →
     AnswersInputs (Tables k.engine.rules k.engine.database.now k.engine.hint k.asked) files
     k.counts before after last end →

@@ -1,5 +1,5 @@
 -- What a call does.
-use Rattle.std.specs.Prelude.{◌≡◌, ◌⊎◌, ℕ, ⊤, Bool, false, true, List, [], ◌∷◌, ◌++◌, codes}
+use Rattle.std.specs.Prelude.{◌≡◌, ℕ, ⊤, Bool, false, true, List, ◌++◌, codes}
 use Rattle.std.specs.Prelude.{IsSome, Option, None, Some, Result, option_map, slice_get}
 use Rattle.std.specs.List.{list_any}
 use Rattle.std.specs.Str.{bytes_eq}
@@ -62,7 +62,7 @@ pub data Runs (c : Call) (hint : Option Id) (files : List Name) (before after : 
       AnswersInputs (Reports c.rules db hint) files tt before after tt end →
       Runs c hint files before after end
   objects : (db : List Metadata) → (short : Option (List Metadata)) → (last : ℕ) →
-      c.command ≡ command.Objects → IsLoaded (shorts_of c c.rules c.command) short →
+      c.command ≡ command.Objects → IsLoaded (shorts_of c) short →
       AnswersInputs (TakesLines begins_with_nothing (GivesObjects c.rules db short hint)) files
       (after_one c.skipped) before after last end →
       Runs c hint files before after end
@@ -86,7 +86,7 @@ pub data Runs (c : Call) (hint : Option Id) (files : List Name) (before after : 
       Runs c hint files before after end
   table : (db : List Metadata) → (short : Option (List Metadata)) → (asked : Asked) →
       (last : Counts) → c.command ≡ command.Table →
-      IsLoaded (shorts_of c c.rules c.command) short → IsAsked c.table short asked →
+      IsLoaded (shorts_of c) short → IsAsked c.table short asked →
       AnswersInputs (Tables c.rules db hint asked) files no_counts before after last end →
       Runs c hint files before after end
 
@@ -116,7 +116,7 @@ pub data AnswersReading (c : Call) (hint : Option Id) (files : List Name)
       RefusesBySome before after → AnswersReading c hint files before after 2
   misfit : is_misfit c.command hint files ≡ true → RefusesBySome before after →
       AnswersReading c hint files before after 2
-  no_database : database_of c c.command ≡ None → RefusesBySome before after →
+  no_database : database_of c ≡ None → RefusesBySome before after →
       AnswersReading c hint files before after 2
   is_read : (name : Name) → c.output ≡ Some name →
       Refuses (name.now ++ codes " is read, so it can't be written") before after →
@@ -125,10 +125,10 @@ pub data AnswersReading (c : Call) (hint : Option Id) (files : List Name)
       Refuses (name.now ++ codes " can't be written") before after →
       AnswersReading c hint files before after 1
   to_output : (status : ℕ) → (database : Name) → is_misfit c.command hint files ≡ false →
-      database_of c c.command ≡ Some database → c.output ≡ None →
+      database_of c ≡ Some database → c.output ≡ None →
       Does c hint files before after status → AnswersReading c hint files before after status
   to_file : (status : ℕ) → (database name : Name) → (faults unflushed : ℕ) →
-      is_misfit c.command hint files ≡ false → database_of c c.command ≡ Some database →
+      is_misfit c.command hint files ≡ false → database_of c ≡ Some database →
       c.output ≡ Some name →
       list_any (bytes_eq name.now) (names_read c database files) ≡ false →
       IsSinkKept before.devices after.devices →

@@ -2,7 +2,7 @@
 use Rattle.std.specs.Prelude.{◌≡◌, ℕ, ⊤, List, [], Option, Result}
 use Rattle.phone_commands.specs.FoundLines.{IsFoundLine, in_front, name_told}
 use Rattle.phone_commands.specs.Inputs.{InputsEnd, IsAnswered, IsStandard, Name}
-use Rattle.phone_commands.specs.Jobs.{Acts, AnswersLines, TakesLines}
+use Rattle.phone_commands.specs.Jobs.{Acts, AnswersLines}
 use Rattle.phone_commands.specs.ObjectLines.{IsObjectLine, after_one}
 use Rattle.phone_commands.specs.ShortLines.{IsShortLine}
 use Rattle.phone_commands.specs.TableJobs.{AnswersTable}
@@ -14,7 +14,7 @@ use Rattle.phone_commands.specs.declared.jobs.JobError.{JobError}
 use Rattle.phone_commands.specs.declared.takers.FirstLines.{FirstLines}
 use Rattle.phone_engine.specs.ReportLines.{IsReportLine}
 use Rattle.phone_lines.specs.Ends.{Devices}
-use Rattle.phone_lines.specs.Taken.{Begins, Gives, begins_with_nothing, each_by_itself}
+use Rattle.phone_lines.specs.Taken.{Begins, Gives, each_by_itself}
 use Rattle.phone_records.specs.declared.loader.Metadata.{Metadata}
 use Rattle.phone_table.specs.declared.counts.Counts.{Counts}
 use Rattle.phone_table.specs.declared.run.Asked.{Asked}
@@ -23,8 +23,8 @@ use Rattle.phone_values.specs.declared.rules.Rules.{Rules}
 use Rattle.phone_words.specs.declared.command.Command.{Command}
 use Rattle.phone_words.specs.declared.command.Command.TheVariants as command
 
--- inputs are answered so, where `acts` tells how one is: standard input where no file is named, else
--- the files, one after the other, until one fails
+-- inputs are answered so, where `acts` tells how one is: standard input where no file is named,
+-- else the files, one after the other, until one fails
 pub data AnswersInputs {Kept : Type 0}
     (acts : Kept → Devices → Devices → Kept → Result ⊤ JobError → Type 0) (files : List Name)
     (first : Kept) (before after : Devices) (last : Kept) (end : Result ⊤ Failure) : Type 0 where

@@ -7,7 +7,7 @@ use Rattle.std.specs.Str.{bytes_eq}
 use Rattle.phone_table.specs.Regions.{id_in}
 use Rattle.phone_values.specs.declared.country.Id.{Id}
 use Rattle.phone_values.specs.declared.rules.Rules.{Rules}
-use Rattle.phone_values.specs.declared.rules.Rules.TheVariants.{Crate, Library}
+use Rattle.phone_values.specs.declared.rules.Rules.TheVariants.{Library}
 use Rattle.phone_words.specs.Rows.{Lent, text_in}
 use Rattle.phone_words.specs.declared.call.Call.{Call}
 use Rattle.phone_words.specs.declared.command.Command.{Command}
@@ -49,16 +49,24 @@ is_misfit command.Short hint files = is_none hint
 is_misfit other hint files = false
 
 -- the file of the database that a command reads by: for short numbers theirs
-abbrev pub database_of : Call → Command → Option Lent
-database_of c command.Short = c.short_database
-database_of c other = c.database
+abbrev pub database_by : Call → Command → Option Lent
+database_by c command.Short = c.short_database
+database_by c other = c.database
+
+-- the file of the database that a call reads by
+abbrev pub database_of : Call → Option Lent
+database_of c = database_by c c.command
 
 -- the file of the database that tells which numbers of a command are short numbers: for objects and
 -- tables, by libphonenumber's rules
-abbrev pub shorts_of : Call → Rules → Command → Option Lent
-shorts_of c Library command.Objects = c.short_database
-shorts_of c Library command.Table = c.short_database
-shorts_of c rules other = None
+abbrev pub shorts_by : Call → Rules → Command → Option Lent
+shorts_by c Library command.Objects = c.short_database
+shorts_by c Library command.Table = c.short_database
+shorts_by c rules other = None
+
+-- the file of the database that tells which numbers of a call are short numbers
+abbrev pub shorts_of : Call → Option Lent
+shorts_of c = shorts_by c c.rules c.command
 
 -- a command reads numbers by an engine: neither as short numbers, nor to keep first lines
 abbrev pub has_reader : Command → Bool

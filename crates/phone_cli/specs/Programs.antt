@@ -1,5 +1,5 @@
 -- What the program does by its words.
-use Rattle.std.specs.Prelude.{◌≡◌, ℕ, List, codes}
+use Rattle.std.specs.Prelude.{ℕ, List, codes}
 use Rattle.phone_words.specs.Calls.{IsCall, IsNoCall}
 use Rattle.phone_words.specs.declared.call.Call.{Call}
 use Rattle.phone_words.specs.declared.parts.WordError.{WordError}

@@ -1,5 +1,5 @@
 -- The statuses that the program ends with.
-use Rattle.std.specs.Prelude.{ℕ, ⊤, List, Result, Ok, Err}
+use Rattle.std.specs.Prelude.{ℕ, ⊤, Result, Ok, Err}
 use Rattle.phone_csv.specs.declared.blocks.RunError.TheVariants as rows
 use Rattle.phone_csv.specs.declared.first.FirstError.TheVariants as header
 use Rattle.phone_commands.specs.declared.inputs.Failure.{Failure}

@@ -40,8 +40,9 @@ abbrev pub Says : List ℕ → Streams → Streams → Type 0
 Says text before after =
     IsTold before.told before.told_faults (line_of text) after.told after.told_faults
 
--- how the writing of bytes ends, by the bytes that the sink took and how often it failed, before and
--- after: all were taken, without a failure; or the sink failed once, and took a beginning of them
+-- how the writing of bytes ends, by the bytes that the sink took and how often it failed, before
+-- and after: all were taken, without a failure; or the sink failed once, and took a beginning of
+-- them
 abbrev pub Writes : {E : Type 0} → List ℕ → Option (List ℕ) → ℕ → Option (List ℕ) → ℕ →
     Result ⊤ E → Type 0
 Writes bytes taken faults taken_then faults_then end = MatchResult end
@@ -61,8 +62,8 @@ pub record Refuses (text : List ℕ) (before after : Streams) : Type 0 where
 abbrev pub RefusesBySome : Streams → Streams → Type 0
 RefusesBySome before after = (text : List ℕ) × Refuses text before after
 
--- these devices, but that the sink is a file, which tells nothing of its bytes, has failed so often,
--- and has so many writes that no flush has handed on
+-- these devices, but that the sink is a file, which tells nothing of its bytes, has failed so
+-- often, and has so many writes that no flush has handed on
 abbrev pub into_file : Devices → ℕ → ℕ → Devices
 into_file d faults unflushed = record {
   to_come = d.to_come;

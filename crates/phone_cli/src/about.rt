@@ -98,7 +98,8 @@ fn write_lines<W: ByteSink>(
     version: &Option<String>,
 ) -> Result<(), Fault>
     ensures { Writes (version_text rules (option_map string_bytes version.now))
-        (W.taken output.old) (W.faults output.old) (W.taken output.new) (W.faults output.new) result }
+        (W.taken output.old) (W.faults output.old) (W.taken output.new) (W.faults output.new)
+        result }
 {
     write_str(output, NAME)?;
     write_str(output, rules_line(rules))?;

@@ -1,5 +1,5 @@
 //! What is told of a failure, by file and cause.
-ghost use Rattle.std.specs.Prelude.{◌≡◌, ◌⊎◌, ℕ, List, codes};
+ghost use Rattle.std.specs.Prelude.{◌≡◌, ◌⊎◌, codes};
 ghost use Rattle.phone_cli.specs.Statuses.{status_of_failure, status_of_table};
 ghost use Rattle.phone_cli.specs.Streams.{IsSomeTold, line_of};
 ghost use Rattle.phone_engine.specs.Programs.{IsTold};

@@ -1,5 +1,5 @@
 //! The lines that are told of what failed, and the statuses that go with them.
-ghost use Rattle.std.specs.Prelude.{◌≡◌, ℕ, List, codes};
+ghost use Rattle.std.specs.Prelude.{◌≡◌, codes};
 ghost use Rattle.phone_cli.specs.Statuses.{status_of_words};
 ghost use Rattle.phone_cli.specs.Streams.{IsSomeTold, Writes, joined, line_of};
 ghost use Rattle.phone_engine.specs.Programs.{IsTold};

@@ -200,7 +200,7 @@ fn misfit(command: Command, hint: Option<Id>, files: &[&str]) -> Option<&'static
 
 /// The file of the database that a call reads by.
 fn database_of<'w>(call: &Call<'w>) -> Option<&'w str>
-    ensures { result ≡ database_of call.now call.now.command }
+    ensures { result ≡ database_of call.now }
 {
     match call.command {
         Command::Short => call.short_database,
@@ -226,11 +226,11 @@ fn to_file<R: Files + AllocGlobal, S: ByteSource, E: ByteSink>(
 ) -> u8
     ensures { (taken : Option (List ℕ)) → (faults unflushed : ℕ) →
         reads reading.entry.call.now.command ≡ true →
-        is_misfit reading.entry.call.now.command reading.entry.hint reading.entry.files.now ≡ false →
-        database_of reading.entry.call.now reading.entry.call.now.command ≡ Some reading.entry.path →
+        is_misfit reading.entry.call.now.command reading.entry.hint reading.entry.files.now
+        ≡ false →
+        database_of reading.entry.call.now ≡ Some reading.entry.path →
         reading.entry.call.now.output ≡ Some name.entry →
-        AnswersReading reading.entry.call.now
-        reading.entry.hint reading.entry.files.now
+        AnswersReading reading.entry.call.now reading.entry.hint reading.entry.files.now
         (streams (seen (S.to_come input.old) (S.faults input.old) taken faults unflushed)
         (E.taken errors.old) (E.faults errors.old))
         (streams (seen (S.to_come input.new) (S.faults input.new) taken faults unflushed)
@@ -255,9 +255,9 @@ fn on_reading<R: Files + AllocGlobal, S: ByteSource, W: Outlet, E: ByteSink>(
     errors: &mut E,
 ) -> u8
     ensures { reads reading.entry.call.now.command ≡ true →
-        is_misfit reading.entry.call.now.command reading.entry.hint reading.entry.files.now ≡ false →
-        Does reading.entry.call.now
-        reading.entry.hint reading.entry.files.now
+        is_misfit reading.entry.call.now.command reading.entry.hint reading.entry.files.now
+        ≡ false →
+        Does reading.entry.call.now reading.entry.hint reading.entry.files.now
         (streams (seen (S.to_come input.old) (S.faults input.old) (W.taken output.old)
         (W.faults output.old) (W.unflushed output.old)) (E.taken errors.old)
         (E.faults errors.old))
@@ -282,9 +282,9 @@ fn on_database<R: Files + AllocGlobal, S: ByteSource, W: Outlet, E: ByteSink>(
     errors: &mut E,
 ) -> u8
     ensures { reads reading.entry.call.now.command ≡ true →
-        is_misfit reading.entry.call.now.command reading.entry.hint reading.entry.files.now ≡ false →
-        Does reading.entry.call.now
-        reading.entry.hint reading.entry.files.now
+        is_misfit reading.entry.call.now.command reading.entry.hint reading.entry.files.now
+        ≡ false →
+        Does reading.entry.call.now reading.entry.hint reading.entry.files.now
         (streams (seen (S.to_come input.old) (S.faults input.old) (W.taken output.old)
         (W.faults output.old) (W.unflushed output.old)) (E.taken errors.old)
         (E.faults errors.old))
@@ -307,7 +307,7 @@ fn on_database<R: Files + AllocGlobal, S: ByteSource, W: Outlet, E: ByteSink>(
 /// The file of the database that tells which numbers of a call are short numbers: for objects and
 /// tables, by libphonenumber's rules.
 fn shorts_of<'w>(reading: Reading<'_, 'w>) -> Option<&'w str>
-    ensures { result ≡ shorts_of reading.entry.call.now reading.entry.call.now.rules reading.entry.call.now.command }
+    ensures { result ≡ shorts_of reading.entry.call.now }
 {
     match reading.call.rules {
         Rules::Library => match reading.call.command {
@@ -328,8 +328,7 @@ fn with_shorts<R: Files + AllocGlobal, S: ByteSource, W: Outlet, E: ByteSink>(
     errors: &mut E,
 ) -> u8
     ensures { has_reader reading.entry.call.now.command ≡ true →
-        Does reading.entry.call.now
-        reading.entry.hint reading.entry.files.now
+        Does reading.entry.call.now reading.entry.hint reading.entry.files.now
         (streams (seen (S.to_come input.old) (S.faults input.old) (W.taken output.old)
         (W.faults output.old) (W.unflushed output.old)) (E.taken errors.old)
         (E.faults errors.old))
@@ -378,10 +377,9 @@ fn by_reader<R: Files + AllocGlobal, S: ByteSource, W: Outlet, E: ByteSink>(
     errors: &mut E,
 ) -> u8
     ensures { has_reader reading.entry.call.now.command ≡ true →
-        IsLoaded (shorts_of reading.entry.call.now reading.entry.call.now.rules reading.entry.call.now.command)
+        IsLoaded (shorts_of reading.entry.call.now)
         (option_map (λ d. d.now) short.entry) →
-        Does reading.entry.call.now
-        reading.entry.hint reading.entry.files.now
+        Does reading.entry.call.now reading.entry.hint reading.entry.files.now
         (streams (seen (S.to_come input.old) (S.faults input.old) (W.taken output.old)
         (W.faults output.old) (W.unflushed output.old)) (E.taken errors.old)
         (E.faults errors.old))
@@ -504,8 +502,7 @@ fn firsts<R: Files + AllocGlobal, S: ByteSource, W: Outlet, E: ByteSink>(
     errors: &mut E,
 ) -> u8
     ensures { reading.entry.call.now.command ≡ command.Unique →
-        Does reading.entry.call.now
-        reading.entry.hint reading.entry.files.now
+        Does reading.entry.call.now reading.entry.hint reading.entry.files.now
         (streams (seen (S.to_come input.old) (S.faults input.old) (W.taken output.old)
         (W.faults output.old) (W.unflushed output.old)) (E.taken errors.old)
         (E.faults errors.old))
@@ -534,11 +531,11 @@ fn customers<R: Files + AllocGlobal, S: ByteSource, W: Outlet, E: ByteSink>(
     errors: &mut E,
 ) -> u8
     ensures { reading.entry.call.now.command ≡ command.Table →
-        reader.entry.engine.rules ≡ reading.entry.call.now.rules → reader.entry.engine.hint ≡ reading.entry.hint →
-        IsLoaded (shorts_of reading.entry.call.now reading.entry.call.now.rules reading.entry.call.now.command)
+        reader.entry.engine.rules ≡ reading.entry.call.now.rules →
+        reader.entry.engine.hint ≡ reading.entry.hint →
+        IsLoaded (shorts_of reading.entry.call.now)
         (option_map (λ d. d.now) reader.entry.short) →
-        Does reading.entry.call.now
-        reading.entry.hint reading.entry.files.now
+        Does reading.entry.call.now reading.entry.hint reading.entry.files.now
         (streams (seen (S.to_come input.old) (S.faults input.old) (W.taken output.old)
         (W.faults output.old) (W.unflushed output.old)) (E.taken errors.old)
         (E.faults errors.old))

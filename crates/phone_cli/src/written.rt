@@ -1,5 +1,5 @@
 //! The file that is written, and whether a call reads it too.
-ghost use Rattle.std.specs.Prelude.{◌≡◌, ◌∷◌, [], Some, false};
+ghost use Rattle.std.specs.Prelude.{◌≡◌, Some, false};
 ghost use Rattle.std.specs.List.{list_any};
 ghost use Rattle.std.specs.Str.{bytes_eq};
 ghost use Rattle.phone_cli.specs.Operands.{further_files, input_names, named_files, names_read};

@@ -1,5 +1,4 @@
 use Rattle.std.proofs.Common.{[], ◌∷◌, sym}
-use Rattle.phone_values.specs.Ids.{name}
 use Rattle.phone_cli.proofs.WriteLemmas.{broken_more, writes_broken, writes_then}
 use Rattle.phone_cli.proofs.about.write_id.Goals as goal
 

@@ -1,4 +1,4 @@
-use Rattle.std.proofs.Common.{ap, ◌∙◌}
+use Rattle.std.proofs.Common.{ap}
 use Rattle.std.specs.Prelude.{option_map, string_bytes}
 use Rattle.phone_cli.proofs.WriteLemmas.{writes_broken, writes_unflushed}
 use Rattle.phone_cli.proofs.about.write_version.Goals as goal

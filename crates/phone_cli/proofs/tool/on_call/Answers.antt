@@ -1,4 +1,4 @@
-use Rattle.std.proofs.Common.{inl, inr, refl}
+use Rattle.std.proofs.Common.{inl, inr}
 use Rattle.phone_cli.specs.Abouts.{regions_text, version_text}
 use Rattle.phone_cli.specs.Answers.Answers.{help, no_help, reading, regions, version}
 use Rattle.phone_cli.proofs.RunLemmas.{reads_by}

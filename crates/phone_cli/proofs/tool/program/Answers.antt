@@ -1,4 +1,4 @@
-use Rattle.std.proofs.Common.{◌≡◌, inl, inr, refl, subst, sym}
+use Rattle.std.proofs.Common.{inl, inr, refl}
 use Rattle.phone_cli.specs.Programs.Acts.{called, no_call, no_memory}
 use Rattle.phone_cli.proofs.tool.program.Goals as goal
 
