@@ -1,11 +1,11 @@
 #!/usr/bin/env python3
-"""Compares the declarations of the calls: crates/phone_c, c/world.c, c/phone.h, c/phone.map, Rust's sys/src/lib.rs and Python's
-_calls.py.
+"""Makes the declarations of the calls in Rust's sys/src/lib.rs and Python's _calls.py of c/phone.h, and compares the others with it.
 
-usage: bindings/declarations.py
+usage: bindings/declarations.py [--write]
 
-Compared are each call's arguments and answer, each struct's fields in their order, and the numbers that have a name. No library
-is needed. Each difference is a line, and the status is then 1; else the last line is `declarations: ok`.
+--write writes those two; without it they are compared, as are always the calls of crates/phone_c and c/world.c, by arguments and answer,
+each struct's fields in their order, and the numbers that have a name. No library is needed. Each difference is a line, and the status is
+then 1; else the last line is `declarations: ok`.
 """
 import ctypes
 import enum
@@ -16,6 +16,8 @@ from pathlib import Path
 
 BINDINGS = Path(__file__).resolve().parent
 CRATES = BINDINGS.parent / "crates"
+RUST = BINDINGS / "rust" / "sys" / "src" / "lib.rs"
+PYTHON = BINDINGS / "python" / "phonenumber_proved" / "_calls.py"
 # The names of a struct in the four places, each by its name in phone.h.
 STRUCTS = {
     "Handle": "handle", "PrefixTable": "prefixes", "Prefixes": "prefixes", "PrefixesHandle": "prefixes", "Part": "part", "Number": "number",
@@ -40,11 +42,16 @@ def of_c(text):
     return (const or "") + C_TYPES.get(name, name.removeprefix("phone_")) + star
 
 
+def listed(text, between):
+    """The names and types of a struct's fields, or of a call's arguments."""
+    return [(re.search(r"(\w+)\s*$", it)[1], of_c(it)) for it in text.split(between) if it.strip()]
+
+
 def c_calls(text, end):
     """The calls that C declares, or defines, by what stands behind their arguments."""
     calls = {}
     for answer, name, args in re.findall(r"^(uint32_t |phone_status |void |const uint8_t \*)phone_(\w+)\(([^)]*)\)" + end, text, re.MULTILINE):
-        calls[name] = ([] if args == "void" else [of_c(it) for it in args.split(",")], "" if answer == "void " else of_c(answer + "it"))
+        calls[name] = ([] if args == "void" else listed(args, ","), "" if answer == "void " else of_c(answer + "it"))
     return calls
 
 
@@ -53,7 +60,7 @@ def header():
     calls = c_calls(text, ";")
     structs = {}
     for fields, name in re.findall(r"typedef struct \{([^}]*)\} phone_(\w+);", text):
-        structs[name] = [(re.search(r"(\w+)\s*$", it)[1], of_c(it)) for it in fields.split(";") if it.strip()]
+        structs[name] = listed(fields, ";")
     numbers, at = {}, 0
     for name, number in re.findall(r"PHONE_(\w+)(?: = (\d+))?(?=[,\s}])", "".join(re.findall(r"enum \{(.*?)\};", text, re.DOTALL))):
         at = int(number) if number else at + 1
@@ -62,11 +69,32 @@ def header():
     return calls, structs, numbers
 
 
-def exported():
-    """The calls that the shared library gives, each by its name."""
-    text = re.sub(r"/\*.*?\*/", "", (BINDINGS / "c" / "phone.map").read_text(), flags=re.DOTALL)
-    names = re.findall(r"\S+(?=;)", text[text.index("global:"):text.index("local:")])
-    return {name.removeprefix("phone_"): True for name in names}
+def rust_call(name, args, answer):
+    def pointer(it):
+        return ("*const " if it[1] else "*mut ") + (it[2] if it[2] in C_TYPES.values() else it[2].title().replace("_", ""))
+    given, last = ", ".join(f"{it}: {kind}" for it, kind in args), f" -> {answer};" if answer else ";"
+    line = re.sub(r"(const )?(\w+)\*", pointer, f"    pub fn phone_{name}({given}){last}\n")
+    return line if len(line) <= 121 else re.sub(r"(?<=\()|(?<=,) ", "\n        ", line).replace(")", ",\n    )")
+
+
+def python_call(name, args, answer):
+    """A line of Python's table: the answer's type and the arguments', as `_declare` names them."""
+    given = "".join(f", {it}: {kind}" for it, kind in args)
+    given = re.sub(r"(\w+): (const )?u8\*(?=, \1_len:)", "text", given)  # bytes whose length comes next
+    given = re.sub(r"\w+: (const )?", "", given)
+    given = re.sub(r"(u\d+|usize)\*", r"pointer(\1)", given).replace("usize", "size").replace("*", "")
+    return f'        "{name}": [{"address" if "*" in answer else answer or "None"}{given}],\n'
+
+
+def make(calls, write):
+    """Has the calls written in the braces that open behind the mark in Rust's file and Python's, or compared with what stands there."""
+    for file, call in ((RUST, rust_call), (PYTHON, python_call)):
+        front, told, end = re.fullmatch(r"(.*Made by `bindings/d[^{]*\{\n)([^}]*?)( *\}\n.*)", file.read_text(), re.DOTALL).groups()
+        made = "".join(call(name, *it) for name, it in calls.items())
+        if write:
+            file.write_text(front + made + end)
+        elif told != made:
+            differences.append(f"{file.relative_to(BINDINGS)}: its calls aren't what is made of phone.h: --write writes that")
 
 
 def of_rust(text):
@@ -79,12 +107,11 @@ def of_rust(text):
     return [const + named(name) + ("*" if sign else "")]
 
 
-def rust_calls(text, head):
+def rust_calls(text):
     calls = {}
-    for name, args, answer in re.findall(head + r" fn phone_(\w+)\(([^)]*)\)(?: -> ([*\w ]+\w))?", text):
+    for name, args, answer in re.findall(r'extern "C" fn phone_(\w+)\(([^)]*)\)(?: -> (\w+))?', text):
         given = [it.split(":")[1].strip() for it in args.split(",") if it.strip()]
-        types = [kind for it in given if it not in ("Global", "alloc::Global") for kind in of_rust(it)]
-        calls[name] = (types, *(of_rust(answer) if answer else [""]))
+        calls[name] = ([kind for it in given if it not in ("Global", "alloc::Global") for kind in of_rust(it)], answer)
     return calls
 
 
@@ -103,7 +130,7 @@ def crate_numbers(text):
 
 
 def python():
-    """The declarations of Python, read over a library that has every call."""
+    """The structs and numbers of Python, read over a library that has every call."""
     class Call:
         def __call__(self):
             return header()[2]["VERSION"]
@@ -122,26 +149,21 @@ def python():
     import phonenumber_proved
     from phonenumber_proved import _calls
 
-    kinds = {ctypes.c_uint8: "u8", ctypes.c_uint16: "u16", ctypes.c_uint32: "u32", ctypes.c_uint64: "u64", ctypes.c_char_p: "u8*"}
-    kinds[ctypes.c_void_p] = "u8*"
+    kinds = {ctypes.c_uint8: "u8", ctypes.c_uint16: "u16", ctypes.c_uint32: "u32", ctypes.c_uint64: "u64", ctypes.c_void_p: "u8*"}
     structs = [it for it in vars(_calls).values() if isinstance(it, type) and issubclass(it, ctypes.Structure)]
     kinds.update({it: named(it.__name__) for it in structs})
-    kinds.update({ctypes.POINTER(it): name + "*" for it, name in list(kinds.items()) if "*" not in name})
-    calls = {}
-    for name, call in vars(_calls.lib).items():
-        calls[name.removeprefix("phone_")] = ([kinds[it] for it in call.argtypes], kinds[call.restype] if call.restype else "")
     fields = {named(it.__name__): [(name, kinds[kind]) for name, kind in it._fields_] for it in structs}
     numbers = {name: it for name, it in vars(_calls).items() if name.isupper() and isinstance(it, int)}
     for it in vars(phonenumber_proved).values():
         if isinstance(it, type) and issubclass(it, enum.IntEnum):
             front = FRONTS.get(it.__name__, "")
             numbers.update({front + member.name: member.value for member in it})
-    return calls, fields, numbers
+    return fields, numbers
 
 
 def rust_numbers():
     """The numbers of Rust's declarations, and the places of the variants of Rust's enums."""
-    text = (BINDINGS / "rust" / "sys" / "src" / "lib.rs").read_text()
+    text = RUST.read_text()
     numbers = {name: int(it) for name, it in re.findall(r"const (\w+): u32 = (\d+);", text)}
     for file, name in (("number", "Mode"), ("number", "Source"), ("number", "Type"), ("database", "Rules"), ("short", "Cost"),
                        ("possible", "Possibility"), ("possible", "Sameness"), ("found", "Leniency")):
@@ -158,27 +180,18 @@ def compare(where, what, told, wanted, whole=False):
             differences.append(f"{where}: {what} {name}: {told.get(name)}, in phone.h {wanted.get(name)}")
 
 
-def without_const(calls):
-    """What ctypes can say: it has no const, and one type for size_t and uint64_t."""
-    def plain(kind):
-        return kind.replace("const ", "").replace("usize", "u64")
-    return {name: ([plain(it) for it in types], plain(answer)) for name, (types, answer) in calls.items()}
-
-
-def main():
+def main(write):
     calls, structs, numbers = header()
+    make(calls, write)
     crate = "".join(file.read_text() for file in sorted(CRATES.glob("phone_c*/src/*.rt")))
-    ffi = (BINDINGS / "rust" / "sys" / "src" / "lib.rs").read_text()
     world = c_calls((BINDINGS / "c" / "world.c").read_text(), r" \{")
-    compare("crates/phone_c, c/world.c", "call", rust_calls(crate, 'extern "C"') | world, calls, whole=True)
-    compare("c/phone.map", "call", exported(), dict.fromkeys(calls, True), whole=True)
+    nameless, world = ({name: ([kind for _, kind in args], answer) for name, (args, answer) in it.items()} for it in (calls, world))
+    compare("crates/phone_c, c/world.c", "call", rust_calls(crate) | world, nameless, whole=True)
     compare("crates/phone_c", "struct", rust_structs(crate), structs)
     compare("crates/phone_c", "number", crate_numbers(crate), numbers)
-    compare("sys/src/lib.rs", "call", rust_calls(ffi, "pub"), calls)
-    compare("sys/src/lib.rs", "struct", rust_structs(ffi), structs, whole=True)
+    compare("sys/src/lib.rs", "struct", rust_structs(RUST.read_text()), structs, whole=True)
     compare("Rust", "number", rust_numbers(), numbers)
-    python_calls, python_structs, python_numbers = python()
-    compare("_calls.py", "call", python_calls, without_const(calls))
+    python_structs, python_numbers = python()
     wide = {name: [(field, kind.replace("usize", "u64")) for field, kind in fields] for name, fields in structs.items()}
     compare("_calls.py", "struct", python_structs, wide, whole=True)
     compare("Python", "number", python_numbers, numbers)
@@ -189,4 +202,4 @@ def main():
 
 
 if __name__ == "__main__":
-    sys.exit(main())
+    sys.exit(main(sys.argv[1:] == ["--write"]))

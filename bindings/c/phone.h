@@ -1,5 +1,5 @@
-/* Phone numbers, read and printed as crates/phone_c proves it. Written by hand: the names, arguments
- * and numbers are compared with crates/phone_c by bindings/declarations.py.
+/* Phone numbers, read and printed as crates/phone_c proves it. Written by hand. Of these calls
+ * bindings/declarations.py makes Rust's and Python's, and compares all of it with crates/phone_c.
  *
  * What a caller owes, and nothing checks:
  *   - A handle begins as PHONE_CLOSED, and only these calls write it. It is not copied: two copies

@@ -1,6 +1,7 @@
 """The calls of `phone.h` by ctypes, and how texts go to them and come back.
 
-Written by hand; in the repository bindings/declarations.py compares them with the header.
+In the repository bindings/declarations.py makes the table of calls of the header, and compares
+structs and numbers with it.
 """
 
 from __future__ import annotations
@@ -82,48 +83,50 @@ class Place(ctypes.Structure):
 
 
 def _declare(lib: Library) -> None:
-    """Gives each call its types."""
-    size, u8, u32 = ctypes.c_size_t, ctypes.c_uint8, ctypes.c_uint32
-    handle, number = ctypes.POINTER(Handle), ctypes.POINTER(Number)
-    prefixes, count = ctypes.POINTER(PrefixesHandle), ctypes.POINTER(size)
-    text = [ctypes.c_char_p, size]
-    out = [ctypes.c_char_p, size, count]
-    calls = {
-        "open": [*text, u32, handle],
-        "open_world": [handle, u32],
-        "share_by": [handle, u32, handle],
-        "report": [handle, *text, *text, *out],
-        "parse": [handle, *text, *text, number, *out],
-        "format": [handle, number, *text, u32, *out],
-        "kind": [handle, number, ctypes.POINTER(u32)],
-        "region": [handle, number, *out],
-        "is_valid": [handle, number, ctypes.POINTER(u8)],
-        "possibility": [handle, number, ctypes.POINTER(u32)],
-        "text_possibility": [handle, *text, *text, ctypes.POINTER(u32)],
-        "compare": [handle, *text, *text, ctypes.POINTER(u32)],
-        "dialled_from": [handle, *text, number, *text, *out],
-        "example": [handle, *text, u32, number, *out],
-        "regions": [handle, *out],
-        "codes": [handle, ctypes.POINTER(ctypes.c_uint16), size, count],
-        "find": [handle, *text, u32, *text, ctypes.POINTER(Place), size, count],
-        "typing_shown": [handle, *text, *text, *out],
-        "typing_caret": [handle, *text, *text, size, count],
-        "short": [handle, *text, *text, ctypes.POINTER(Facts)],
-        "prefixes_open": [*text, prefixes, count],
-        "prefixes_share": [prefixes, prefixes],
-        "prefixes_longest": [prefixes, *text, *out, count],
-        "key": [number, *out],
-        "is_viable": [*text, ctypes.POINTER(u8)],
-        "status_words": [u32, *out],
-        "word": [u32, u32, *out],
-        "table_version": out,
+    """Gives each call its types: that of its answer, and those of its arguments."""
+    text, address, size, pointer = ctypes.c_char_p, ctypes.c_void_p, ctypes.c_size_t, ctypes.POINTER
+    u8, u16, u32, u64 = ctypes.c_uint8, ctypes.c_uint16, ctypes.c_uint32, ctypes.c_uint64
+    handle, prefixes, number = pointer(Handle), pointer(PrefixesHandle), pointer(Number)
+    short_facts, place = pointer(Facts), pointer(Place)
+    # Made by `bindings/declarations.py --write` of `phone.h`: edit that.
+    calls: dict[str, list[Any]] = {
+        "open": [u32, text, size, u32, handle],
+        "open_world": [u32, handle, u32],
+        "world_text": [address, pointer(size)],
+        "share": [u32, handle, handle],
+        "share_by": [u32, handle, u32, handle],
+        "close": [None, handle],
+        "report": [u32, handle, text, size, text, size, text, size, pointer(size)],
+        "parse": [u32, handle, text, size, text, size, number, text, size, pointer(size)],
+        "format": [u32, handle, number, text, size, u32, text, size, pointer(size)],
+        "kind": [u32, handle, number, pointer(u32)],
+        "region": [u32, handle, number, text, size, pointer(size)],
+        "is_valid": [u32, handle, number, pointer(u8)],
+        "possibility": [u32, handle, number, pointer(u32)],
+        "text_possibility": [u32, handle, text, size, text, size, pointer(u32)],
+        "compare": [u32, handle, text, size, text, size, pointer(u32)],
+        "dialled_from": [u32, handle, text, size, number, text, size, text, size, pointer(size)],
+        "example": [u32, handle, text, size, u32, number, text, size, pointer(size)],
+        "regions": [u32, handle, text, size, pointer(size)],
+        "codes": [u32, handle, pointer(u16), size, pointer(size)],
+        "find": [u32, handle, text, size, u32, text, size, place, size, pointer(size)],
+        "typing_shown": [u32, handle, text, size, text, size, text, size, pointer(size)],
+        "typing_caret": [u32, handle, text, size, text, size, size, pointer(size)],
+        "short": [u32, handle, text, size, text, size, short_facts],
+        "prefixes_open": [u32, text, size, prefixes, pointer(size)],
+        "prefixes_share": [u32, prefixes, prefixes],
+        "prefixes_close": [None, prefixes],
+        "prefixes_longest": [u32, prefixes, text, size, text, size, pointer(size), pointer(size)],
+        "key": [u32, number, text, size, pointer(size)],
+        "is_viable": [u32, text, size, pointer(u8)],
+        "status_words": [u32, u32, text, size, pointer(size)],
+        "word": [u32, u32, u32, text, size, pointer(size)],
+        "version": [u32],
+        "table_version": [u32, text, size, pointer(size)],
     }
-    for name, types in calls.items():
+    for name, (answer, *arguments) in calls.items():
         call = getattr(lib, "phone_" + name)
-        call.argtypes, call.restype = types, u32
-    lib.phone_world_text.argtypes, lib.phone_world_text.restype = [count], ctypes.c_void_p
-    lib.phone_close.argtypes, lib.phone_close.restype = [handle], None
-    lib.phone_prefixes_close.argtypes, lib.phone_prefixes_close.restype = [prefixes], None
+        call.argtypes, call.restype = arguments, answer
 
 
 def _library(kind: Type[Library]) -> Library:

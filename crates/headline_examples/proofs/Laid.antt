@@ -3,19 +3,21 @@ use Rattle.std.proofs.Common.{◌≡◌, ◌&&◌, ◌==◌, ◌+◌, ℕ, Bool,
 use Rattle.std.proofs.Common.{List, [], ◌∷◌, length, replicate, codes, Option, None, Some}
 use Rattle.std.proofs.Common.{option_map, refl, ap, ap₂, ◌∙◌}
 use Rattle.std.specs.Fmt.{digits}
-use Rattle.std.specs.List.{list_all}
+use Rattle.std.specs.List.{find, list_all}
 use Rattle.std.specs.Option.{option_map_or, option_or}
 use Rattle.regex.proofs.OnLiterals.{regex_on_literals, IsReadAs, ◌then◌, alone, alt-fail}
 use Rattle.regex.specs.Patterns.{Re, find_str}
-use Rattle.phone_values.specs.declared.mode.Mode.TheVariants.{International}
-use Rattle.phone_territory.specs.First.{Seen, at_start, first_match, is_whole_match, names_in, replaced}
+use Rattle.phone_values.specs.declared.mode.Mode.TheVariants.{International, Rfc3966}
+use Rattle.phone_territory.specs.First.{Seen, at_start, first_match, first_span, is_whole_match}
+use Rattle.phone_territory.specs.First.{names_in, replaced}
 use Rattle.phone_territory.specs.First.{seen_of, verbose, with_first_replaced}
 use Rattle.phone_print.specs.Layouts.{laid}
 use Rattle.phone_print.specs.Texts.{laid_out}
+use Rattle.phone_territory.specs.Layouts.{layout_pattern, suits}
 use Rattle.headline_examples.proofs.Digits.{digit, groups, nd_ranges, read_groups-groups, run, runs}
 use Rattle.headline_examples.proofs.Searches.{searching, first_match-as_read}
 use Rattle.headline_examples.specs.Samples.{ad, am, announcing, at, at_by_x, number}
-use Rattle.headline_examples.specs.Samples.{nz, nz_layout, us}
+use Rattle.headline_examples.specs.Samples.{long_layout, long_number, long_numbers, nz, nz_layout, us}
 
 -- a pattern's text is read as a tree with so many groups, none of which has a name
 record IsTree (pattern : List ℕ) (re : Re) (count : ℕ) : Type 0 where
@@ -77,6 +79,22 @@ nz_laid e =
     laid layout nz International None (codes "33316005")) (ap₂ ◌&&◌ led whole)
     ∙ replaced-as_read nz_tree (codes "$1 $2 $3") (codes "33316005") (codes "3 331 6005") refl refl
 
+-- the text of RFC 3966 has the same layout
+pub nz_laid_rfc3966 : (e : Option (List ℕ)) →
+    laid_out nz Rfc3966 None (number 64 0 33316005 e) ≡ codes "3 331 6005"
+unfolding searching nd_ranges digits
+nz_laid_rfc3966 e =
+    ap (λ b. let layout = option_or None (if b then Some nz_layout else None) in
+    laid layout nz Rfc3966 None (codes "33316005")) (ap₂ ◌&&◌ led whole)
+    ∙ replaced-as_read nz_tree (codes "$1 $2 $3") (codes "33316005") (codes "3 331 6005") refl refl
+
+-- so it is the first of New Zealand's that suits
+pub nz_suits : find (suits (codes "33316005")) (nz_layout ∷ []) ≡ Some nz_layout
+nz_suits = ap (λ b. if b then Some nz_layout else None) (ap₂ ◌&&◌ led whole)
+
+pub nz_whole : is_whole_match (layout_pattern nz_layout) (codes "33316005") ≡ true
+nz_whole = whole
+
 pub us_laid :
     laid_out us International None (number 1 0 6502530000 (Some [])) ≡ codes "650-253-0000"
 unfolding searching nd_ranges digits
@@ -101,6 +119,21 @@ pub am_laid : laid_out am International None (number 374 0 12345678 None) ≡ co
 unfolding searching nd_ranges digits
 am_laid = replaced-as_read am_tree (codes "number") (codes "12345678") (codes "number") refl refl
 
+-- a pattern of eight digits matches a number of eight whole, and so at its front
+pub eight_whole : is_whole_match (codes "\\d{8}") (codes "12345678") ≡ true
+unfolding searching nd_ranges
+eight_whole = is_whole_match-as_read am_tree (codes "12345678") refl refl
+
+pub nz_general : is_whole_match (codes "\\d{8}") (codes "33316005") ≡ true
+unfolding searching nd_ranges
+nz_general = is_whole_match-as_read am_tree (codes "33316005") refl refl
+
+pub eight_front : at_start (codes "\\d{8}") (codes "12345678") ≡ true
+unfolding searching nd_ranges
+eight_front =
+    ap (λ (seen : Option Seen). option_map_or (λ (s : Seen). s.0 == 0) seen false)
+    (first_match-as_read _ (codes "12345678") _ refl am_tree.read)
+
 -- in halves with a space between them, whatever announces an extension
 pub spaced_laid : (id : List ℕ) (code : ℕ) (prefix : List ℕ) (e : Option (List ℕ)) →
     laid_out (announcing id code (codes "$1 $2") prefix) International None
@@ -109,8 +142,48 @@ unfolding searching nd_ranges digits
 spaced_laid id code prefix e =
     replaced-as_read halves (codes "$1 $2") (codes "123456") (codes "123 456") refl refl
 
+-- and its pattern matches the six digits whole
+pub halves_whole : is_whole_match (codes "(\\d{3})(\\d{3})") (codes "123456") ≡ true
+unfolding searching nd_ranges
+halves_whole = is_whole_match-as_read halves (codes "123456") refl refl
+
 pub at_by_x_laid : (e : Option (List ℕ)) →
     laid_out at_by_x International None (number 43 0 123456 e) ≡ codes "123/456/"
 unfolding searching nd_ranges digits
 at_by_x_laid e =
     replaced-as_read halves (codes "$1/$2/") (codes "123456") (codes "123/456/") refl refl
+
+-- fifteen digits, of which three stand apart
+long_tree : IsTree (codes "(\\d{3})(\\d{12})") (groups 1 (3 ∷ 12 ∷ [])) 2
+unfolding regex_on_literals names_in
+long_tree = record { read = alt-fail _ then read_groups-groups 1 (3 ∷ 12 ∷ []); names = refl }
+
+-- what it matches first, by that
+long_match : (hay : List ℕ) → list_all (λ c. nat_lt c 256) hay ≡ true →
+    first_span (layout_pattern long_layout) hay ≡
+    option_map (λ (s : Seen). (s.0, s.1))
+    (option_map seen_of (find_str (groups 1 (3 ∷ 12 ∷ [])) hay 0))
+long_match hay bytes =
+    ap (option_map (λ (s : Seen). (s.0, s.1)))
+    (first_match-as_read (codes "(\\d{3})(\\d{12})") hay (groups 1 (3 ∷ 12 ∷ [])) bytes
+    long_tree.read)
+
+-- all of the digits match, and fewer don't
+pub long_span : first_span (layout_pattern long_layout) (codes "333199999999999") ≡ Some (0, 15)
+unfolding searching nd_ranges
+long_span = long_match (codes "333199999999999") refl
+
+pub short_span : first_span (layout_pattern long_layout) (codes "3331") ≡ None
+unfolding searching nd_ranges
+short_span = long_match (codes "3331") refl
+
+pub long_text : replaced (layout_pattern long_layout) (codes "$1 $2") (codes "333199999999999")
+    ≡ codes "333 199999999999"
+unfolding searching nd_ranges
+long_text =
+    replaced-as_read long_tree (codes "$1 $2") (codes "333199999999999") (codes "333 199999999999")
+    refl refl
+
+pub long_laid : laid_out long_numbers International None long_number ≡ codes "333 199999999999"
+unfolding digits
+long_laid = long_text

@@ -10,3 +10,11 @@ us_prefix = refl
 pub kp_prefixes : first_span (codes "00|99") (codes "6433316005") ≡ Some (7, 9)
 unfolding searching first_match
 kp_prefixes = refl
+
+pub nz_own : first_span (codes "00") (codes "33316005") ≡ Some (5, 7)
+unfolding searching first_match
+nz_own = refl
+
+pub nz_home : first_span (codes "00") (codes "033316005") ≡ Some (6, 8)
+unfolding searching first_match
+nz_home = refl

@@ -1,6 +1,7 @@
 -- The databases B, C, D and E of the replayed tables, territory by territory, and numbers.
 use Rattle.std.specs.Prelude.{ℕ, true, List, [], ◌∷◌, codes, Option, None, Some}
 use Rattle.phone_values.specs.declared.country.Source.TheVariants.{Default}
+use Rattle.phone_read.specs.Hints.{Coded}
 use Rattle.phone_records.specs.Empty.{no_descriptor, no_format, no_metadata}
 use Rattle.phone_records.specs.declared.loader.Descriptor.{Descriptor}
 use Rattle.phone_records.specs.declared.loader.Format.{Format}
@@ -179,6 +180,27 @@ kp = record (territory (codes "KP") 850 (numbers (codes "\\d{8}") 8)) {
 abbrev pub db_kp : List Metadata
 db_kp = kp ∷ nz ∷ []
 
+-- the short numbers of New Zealand: its emergency number alone
+abbrev pub nz_short : Metadata
+nz_short = record (territory (codes "NZ") 64 (numbers (codes "111") 3)) {
+  short_code = Some (numbers (codes "111") 3);
+  emergency = Some (numbers (codes "111") 3);
+}
+
+-- the database of short numbers
+abbrev pub db_short : List Metadata
+db_short = nz_short ∷ []
+
+-- the layout of fifteen digits, the first three apart
+abbrev pub long_layout : Format
+long_layout = layout (codes "(\\d{3})(\\d{12})") (codes "$1 $2")
+
+-- a territory of such numbers
+abbrev pub long_numbers : Metadata
+long_numbers = record (territory (codes "001") 979 (numbers (codes "\\d{15}") 15)) {
+  formats = long_layout ∷ [];
+}
+
 -- a number of a calling code: zeros, a value, perhaps an extension
 abbrev pub number : ℕ → ℕ → ℕ → Option (List ℕ) → Reading
 number code zeros value extension = record {
@@ -187,3 +209,15 @@ number code zeros value extension = record {
   extension = extension;
   carrier = None;
 }
+
+-- a number of New Zealand with the extension 5
+abbrev pub extended : Reading
+extended = number 64 0 33316005 (Some (codes "5"))
+
+-- a number of fifteen digits
+abbrev pub long_number : Reading
+long_number = number 979 0 333199999999999 None
+
+-- what follows New Zealand's code, which the hint tells, where the national prefix is dialled
+abbrev pub dialled_at_home : Coded
+dialled_at_home = record { source = Default; value = 64; rest = codes "033316005" }

@@ -1,9 +1,13 @@
 //! Numbers that the premises take.
-ghost use Rattle.std.specs.Prelude.{[], codes, None, Some};
+ghost use Rattle.std.specs.Prelude.{◌≡◌, ◌∷◌, [], codes, None, Some, true};
+ghost use Rattle.phone_print.specs.Layouts.{layout_for};
+ghost use Rattle.phone_values.specs.declared.mode.Mode.TheVariants as mode;
+ghost use Rattle.phonenumber.specs.Thin.{IsThinDatabase, is_thin};
+ghost use Rattle.phonenumber.specs.Plain.{IsAnnouncedByWord};
 ghost use Rattle.phonenumber.specs.Plain.{IsAnnouncedSafely, IsLeftAlone, IsPlainE164};
 ghost use Rattle.phonenumber.specs.Plain.{IsPlainInternational, IsPlainRfc3966};
-ghost use Rattle.headline_examples.specs.Samples.{ad, ad_by_x, am_by_anexo, db_b, db_c, db_e};
-ghost use Rattle.headline_examples.specs.Samples.{number, us};
+ghost use Rattle.headline_examples.specs.Samples.{ad, ad_by_x, am_by_anexo, bare_ad, db_b, db_c};
+ghost use Rattle.headline_examples.specs.Samples.{db_e, number, us};
 
 /// A number of New Zealand without an extension.
 pub fn without_extension()
@@ -47,4 +51,14 @@ pub fn announced_by_anexo()
     ensures empty { IsPlainInternational db_e (number 374 0 123456 (Some [])) }
     ensures empty_benign { IsAnnouncedSafely am_by_anexo (number 374 0 123456 (Some [])) }
     ensures idle { IsLeftAlone db_e 374 (codes "123456") }
+    ensures by_word { IsAnnouncedByWord am_by_anexo (number 374 0 123456 (Some (codes "12"))) }
+{}
+
+/// A number of Andorra, for which it has no layout, and a text as short as that of digits and a
+/// hyphen, under a database as small as Andorra's alone.
+pub fn without_layout()
+    ensures plain { IsPlainE164 (bare_ad ∷ []) (number 376 0 123456 None) }
+    ensures layout { layout_for bare_ad mode.International None (codes "123456") ≡ None }
+    ensures thin { IsThinDatabase (bare_ad ∷ []) }
+    ensures text { is_thin (codes "123-456") ≡ true }
 {}

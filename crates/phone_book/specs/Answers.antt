@@ -8,7 +8,6 @@ use Rattle.phone_values.specs.declared.error.ParseError.TheVariants as error
 use Rattle.phone_records.specs.declared.loader.Metadata.{Metadata}
 use Rattle.phone_engine.specs.Readings.{ReadsBy}
 use Rattle.phone_values.specs.declared.rules.Rules.{Rules}
-use Rattle.phone_values.specs.declared.rules.Rules.TheVariants.{Crate}
 use Rattle.phone_values.specs.declared.reading.Reading.{Reading}
 use Rattle.phone_book.specs.Firsts.{is_among, is_same_number}
 use Rattle.phone_book.specs.declared.answers.BookError.{BookError}
@@ -29,8 +28,8 @@ abbrev pub Answer : Type 0
 Answer = Result Place BookError
 
 -- a line is read so, by these rules, under a database
-abbrev pub IsReadBy : Rules → List Metadata → Line → Result Reading ParseError → Type 0
-IsReadBy rules db line r = ReadsBy rules db line.0 (chars line.1) r
+abbrev pub IsRead : Rules → List Metadata → Line → Result Reading ParseError → Type 0
+IsRead rules db line r = ReadsBy rules db line.0 (chars line.1) r
 
 -- what a place says of a number and of the entries before it and after it
 abbrev pub IsPlaced : List Reading → Reading → Place → List Reading → Type 0
@@ -40,49 +39,32 @@ IsPlaced before n (Present k) after = (e : Reading) × (slice_get before k ≡ S
     (is_same_number e n ≡ true) × (after ≡ before)
 
 -- what an answer says of a line, and of the entries before it and after it
-abbrev pub IsAnsweredBy : Rules → List Metadata → List Reading → Line → Answer → List Reading →
+abbrev pub IsAnswered : Rules → List Metadata → List Reading → Line → Answer → List Reading →
     Type 0
-IsAnsweredBy rules db before line (Ok place) after = (n : Reading) ×
-    (IsReadBy rules db line (Ok n)) × IsPlaced before n place after
-IsAnsweredBy rules db before line (Err (Refused e)) after = (IsReadBy rules db line (Err e)) ×
+IsAnswered rules db before line (Ok place) after = (n : Reading) ×
+    (IsRead rules db line (Ok n)) × IsPlaced before n place after
+IsAnswered rules db before line (Err (Refused e)) after = (IsRead rules db line (Err e)) ×
     (¬ (e ≡ error.Memory)) × (after ≡ before)
-IsAnsweredBy rules db before line (Err Memory) after = after ≡ before
+IsAnswered rules db before line (Err Memory) after = after ≡ before
 
 -- one answer a line, in order, each by the entries that the lines before it left
-abbrev pub AreAnsweredBy : Rules → List Metadata → List Reading → List Line → List Answer →
+abbrev pub AreAnswered : Rules → List Metadata → List Reading → List Line → List Answer →
     List Reading → Type 0
-AreAnsweredBy rules db before [] answers after = (answers ≡ []) × (after ≡ before)
-AreAnsweredBy rules db before (l ∷ ls) answers after = (a : Answer) × (others : List Answer) ×
+AreAnswered rules db before [] answers after = (answers ≡ []) × (after ≡ before)
+AreAnswered rules db before (l ∷ ls) answers after = (a : Answer) × (others : List Answer) ×
     (between : List Reading) × (answers ≡ a ∷ others) ×
-    (IsAnsweredBy rules db before l a between) × AreAnsweredBy rules db between ls others after
+    (IsAnswered rules db before l a between) × AreAnswered rules db between ls others after
 
 -- the numbers of a line: the one that it is read as; none where it is refused, and where memory was
-abbrev pub HasNumbersBy : Rules → List Metadata → Line → Answer → List Reading → Type 0
-HasNumbersBy rules db line (Ok place) ns = (n : Reading) × (IsReadBy rules db line (Ok n)) ×
+abbrev pub HasNumbers : Rules → List Metadata → Line → Answer → List Reading → Type 0
+HasNumbers rules db line (Ok place) ns = (n : Reading) × (IsRead rules db line (Ok n)) ×
     (ns ≡ n ∷ [])
-HasNumbersBy rules db line (Err (Refused e)) ns = IsReadBy rules db line (Err e) × (ns ≡ [])
-HasNumbersBy rules db line (Err Memory) ns = ns ≡ []
+HasNumbers rules db line (Err (Refused e)) ns = IsRead rules db line (Err e) × (ns ≡ [])
+HasNumbers rules db line (Err Memory) ns = ns ≡ []
 
 -- the numbers of lines with their answers, in order
-abbrev pub HaveNumbersBy : Rules → List Metadata → List Line → List Answer → List Reading → Type 0
-HaveNumbersBy rules db [] answers ns = (answers ≡ []) × (ns ≡ [])
-HaveNumbersBy rules db (l ∷ ls) answers ns = (a : Answer) × (others : List Answer) ×
-    (first rest : List Reading) × (answers ≡ a ∷ others) × (HasNumbersBy rules db l a first) ×
-    (HaveNumbersBy rules db ls others rest) × (ns ≡ first ++ rest)
-
--- what an answer says of a line, by the rules of the crate
-abbrev pub IsAnswered : List Metadata → List Reading → Line → Answer → List Reading → Type 0
-IsAnswered db before line a after = IsAnsweredBy Crate db before line a after
-
--- one answer a line, in order, by the rules of the crate
-abbrev pub AreAnswered : List Metadata → List Reading → List Line → List Answer → List Reading →
-    Type 0
-AreAnswered db before lines answers after = AreAnsweredBy Crate db before lines answers after
-
--- the numbers of a line, as the rules of the crate read it
-abbrev pub HasNumbers : List Metadata → Line → Answer → List Reading → Type 0
-HasNumbers db line a ns = HasNumbersBy Crate db line a ns
-
--- the numbers of lines with their answers, in order, by the rules of the crate
-abbrev pub HaveNumbers : List Metadata → List Line → List Answer → List Reading → Type 0
-HaveNumbers db lines answers ns = HaveNumbersBy Crate db lines answers ns
+abbrev pub HaveNumbers : Rules → List Metadata → List Line → List Answer → List Reading → Type 0
+HaveNumbers rules db [] answers ns = (answers ≡ []) × (ns ≡ [])
+HaveNumbers rules db (l ∷ ls) answers ns = (a : Answer) × (others : List Answer) ×
+    (first rest : List Reading) × (answers ≡ a ∷ others) × (HasNumbers rules db l a first) ×
+    (HaveNumbers rules db ls others rest) × (ns ≡ first ++ rest)

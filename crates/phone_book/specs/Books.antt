@@ -6,11 +6,13 @@ use Rattle.phone_values.specs.Numbers.{IsHeld}
 use Rattle.phone_plans.specs.CodeLookUps.{is_listed}
 use Rattle.phone_records.specs.declared.loader.Metadata.{Metadata}
 use Rattle.phone_values.specs.declared.reading.Reading.{Reading}
+use Rattle.phone_values.specs.declared.rules.Rules.{Rules}
 use Rattle.phone_print.specs.Texts.{e164_text}
 
--- the records of its database, and its numbers in order of arrival
+-- the records of its database, the rules by which it reads, and its numbers in order of arrival
 pub record Contacts : Type 0 where
   pub database : List Metadata
+  pub rules : Rules
   pub entries : List Reading
 
 -- an entry: a number at its key

@@ -4,9 +4,9 @@ ghost use Rattle.std.specs.Prelude.{string_bytes, IfErr, IfOk, IsErr, OnErr};
 ghost use Rattle.std.specs.Option.{option_copied};
 ghost use Rattle.phone_plans.specs.CodeLookUps.{is_listed, is_prefix_free};
 ghost use Rattle.phone_values.specs.declared.reading.Reading.{Reading};
+ghost use Rattle.phone_values.specs.declared.rules.Rules.TheVariants as by;
 ghost use Rattle.phone_print.specs.Texts.{e164_text};
-ghost use Rattle.phone_book.specs.Answers.{AreAnswered, AreAnsweredBy, HasNumbers, HasNumbersBy};
-ghost use Rattle.phone_book.specs.Answers.{HaveNumbers, HaveNumbersBy, IsAnswered, IsAnsweredBy};
+ghost use Rattle.phone_book.specs.Answers.{AreAnswered, HasNumbers, HaveNumbers, IsAnswered};
 ghost use Rattle.phone_book.specs.Answers.{IsPlaced, line_of};
 ghost use Rattle.phone_book.specs.Firsts.{firsts};
 ghost use Rattle.phone_book.specs.declared.answers.BookNewError.TheVariants as new_error;
@@ -25,11 +25,12 @@ use std::alloc::AllocError;
 use std::marker::Model;
 
 /// Numbers under one database, in order of arrival, of which no two have one calling code and one
-/// national number: each stays as it was first written. Contracts see the records of the database
-/// and the numbers.
+/// national number: each stays as it was first written. Contracts see the records of the database,
+/// the rules by which lines are read, and the numbers.
 #[derive(Drop)]
 pub struct Book {
     database: Plans,
+    rules: Rules,
     entries: IndexMap<String, PhoneNumber>,
 }
 
@@ -42,49 +43,56 @@ impl Model for Book {
 
     ghost Value = { Contacts };
 
-    ghost view = { λ b. record { database = b.database; entries = values b.entries } };
+    ghost view = { λ b. record {
+      database = b.database;
+      rules = b.rules;
+      entries = values b.entries;
+    } };
 
     ghost invariant = { λ b. (is_prefix_free b.database ≡ true) ×
         (firsts (values b.entries) ≡ values b.entries) × AreKept b.database b.entries.entries };
 }
 
 impl Book {
-    /// An empty book over a database, whose allocator it uses. Takes no memory: of the database it
-    /// keeps the light table.
+    /// An empty book over a database, whose allocator it uses, which reads lines as `parse_with`
+    /// does. Takes no memory: of the database it keeps the light table.
     ///
     /// Refused by `Ambiguous`, with the database given back, exactly where a listed calling code
     /// begins another: two numbers may have one E.164 text then.
     pub fn new(database: Database) -> Result<Book, (BookNewError, Database)>
-        ensures accepted { IfOk result (λ b. b ≡ record { database = database; entries = [] }) }
+        ensures accepted { IfOk result
+            (λ b. b ≡ record { database = database; rules = by.Crate; entries = [] }) }
         ensures refused { IfErr result (λ e. e ≡ (new_error.Ambiguous, database)) }
         ensures ambiguous { IsErr result ↔ (is_prefix_free database ≡ false) }
     {
         if !database.codes_prefix_free() {
             return Err((BookNewError::Ambiguous, database));
         }
-        Ok(Book::empty(database.into_plans()))
+        Ok(Book::empty(database.into_plans(), Rules::Crate))
     }
 
-    /// The same over a light table.
-    pub fn over(plans: Plans) -> Result<Book, (BookNewError, Plans)>
-        ensures accepted { IfOk result (λ b. b ≡ record { database = plans; entries = [] }) }
+    /// The same over a light table; lines are read by these rules.
+    pub fn over(plans: Plans, rules: Rules) -> Result<Book, (BookNewError, Plans)>
+        ensures accepted { IfOk result
+            (λ b. b ≡ record { database = plans; rules = rules; entries = [] }) }
         ensures refused { IfErr result (λ e. e ≡ (new_error.Ambiguous, plans)) }
         ensures ambiguous { IsErr result ↔ (is_prefix_free plans ≡ false) }
     {
         if !plans.codes_prefix_free() {
             return Err((BookNewError::Ambiguous, plans));
         }
-        Ok(Book::empty(plans))
+        Ok(Book::empty(plans, rules))
     }
 
     /// An empty book over a table, no listed code of which begins another.
-    fn empty(database: Plans) -> Book
+    fn empty(database: Plans, rules: Rules) -> Book
         requires { is_prefix_free database ≡ true }
-        ensures { result ≡ record { database = database; entries = [] } }
+        ensures { result ≡ record { database = database; rules = rules; entries = [] } }
     {
         let alloc = database.allocator();
         Book {
             database,
+            rules,
             entries: IndexMap::new(alloc),
         }
     }
@@ -124,6 +132,7 @@ impl Book {
         requires { is_listed number.code.value self.old.database ≡ true }
         ensures placed { IfOk result (λ p. IsPlaced self.old.entries number p self.new.entries) }
         ensures database { self.new.database ≡ self.old.database }
+        ensures rules { self.new.rules ≡ self.old.rules }
         ensures kept { OnErr result (self.new ≡ self.old) }
     {
         let _national = number.national();
@@ -139,39 +148,27 @@ impl Book {
         }
     }
 
-    /// Reads a line under a hint, as `parse_with` does, and adds its number, unless one of the same
-    /// calling code and national number is there: source, extension and carrier don't count, and
-    /// the first one stays as it was written.
+    /// Reads a line under a hint, as an engine of the book's rules does, and adds its number unless
+    /// one of the same calling code and national number is there: source, extension and carrier
+    /// don't count, and the first one stays as it was written.
     ///
     /// `Added` with the place of the new number, which is the count of those before it; `Present`
     /// with the place of the one that is there. `Refused` where the line is read as no number, with
     /// the reason, and `Memory` where memory was refused: both leave the book as it was.
     pub fn add(&mut self, hint: Option<Id>, line: &str) -> Result<Place, BookError>
         ensures entries { (ns : List Reading) ×
-            (HasNumbers self.old.database (hint, line.now) result ns) ×
+            (HasNumbers self.old.rules self.old.database (hint, line.now) result ns) ×
             (self.new.entries ≡ firsts (self.old.entries ++ ns)) }
-        ensures answer { IsAnswered self.old.database self.old.entries (hint, line.now) result
-            self.new.entries }
+        ensures answer { IsAnswered self.old.rules self.old.database self.old.entries
+            (hint, line.now) result self.new.entries }
         ensures database { self.new.database ≡ self.old.database }
-        ensures kept { OnErr result (self.new ≡ self.old) }
-    {
-        self.add_by(Rules::Crate, hint, line)
-    }
-
-    /// The same, but that the line is read by these rules, as an engine reads it.
-    pub fn add_by(&mut self, rules: Rules, hint: Option<Id>, line: &str) -> Result<Place, BookError>
-        ensures entries { (ns : List Reading) ×
-            (HasNumbersBy rules self.old.database (hint, line.now) result ns) ×
-            (self.new.entries ≡ firsts (self.old.entries ++ ns)) }
-        ensures answer { IsAnsweredBy rules self.old.database self.old.entries (hint, line.now)
-            result self.new.entries }
-        ensures database { self.new.database ≡ self.old.database }
+        ensures rules { self.new.rules ≡ self.old.rules }
         ensures kept { OnErr result (self.new ≡ self.old) }
     {
         code_is_listed();
         let engine = Engine {
             database: &self.database,
-            rules,
+            rules: self.rules,
             hint,
         };
         match engine.parse(line) {
@@ -194,34 +191,17 @@ impl Book {
         lines: &[(Option<Id>, &str)],
     ) -> Result<Vec<Result<Place, BookError>>, AllocError>
         ensures entries { IfOk result (λ answers. (ns : List Reading) ×
-            (HaveNumbers self.old.database (map line_of lines.now) answers.items ns) ×
-            (self.new.entries ≡ firsts (self.old.entries ++ ns))) }
-        ensures answers { IfOk result (λ answers.
-            AreAnswered self.old.database self.old.entries (map line_of lines.now) answers.items
-            self.new.entries) }
-        ensures database { self.new.database ≡ self.old.database }
-        ensures kept { OnErr result (self.new ≡ self.old) }
-    {
-        self.add_all_by(Rules::Crate, lines)
-    }
-
-    /// The same, but that the lines are read by these rules, as engines read them.
-    pub fn add_all_by(
-        &mut self,
-        rules: Rules,
-        lines: &[(Option<Id>, &str)],
-    ) -> Result<Vec<Result<Place, BookError>>, AllocError>
-        ensures entries { IfOk result (λ answers. (ns : List Reading) ×
-            (HaveNumbersBy rules self.old.database (map line_of lines.now) answers.items ns) ×
-            (self.new.entries ≡ firsts (self.old.entries ++ ns))) }
-        ensures answers { IfOk result (λ answers. AreAnsweredBy rules self.old.database
+            (HaveNumbers self.old.rules self.old.database (map line_of lines.now) answers.items
+            ns) × (self.new.entries ≡ firsts (self.old.entries ++ ns))) }
+        ensures answers { IfOk result (λ answers. AreAnswered self.old.rules self.old.database
             self.old.entries (map line_of lines.now) answers.items self.new.entries) }
         ensures database { self.new.database ≡ self.old.database }
+        ensures rules { self.new.rules ≡ self.old.rules }
         ensures kept { OnErr result (self.new ≡ self.old) }
     {
         let mut answers = Vec::with_capacity(self.database.allocator(), lines.len())?;
         for (hint, line) in lines {
-            answers.push_reserved(self.add_by(rules, *hint, line));
+            answers.push_reserved(self.add(*hint, line));
         }
         Ok(answers)
     }

@@ -41,5 +41,8 @@ fn copy<T: Copy>(from: &[T], to: &mut [T], at: usize)
     requires { at + length from.now ≤ length to.old }
     ensures { to.new ≡ take at to.old ++ from.now ++ drop (at + length from.now) to.old }
 {
-    to[at..at + from.len()].copy_from_slice(from);
+    // Most numbers have neither extension nor carrier: to look costs less than to copy nothing.
+    if !from.is_empty() {
+        to[at..at + from.len()].copy_from_slice(from);
+    }
 }

@@ -74,8 +74,7 @@ GivesShorts db region = each_by_itself (λ _. IsShortLine db region)
 -- what `--unique` keeps first: no number
 abbrev pub no_first_lines : List Metadata → Rules → Option Id → FirstLines
 no_first_lines db rules hint = record {
-  book = record { database = db; entries = [] };
-  rules = rules;
+  book = record { database = db; rules = rules; entries = [] };
   hint = hint;
   added = 0;
   present = 0;

@@ -164,6 +164,9 @@ fn write_records<E: ByteSink>(job: &Customers<'_, '_>, errors: &mut E) -> Result
     write_count(errors, ", wrong count of fields: ", job.counts.wrong_count)?;
     write_count(errors, ", no number: ", job.counts.no_number)?;
     write_count(errors, ", not valid: ", job.counts.invalid)?;
+    if job.asked.short.is_some() {
+        write_count(errors, ", short numbers: ", job.counts.short)?;
+    }
     if job.asked.is_unique {
         write_count(errors, ", repeated: ", job.counts.repeated)?;
     }

@@ -7,14 +7,18 @@ use Rattle.phone_book.specs.Books.{Contacts}
 use Rattle.phone_book.specs.Firsts.{is_among, is_same_number}
 use Rattle.phone_records.specs.declared.loader.Metadata.{Metadata}
 use Rattle.phone_values.specs.declared.reading.Reading.{Reading}
+use Rattle.phone_values.specs.declared.rules.Rules.{Rules}
 
 -- a book by its parts
 pub contacts_are : (old new : Contacts) (entries : List Reading) → new.database ≡ old.database →
-    new.entries ≡ entries → new ≡ record old { entries = entries }
-contacts_are old new entries d e =
-    let made : List Metadata → List Reading → Contacts =
-    λ database numbers. record { database = database; entries = numbers } in
-    ap₂ made d e
+    new.rules ≡ old.rules → new.entries ≡ entries → new ≡ record old { entries = entries }
+contacts_are old new entries d r e =
+    let over : List Metadata → Rules → Contacts = λ database rules. record {
+      database = database;
+      rules = rules;
+      entries = new.entries;
+    } in
+    ap₂ over d r ∙ ap (λ numbers. record old { entries = numbers }) e
 
 -- the last number of a list stands at its place
 pub slice_get-last : (ns : List Reading) (n : Reading) →

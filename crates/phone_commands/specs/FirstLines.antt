@@ -15,14 +15,14 @@ pub data IsFirstLine (kept : FirstLines) (line : List ℕ) : List ℕ → FirstL
   no_text : ¬ (IsUtf8 line) →
       IsFirstLine kept line [] (record kept { refused = after_one kept.refused })
   no_number : (e : ParseError) → IsUtf8 line →
-      ReadsBy kept.rules kept.book.database kept.hint (chars line) (Err e) →
+      ReadsBy kept.book.rules kept.book.database kept.hint (chars line) (Err e) →
       IsFirstLine kept line [] (record kept { refused = after_one kept.refused })
   present : (n : Reading) → IsUtf8 line →
-      ReadsBy kept.rules kept.book.database kept.hint (chars line) (Ok n) →
+      ReadsBy kept.book.rules kept.book.database kept.hint (chars line) (Ok n) →
       is_among n kept.book.entries ≡ true →
       IsFirstLine kept line [] (record kept { present = after_one kept.present })
   added : (n : Reading) → IsUtf8 line →
-      ReadsBy kept.rules kept.book.database kept.hint (chars line) (Ok n) →
+      ReadsBy kept.book.rules kept.book.database kept.hint (chars line) (Ok n) →
       is_among n kept.book.entries ≡ false →
       IsFirstLine kept line (e164_text n ++ 9 ∷ (line ++ 10 ∷ [])) (record kept {
         book = record kept.book { entries = kept.book.entries ++ n ∷ [] };

@@ -61,8 +61,6 @@ impl<'d> LineTaker for Objects<'d> {
 pub struct FirstLines {
     /// The numbers so far.
     pub book: Book,
-    /// By whose rules lines are read.
-    pub rules: Rules,
     /// The region under which lines are read.
     pub hint: Option<Id>,
     /// How many lines had a new number.
@@ -79,20 +77,18 @@ impl FirstLines {
     pub fn new(database: Plans, rules: Rules, hint: Option<Id>) -> Option<FirstLines>
         ensures none { IsNone result ↔ (is_prefix_free database ≡ false) }
         ensures empty { IfSome result (λ f. f ≡ record {
-          book = record { database = database; entries = [] };
-          rules = rules;
+          book = record { database = database; rules = rules; entries = [] };
           hint = hint;
           added = 0;
           present = 0;
           refused = 0;
         }) }
     {
-        let Ok(book) = Book::over(database) else {
+        let Ok(book) = Book::over(database, rules) else {
             return None;
         };
         Some(FirstLines {
             book,
-            rules,
             hint,
             added: 0,
             present: 0,
@@ -133,7 +129,7 @@ impl FirstLines {
             IsFirstLine self.old text.now answer self.new ×
             (answers.new.items ≡ answers.old.items ++ answer)) }
     {
-        match self.book.add_by(self.rules, self.hint, text) {
+        match self.book.add(self.hint, text) {
             Ok(Place::Added(place)) => self.push_added(alloc, place, text, answers),
             Ok(Place::Present(_)) => {
                 self.present = self.present.saturating_add(1);

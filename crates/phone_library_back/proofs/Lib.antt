@@ -11,6 +11,7 @@ pub mod NationalBack
 pub mod OwnDigits
 pub mod Prefixes
 pub mod PrintedTexts
+pub mod ReadAlike
 pub mod ReadByEither
 pub mod ReadSigned
 pub mod Rfc3966Back

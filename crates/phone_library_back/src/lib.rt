@@ -1,5 +1,5 @@
-//! What holds of printed numbers that are read by libphonenumber's rules. The functions of this
-//! crate do nothing; their contracts are the statements.
+//! What holds of numbers, printed or shown while they are typed, that are read by libphonenumber's
+//! rules. The functions of this crate do nothing; their contracts are the statements.
 #![tactic(auto)]
 
 pub mod international;
@@ -9,3 +9,4 @@ pub mod reach;
 pub mod rfc3966;
 pub mod told;
 pub mod twice;
+pub mod typed;

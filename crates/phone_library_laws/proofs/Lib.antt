@@ -1,6 +1,7 @@
 pub mod AlikeCodes
 pub mod AlikeNumbers
 pub mod AlikeReadings
+pub mod AlikeStripping
 pub mod AllowedLengths
 pub mod NationalTexts
 pub mod PlusSigns

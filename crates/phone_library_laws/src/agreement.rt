@@ -6,8 +6,10 @@ ghost use Rattle.phone_values.specs.declared.error.ParseError.{ParseError};
 ghost use Rattle.phone_values.specs.declared.reading.Reading.{Reading};
 ghost use Rattle.phone_library.specs.Readings.{ReadsByLibrary};
 ghost use Rattle.phone_library_laws.specs.Agreement.{IsOwnNumber, IsReadAlike, IsSettledAlike};
-ghost use Rattle.phone_library_laws.specs.Agreement.{digits_text};
+ghost use Rattle.phone_library_laws.specs.Agreement.{IsStrippedAlike, digits_text};
+ghost use Rattle.phone_library_laws.specs.Prefixes.{IsDialledAlike, IsHomeNumber};
 ghost use Rattle.phone_print.specs.Texts.{e164_text};
+ghost use Rattle.phone_read.specs.Hints.{Coded};
 ghost use Rattle.phone_read.specs.Readings.{Reads};
 ghost use Rattle.phone_records.specs.declared.loader.Metadata as loader;
 
@@ -34,6 +36,24 @@ pub fn e164_alike()
         (a b : Result Reading ParseError) → IsSettledAlike db n →
         Reads db None (chars (e164_text n)) a → ReadsByLibrary db hint (chars (e164_text n)) b →
         a ≡ b }
+{
+    laws::one_written();
+    laws::plain_written();
+}
+
+/// Both readings strip the same off what follows a calling code, as `read_alike` asks, where it is
+/// dialled for a national number: alone, or behind the national prefix, which a parsing pattern, if
+/// there is one, matches alone.
+pub fn stripped_alike()
+    ensures { (db : List loader.Metadata) (hint : Option Id) (c : Coded) →
+        IsDialledAlike db hint c → IsStrippedAlike db hint c }
+{}
+
+/// ASCII digits that are dialled so in a territory are read as one by both, under its hint.
+pub fn home_alike()
+    ensures { (db : List loader.Metadata) (hint : Option Id) (digits : List ℕ)
+        (a b : Result Reading ParseError) → IsHomeNumber db hint digits → Reads db hint digits a →
+        ReadsByLibrary db hint digits b → a ≡ b }
 {
     laws::one_written();
     laws::plain_written();

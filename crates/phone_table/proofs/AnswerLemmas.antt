@@ -49,9 +49,9 @@ known_validity rules db (Number n k) h = h.is_valid
 known_validity rules db (Short region kind) h = refl
 known_validity rules db (Refused words) h = refl
 
--- seven fields that are equal, each to its own
-pub same_seven : (a b c k r v a' b' c' k' r' v' : List ℕ) → a ≡ a' → b ≡ b' → c ≡ c' → k ≡ k' → r ≡ r' → v ≡ v' →
+-- fields that are equal, each to its own
+pub same_fields : (a b c k r v a' b' c' k' r' v' : List ℕ) → a ≡ a' → b ≡ b' → c ≡ c' → k ≡ k' → r ≡ r' → v ≡ v' →
     a ∷ b ∷ c ∷ k ∷ r ∷ v ∷ [] ∷ [] ≡ a' ∷ b' ∷ c' ∷ k' ∷ r' ∷ v' ∷ [] ∷ []
-same_seven a b c k r v a' b' c' k' r' v' ea eb ec ek er ev =
+same_fields a b c k r v a' b' c' k' r' v' ea eb ec ek er ev =
     ap₂ (λ x y. x ∷ y) ea (ap₂ (λ x y. x ∷ y) eb (ap₂ (λ x y. x ∷ y) ec
     (ap₂ (λ x y. x ∷ y) ek (ap₂ (λ x y. x ∷ y) er (ap (λ x. x ∷ [] ∷ []) ev)))))

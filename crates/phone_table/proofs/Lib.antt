@@ -1,5 +1,4 @@
 pub mod ColumnLemmas
-pub mod RecordLemmas
 pub mod AnswerLemmas
 pub mod EndsWeaker
 pub mod Kept

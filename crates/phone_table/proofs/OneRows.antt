@@ -10,7 +10,7 @@ use Rattle.phone_csv.specs.Formats.{Record}
 use Rattle.phone_engine.specs.Facts.{kind_by, region_by}
 use Rattle.phone_prefixes.specs.Tables.{Entry}
 use Rattle.phone_records.specs.declared.loader.Metadata.{Metadata}
-use Rattle.phone_table.specs.Answers.{IsAnswer, IsAnswerUnder, IsNumberAnswer, IsSevenAnswer}
+use Rattle.phone_table.specs.Answers.{IsAnswer, IsAnswerUnder, IsNumberAnswer, IsOwnAnswer}
 use Rattle.phone_table.specs.Answers.{short_of}
 use Rattle.phone_table.specs.Extras.{AreTold, EachHasOneText, HaveOneText, IsFound, IsTold}
 use Rattle.phone_table.specs.Extras.{looked_up}
@@ -90,20 +90,20 @@ module _ (rules : Rules) (db : List Metadata) where
         (subst (λ x. IsAnswerUnder rules db (short_of asked) (hint_under asked.else_hint hint x)
         (field_in fields columns.number) n a) (region_same columns.region r s named named') h) g
 
-    -- a record has seven fields as its answer, which are of one number or of none
-    pub seven_same : (n k : Option Reading) (a b : Record) →
-        IsSevenAnswer rules db hint columns asked fields n a →
-        IsSevenAnswer rules db hint columns asked fields k b → AreSame n k a b
-    seven_same n k a b (inl (w, h)) (inl (v, g)) = number_same n k a b h g
-    seven_same n k a b (inl (w, h)) (inr (e, g)) = absurd (g.1 w)
-    seven_same n k a b (inr (e, h)) (inl (v, g)) = absurd (h.1 v)
-    seven_same n k a b (inr (e, h)) (inr (f, g)) = (e ∙ sym f, h.2 ∙ sym g.2)
+    -- a record has one answer of its own, whose fields are of one number or of none
+    pub own_same : (n k : Option Reading) (a b : Record) →
+        IsOwnAnswer rules db hint columns asked fields n a →
+        IsOwnAnswer rules db hint columns asked fields k b → AreSame n k a b
+    own_same n k a b (inl (w, h)) (inl (v, g)) = number_same n k a b h g
+    own_same n k a b (inl (w, h)) (inr (e, g)) = absurd (g.1 w)
+    own_same n k a b (inr (e, h)) (inl (v, g)) = absurd (h.1 v)
+    own_same n k a b (inr (e, h)) (inr (f, g)) = (e ∙ sym f, h.2 ∙ sym g.2)
 
     -- and one answer
     pub answer_same : (a b : Record) → EachHasOneText asked.extra.now →
         IsAnswer rules db hint columns asked fields a →
         IsAnswer rules db hint columns asked fields b → a ≡ b
-    answer_same a b one (n, told, seven, is, are, e) (k, told', seven', is', are', f) =
-        let same = seven_same n k seven seven' is is' in
+    answer_same a b one (n, told, own, is, are, e) (k, told', own', is', are', f) =
+        let same = own_same n k own own' is is' in
         e ∙ ap₂ (λ x y. x ++ y) (all_told_same k asked.extra.now told told' one
         (subst (λ x. AreTold rules db x asked.extra.now told) same.0 are) are') same.1 ∙ sym f

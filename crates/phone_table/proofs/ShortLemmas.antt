@@ -1,5 +1,5 @@
 -- The answer to an emergency number.
-use Rattle.std.proofs.Common.{◌≡◌, ◌∙◌, ℕ, List, Option, None, Some, chars, refl, sym, ap}
+use Rattle.std.proofs.Common.{◌≡◌, ◌∙◌, ℕ, List, Option, None, Some, true, chars, refl, sym, ap}
 use Rattle.std.specs.Str.{IsUtf8}
 use Rattle.std.proofs.lemmas.Option.{same_Some}
 use Rattle.phone_values.specs.declared.country.Id.{Id}
@@ -13,11 +13,12 @@ use Rattle.phone_short.specs.declared.kind.ShortKind.TheVariants.{Emergency, Sho
 use Rattle.phone_table.specs.Answers.{IsFieldAnswer, IsTextAnswer}
 use Rattle.phone_table.specs.Answers.IsFieldAnswer.{no_text, of_text}
 use Rattle.phone_table.specs.Answers.IsTextAnswer.{emergency, no_short_number, short_number, valid_number}
-use Rattle.phone_table.specs.Shorts.{short_answer, short_in}
+use Rattle.phone_table.specs.Shorts.{is_number_alone, short_answer, short_in}
 
-module _ (rules : Rules) (db short : List Metadata) (region : Id) (field : List ℕ) (is : short_kind short region (chars field) ≡ Some Emergency) where
+module _ (rules : Rules) (db short : List Metadata) (region : Id) (field : List ℕ)
+    (alone : is_number_alone field ≡ true) (is : short_kind short region (chars field) ≡ Some Emergency) where
   found : short_in (Some short) (Some region) field ≡ Some (region, Emergency)
-  found = rw is refl
+  found = rw (alone, is) refl
 
   other : (r : Id) → short_in (Some short) (Some region) field ≡ Some (r, ShortNumber) → Emergency ≡ ShortNumber
   other r e = ap (λ (x : Id × ShortKind). x.1) (same_Some _ _ (sym found ∙ e))

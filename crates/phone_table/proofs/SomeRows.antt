@@ -21,7 +21,7 @@ use Rattle.phone_prefixes.specs.Tables.{AreEntries, Entry, IsLongest, IsTable, N
 use Rattle.phone_prefixes.specs.Tables.AreEntries.{none as no_entries, next as next_entry}
 use Rattle.phone_records.specs.declared.loader.Metadata.{Metadata}
 use Rattle.phone_table.specs.Answers.{IsAnswer, IsAnswerUnder, IsFieldAnswer, IsOfOtherWidth}
-use Rattle.phone_table.specs.Answers.{IsSevenAnswer, short_of}
+use Rattle.phone_table.specs.Answers.{IsOwnAnswer, short_of}
 use Rattle.phone_table.specs.Extras.{AreTold, HaveOneText, IsFound, IsTold, looked_up}
 use Rattle.phone_table.specs.Extras.AreTold.{none as told_none, next as told_next}
 use Rattle.phone_table.specs.declared.extra.Extra.{Extra}
@@ -186,12 +186,12 @@ module _ (rules : Rules) (db : List Metadata) where
     under_some None has = (None, _, (refl, refl))
     under_some (Some own) has = has own
 
-    with_told : (n : Option Reading) (seven : Record) →
-        IsSevenAnswer rules db hint columns asked fields n seven →
+    with_told : (n : Option Reading) (own : Record) →
+        IsOwnAnswer rules db hint columns asked fields n own →
         (answer : Record) × IsAnswer rules db hint columns asked fields answer
-    with_told n seven is =
+    with_told n own is =
         let t = all_told n asked.extra.now in
-        (t.0 ++ seven, (n, t.0, seven, is, t.1, refl))
+        (t.0 ++ own, (n, t.0, own, is, t.1, refl))
 
     -- a record of other width is marked, or isn't answered
     of_other_width : (length fields ≡ columns.width → ⊥) → (b : Bool) → asked.mark_bad ≡ b →

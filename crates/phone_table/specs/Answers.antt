@@ -1,4 +1,5 @@
--- What a record of a table is answered: what the columns that are asked for tell, and seven fields.
+-- What a record of a table is answered: what the columns that are asked for tell, and fields of its
+-- own.
 use Rattle.std.specs.Prelude.{◌≡◌, ◌⊎◌, ◌==◌, ℕ, Bool, true, false, List, [], ◌∷◌, ◌++◌, codes}
 use Rattle.std.specs.Prelude.{chars, length, Option, Some, None, Ok, Err, option_map}
 use Rattle.std.specs.Option.{option_map_or}
@@ -111,22 +112,22 @@ abbrev pub IsMarked : Columns → Asked → Record → Record → Type 0
 IsMarked columns asked fields answer = (asked.mark_bad ≡ true) × ¬ (IsOfWidth columns fields) ×
     (answer ≡ refused_answer (codes "wrong count of fields"))
 
--- the seven fields that a record is answered, and the number that was read: as its number is, or
--- so marked
-abbrev pub IsSevenAnswer : Rules → List Metadata → Option Id → Columns → Asked → Record →
+-- the fields of a record's own answer, and the number that was read: as its number is, or so
+-- marked
+abbrev pub IsOwnAnswer : Rules → List Metadata → Option Id → Columns → Asked → Record →
     Option Reading → Record → Type 0
-IsSevenAnswer rules db hint columns asked fields number answer =
+IsOwnAnswer rules db hint columns asked fields number answer =
     (IsOfWidth columns fields × IsNumberAnswer rules db hint columns asked fields number answer) ⊎
     ((number ≡ None) × IsMarked columns asked fields answer)
 
 -- what a record is answered: what the columns that are asked for tell of the number that was read,
--- and the seven fields
+-- and its own fields
 abbrev pub IsAnswer : Rules → List Metadata → Option Id → Columns → Asked → Record → Record →
     Type 0
 IsAnswer rules db hint columns asked fields answer = (number : Option Reading) ×
-    (told : Record) × (seven : Record) ×
-    IsSevenAnswer rules db hint columns asked fields number seven ×
-    AreTold rules db number asked.extra.now told × (answer ≡ told ++ seven)
+    (told : Record) × (own : Record) ×
+    IsOwnAnswer rules db hint columns asked fields number own ×
+    AreTold rules db number asked.extra.now told × (answer ≡ told ++ own)
 
 -- a record with another count of fields isn't answered, where such aren't marked
 abbrev pub IsOfOtherWidth : Columns → Asked → Record → Type 0

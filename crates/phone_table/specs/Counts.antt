@@ -1,6 +1,6 @@
--- How many rows a table has, and what their last two fields say: the validity of a
--- number, and the words of a refusal.
-use Rattle.std.specs.Prelude.{◌≡◌, ℕ, ◌+◌, ◌-◌, ◌&&◌, not, Bool, true, if◌then◌else◌, List}
+-- How many rows a table has, and what their last four fields say: the kind of a number, its region,
+-- its validity, and the words of a refusal.
+use Rattle.std.specs.Prelude.{ℕ, ◌+◌, ◌-◌, ◌&&◌, ◌||◌, not, Bool, true, if◌then◌else◌, List}
 use Rattle.std.specs.Prelude.{codes, length}
 use Rattle.std.specs.Str.{bytes_eq}
 use Rattle.phone_csv.specs.Feeds.{counted}
@@ -25,6 +25,10 @@ is_junk row = not (has_refusal (codes "") row) && not (has_refusal (codes "unkno
 abbrev pub is_invalid : Record → Bool
 is_invalid row = tells row 2 (codes "invalid")
 
+-- a row's number is a short number
+abbrev pub is_short : Record → Bool
+is_short row = tells row 4 (codes "Emergency") || tells row 4 (codes "ShortNumber")
+
 -- a count, and one more where this holds
 abbrev pub counted_if : Bool → ℕ → ℕ
 counted_if holds n = if holds then counted (n + 1) else n
@@ -38,6 +42,7 @@ counts_after c row = record {
   wrong_count = counted_if (has_refusal (codes "wrong count of fields") row) c.wrong_count;
   no_number = counted_if (is_junk row) c.no_number;
   invalid = counted_if (is_invalid row) c.invalid;
+  short = counted_if (is_short row) c.short;
   repeated = c.repeated;
 }
 
@@ -54,5 +59,6 @@ no_counts = record {
   wrong_count = 0;
   no_number = 0;
   invalid = 0;
+  short = 0;
   repeated = 0;
 }

@@ -1,4 +1,4 @@
--- The columns that are asked for beside the seven, and what they tell of a number.
+-- The columns that are asked for beside the answer's, and what they tell of a number.
 use Rattle.std.specs.Prelude.{◌≡◌, ◌⊎◌, ◌&&◌, ◌||◌, not, Bool, true, false, ℕ, List, [], ◌∷◌}
 use Rattle.std.specs.Prelude.{◌++◌, map, if◌then◌else◌, Option, None, Some}
 use Rattle.std.specs.List.{AllByRecursion, Contains}
@@ -24,7 +24,7 @@ use Rattle.phone_table.specs.declared.extra.Told.TheVariants.{Area, Carrier, Pre
 abbrev pub headings : List Extra → Record
 headings extra = map (λ e. e.heading.now) extra
 
--- the names that are put behind a header: theirs, and the seven
+-- the names that are put behind a header: theirs, and the answer's
 abbrev pub added_names : List Extra → Record
 added_names extra = headings extra ++ names
 

@@ -1,7 +1,7 @@
 -- What is told of a number that was found in a text.
 use Rattle.std.specs.Prelude.{◌≡◌, ℕ, List, [], ◌∷◌, codes, get_or, Some, unwrap_or}
 use Rattle.std.specs.Fmt.{decimal}
-use Rattle.serde_json.specs.Data.{Data, string, number, unsigned, object, member, no_members}
+use Rattle.serde_json.specs.Data.{Data, string, number, unsigned, object, put, no_members}
 use Rattle.serde_json.specs.Written.{compact_text}
 use Rattle.phone_values.specs.declared.rules.Rules.{Rules}
 use Rattle.phone_values.specs.declared.reading.Reading.{Reading}
@@ -9,23 +9,18 @@ use Rattle.phone_csv.specs.Formats.{Record}
 use Rattle.phone_plans.specs.CodeLookUps.{first_of, territories}
 use Rattle.phone_records.specs.declared.loader.Metadata.{Metadata}
 use Rattle.phone_table.specs.Answers.{number_answer}
-use Rattle.phone_table.specs.Objects.{field}
+use Rattle.phone_table.specs.Objects.{with_answer}
 use Rattle.phone_table.specs.declared.finds.Spot.{Spot}
 
--- the object of a number that was found: its line and column, the piece of the text, six fields of
--- its answer by their names, and its extension, in the order of the alphabet
+-- the object of a number that was found: its line and column, the piece of the text, the fields of
+-- its answer but the refusal by their names, and its extension
 abbrev pub object_of_found : Spot → List ℕ → Record → Data
 object_of_found spot extension fields = object (
-    member (codes "column") (number (unsigned spot.column)) (
-    member (codes "e164") (field fields 0) (
-    member (codes "extension") (string extension) (
-    member (codes "international") (field fields 1) (
-    member (codes "line") (number (unsigned spot.line)) (
-    member (codes "national") (field fields 2) (
-    member (codes "region") (field fields 4) (
-    member (codes "text") (string spot.piece.now) (
-    member (codes "type") (field fields 3) (
-    member (codes "validity") (field fields 5) no_members))))))))))
+    put (codes "extension") (string extension) (
+    with_answer fields (
+    put (codes "text") (string spot.piece.now) (
+    put (codes "column") (number (unsigned spot.column)) (
+    put (codes "line") (number (unsigned spot.line)) no_members)))))
 
 -- this text is that object, the number's answer being by the first territory of its code
 abbrev pub IsFoundObject : Rules → List Metadata → Spot → Reading → List ℕ → Type 0

@@ -1,12 +1,17 @@
 -- Which columns a header has.
-use Rattle.std.specs.Prelude.{ℕ, List, [], ◌∷◌, ◌+◌, codes, length, if◌then◌else◌}
+use Rattle.std.specs.Prelude.{ℕ, List, [], ◌∷◌, ◌+◌, codes, length, map, if◌then◌else◌}
+use Rattle.std.specs.Borrow.{Bor}
 use Rattle.std.specs.Str.{bytes_eq}
 use Rattle.std.specs.Prelude.{Option, Some, None, option_map}
 use Rattle.std.specs.Option.{option_and_then}
 use Rattle.phone_csv.specs.Formats.{Record}
 use Rattle.phone_table.specs.declared.header.Columns.{Columns}
 
--- the names of the seven fields
+-- texts that are lent, as fields
+abbrev pub texts_of : List (Bor (List ℕ)) → Record
+texts_of texts = map (λ (t : Bor (List ℕ)). t.now) texts
+
+-- the names of an answer's fields
 abbrev pub names : Record
 names = codes "e164" ∷ codes "international" ∷ codes "national" ∷ codes "type" ∷
     codes "region" ∷ codes "validity" ∷ codes "refusal" ∷ []

@@ -5,8 +5,8 @@ use Rattle.std.specs.BTreeMap.{BTreeMap}
 use Rattle.std.specs.Str.{IsUtf8}
 use Rattle.std.specs.declared.alloc.AllocError.{AllocError}
 use Rattle.std.specs.declared.alloc.Global.{Global}
-use Rattle.serde_json.specs.Data.{Data, Members, null, string, number, unsigned, object, member}
-use Rattle.serde_json.specs.Data.{no_members, put}
+use Rattle.serde_json.specs.Data.{Data, Members, null, string, number, unsigned, object, put}
+use Rattle.serde_json.specs.Data.{no_members}
 use Rattle.serde_json.specs.Read.{read}
 use Rattle.serde_json.specs.View.{members_view}
 use Rattle.serde_json.specs.Written.{compact_text}
@@ -19,7 +19,7 @@ use Rattle.phone_values.specs.declared.rules.Rules.{Rules}
 use Rattle.phone_table.specs.Answers.{IsFieldAnswer}
 use Rattle.phone_table.specs.declared.objects.Fields.{Fields}
 
--- seven fields as a record
+-- an answer's fields as a record
 abbrev pub spelled_by : Fields → Record
 spelled_by f = f.e164.now ∷ f.international.now ∷ f.national.now ∷ f.kind.now ∷ f.region.now ∷
     f.validity.now ∷ f.refusal.now ∷ []
@@ -28,25 +28,7 @@ spelled_by f = f.e164.now ∷ f.international.now ∷ f.national.now ∷ f.kind.
 abbrev pub field : Record → ℕ → Data
 field fields place = string (get_or fields place [])
 
--- the object of a line: its number, its text, and the seven fields of its answer by their names, in
--- the order of the alphabet
-abbrev pub object_of : ℕ → Data → Record → Data
-object_of line text fields = object (
-    member (codes "e164") (field fields 0) (
-    member (codes "international") (field fields 1) (
-    member (codes "line") (number (unsigned line)) (
-    member (codes "national") (field fields 2) (
-    member (codes "refusal") (field fields 6) (
-    member (codes "region") (field fields 4) (
-    member (codes "text") text (
-    member (codes "type") (field fields 3) (
-    member (codes "validity") (field fields 5) no_members)))))))))
-
--- the members of an object that is being made are these, unless memory was refused
-abbrev pub AreMade : Result (BTreeMap (String Global) Value) AllocError → Members → Type 0
-AreMade made ms = IfOk made (λ m. members_view m.entries ≡ ms)
-
--- these members, and those of an answer's first six fields
+-- these members, and those of an answer's fields but the refusal, in the order of their names
 abbrev pub with_answer : Record → Members → Members
 with_answer fields ms =
     put (codes "validity") (field fields 5) (
@@ -55,6 +37,18 @@ with_answer fields ms =
     put (codes "national") (field fields 2) (
     put (codes "international") (field fields 1) (
     put (codes "e164") (field fields 0) ms)))))
+
+-- the object of a line: its number, its text, and the fields of its answer by their names
+abbrev pub object_of : ℕ → Data → Record → Data
+object_of line text fields = object (
+    put (codes "refusal") (field fields 6) (
+    with_answer fields (
+    put (codes "text") text (
+    put (codes "line") (number (unsigned line)) no_members))))
+
+-- the members of an object that is being made are these, unless memory was refused
+abbrev pub AreMade : Result (BTreeMap (String Global) Value) AllocError → Members → Type 0
+AreMade made ms = IfOk made (λ m. members_view m.entries ≡ ms)
 
 -- what a line is answered: its object, whose text is null where the line is none
 pub data IsObject (rules : Rules) (db : List Metadata) (short : Option (List Metadata))

@@ -1,10 +1,9 @@
 -- The rows of a table: each record with its answer, or, where each number is kept once, without
 -- those whose number an earlier row has.
-use Rattle.std.specs.Prelude.{◌≡◌, ◌&&◌, ◌==◌, ◌-◌, ℕ, ◌+◌, Bool, true, false, not, List, [], ◌∷◌}
-use Rattle.std.specs.Prelude.{◌++◌, length, vec_len}
+use Rattle.std.specs.Prelude.{◌≡◌, ◌&&◌, ◌==◌, ◌-◌, ℕ, Bool, true, false, not, List, [], ◌∷◌}
+use Rattle.std.specs.Prelude.{◌++◌, length}
 use Rattle.std.specs.List.{list_any}
 use Rattle.std.specs.Str.{bytes_eq}
-use Rattle.phone_csv.specs.Feeds.{counted}
 use Rattle.phone_csv.specs.Formats.{Record}
 use Rattle.phone_csv.specs.RecordReports.{Writes, rows_text}
 use Rattle.phone_csv.specs.declared.format.Format.{Format}

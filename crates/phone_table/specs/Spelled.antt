@@ -14,7 +14,7 @@ use Rattle.phone_table.specs.declared.answer.Answer.{Answer}
 use Rattle.phone_table.specs.declared.answer.Answer.TheVariants.{Number, Refused, Short}
 use Rattle.phone_table.specs.declared.answer.Known.{Known}
 
--- what is known of a number, as seven fields
+-- what is known of a number, as an answer's fields
 abbrev pub spelled_known : Known → Record
 spelled_known k = string_bytes k.texts.e164 ∷ string_bytes k.texts.international ∷
     string_bytes k.texts.national ∷ kind_word k.facts.kind ∷ region_word k.facts.region ∷

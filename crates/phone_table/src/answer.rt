@@ -6,14 +6,15 @@ ghost use Rattle.phone_records.specs.declared.loader.Metadata as loader;
 ghost use Rattle.phone_table.specs.Answers.{IsFieldAnswer, IsReply, IsTextAnswer, is_blank};
 ghost use Rattle.phone_table.specs.Answers.{number_answer};
 ghost use Rattle.phone_table.specs.Objects.{spelled_by};
-ghost use Rattle.phone_table.specs.Shorts.{short_in};
+ghost use Rattle.phone_table.specs.Shorts.{is_number_alone, may_stand, short_in};
 ghost use Rattle.phone_table.specs.Spelled.{IsKnown, IsKnownIn, is_valid_in, number_in, spelled};
 ghost use Rattle.phone_table.specs.Spelled.{spelled_known};
 
-use crate::names::push_three;
+use crate::names::push_texts;
 use crate::objects::{Fields, parts_of};
 use crate::words::refusal_words;
 use csv::ByteRecord;
+use phone_chars::chars::{is_alpha, is_nd, is_separator};
 use phone_engine::Engine;
 use phone_plans::Plans;
 use phone_short::{ShortKind, short_kind};
@@ -43,8 +44,9 @@ pub enum Answer {
 
 /// What a field is answered, its number read and described by this engine. A field that is empty,
 /// or white space alone, is refused as `empty`. Where there is a database of short numbers and the
-/// engine has a hint, an emergency number of the hint's region is always answered as one, and
-/// another short number of it as one where no valid number is read. Refused only for memory.
+/// engine has a hint, a field that is nothing but a number, as `1 1 2` is and `tel 112` isn't, and
+/// an emergency number of the hint's region, is always answered as one; another short number of it
+/// as one where no valid number is read. Refused only for memory.
 pub fn answer_to(
     engine: Engine<'_>,
     short: Option<&Plans>,
@@ -86,8 +88,8 @@ fn answer_to_text(
     }
 }
 
-/// The region of a hint, and what kind of short number a text is there, by a database of these;
-/// none without a database or a hint. Refused only for memory.
+/// The region of a hint, and what kind of short number a text is there that is nothing but a
+/// number, by a database of these; none without a database or a hint. Refused only for memory.
 fn short_in(
     short: Option<&Plans>,
     hint: Option<Id>,
@@ -99,10 +101,28 @@ fn short_in(
     let (Some(database), Some(region)) = (short, hint) else {
         return Ok(None);
     };
+    if !is_number_alone(text) {
+        return Ok(None);
+    }
     match short_kind(database, region, text)? {
         Some(kind) => Ok(Some((region, kind))),
         None => Ok(None),
     }
+}
+
+/// Whether a text has nothing but digits of any script, white space, and what parts the groups of a
+/// number.
+fn is_number_alone(text: &str) -> bool
+    ensures { result ≡ is_number_alone text.now }
+{
+    text.chars().all(may_stand)
+}
+
+/// Whether the character may stand in the field of a short number.
+fn may_stand(c: char) -> bool
+    ensures { result ≡ may_stand c }
+{
+    is_nd(c) || c.is_whitespace() || (is_separator(c) && !is_alpha(c))
 }
 
 /// Whether an answer is of a number that is valid.
@@ -169,12 +189,30 @@ pub(crate) fn push_answer(fields: &mut ByteRecord, answer: &Answer) -> Result<()
     push_parts(fields, parts_of(answer))
 }
 
-/// Puts seven fields behind those of a record. Refused only for memory.
+/// Puts an answer's fields behind those of a record. Refused only for memory.
 fn push_parts(fields: &mut ByteRecord, parts: Fields<'_>) -> Result<(), AllocError>
     requires { partial_of fields.old ≡ [] }
     ensures { OnOk result (fields_of fields.new ≡ fields_of fields.old ++ spelled_by parts.entry) }
 {
-    push_three(fields, parts.e164, parts.international, parts.national)?;
-    push_three(fields, parts.kind, parts.region, parts.validity)?;
-    fields.push_field(parts.refusal.as_bytes())
+    let Fields {
+        e164,
+        international,
+        national,
+        kind,
+        region,
+        validity,
+        refusal,
+    } = parts;
+    push_texts(
+        fields,
+        &[
+            e164,
+            international,
+            national,
+            kind,
+            region,
+            validity,
+            refusal,
+        ],
+    )
 }

@@ -2,13 +2,13 @@
 ghost use Rattle.std.specs.Prelude.{◌≡◌, true, false};
 ghost use Rattle.csv.specs.Records.{fields_of};
 ghost use Rattle.phone_table.specs.Counts.{counted_if, counts_after, counts_without, has_refusal};
-ghost use Rattle.phone_table.specs.Counts.{is_invalid, is_junk, no_counts, tells};
+ghost use Rattle.phone_table.specs.Counts.{is_invalid, is_junk, is_short, no_counts, tells};
 
 use crate::table::field_in;
 use csv::ByteRecord;
 
-/// How many records of a table were answered, and how many of them not as a valid number: each at
-/// most 2^64 - 1.
+/// How many records of a table were answered, and how many of them not as a valid number of a
+/// calling code: each at most 2^64 - 1.
 #[derive(Clone, Copy, PartialEq, Eq, Debug)]
 pub struct Counts {
     /// All of them.
@@ -23,6 +23,8 @@ pub struct Counts {
     pub no_number: u64,
     /// Those whose number isn't valid.
     pub invalid: u64,
+    /// Those whose number is a short number.
+    pub short: u64,
     /// Those that are left out, since an earlier one has their number.
     pub repeated: u64,
 }
@@ -39,12 +41,13 @@ impl Counts {
             wrong_count: 0,
             no_number: 0,
             invalid: 0,
+            short: 0,
             repeated: 0,
         }
     }
 
-    /// The counts after one more row, by its last two fields: the validity, and the words of a
-    /// refusal.
+    /// The counts after one more row, by its last four fields: the kind, the region, the validity,
+    /// and the words of a refusal.
     fn after(self, row: &ByteRecord) -> Counts
         ensures { result ≡ counts_after self (fields_of row.now) }
     {
@@ -55,6 +58,7 @@ impl Counts {
             wrong_count: counted_if(has_refusal(row, "wrong count of fields"), self.wrong_count),
             no_number: counted_if(is_junk(row), self.no_number),
             invalid: counted_if(is_invalid(row), self.invalid),
+            short: counted_if(is_short(row), self.short),
             repeated: self.repeated,
         }
     }
@@ -112,4 +116,11 @@ fn is_invalid(row: &ByteRecord) -> bool
     ensures { result ≡ is_invalid (fields_of row.now) }
 {
     tells(row, 2, "invalid")
+}
+
+/// Whether a row's number is a short number.
+fn is_short(row: &ByteRecord) -> bool
+    ensures { result ≡ is_short (fields_of row.now) }
+{
+    tells(row, 4, "Emergency") || tells(row, 4, "ShortNumber")
 }

@@ -1,4 +1,4 @@
-//! Columns that are asked for beside the seven, each told by a table of prefixes.
+//! Columns that are asked for beside the answer's, each told by a table of prefixes.
 ghost use Rattle.std.specs.Prelude.{◌≡◌, ◌&&◌, ◌||◌, ◌++◌, ◌∷◌, not, [], ℕ, List};
 ghost use Rattle.std.specs.Prelude.{if◌then◌else◌, None, OnOk, Some};
 ghost use Rattle.std.specs.Fmt.{decimal};
@@ -38,7 +38,7 @@ pub enum Told {
     Area,
 }
 
-/// A column that is asked for beside the seven.
+/// A column that is asked for beside the answer's.
 #[derive(Clone, Copy)]
 pub struct Extra<'a> {
     /// Its name in the header.

@@ -1,5 +1,5 @@
 //! What is told of a number that was found in a text, as a JSON object and as a record of a table.
-ghost use Rattle.std.specs.Prelude.{◌≡◌, ◌++◌, [], Err, IfOk, None, OnOk, string_bytes};
+ghost use Rattle.std.specs.Prelude.{◌≡◌, ◌++◌, ◌∷◌, [], Err, IfOk, None, OnOk, string_bytes};
 ghost use Rattle.std.specs.Prelude.{unwrap_or};
 ghost use Rattle.csv.specs.Records as records;
 ghost use Rattle.phone_csv.specs.Formats.{Record};
@@ -11,7 +11,7 @@ ghost use Rattle.phone_table.specs.Finds.{found_record, object_of_found};
 ghost use Rattle.phone_table.specs.Objects.{spelled_by};
 
 use crate::answer::known_of;
-use crate::names::push_three;
+use crate::names::push_texts;
 use crate::objects::{Fields, object_with, parts_of_known, with_answer, with_number, with_text};
 use csv::ByteRecord;
 use itoa::Buffer;
@@ -32,10 +32,9 @@ pub struct Spot<'a> {
 }
 
 /// The JSON text of a number that was found in a text, on one line: an object of its line and
-/// column, the piece of the text, the fields that a table's answer has by this engine (`e164`,
-/// `international`, `national`, `type`, `region`, `validity`), and its `extension`, which is empty
-/// where it has none. `UnknownCode` where the database lists no territory of the code; `Memory`
-/// where memory was refused.
+/// column, the piece of the text, the fields that `object_line` has by this engine but the refusal,
+/// and its `extension`, which is empty where it has none. `UnknownCode` where the database lists no
+/// territory of the code; `Memory` where memory was refused.
 pub fn found_object(
     engine: Engine<'_>,
     spot: Spot<'_>,
@@ -93,10 +92,38 @@ fn push_spot(
 {
     let mut line = Buffer::new();
     let mut column = Buffer::new();
-    let place = line.format(spot.line);
-    push_three(row, place, column.format(spot.column), fields.e164)?;
-    push_three(row, fields.kind, fields.region, extension)?;
-    row.push_field(spot.piece.as_bytes())
+    let line = line.format(spot.line);
+    push_at(
+        row,
+        line,
+        column.format(spot.column),
+        spot.piece,
+        extension,
+        fields,
+    )
+}
+
+/// The same, by the texts of line and column.
+fn push_at(
+    row: &mut ByteRecord,
+    line: &str,
+    column: &str,
+    piece: &str,
+    extension: &str,
+    fields: Fields<'_>,
+) -> Result<(), AllocError>
+    requires { records.partial_of row.old ≡ [] }
+    ensures { OnOk result (records.fields_of row.new ≡ records.fields_of row.old ++
+        line.now ∷ column.now ∷ fields.entry.e164.now ∷ fields.entry.kind.now ∷
+        fields.entry.region.now ∷ extension.now ∷ piece.now ∷ []) }
+{
+    let Fields {
+        e164,
+        kind,
+        region,
+        ..
+    } = fields;
+    push_texts(row, &[line, column, e164, kind, region, extension, piece])
 }
 
 /// Puts the names of the columns of such records behind the fields of a header: `line`, `column`,
@@ -106,9 +133,18 @@ pub fn push_found_names(header: &mut ByteRecord) -> Result<(), AllocError>
     ensures { OnOk result (records.fields_of header.new ≡
         records.fields_of header.old ++ found_names) }
 {
-    push_three(header, "line", "column", "e164")?;
-    push_three(header, "type", "region", "extension")?;
-    header.push_field("text".as_bytes())
+    push_texts(
+        header,
+        &[
+            "line",
+            "column",
+            "e164",
+            "type",
+            "region",
+            "extension",
+            "text",
+        ],
+    )
 }
 
 /// The text of a number's extension; empty where it has none.

@@ -1,6 +1,6 @@
 //! What holds of answers. These functions do nothing, but for those that read a text to show that
 //! it has an answer; their contracts are the statements.
-ghost use Rattle.std.specs.Prelude.{◌≡◌, ◌⊎◌, ℕ, List, None, Option, Some, chars};
+ghost use Rattle.std.specs.Prelude.{◌≡◌, ◌⊎◌, ℕ, List, None, Option, Some, chars, true};
 ghost use Rattle.std.specs.Str.{IsUtf8};
 ghost use Rattle.csv.specs.Records.{fields_of};
 ghost use Rattle.serde_json.specs.Data.{Data};
@@ -14,13 +14,13 @@ ghost use Rattle.phone_short.specs.Regions.{short_kind};
 ghost use Rattle.phone_short.specs.declared.kind.ShortKind.TheVariants as kind;
 ghost use Rattle.phone_prefixes.specs.Tables as prefixes;
 ghost use Rattle.phone_table.specs.Answers.{IsAnswer, IsFieldAnswer, IsOfOtherWidth};
-ghost use Rattle.phone_table.specs.Answers.{IsSevenAnswer};
+ghost use Rattle.phone_table.specs.Answers.{IsOwnAnswer};
 ghost use Rattle.phone_table.specs.Extras.{EachHasOneText, HaveOneText};
 ghost use Rattle.phone_table.specs.Objects.{IsObject, IsObjectLine};
 ghost use Rattle.phone_table.specs.Ends.{by};
 ghost use Rattle.phone_table.specs.Runs.{WritesTable, names_in};
 ghost use Rattle.phone_table.specs.declared.counts.Counts.{Counts};
-ghost use Rattle.phone_table.specs.Shorts.{short_answer};
+ghost use Rattle.phone_table.specs.Shorts.{is_number_alone, short_answer};
 ghost use Rattle.phone_table.specs.Tables.{IsReadAgain, IsTable};
 ghost use Rattle.phone_table.specs.declared.header.Columns as header;
 ghost use Rattle.phone_table.specs.declared.run.Asked as run;
@@ -31,12 +31,12 @@ use crate::table::{field_in, region_of};
 use csv::ByteRecord;
 use phone_engine::laws::some_reading;
 
-/// A field that is an emergency number of the hint's region is answered as one, whatever number
-/// could be read in it.
+/// A field that is nothing but an emergency number of the hint's region is answered as one,
+/// whatever number could be read in it.
 pub fn emergency_alone()
     ensures { (rules : Rules) (db short : List loader.Metadata) (region : Id) (field : List ℕ)
         (number : Option Reading) (answer : Record) → IsUtf8 field →
-        short_kind short region (chars field) ≡ Some kind.Emergency →
+        is_number_alone field ≡ true → short_kind short region (chars field) ≡ Some kind.Emergency →
         IsFieldAnswer rules db (Some short) (Some region) field number answer →
         (number ≡ None) × (answer ≡ short_answer region kind.Emergency) }
 {}
@@ -50,14 +50,14 @@ pub fn one_answer()
         IsFieldAnswer rules db short hint field k b → (n ≡ k) × (a ≡ b) }
 {}
 
-/// By either rules a record has one answer at most: seven fields, which are of one number or of
+/// By either rules a record has one answer at most: its fields, which are of one number or of
 /// none, and, where in the table of each column that is asked for a prefix has one text, what these
 /// columns tell.
 pub fn one_row()
-    ensures seven { (rules : Rules) (db : List loader.Metadata) (hint : Option Id)
+    ensures own { (rules : Rules) (db : List loader.Metadata) (hint : Option Id)
         (columns : header.Columns) (asked : run.Asked) (fields : Record) (n k : Option Reading)
-        (a b : Record) → IsSevenAnswer rules db hint columns asked fields n a →
-        IsSevenAnswer rules db hint columns asked fields k b → (n ≡ k) × (a ≡ b) }
+        (a b : Record) → IsOwnAnswer rules db hint columns asked fields n a →
+        IsOwnAnswer rules db hint columns asked fields k b → (n ≡ k) × (a ≡ b) }
     ensures whole { (rules : Rules) (db : List loader.Metadata) (hint : Option Id)
         (columns : header.Columns) (asked : run.Asked) (fields a b : Record) →
         EachHasOneText asked.extra.now → IsAnswer rules db hint columns asked fields a →

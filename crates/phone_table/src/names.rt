@@ -1,9 +1,9 @@
 //! The header that is written.
-ghost use Rattle.std.specs.Prelude.{◌≡◌, ◌+◌, ◌++◌, ◌∷◌, [], Err, IfOk, OnOk};
+ghost use Rattle.std.specs.Prelude.{◌≡◌, ◌+◌, ◌++◌, [], Err, IfOk, OnOk};
 ghost use Rattle.csv.specs.Records.{fields_of, partial_of};
 ghost use Rattle.phone_device.specs.Passing.{Takes, TakesFront};
 ghost use Rattle.phone_table.specs.Extras.{added_names, headings};
-ghost use Rattle.phone_table.specs.Headers.{names};
+ghost use Rattle.phone_table.specs.Headers.{names, texts_of};
 ghost use Rattle.phone_table.specs.Tables.{head_text, mark_text};
 ghost use Rattle.phone_table.specs.declared.names.HeaderError.TheVariants as error;
 
@@ -22,31 +22,36 @@ pub(crate) enum HeaderError {
     Memory,
 }
 
-/// Puts three fields behind those of a record. Refused only for memory.
-pub(crate) fn push_three(
-    fields: &mut ByteRecord,
-    first: &str,
-    second: &str,
-    third: &str,
-) -> Result<(), AllocError>
+/// Puts texts behind the fields of a record. Refused only for memory.
+pub(crate) fn push_texts(fields: &mut ByteRecord, texts: &[&str]) -> Result<(), AllocError>
     requires { partial_of fields.old ≡ [] }
-    ensures fields { OnOk result (fields_of fields.new ≡ fields_of fields.old ++
-        first.now ∷ second.now ∷ third.now ∷ []) }
+    ensures fields { OnOk result (fields_of fields.new ≡
+        fields_of fields.old ++ texts_of texts.now) }
     ensures partial { OnOk result (partial_of fields.new ≡ []) }
 {
-    fields.push_field(first.as_bytes())?;
-    fields.push_field(second.as_bytes())?;
-    fields.push_field(third.as_bytes())
+    'texts: for text in texts {
+        fields.push_field(text.as_bytes())?;
+    }
+    Ok(())
 }
 
-/// Puts the seven names behind a header. Refused only for memory.
+/// Puts the names of an answer's fields behind a header. Refused only for memory.
 fn push_names(header: &mut ByteRecord) -> Result<(), AllocError>
     requires { partial_of header.old ≡ [] }
     ensures { OnOk result (fields_of header.new ≡ fields_of header.old ++ names) }
 {
-    push_three(header, "e164", "international", "national")?;
-    push_three(header, "type", "region", "validity")?;
-    header.push_field("refusal".as_bytes())
+    push_texts(
+        header,
+        &[
+            "e164",
+            "international",
+            "national",
+            "type",
+            "region",
+            "validity",
+            "refusal",
+        ],
+    )
 }
 
 /// Puts the headings of columns behind a header. Refused only for memory.
@@ -73,7 +78,7 @@ fn mark_text(alloc: Global, has_mark: bool) -> Result<Vec<u8>, AllocError>
     Ok(text)
 }
 
-/// The text of a header with the seven names behind its own, and with a byte-order mark in front
+/// The text of a header with the answer's names behind its own, and with a byte-order mark in front
 /// where there is one. Refused only for memory.
 fn header_text(
     alloc: Global,
@@ -94,9 +99,9 @@ fn header_text(
     Ok(text)
 }
 
-/// Writes a header with the seven names behind its own, and with a byte-order mark in front where
-/// there is one. Refused by `Output` where the sink fails: then a beginning of it is written. By
-/// `Memory`: then nothing is.
+/// Writes a header with the answer's names behind its own, and with a byte-order mark in front
+/// where there is one. Refused by `Output` where the sink fails: then a beginning of it is written.
+/// By `Memory`: then nothing is.
 pub(crate) fn write_header<W: ByteSink>(
     alloc: Global,
     format: Format,

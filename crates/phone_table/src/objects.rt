@@ -14,7 +14,7 @@ use phone_plans::Plans;
 use serde_json::{Map, Value};
 use std::alloc::{AllocError, Global};
 
-/// The seven fields of an answer.
+/// The fields of an answer.
 #[derive(Clone, Copy)]
 pub(crate) struct Fields<'a> {
     pub e164: &'a str,

@@ -15,9 +15,9 @@ use phone_csv::{Answers, First, RunError, answer_records, format_after};
 use phone_device::{ByteSink, ByteSource};
 use std::alloc::Global;
 
-/// Writes a header that was read with the seven names behind it, and then the records that follow
-/// it, each with its answer, unless it is left out. Begins with a byte-order mark where the table
-/// does, and ends each record as the header ends. Refused as `answer_records` refuses; where
+/// Writes a header that was read with the answer's names behind it, and then the records that
+/// follow it, each with its answer, unless it is left out. Begins with a byte-order mark where the
+/// table does, and ends each record as the header ends. Refused as `answer_records` refuses; where
 /// memory is refused for the header nothing is written.
 pub(crate) fn write_rows<A: Answers, S: ByteSource, W: ByteSink>(
     alloc: Global,

@@ -29,7 +29,7 @@ pub struct Asked<'a> {
     pub mark_bad: bool,
     /// Whether of the records with one number the first is given back alone.
     pub is_unique: bool,
-    /// The columns that stand between the header's own and the seven.
+    /// The columns that stand between the header's own and the answer's.
     pub extra: &'a [Extra<'a>],
     /// The database of short numbers, where the kinds of these are told.
     pub short: Option<&'a Plans>,

@@ -5,7 +5,7 @@ ghost use Rattle.std.specs.Str.{bytes_eq};
 ghost use Rattle.std.specs.Prelude.{Err, IfErr, IfOk, None, OnOk};
 ghost use Rattle.csv.specs.Records.{fields_of, partial_of};
 ghost use Rattle.phone_csv.specs.Formats.{Record};
-ghost use Rattle.phone_table.specs.Answers.{IsNumberAnswer, IsOfOtherWidth, IsSevenAnswer};
+ghost use Rattle.phone_table.specs.Answers.{IsNumberAnswer, IsOfOtherWidth, IsOwnAnswer};
 ghost use Rattle.phone_table.specs.Answers.{refused_answer};
 ghost use Rattle.phone_table.specs.Extras.{AreTold};
 ghost use Rattle.phone_table.specs.Regions.{RecordNames, field_in};
@@ -86,7 +86,7 @@ impl<'d> Table<'d> {
 
     /// The answer to a record, whatever the count of its fields; or why it isn't answered.
     fn answer_or_refusal(&self, fields: &ByteRecord) -> Result<Answer, Refusal>
-        ensures answer { IfOk result (λ a. IsSevenAnswer self.now.engine.rules
+        ensures answer { IfOk result (λ a. IsOwnAnswer self.now.engine.rules
             self.now.engine.database.now self.now.engine.hint self.now.columns self.now.asked
             (fields_of fields.now) (number_in a) (spelled a)) }
         ensures known { IfOk result
@@ -120,7 +120,7 @@ impl<'d> Table<'d> {
         }
     }
 
-    /// Puts what the columns that are asked for tell, and the seven fields of an answer, behind
+    /// Puts what the columns that are asked for tell, and the fields of an answer, behind
     /// those of a record. Refused only for memory.
     fn push_row(&self, fields: &mut ByteRecord, answer: &Answer) -> Result<(), AllocError>
         requires partial { partial_of fields.old ≡ [] }
@@ -203,7 +203,7 @@ impl<'d> Answers for Table<'d> {
 
     ghost refuses = { λ t fields. IsOfOtherWidth t.columns t.asked fields };
 
-    /// Puts what the columns that are asked for tell, and the seven fields of the answer, behind
+    /// Puts what the columns that are asked for tell, and the fields of the answer, behind
     /// those of a record, and counts it. A record with another count of fields than the table has
     /// columns isn't answered, unless such are marked.
     fn answer(&mut self, _alloc: Global, fields: &mut ByteRecord) -> Result<bool, Refusal> {

@@ -3,6 +3,7 @@ use crate::by_rules::by_rules;
 use anyhow::{Result, anyhow};
 use phone_book::{Book, BookError, Place};
 use phone_engine::Rules;
+use phone_meta::Database;
 use phone_values::ParseError;
 use phone_values::country::Id;
 use phonenumber::PhoneNumber;
@@ -24,26 +25,34 @@ type Answer = Result<Place, BookError>;
 /// other call. An error where the line's text has no hint, and where memory is refused.
 pub fn answer<R: Files + AllocGlobal>(rt: &R, row: &Row) -> Result<Option<String>> {
     match by_rules(row) {
-        (_, "book" | "book-add" | "book-get") => Ok(Some(of_book(rt, row)?)),
+        (rules, "book" | "book-add" | "book-get") => Ok(Some(of_book(rt, rules, row)?)),
         _ => Ok(None),
     }
 }
 
-/// What a book over the database that a line names answers, or that one of its codes begins
-/// another.
-fn of_book<R: Files + AllocGlobal>(rt: &R, row: &Row) -> Result<String> {
-    match Book::new(load(rt, row.argument(0))?) {
-        Ok(mut book) => in_book(rt.alloc(), row, &mut book),
-        Err(_) => said(rt.alloc(), "Ambiguous"),
+/// What a book over the database that a line names answers, which reads by these rules, or that one
+/// of its codes begins another.
+fn of_book<R: Files + AllocGlobal>(rt: &R, rules: Rules, row: &Row) -> Result<String> {
+    match empty_book(load(rt, row.argument(0))?, rules) {
+        Some(mut book) => in_book(rt.alloc(), row, &mut book),
+        None => said(rt.alloc(), "Ambiguous"),
+    }
+}
+
+/// An empty book over a database; none where one of its codes begins another.
+fn empty_book(database: Database, rules: Rules) -> Option<Book> {
+    match rules {
+        Rules::Crate => Book::new(database).ok(),
+        Rules::Library => Book::over(database.into_plans(), rules).ok(),
     }
 }
 
 /// What an empty book answers to a line's call.
 fn in_book(alloc: Global, row: &Row, book: &mut Book) -> Result<String> {
     match by_rules(row) {
-        (rules, "book") => all_at_once(alloc, rules, row, book),
-        (rules, "book-add") => one_by_one(alloc, rules, row, book),
-        (rules, _) => entry(alloc, rules, row, book),
+        (_, "book") => all_at_once(alloc, row, book),
+        (_, "book-add") => one_by_one(alloc, row, book),
+        _ => entry(alloc, row, book),
     }
 }
 
@@ -60,10 +69,10 @@ fn lines(alloc: Global, row: &Row, from: usize) -> Result<Vec<Hinted<'_>>> {
 }
 
 /// The answers of a book to all lines at once, and its numbers.
-fn all_at_once(alloc: Global, rules: Rules, row: &Row, book: &mut Book) -> Result<String> {
+fn all_at_once(alloc: Global, row: &Row, book: &mut Book) -> Result<String> {
     let lines = lines(alloc, row, 1)?;
     let begun = begin(alloc);
-    match around(alloc, begun, book.add_all_by(rules, lines.as_slice())) {
+    match around(alloc, begun, book.add_all(lines.as_slice())) {
         Ok(answers) => book_words(alloc, book, answers.as_slice()),
         Err(_) if book.len() == 0 => Err(anyhow!("out of memory")),
         Err(_) => said(alloc, "numbers without answers"),
@@ -71,26 +80,25 @@ fn all_at_once(alloc: Global, rules: Rules, row: &Row, book: &mut Book) -> Resul
 }
 
 /// The same, line by line.
-fn one_by_one(alloc: Global, rules: Rules, row: &Row, book: &mut Book) -> Result<String> {
+fn one_by_one(alloc: Global, row: &Row, book: &mut Book) -> Result<String> {
     let lines = lines(alloc, row, 1)?;
     let mut answers = Vec::with_capacity(alloc, lines.len())?;
     around(
         alloc,
         begin(alloc),
-        add_each(rules, book, lines.as_slice(), &mut answers),
+        add_each(book, lines.as_slice(), &mut answers),
     )?;
     book_words(alloc, book, answers.as_slice())
 }
 
 /// Adds each line, and keeps its answer, for which there is room.
 fn add_each(
-    rules: Rules,
     book: &mut Book,
     lines: &[Hinted<'_>],
     answers: &mut Vec<Answer>,
 ) -> Result<(), AllocError> {
     for (hint, text) in lines {
-        answers.push(book.add_by(rules, *hint, text))?;
+        answers.push(book.add(*hint, text))?;
     }
     Ok(())
 }
@@ -159,9 +167,9 @@ fn push_numbers(out: &mut String, book: &Book) -> Result<(), AllocError> {
 
 /// How many numbers a book has that was given all lines, and the number at a place as it was
 /// written, or a hyphen.
-fn entry(alloc: Global, rules: Rules, row: &Row, book: &mut Book) -> Result<String> {
+fn entry(alloc: Global, row: &Row, book: &mut Book) -> Result<String> {
     let place = row.argument(1).parse::<usize>()?;
-    add_all(alloc, rules, row, book)?;
+    add_all(alloc, row, book)?;
     let mut out = book.len().to_string(alloc)?;
     push_entry(&mut out, book.get(place))?;
     Ok(out)
@@ -177,8 +185,8 @@ fn push_entry(out: &mut String, number: Option<&PhoneNumber>) -> Result<(), Allo
 }
 
 /// Adds the lines behind a place.
-fn add_all(alloc: Global, rules: Rules, row: &Row, book: &mut Book) -> Result<()> {
+fn add_all(alloc: Global, row: &Row, book: &mut Book) -> Result<()> {
     let lines = lines(alloc, row, 2)?;
-    let _answers = book.add_all_by(rules, lines.as_slice())?;
+    let _answers = book.add_all(lines.as_slice())?;
     Ok(())
 }

@@ -74,7 +74,8 @@ fn push_end(out: &mut String, end: Result<Counts, TableError>) -> Result<()> {
 }
 
 /// Writes how many records there were, and how many with an unknown region, an empty field, a wrong
-/// count of fields, without a number, with one that isn't valid, and left out, parted by spaces.
+/// count of fields, without a number, with one that isn't valid, with a short number, and left out,
+/// parted by spaces.
 fn push_counts(out: &mut String, counts: &Counts) -> Result<(), AllocError> {
     let Counts {
         records,
@@ -83,10 +84,11 @@ fn push_counts(out: &mut String, counts: &Counts) -> Result<(), AllocError> {
         wrong_count,
         no_number,
         invalid,
+        short,
         repeated,
     } = counts;
     write!(
         out,
-        "{records} {unknown_region} {empty} {wrong_count} {no_number} {invalid} {repeated}"
+        "{records} {unknown_region} {empty} {wrong_count} {no_number} {invalid} {short} {repeated}"
     )
 }

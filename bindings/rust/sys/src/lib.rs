@@ -1,7 +1,7 @@
 //! The calls of `phone.h`, and the library behind them, linked. The crate `phonenumber-proved` stands over it.
 //!
-//! The header says what each call means, and what a caller owes. In the repository `bindings/declarations.py` compares it with these
-//! declarations.
+//! The header says what each call means, and what a caller owes. In the repository `bindings/declarations.py` makes the block of calls of
+//! it, and compares structs and numbers.
 #![no_std]
 
 /// A database, or nothing open where `at` is null. It isn't copied, and these calls alone write it.
@@ -67,12 +67,14 @@ pub const NO_PREFIX: u32 = 30;
 pub const NO_EXAMPLE: u32 = 32;
 pub const NO_TERRITORY: u32 = 34;
 
+// Made by `bindings/declarations.py --write` of `phone.h`: edit that.
+#[rustfmt::skip]
 unsafe extern "C" {
-    pub fn phone_open(text: *const u8, len: usize, rules: u32, handle: *mut Handle) -> u32;
+    pub fn phone_open(text: *const u8, text_len: usize, rules: u32, handle: *mut Handle) -> u32;
     pub fn phone_open_world(handle: *mut Handle, rules: u32) -> u32;
+    pub fn phone_world_text(text_len: *mut usize) -> *const u8;
     pub fn phone_share(world: *mut Handle, mine: *mut Handle) -> u32;
     pub fn phone_share_by(world: *mut Handle, rules: u32, mine: *mut Handle) -> u32;
-    pub fn phone_world_text(text_len: *mut usize) -> *const u8;
     pub fn phone_close(handle: *mut Handle);
     pub fn phone_report(
         handle: *mut Handle,
@@ -192,7 +194,7 @@ unsafe extern "C" {
         text_len: usize,
         facts: *mut ShortFacts,
     ) -> u32;
-    pub fn phone_prefixes_open(text: *const u8, len: usize, prefixes: *mut Prefixes, line: *mut usize) -> u32;
+    pub fn phone_prefixes_open(text: *const u8, text_len: usize, prefixes: *mut Prefixes, line: *mut usize) -> u32;
     pub fn phone_prefixes_share(prefixes: *mut Prefixes, mine: *mut Prefixes) -> u32;
     pub fn phone_prefixes_close(prefixes: *mut Prefixes);
     pub fn phone_prefixes_longest(
@@ -205,7 +207,7 @@ unsafe extern "C" {
         prefix_len: *mut usize,
     ) -> u32;
     pub fn phone_key(number: *const Number, out: *mut u8, out_len: usize, wrote: *mut usize) -> u32;
-    pub fn phone_is_viable(text: *const u8, len: usize, told: *mut u8) -> u32;
+    pub fn phone_is_viable(text: *const u8, text_len: usize, told: *mut u8) -> u32;
     pub fn phone_status_words(status: u32, out: *mut u8, out_len: usize, wrote: *mut usize) -> u32;
     pub fn phone_word(set: u32, value: u32, out: *mut u8, out_len: usize, wrote: *mut usize) -> u32;
     pub fn phone_version() -> u32;

@@ -1,8 +1,9 @@
-use Rattle.std.proofs.Common.{None, refl, arith, inl, inr}
+use Rattle.std.proofs.Common.{None, codes, leb-true, refl, arith, inl, inr}
 use Rattle.std.specs.Fmt.{digits}
 use Rattle.std.specs.Str.{chars}
 use Rattle.phone_values.specs.Ids.{id_of, name}
 use Rattle.phone_plans.specs.CodeLookUps.{begins}
+use Rattle.phonenumber.proofs.BackTexts.{IsUtf8-low}
 use Rattle.headline_examples.proofs.ByText.{international, is_plain}
 use Rattle.headline_examples.proofs.Laid.{nz_laid}
 use Rattle.headline_examples.proofs.ByText.{ends_in_digit}
@@ -23,4 +24,13 @@ returns c = record {
     enough = refl;
   };
   ends = record { laid = ap ends_in_digit (nz_laid None) ∙ refl; extension = inl refl };
+  shaped = record { short = leb-true _ 250 refl; made = refl; ended = refl };
+  among = record {
+    before_utf8 = IsUtf8-low (codes "call") refl;
+    piece_utf8 = IsUtf8-low (codes "+64 3 331 6005") refl;
+    after_utf8 = IsUtf8-low (codes "today") refl;
+    no_opening = refl;
+    no_digit = refl;
+  };
+  by_library = refl;
 }

@@ -13,12 +13,12 @@ returns c =
     let facts = c.in_ok-facts.ensures in
     subst (λ t. OnOk c.push_words.result (string_bytes c.push_words.new.line ≡ string_bytes c.args.line.now ++ 9 ∷ t))
     (words_by c.source_word-source.result.now c.kind_word-kind.result.now
-    c.region_word-region.result.now c.validity_word-validity.result.now
+    c.region_word-region.result.now (validity_word c.in_ok-facts.facts.is_valid)
     (source_word n.code.source) (kind_word (kind_by by db n))
     (region_word (region_by by db n)) (validity_word (is_valid_by by db n))
     (c.source_word-source.ensures
     ∙ ap source_word (c.source.ensures ∙ ap (λ (x : Code). x.source) c.code.ensures))
     (c.kind_word-kind.ensures ∙ ap kind_word facts.kind)
     (c.region_word-region.ensures ∙ ap region_word facts.region)
-    (c.validity_word-validity.ensures ∙ ap validity_word facts.is_valid))
+    (ap validity_word facts.is_valid))
     c.push_words.ensures

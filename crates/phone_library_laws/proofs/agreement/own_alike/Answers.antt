@@ -1,4 +1,4 @@
-use Rattle.phone_library_laws.proofs.AlikeNumbers.{own_alike}
+use Rattle.phone_library_laws.proofs.AlikeStripping.{own_alike}
 use Rattle.phone_library_laws.proofs.agreement.own_alike.Goals as goal
 
 pub returns : goal.returns

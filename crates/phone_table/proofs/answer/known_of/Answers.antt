@@ -3,7 +3,7 @@ use Rattle.phone_values.specs.declared.country.Code.{Code}
 use Rattle.phone_plans.specs.CodeLookUps.{first_of, territories}
 use Rattle.phone_engine.specs.Facts.{printed_as}
 use Rattle.phone_engine.specs.Words.{kind_word, region_word, validity_word}
-use Rattle.phone_table.proofs.AnswerLemmas.{printed_code, printed_digits, same_seven, three_texts}
+use Rattle.phone_table.proofs.AnswerLemmas.{printed_code, printed_digits, same_fields, three_texts}
 use Rattle.phone_table.proofs.answer.known_of.Goals as goal
 
 pub returns-in-Ok-clause-spelled : goal.returns-in-Ok-clause-spelled
@@ -16,7 +16,7 @@ returns-in-Ok-clause-spelled c =
     let h = three_texts (first_of (territories p.code.value db)) p _ _ _ t.e164 t.international t.national in (
       h.m,
       ap (λ (k : Code). first_of (territories k.value db)) (sym (printed_code c.args.engine.rules n)) ∙ h.first,
-      same_seven _ _ _ _ _ _ _ _ _ _ _ _ h.e164 h.international h.national (ap kind_word q.kind) (ap region_word q.region) (ap validity_word q.is_valid),
+      same_fields _ _ _ _ _ _ _ _ _ _ _ _ h.e164 h.international h.national (ap kind_word q.kind) (ap region_word q.region) (ap validity_word q.is_valid),
     )
 
 pub returns-in-Ok-clause-known : goal.returns-in-Ok-clause-known

@@ -16,9 +16,9 @@ returns-in-Ok-Added c =
     let text = c.args.text.now in
     let told = rw c.in-Ok-Added.field-0-is at c.in-Ok-Added.ensures.answer in
     let n = told.0 in
-    let book = contacts_are self.book c.add_by.new.self
-    (self.book.entries ++ n ∷ []) c.in-Ok-Added.ensures.database told.2.2 in
-    let got : slice_get c.add_by.new.self.entries c.in-Ok-Added.place ≡ Some n =
+    let book = contacts_are self.book c.add.new.self
+    (self.book.entries ++ n ∷ []) c.in-Ok-Added.ensures.database c.in-Ok-Added.ensures.rules told.2.2 in
+    let got : slice_get c.add.new.self.entries c.in-Ok-Added.place ≡ Some n =
     ap₂ slice_get told.2.2 told.2.1 ∙ slice_get-last self.book.entries n in
     let kept : Contacts → FirstLines = λ b. record self { book = b; added = after_one self.added } in
     let line = e164_text n ++ 9 ∷ (text ++ 10 ∷ []) in
@@ -36,8 +36,8 @@ returns-in-Ok-Present c =
     let self = c.args.self.now in
     let text = c.args.text.now in
     let told = rw c.in-Ok-Present.field-0-is at c.in-Ok-Present.ensures.answer in
-    let book = contacts_are self.book c.add_by.new.self self.book.entries
-    c.in-Ok-Present.ensures.database told.2.3 in
+    let book = contacts_are self.book c.add.new.self self.book.entries
+    c.in-Ok-Present.ensures.database c.in-Ok-Present.ensures.rules told.2.3 in
     let among = is_among-at told.0 told.2.0 self.book.entries c.in-Ok-Present.field-0-0 told.2.1
     told.2.2 in (
       [],
@@ -50,8 +50,8 @@ returns-in-Err-Refused c =
     let self = c.args.self.now in
     let text = c.args.text.now in
     let told = rw c.in-Err-Refused.field-0-is at c.in-Err-Refused.ensures.answer in
-    let book = contacts_are self.book c.add_by.new.self self.book.entries
-    c.in-Err-Refused.ensures.database told.2 in (
+    let book = contacts_are self.book c.add.new.self self.book.entries
+    c.in-Err-Refused.ensures.database c.in-Err-Refused.ensures.rules told.2 in (
       [],
       rw (book, c.saturating_add-self-in-Err-Refused.ensures)
           (no_number c.in-Err-Refused.field-0-0 c.utf8.text told.0),
