@@ -3,6 +3,7 @@ use Rattle.std.specs.Prelude.{◌≡◌, ℕ, ⊤, Bool, false, true, List, ◌+
 use Rattle.std.specs.Prelude.{IsSome, Option, None, Some, Result, option_map, slice_get}
 use Rattle.std.specs.List.{list_any}
 use Rattle.std.specs.Str.{bytes_eq}
+use Rattle.phone_commands.specs.Columns as columns
 use Rattle.phone_commands.specs.FirstLines.{IsFirstLine}
 use Rattle.phone_commands.specs.Inputs.{IsStandard, Name}
 use Rattle.phone_commands.specs.Jobs.{TakesLines}
@@ -37,7 +38,8 @@ abbrev pub IsLoaded : Option Lent → Option (List Metadata) → Type 0
 IsLoaded None short = short ≡ None
 IsLoaded (Some path) short = IsSome short
 
--- this is asked of a table by the options for it, with this database of short numbers
+-- this is asked of a table by the options for it, with this database of short numbers; of the files
+-- of its further columns no contract tells what they hold
 pub record IsAsked (t : Table) (shorts : Option (List Metadata)) (a : Asked) : Type 0 where
   pub number : a.number ≡ t.column
   pub region : a.region ≡ t.region_column
@@ -45,6 +47,7 @@ pub record IsAsked (t : Table) (shorts : Option (List Metadata)) (a : Asked) : T
   pub else_hint : a.else_hint ≡ t.fallback_region
   pub mark_bad : a.mark_bad ≡ t.mark_bad
   pub is_unique : a.is_unique ≡ t.is_unique
+  pub further : columns.asked a.extra.now ≡ columns.columns_for t.further
   pub short : option_map (λ d. d.now) a.short ≡ shorts
 
 -- a command finds the numbers in a text

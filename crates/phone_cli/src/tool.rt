@@ -9,6 +9,7 @@ ghost use Rattle.phone_cli.specs.Operands.{shorts_of};
 ghost use Rattle.phone_cli.specs.Programs.{Acts};
 ghost use Rattle.phone_cli.specs.Statuses.{status_of};
 ghost use Rattle.phone_cli.specs.Streams.{Refuses, streams};
+ghost use Rattle.phone_commands.specs.Columns as columns;
 ghost use Rattle.phone_commands.specs.Jobs.{TakesLines};
 ghost use Rattle.phone_commands.specs.ObjectLines.{after_one};
 ghost use Rattle.phone_commands.specs.declared.inputs.Failure.{Failure};
@@ -586,7 +587,8 @@ fn run_table<R: Files + AllocGlobal, S: ByteSource, W: Outlet, E: ByteSink>(
 
 /// What is asked of a table that this reads, with these further columns.
 fn asked<'t>(table: Table<'t>, reader: Reader<'t>, extra: &'t [Extra<'t>]) -> Asked<'t>
-    ensures { IsAsked table.entry (option_map (λ d. d.now) reader.entry.short) result }
+    ensures { columns.asked extra.entry.now ≡ columns.columns_for table.entry.further →
+        IsAsked table.entry (option_map (λ d. d.now) reader.entry.short) result }
 {
     Asked {
         number: table.column,

@@ -1,3 +1,4 @@
+pub mod Columns
 pub mod FirstLines
 pub mod FoundLines
 pub mod Inputs

@@ -1,6 +1,7 @@
 //! The further columns of a table, and the tables of prefixes by which they tell.
-ghost use Rattle.std.specs.Prelude.{◌≡◌, IfOk, Ok};
+ghost use Rattle.std.specs.Prelude.{◌≡◌, ◌++◌, ◌∷◌, [], IfOk, Ok, OnOk};
 ghost use Rattle.phone_csv.specs.Runs.{OfRead};
+ghost use Rattle.phone_commands.specs.Columns.{asked, column_if, columns_for, loaded, wanted};
 ghost use Rattle.phone_commands.specs.Pairs.{IsWithTab};
 ghost use Rattle.phone_lines.specs.LineReports.{IsReport};
 
@@ -30,7 +31,10 @@ fn push_wanted<'w>(
     heading: &'w str,
     told: Told,
     file: Option<&'w str>,
-) -> Result<(), AllocError> {
+) -> Result<(), AllocError>
+    ensures { OnOk result (wanted columns.new.items ≡
+        wanted columns.old.items ++ column_if heading.entry.now told file.entry) }
+{
     if let Some(file) = file {
         columns.push(Wanted {
             heading,
@@ -43,7 +47,10 @@ fn push_wanted<'w>(
 
 /// Puts the columns that are asked for at the end of others, in their order: that of one's own,
 /// `time_zone`, `carrier`, `first_carrier`, `area`. Refused only for memory.
-fn push_further<'w>(columns: &mut Vec<Wanted<'w>>, further: Further<'w>) -> Result<(), AllocError> {
+fn push_further<'w>(columns: &mut Vec<Wanted<'w>>, further: Further<'w>) -> Result<(), AllocError>
+    ensures { OnOk result (wanted columns.new.items ≡
+        wanted columns.old.items ++ columns_for further.entry) }
+{
     push_wanted(columns, further.name, Told::Prefix, further.prefixes)?;
     let (today, first) = (Told::Carrier(Owner::Today), Told::Carrier(Owner::First));
     push_wanted(columns, "time_zone", Told::TimeZones, further.time_zones)?;
@@ -53,7 +60,9 @@ fn push_further<'w>(columns: &mut Vec<Wanted<'w>>, further: Further<'w>) -> Resu
 }
 
 /// The columns that are asked for. Refused only for memory.
-fn columns_wanted<'w>(alloc: Global, further: Further<'w>) -> Result<Vec<Wanted<'w>>, AllocError> {
+fn columns_wanted<'w>(alloc: Global, further: Further<'w>) -> Result<Vec<Wanted<'w>>, AllocError>
+    ensures { IfOk result (λ v. wanted v.items ≡ columns_for further.entry) }
+{
     let mut columns = Vec::new(alloc);
     push_further(&mut columns, further)?;
     Ok(columns)
@@ -124,46 +133,62 @@ fn refused<'w>(name: &'w str, error: PrefixesError) -> NoColumns<'w> {
     }
 }
 
-/// Puts the table of a file at the end of others.
-fn push_table<'w, R: Files + AllocGlobal>(
+/// A further column of a table, loaded.
+#[derive(Drop)]
+pub struct LoadedColumn<'w> {
+    /// Its name.
+    pub heading: &'w str,
+    /// What it tells.
+    pub told: Told,
+    /// The table by which it tells that.
+    pub table: Prefixes,
+}
+
+/// Loads the table of a column, and puts this at the end of others.
+fn push_loaded<'w, R: Files + AllocGlobal>(
     rt: &R,
-    file: &'w str,
-    tables: &mut Vec<Prefixes>,
-) -> Result<(), NoColumns<'w>> {
-    match tables.push(table_in(rt, file)?) {
+    column: Wanted<'w>,
+    columns: &mut Vec<LoadedColumn<'w>>,
+) -> Result<(), NoColumns<'w>>
+    ensures { OnOk result (loaded columns.new.items ≡
+        loaded columns.old.items ++ wanted (column.entry ∷ [])) }
+{
+    let Wanted {
+        heading,
+        told,
+        file,
+    } = column;
+    let table = table_in(rt, file)?;
+    match columns.push(LoadedColumn {
+        heading,
+        told,
+        table,
+    }) {
         Ok(()) => Ok(()),
         Err(_) => Err(NoColumns::Memory),
     }
 }
 
-/// Puts the tables of columns at the end of others, in their order.
-fn push_tables<'w, R: Files + AllocGlobal>(
+/// Loads the tables of columns, and puts these at the end of others, in their order.
+fn push_all_loaded<'w, R: Files + AllocGlobal>(
     rt: &R,
-    columns: &[Wanted<'w>],
-    tables: &mut Vec<Prefixes>,
-) -> Result<(), NoColumns<'w>> {
-    for column in columns {
-        push_table(rt, column.file, tables)?;
+    all: &[Wanted<'w>],
+    columns: &mut Vec<LoadedColumn<'w>>,
+) -> Result<(), NoColumns<'w>>
+    ensures { OnOk result (loaded columns.new.items ≡
+        loaded columns.old.items ++ wanted all.now) }
+{
+    for column in all {
+        push_loaded(rt, *column, columns)?;
     }
     Ok(())
-}
-
-/// The tables of columns, in their order.
-fn tables_of<'w, R: Files + AllocGlobal>(
-    rt: &R,
-    columns: &[Wanted<'w>],
-) -> Result<Vec<Prefixes>, NoColumns<'w>> {
-    let mut tables = Vec::new(rt.alloc());
-    push_tables(rt, columns, &mut tables)?;
-    Ok(tables)
 }
 
 /// The further columns of a table, loaded.
 #[derive(Drop)]
 pub struct Loaded<'w> {
-    columns: Vec<Wanted<'w>>,
-    /// The table of each.
-    tables: Vec<Prefixes>,
+    /// Each, in their order.
+    pub columns: Vec<LoadedColumn<'w>>,
 }
 
 impl<'w> Loaded<'w> {
@@ -171,31 +196,42 @@ impl<'w> Loaded<'w> {
     pub fn new<R: Files + AllocGlobal>(
         rt: &R,
         further: Further<'w>,
-    ) -> Result<Loaded<'w>, NoColumns<'w>> {
-        let Ok(columns) = columns_wanted(rt.alloc(), further) else {
+    ) -> Result<Loaded<'w>, NoColumns<'w>>
+        ensures { IfOk result (λ l. loaded l.columns.items ≡ columns_for further.entry) }
+    {
+        let Ok(all) = columns_wanted(rt.alloc(), further) else {
             return Err(NoColumns::Memory);
         };
-        let tables = tables_of(rt, columns.as_slice())?;
-        Ok(Loaded { columns, tables })
+        let mut columns = Vec::new(rt.alloc());
+        push_all_loaded(rt, all.as_slice(), &mut columns)?;
+        Ok(Loaded { columns })
     }
 
     /// The columns with their tables. Refused only for memory.
-    pub fn extra<'s>(&'s self, alloc: Global) -> Result<Vec<Extra<'s>>, AllocError> {
+    pub fn extra<'s>(&'s self, alloc: Global) -> Result<Vec<Extra<'s>>, AllocError>
+        ensures { IfOk result (λ v. asked v.items ≡ loaded self.now.columns.items) }
+    {
         let mut extra = Vec::new(alloc);
         self.push_extra(&mut extra)?;
         Ok(extra)
     }
 
     /// Puts the columns with their tables at the end of others. Refused only for memory.
-    fn push_extra<'s>(&'s self, extra: &mut Vec<Extra<'s>>) -> Result<(), AllocError> {
-        for (place, column) in self.columns.iter().enumerate() {
-            if let Some(table) = self.tables.get(place) {
-                extra.push(Extra {
-                    heading: column.heading,
-                    told: column.told,
-                    table,
-                })?;
-            }
+    fn push_extra<'s>(&'s self, extra: &mut Vec<Extra<'s>>) -> Result<(), AllocError>
+        ensures { OnOk result (asked extra.new.items ≡
+            asked extra.old.items ++ loaded self.now.columns.items) }
+    {
+        for column in self.columns.as_slice() {
+            let LoadedColumn {
+                heading,
+                told,
+                table,
+            } = column;
+            extra.push(Extra {
+                heading: *heading,
+                told: *told,
+                table,
+            })?;
         }
         Ok(())
     }

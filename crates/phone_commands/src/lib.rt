@@ -15,7 +15,7 @@ mod takers;
 mod text;
 mod typist;
 
-pub use columns::{Loaded, NoColumns};
+pub use columns::{Loaded, LoadedColumn, NoColumns};
 pub use customers::Customers;
 pub use finder::{Finder, FoundForm};
 pub use inputs::{Failure, is_standard, on_inputs};

@@ -1,4 +1,5 @@
-use Rattle.std.proofs.Common.{inl, inr, refl}
+use Rattle.std.proofs.Common.{ap, inl, inr, refl, ◌∙◌}
+use Rattle.phone_commands.specs.Columns.{asked}
 use Rattle.phone_commands.specs.declared.customers.Customers.{Customers}
 use Rattle.phone_cli.specs.Answers.Does.{no_memory, ran, refused}
 use Rattle.phone_cli.proofs.RunLemmas.{table_runs}
@@ -16,9 +17,10 @@ returns-in_default g c = λ is rules under loaded. rw c.say.ensures.status
 
 pub returns : goal.returns
 returns g c = λ is rules under loaded.
+    let further = ap asked c.as_slice.ensures.value ∙ c.in-Ok-extra.ensures ∙ c.in-Ok.ensures in
     let job : Customers = record {
       engine = c.args.reader.engine;
       asked = c.asked.result;
       counts = c.new-2.result;
     } in rw c.run_table.ensures.2 (ran c.run_table.ensures.0 (table_runs _ _ _ job _ _ _ _ _ is
-    loaded c.asked.ensures rules under c.new-2.ensures c.run_table.ensures.1))
+    loaded (c.asked.ensures further) rules under c.new-2.ensures c.run_table.ensures.1))
