@@ -1,7 +1,8 @@
 -- The text for a table, read again.
 use Rattle.std.proofs.Common.{◌≡◌, ◌≢◌, ◌⊎◌, inl, inr, ℕ, Bool, true, false, List, [], ◌∷◌, ◌++◌}
-use Rattle.std.proofs.Common.{refl, sym, ap, subst}
+use Rattle.std.proofs.Common.{refl, sym, ap, subst, Option, map}
 use Rattle.std.proofs.Common.{◌∙◌, true≢false, append_assoc}
+use Rattle.std.proofs.lemmas.List.{map-append}
 use Rattle.csv.specs.Reading.{is_bom, strip_bom}
 use Rattle.csv.specs.Reading.{AreRecords}
 use Rattle.csv.specs.declared.parser.State.TheVariants.{StartRecord}
@@ -12,8 +13,10 @@ use Rattle.phone_csv.specs.Firsts.{begins_with_mark}
 use Rattle.phone_csv.specs.Formats.{Record, commas, line_end_in, reading, record_text}
 use Rattle.phone_csv.specs.RecordReports.{IsReport}
 use Rattle.phone_table.specs.Ends.{by}
-use Rattle.phone_table.specs.Rows.{AreAnswered, AreKept, WritesKept}
-use Rattle.phone_table.specs.Rows.AreAnswered.{none as none_answered, next as next_answered}
+use Rattle.phone_table.specs.Answered.{Answered, AreAnswered, key_in}
+use Rattle.phone_table.specs.Rows.{AreKept, WritesKept, row_of}
+use Rattle.phone_values.specs.declared.reading.Reading.{Reading}
+use Rattle.phone_table.specs.Answered.AreAnswered.{none as none_answered, next as next_answered}
 use Rattle.phone_table.specs.Rows.AreKept.{none as none_kept, kept as one_kept, left_out as one_left_out}
 use Rattle.phone_table.specs.declared.counts.Counts.{Counts}
 use Rattle.phone_table.specs.Tables.{IsReadAgain, IsTable, mark_text}
@@ -45,20 +48,24 @@ passed false written (inl e) = absurd (true≢false (sym e))
 passed false written (inr e) = no_mark written e
 
 -- each row for such records has a field, and so each that is kept
-all_full : (gives : Record → Record → Type 0) (records rows : List Record) → AreAnswered gives records rows → AllByRecursion IsFull records → AllByRecursion IsFull rows
-all_full gives records rows none_answered full = tt
-all_full gives records rows (next_answered some before fields answer are given) full =
+all_full : (gives : Record → Option Reading → Record → Type 0) (records : List Record) (all : List Answered) → AreAnswered gives records all → AllByRecursion IsFull records →
+    AllByRecursion IsFull (map row_of all)
+all_full gives records all none_answered full = tt
+all_full gives records all (next_answered some before fields answer number are given) full =
     let parts = first_all some (fields ∷ []) full in
-    all_append before ((fields ++ answer) ∷ []) (all_full gives some before are parts.0) (more_full fields answer parts.1.0, tt)
+    let a : Answered = record { own = fields; answer = answer; key = key_in number } in
+    subst (AllByRecursion IsFull) (sym (map-append row_of before (a ∷ [])))
+    (all_append (map row_of before) ((fields ++ answer) ∷ []) (all_full gives some before are parts.0) (more_full fields answer parts.1.0, tt))
 
-kept_full : (once : Bool) (all rows : List Record) (counts : Counts) → AreKept once all rows counts → AllByRecursion IsFull all → AllByRecursion IsFull rows
+kept_full : (once : Bool) (all : List Answered) (rows : List Record) (counts : Counts) → AreKept once all rows counts → AllByRecursion IsFull (map row_of all) → AllByRecursion IsFull rows
 kept_full once all rows counts none_kept full = tt
-kept_full once all rows counts (one_kept some before c row are new) full =
-    let parts = first_all some (row ∷ []) full in
-    all_append before (row ∷ []) (kept_full once some before c are parts.0) parts.1
-kept_full once all rows counts (one_left_out some before c row are known) full = kept_full once some before c are (first_all some (row ∷ []) full).0
+kept_full once all rows counts (one_kept some before c a are new) full =
+    let parts = first_all (map row_of some) (row_of a ∷ []) (subst (AllByRecursion IsFull) (map-append row_of some (a ∷ [])) full) in
+    all_append before (row_of a ∷ []) (kept_full once some before c are parts.0) parts.1
+kept_full once all rows counts (one_left_out some before c a are known) full =
+    kept_full once some before c are (first_all (map row_of some) (row_of a ∷ []) (subst (AllByRecursion IsFull) (map-append row_of some (a ∷ [])) full)).0
 
-pub read_back : (gives : Record → Record → Type 0) (once : Bool) (counts : Counts) (header headings : Record) (name : List ℕ) (names : Record)
+pub read_back : (gives : Record → Option Reading → Record → Type 0) (once : Bool) (counts : Counts) (header headings : Record) (name : List ℕ) (names : Record)
     (bytes text : List ℕ) →
     IsTable header (headings ++ name ∷ names)
     (by IsReport (WritesKept gives once counts)) 44 bytes text → IsReadAgain gives once counts header

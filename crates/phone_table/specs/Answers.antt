@@ -120,14 +120,19 @@ IsOwnAnswer rules db hint columns asked fields number answer =
     (IsOfWidth columns fields × IsNumberAnswer rules db hint columns asked fields number answer) ⊎
     ((number ≡ None) × IsMarked columns asked fields answer)
 
--- what a record is answered: what the columns that are asked for tell of the number that was read,
--- and its own fields
+-- what a record is answered, of which this number was read: what the columns that are asked for
+-- tell of it, and its own fields
+abbrev pub IsAnswerOf : Rules → List Metadata → Option Id → Columns → Asked → Record →
+    Option Reading → Record → Type 0
+IsAnswerOf rules db hint columns asked fields number answer = (told : Record) × (own : Record) ×
+    IsOwnAnswer rules db hint columns asked fields number own ×
+    AreTold rules db number asked.extra.now told × (answer ≡ told ++ own)
+
+-- the same, whatever the number
 abbrev pub IsAnswer : Rules → List Metadata → Option Id → Columns → Asked → Record → Record →
     Type 0
 IsAnswer rules db hint columns asked fields answer = (number : Option Reading) ×
-    (told : Record) × (own : Record) ×
-    IsOwnAnswer rules db hint columns asked fields number own ×
-    AreTold rules db number asked.extra.now told × (answer ≡ told ++ own)
+    IsAnswerOf rules db hint columns asked fields number answer
 
 -- a record with another count of fields isn't answered, where such aren't marked
 abbrev pub IsOfOtherWidth : Columns → Asked → Record → Type 0

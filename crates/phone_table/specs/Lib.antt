@@ -1,3 +1,4 @@
+pub mod Answered
 pub mod Answers
 pub mod Counts
 pub mod Ends

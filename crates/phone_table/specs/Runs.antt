@@ -16,7 +16,7 @@ use Rattle.phone_lines.specs.Ends.{Devices}
 use Rattle.phone_records.specs.declared.loader.Metadata.{Metadata}
 use Rattle.phone_values.specs.declared.country.Id.{Id}
 use Rattle.phone_values.specs.declared.rules.Rules.{Rules}
-use Rattle.phone_table.specs.Answers.{IsAnswer, IsOfOtherWidth}
+use Rattle.phone_table.specs.Answers.{IsAnswerOf, IsOfOtherWidth}
 use Rattle.phone_table.specs.Rows.{WritesKept, WritesSome}
 use Rattle.phone_table.specs.Ends.{Ends, IsUntouched, SourceFails}
 use Rattle.phone_table.specs.Extras.{added_names}
@@ -67,16 +67,16 @@ pub record LacksColumn (asked : Asked) (column : Column) (header : Record)
   pub no_source_fault : after.source_faults ≡ before.source_faults
 
 -- what is written for the records of a table with these columns: each with its answer, by what is
--- asked for, those left out whose number an earlier one has, where each is kept once
+-- asked for, those left out whose key an earlier one has, where each number is kept once
 abbrev pub WritesTable : Rules → List Metadata → Option Id → Columns → Asked → Counts → Format →
     Writes
 WritesTable rules db hint columns asked =
-    WritesKept (IsAnswer rules db hint columns asked) asked.is_unique
+    WritesKept (IsAnswerOf rules db hint columns asked) asked.is_unique
 
 -- the same, whatever its counts
 abbrev pub WritesSomeTable : Rules → List Metadata → Option Id → Columns → Asked → Format → Writes
 WritesSomeTable rules db hint columns asked =
-    WritesSome (IsAnswer rules db hint columns asked) asked.is_unique
+    WritesSome (IsAnswerOf rules db hint columns asked) asked.is_unique
 
 -- a run over a table ends so, which its result tells: under a delimiter that is none nothing is
 -- read; without a header or a column that is asked for nothing is written; else as the run over

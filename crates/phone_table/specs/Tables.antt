@@ -8,8 +8,10 @@ use Rattle.phone_device.specs.Passing.{IsAtEnd}
 use Rattle.phone_csv.specs.Firsts.{IsHead, IsOnly, begins_with_mark, byte_order_mark, first_in}
 use Rattle.phone_csv.specs.Formats.{Record, format_after, reading, record_text, state_of}
 use Rattle.phone_csv.specs.RecordReports.{AreAll, IsReport, IsReportOnFirst, Writes}
-use Rattle.phone_table.specs.Rows.{AreAnswered, AreKept}
+use Rattle.phone_table.specs.Answered.{Answered, AreAnswered}
+use Rattle.phone_table.specs.Rows.{AreKept}
 use Rattle.phone_table.specs.declared.counts.Counts.{Counts}
+use Rattle.phone_values.specs.declared.reading.Reading.{Reading}
 use Rattle.phone_csv.specs.declared.cutter.Start.{Start}
 use Rattle.phone_csv.specs.declared.format.Format.{Format}
 
@@ -60,12 +62,12 @@ IsBeginning some header added delimiter to_come bytes text = (left : List ℕ) �
 -- the header with the added names, and the rows that are kept of the table's records, each with its
 -- answer behind its fields; the mark is passed over, and nothing else, but where the first name
 -- begins with one itself
-pub record IsReadAgain (gives : Record → Record → Type 0) (once : Bool) (counts : Counts)
-    (header added : Record) (bytes text : List ℕ) : Type 0 where
+pub record IsReadAgain (gives : Record → Option Reading → Record → Type 0) (once : Bool)
+    (counts : Counts) (header added : Record) (bytes text : List ℕ) : Type 0 where
   pub after : State
   pub rest : List ℕ
   pub records : List Record
-  pub all : List Record
+  pub all : List Answered
   pub rows : List Record
   pub written : List ℕ
   pub begins : first_in 44 bytes ≡ Some (header, after, rest)

@@ -13,7 +13,7 @@ ghost use Rattle.phone_records.specs.declared.loader.Metadata as loader;
 ghost use Rattle.phone_short.specs.Regions.{short_kind};
 ghost use Rattle.phone_short.specs.declared.kind.ShortKind.TheVariants as kind;
 ghost use Rattle.phone_prefixes.specs.Tables as prefixes;
-ghost use Rattle.phone_table.specs.Answers.{IsAnswer, IsFieldAnswer, IsOfOtherWidth};
+ghost use Rattle.phone_table.specs.Answers.{IsAnswer, IsAnswerOf, IsFieldAnswer, IsOfOtherWidth};
 ghost use Rattle.phone_table.specs.Answers.{IsOwnAnswer};
 ghost use Rattle.phone_table.specs.Extras.{EachHasOneText, HaveOneText};
 ghost use Rattle.phone_table.specs.Objects.{IsObject, IsObjectLine};
@@ -126,6 +126,6 @@ pub fn read_again()
         (bytes text : List ℕ) →
         IsTable header (names_in asked)
         (by IsReport (WritesTable rules db hint columns asked counts)) 44 bytes text →
-        IsReadAgain (IsAnswer rules db hint columns asked) asked.is_unique counts header
+        IsReadAgain (IsAnswerOf rules db hint columns asked) asked.is_unique counts header
         (names_in asked) bytes text }
 {}

@@ -27,7 +27,8 @@ pub struct Asked<'a> {
     /// Whether a record with another count of fields than the header is given back with a refusal,
     /// and doesn't end the run.
     pub mark_bad: bool,
-    /// Whether of the records with one number the first is given back alone.
+    /// Whether of the records with one number, by its E.164 text and its extension, the first is
+    /// given back alone.
     pub is_unique: bool,
     /// The columns that stand between the header's own and the answer's.
     pub extra: &'a [Extra<'a>],
@@ -55,9 +56,10 @@ pub enum TableError {
 /// its first name, and the output begins with one too. Each record is ended by a carriage return
 /// and a line feed where a carriage return ended the header, else by a line feed. What is read and
 /// written is CSV as the kit's `csv` has it, with this delimiter. Nothing in memory grows with the
-/// number of records, but with `is_unique`, where the E.164 texts are kept: then a record whose
-/// number an earlier one has is left out. It gives how many records there were, how many of
-/// them were answered otherwise than by a valid number, and how many were left out.
+/// number of records, but with `is_unique`, where the keys of numbers are kept: then a record is left
+/// out where an earlier one has a number of the same E.164 text and the same extension. It gives how
+/// many records there were, how many of them were answered otherwise than by a valid number, and how
+/// many were left out.
 ///
 /// The answer to a number, which is read and described by the engine: what each column that is
 /// asked for tells of it, empty where its table has nothing; its texts in three modes, its kind,

@@ -63,10 +63,10 @@ pub(crate) const ROWS: [Cells; 28] = rows! {
       fields than the first ends the run. How many records there were, and how many had an unknown
       region, no number or one that isn't valid, is told on standard error"
     "--unique" "" "" "" [] ["--typed" "--short"] "
-      writes in place of the report the first line of each number: its E.164 text, a tab, the line
-      as it came. How many lines were new, repeated or refused is told on standard error. With --csv
-      it leaves out each record whose number was in a record before it; records without a number
-      stay"
+      writes in place of the report the first line of each number: its E.164 text and, behind
+      ;ext=, its extension, a tab, the line as it came. With --csv it leaves out each record whose
+      number and extension were in a record before it; records without a number stay. How many lines
+      or records were left out is told on standard error"
     "--typed" "" "" "" [] ["--short"] "
       takes each line as the keys of a number that is typed, and writes what is shown after each
       key, parted by |. In a terminal, without FILE, it shows the number in place, key by key"

@@ -37,7 +37,7 @@ returns-in-Ok-write_rows g c =
     (header_read c.args.asked.delimiter (fields_of first.fields) first.rest first.has_mark _ _ f.ended f.only)) in
     record {
       ends = whole (fields_of first.fields) c.in-Ok-columns_of.columns c.write_rows.new.answers.counts (search rules) c.in-Ok-columns_of.ensures.found
-          (rw (n.engine, n.columns, n.asked) at (table_ends c.new-table.result n.counts n.numbers c.write_rows.new.answers (fields_of first.fields) _ c.args.asked.delimiter _ _ _ ends));
+          (rw (n.engine, n.columns, n.asked) at (table_ends c.new-table.result n.counts n.keys c.write_rows.new.answers (fields_of first.fields) _ c.args.asked.delimiter _ _ _ ends));
     }
 
 pub returns : goal.returns
@@ -49,5 +49,5 @@ returns g c =
     (header_read c.args.asked.delimiter (fields_of first.fields) first.rest first.has_mark _ _ f.ended f.only)) in
     record {
       ends = broken_off (fields_of first.fields) c.in-Ok-columns_of.columns c.write_rows.new.answers.counts c.in-Err-write_rows.error (search rules) c.in-Ok-columns_of.ensures.found
-          (rw (n.engine, n.columns, n.asked) at (table_ends c.new-table.result n.counts n.numbers c.write_rows.new.answers (fields_of first.fields) _ c.args.asked.delimiter _ _ _ ends));
+          (rw (n.engine, n.columns, n.asked) at (table_ends c.new-table.result n.counts n.keys c.write_rows.new.answers (fields_of first.fields) _ c.args.asked.delimiter _ _ _ ends));
     }
