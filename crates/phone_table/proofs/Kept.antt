@@ -1,6 +1,6 @@
 -- What a table writes for records: of all its rows those that are kept.
 use Rattle.std.proofs.Common.{◌≡◌, ◌&&◌, ◌||◌, ◌==◌, ℕ, Bool, true, false, not, List, [], ◌∷◌, ◌++◌, Option, Some, None, Result, length, refl, sym, ap, ◌∙◌, subst}
-use Rattle.std.specs.Prelude.{⊤}
+use Rattle.std.specs.Prelude.{⊤, if◌then◌else◌}
 use Rattle.std.specs.List.{list_any}
 use Rattle.std.specs.Option.{option_map_or}
 use Rattle.std.specs.Str.{bytes_eq}
@@ -17,10 +17,13 @@ use Rattle.phone_table.specs.Ends.{Ends}
 use Rattle.phone_table.proofs.EndsWeaker.{ends_weaker}
 use Rattle.phone_table.proofs.Writing.{some_told, told}
 use Rattle.phone_table.specs.Counts.{no_counts}
+use Rattle.phone_table.specs.Duplicates.{duplicate_names}
+use Rattle.phone_table.specs.Extras.{added_names}
 use Rattle.phone_table.specs.Answered.{Answered, AreAnswered, has_key, key_in}
 use Rattle.phone_table.specs.Rows.{AreKept, WritesKept, WritesSome, is_taken, row_of}
 use Rattle.phone_table.specs.Answered.AreAnswered.{none as none_answered, next as next_answered}
 use Rattle.phone_table.specs.Rows.AreKept.{none as none_kept, kept as one_kept, left_out as one_left_out}
+use Rattle.phone_table.specs.Runs.{WritesSomeTable, WritesTable, names_in}
 use Rattle.phone_table.specs.Taking.{Keeps, Takes, has, is_known}
 use Rattle.phone_table.specs.Taking.Takes.{written as row_written, left_out as row_left_out}
 use Rattle.phone_table.specs.declared.table.Table.{Table}
@@ -123,14 +126,14 @@ module _ (first : Table) where
   -- what is written is the text of the rows that are kept
   pub writes_kept : first.counts ≡ no_counts → first.keys.keys ≡ [] → (last : Table) (format : Format) (records : List Record) (text : List ℕ) →
       WritesRows does format first last records text →
-      WritesKept gives first.asked.is_unique last.counts format records text
+      WritesKept gives false first.asked.is_unique last.counts format records text
   writes_kept counts keys last format records text (rows, are, is) =
       let (all, answers, s) = rows_kept counts keys records rows last are in
       (all, rows, answers, s.kept, is)
 
   pub writes_some : first.counts ≡ no_counts → first.keys.keys ≡ [] → (format : Format) (records : List Record) (text : List ℕ) →
       WritesSomeRows does format first records text →
-      WritesSome gives first.asked.is_unique format records text
+      WritesSome gives false first.asked.is_unique format records text
   writes_some counts keys format records text (last, w) = (last.counts, writes_kept counts keys last format records text w)
 
   -- the columns and what is asked for stay
@@ -141,10 +144,21 @@ module _ (first : Table) where
 -- a run over the rows of a table ends as what is kept of them tells
 pub table_ends : (first : Table) → first.counts ≡ no_counts → first.keys.keys ≡ [] → (last : Table) (header added : Record) (d : ℕ) (before after : Devices) (r : Result ⊤ RunError) →
     Ends header added (told does first last) (some_told does first) (IsOfOtherWidth last.columns last.asked) d before after r →
-    Ends header added
-    (WritesKept (IsAnswerOf first.engine.rules first.engine.database.now first.engine.hint first.columns first.asked) first.asked.is_unique last.counts)
-    (WritesSome (IsAnswerOf first.engine.rules first.engine.database.now first.engine.hint first.columns first.asked) first.asked.is_unique)
+    Ends header added (WritesKept (gives first) false first.asked.is_unique last.counts) (WritesSome (gives first) false first.asked.is_unique)
     (IsOfOtherWidth first.columns first.asked) d before after r
 table_ends first counts keys last header added d before after r h = ends_weaker header added d _ _ _ _ _ _ (writes_kept first counts keys last) (writes_some first counts keys)
     (λ format records text fields (rows, are, is) refused. let same = same_refused first counts keys records rows last are in rw (same.0, same.1) at refused)
     before after r h
+
+-- so does one without the columns of duplicates
+pub plain_ends : (first : Table) → first.counts ≡ no_counts → first.keys.keys ≡ [] → first.asked.tells_duplicates ≡ false → (last : Table) (header : Record)
+    (before after : Devices) (r : Result ⊤ RunError) →
+    Ends header (added_names first.asked.extra.now) (told does first last) (some_told does first) (IsOfOtherWidth last.columns last.asked) first.asked.delimiter before after r →
+    Ends header (names_in first.asked)
+    (WritesTable first.engine.rules first.engine.database.now first.engine.hint first.columns first.asked last.counts)
+    (WritesSomeTable first.engine.rules first.engine.database.now first.engine.hint first.columns first.asked)
+    (IsOfOtherWidth first.columns first.asked) first.asked.delimiter before after r
+plain_ends first counts keys plain last header before after r h =
+    subst (λ b. Ends header ((if b then duplicate_names else []) ++ added_names first.asked.extra.now) (WritesKept (gives first) b first.asked.is_unique last.counts)
+    (WritesSome (gives first) b first.asked.is_unique) (IsOfOtherWidth first.columns first.asked) first.asked.delimiter before after r) (sym plain)
+    (table_ends first counts keys last header (added_names first.asked.extra.now) first.asked.delimiter before after r h)

@@ -1,5 +1,5 @@
--- The rows of a table: each record with its answer, or, where each number is kept once, without
--- those whose key an earlier record has.
+-- The rows of a table: each record with its answer; where each number is kept once, without those
+-- whose number an earlier record has; or with columns that tell these.
 use Rattle.std.specs.Prelude.{◌≡◌, ◌&&◌, ℕ, Bool, true, false, List, [], ◌∷◌, ◌++◌, Option}
 use Rattle.std.specs.List.{list_any}
 use Rattle.std.specs.Option.{option_map_or}
@@ -8,6 +8,7 @@ use Rattle.phone_csv.specs.RecordReports.{Writes, rows_text}
 use Rattle.phone_csv.specs.declared.format.Format.{Format}
 use Rattle.phone_table.specs.Answered.{Answered, AreAnswered, has_key}
 use Rattle.phone_table.specs.Counts.{counts_after, counts_without, no_counts}
+use Rattle.phone_table.specs.Duplicates.{marked_rows}
 use Rattle.phone_table.specs.declared.counts.Counts.{Counts}
 use Rattle.phone_values.specs.declared.reading.Reading.{Reading}
 
@@ -30,14 +31,25 @@ pub data AreKept (once : Bool) : List Answered → List Record → Counts → Ty
       AreKept once all rows counts → (once && is_taken all a.key) ≡ true →
       AreKept once (all ++ a ∷ []) rows (counts_without counts (row_of a))
 
--- what is written for records, whose answers are such: the text of the rows that are kept
-abbrev pub WritesKept : (Record → Option Reading → Record → Type 0) → (once : Bool) → Counts →
-    Format → Writes
-WritesKept gives once counts format records text = (all : List Answered) × (rows : List Record) ×
-    AreAnswered gives records all × AreKept once all rows counts × (text ≡ rows_text format rows)
+-- with the columns of duplicates the rows of all are written, and each is counted
+abbrev pub AreMarked : List Answered → List Record → Counts → Type 0
+AreMarked all rows counts = (rows ≡ marked_rows all 2 all) ×
+    ((plain : List Record) × AreKept false all plain counts)
+
+-- the rows that are written of all records, with or without the columns of duplicates
+abbrev pub AreWritten : (marks once : Bool) → List Answered → List Record → Counts → Type 0
+AreWritten true once = AreMarked
+AreWritten false once = AreKept once
+
+-- what is written for records, whose answers are such: the text of these rows
+abbrev pub WritesKept : (Record → Option Reading → Record → Type 0) → (marks once : Bool) →
+    Counts → Format → Writes
+WritesKept gives marks once counts format records text = (all : List Answered) ×
+    (rows : List Record) × AreAnswered gives records all × AreWritten marks once all rows counts ×
+    (text ≡ rows_text format rows)
 
 -- the same, whatever its counts
-abbrev pub WritesSome : (Record → Option Reading → Record → Type 0) → (once : Bool) → Format →
-    Writes
-WritesSome gives once format records text =
-    (counts : Counts) × WritesKept gives once counts format records text
+abbrev pub WritesSome : (Record → Option Reading → Record → Type 0) → (marks once : Bool) →
+    Format → Writes
+WritesSome gives marks once format records text =
+    (counts : Counts) × WritesKept gives marks once counts format records text

@@ -1,6 +1,6 @@
 -- How a run over a table of customers ends.
 use Rattle.std.specs.Prelude.{◌≡◌, ℕ, List, Option, None, Some, Result, Ok, Err, option_map}
-use Rattle.std.specs.Prelude.{IsSome, true, false}
+use Rattle.std.specs.Prelude.{IsSome, true, false, [], ◌++◌, if◌then◌else◌}
 use Rattle.csv.specs.Records.{Row, fields_of}
 use Rattle.phone_device.specs.Passing.{IsAtEnd}
 use Rattle.phone_csv.specs.Firsts.{EndsNoFirst, first_in}
@@ -18,10 +18,12 @@ use Rattle.phone_values.specs.declared.country.Id.{Id}
 use Rattle.phone_values.specs.declared.rules.Rules.{Rules}
 use Rattle.phone_table.specs.Answers.{IsAnswerOf, IsOfOtherWidth}
 use Rattle.phone_table.specs.Rows.{WritesKept, WritesSome}
+use Rattle.phone_table.specs.Duplicates.{duplicate_names}
 use Rattle.phone_table.specs.Ends.{Ends, IsUntouched, SourceFails}
 use Rattle.phone_table.specs.Extras.{added_names}
 use Rattle.phone_table.specs.Headers.{column_of, columns_of, region_column}
 use Rattle.phone_table.specs.Tables.{IsHeaderAlone}
+use Rattle.phone_table.specs.Unwritten.{IsUnwritten, WritesNone}
 use Rattle.phone_table.specs.declared.counts.Counts.{Counts}
 use Rattle.phone_table.specs.declared.header.Column.{Column}
 use Rattle.phone_table.specs.declared.header.Column.TheVariants.{Number, Region}
@@ -33,7 +35,8 @@ use Rattle.phone_table.specs.declared.run.TableError.TheVariants.{NoColumn, Rows
 
 -- the names that are put behind a header
 abbrev pub names_in : Asked → Record
-names_in asked = added_names asked.extra.now
+names_in asked =
+    (if asked.tells_duplicates then duplicate_names else []) ++ added_names asked.extra.now
 
 -- the columns of a header that are asked for
 abbrev pub columns_in : Asked → Record → Option Columns
@@ -67,20 +70,46 @@ pub record LacksColumn (asked : Asked) (column : Column) (header : Record)
   pub no_source_fault : after.source_faults ≡ before.source_faults
 
 -- what is written for the records of a table with these columns: each with its answer, by what is
--- asked for, those left out whose key an earlier one has, where each number is kept once
+-- asked for, those left out whose key an earlier one has, where each number is kept once, or with
+-- the columns of duplicates
 abbrev pub WritesTable : Rules → List Metadata → Option Id → Columns → Asked → Counts → Format →
     Writes
 WritesTable rules db hint columns asked =
-    WritesKept (IsAnswerOf rules db hint columns asked) asked.is_unique
+    WritesKept (IsAnswerOf rules db hint columns asked) asked.tells_duplicates asked.is_unique
 
 -- the same, whatever its counts
 abbrev pub WritesSomeTable : Rules → List Metadata → Option Id → Columns → Asked → Format → Writes
 WritesSomeTable rules db hint columns asked =
-    WritesSome (IsAnswerOf rules db hint columns asked) asked.is_unique
+    WritesSome (IsAnswerOf rules db hint columns asked) asked.tells_duplicates asked.is_unique
+
+-- the run over the rows behind a header ends so, each answered by the region that it names, and
+-- counted; with the columns of duplicates nothing is written before all is read
+pub data RowsEnd (rules : Rules) (db : List Metadata) (hint : Option Id) (columns : Columns)
+    (asked : Asked) (header : Record) (before after : Devices) :
+    Result Counts RunError → Type 0 where
+  whole : (counts : Counts) →
+      Ends header (names_in asked) (WritesTable rules db hint columns asked counts)
+      (WritesSomeTable rules db hint columns asked) (IsOfOtherWidth columns asked)
+      asked.delimiter before after (Ok tt) →
+      RowsEnd rules db hint columns asked header before after (Ok counts)
+  broken_off : (counts : Counts) (e : RunError) →
+      Ends header (names_in asked) (WritesTable rules db hint columns asked counts)
+      (WritesSomeTable rules db hint columns asked) (IsOfOtherWidth columns asked)
+      asked.delimiter before after (Err e) →
+      RowsEnd rules db hint columns asked header before after (Err e)
+  unwritten : (e : RunError) → asked.tells_duplicates ≡ true → IsUntouched before after →
+      IsUnwritten header (names_in asked) (WritesNone (IsAnswerOf rules db hint columns asked))
+      (IsOfOtherWidth columns asked) asked.delimiter before after e →
+      RowsEnd rules db hint columns asked header before after (Err e)
+
+-- how the run over the rows ended, as the end of that over the table
+abbrev pub rows_result : Result Counts RunError → Result Counts TableError
+rows_result (Ok counts) = Ok counts
+rows_result (Err e) = Err (Rows e)
 
 -- a run over a table ends so, which its result tells: under a delimiter that is none nothing is
 -- read; without a header or a column that is asked for nothing is written; else as the run over
--- its rows ends, each answered by the region that it names, and counted
+-- its rows ends
 pub data RunEnds (rules : Rules) (db : List Metadata) (hint : Option Id) (asked : Asked)
     (before after : Devices) : Result Counts TableError → Type 0 where
   no_delimiter : is_delimiter asked.delimiter ≡ false → after ≡ before →
@@ -92,15 +121,7 @@ pub data RunEnds (rules : Rules) (db : List Metadata) (hint : Option Id) (asked 
       LacksColumn asked column (fields_of header) before after →
       IsUntouched before after →
       RunEnds rules db hint asked before after (Err (NoColumn column header))
-  whole : (header : Record) (columns : Columns) (counts : Counts) →
+  rows : (header : Record) (columns : Columns) (result : Result Counts RunError) →
       is_delimiter asked.delimiter ≡ true → columns_in asked header ≡ Some columns →
-      Ends header (names_in asked) (WritesTable rules db hint columns asked counts)
-      (WritesSomeTable rules db hint columns asked) (IsOfOtherWidth columns asked)
-      asked.delimiter before after (Ok tt) →
-      RunEnds rules db hint asked before after (Ok counts)
-  broken_off : (header : Record) (columns : Columns) (counts : Counts) (e : RunError) →
-      is_delimiter asked.delimiter ≡ true → columns_in asked header ≡ Some columns →
-      Ends header (names_in asked) (WritesTable rules db hint columns asked counts)
-      (WritesSomeTable rules db hint columns asked) (IsOfOtherWidth columns asked)
-      asked.delimiter before after (Err e) →
-      RunEnds rules db hint asked before after (Err (Rows e))
+      RowsEnd rules db hint columns asked header before after result →
+      RunEnds rules db hint asked before after (rows_result result)

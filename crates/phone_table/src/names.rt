@@ -80,7 +80,7 @@ fn mark_text(alloc: Global, has_mark: bool) -> Result<Vec<u8>, AllocError>
 
 /// The text of a header with the answer's names behind its own, and with a byte-order mark in front
 /// where there is one. Refused only for memory.
-fn header_text(
+pub(crate) fn header_text(
     alloc: Global,
     format: Format,
     has_mark: bool,

@@ -1,17 +1,25 @@
 //! The run over a table of customers.
+ghost use Rattle.std.specs.Prelude.{◌≡◌, ℕ, List, [], IsNone, Option, false};
+ghost use Rattle.csv.specs.Records.{fields_of, partial_of};
+ghost use Rattle.phone_csv.specs.Runs.{OfRead};
+ghost use Rattle.phone_device.specs.Passing.{IsAtEnd};
 ghost use Rattle.phone_lines.specs.Ends.{seen};
-ghost use Rattle.phone_table.specs.Runs.{RunEnds};
+ghost use Rattle.phone_table.specs.Counts.{no_counts};
+ghost use Rattle.phone_table.specs.Runs.{RowsEnd, RunEnds};
+ghost use Rattle.phone_table.specs.Tables.{IsHeader};
 
 use crate::counts::Counts;
 use crate::extra::Extra;
 use crate::header::{Column, columns_of};
+use crate::marked::write_marked;
 use crate::rows::write_rows;
 use crate::table::Table;
 use csv::ByteRecord;
-use phone_csv::{FirstError, RunError, first_record, is_delimiter};
+use phone_csv::{First, FirstError, RunError, first_record, is_delimiter};
 use phone_device::{ByteSink, ByteSource};
 use phone_engine::Engine;
 use phone_plans::Plans;
+use std::alloc::Global;
 
 /// What is asked of a table.
 #[derive(Clone, Copy)]
@@ -30,6 +38,8 @@ pub struct Asked<'a> {
     /// Whether of the records with one number, by its E.164 text and its extension, the first is
     /// given back alone.
     pub is_unique: bool,
+    /// Whether columns tell which records have one number, by the same; then each is given back.
+    pub tells_duplicates: bool,
     /// The columns that stand between the header's own and the answer's.
     pub extra: &'a [Extra<'a>],
     /// The database of short numbers, where the kinds of these are told.
@@ -108,17 +118,69 @@ pub fn write_table<S: ByteSource, W: ByteSink>(
         Ok(columns) => columns,
         Err(column) => return Err(TableError::NoColumn(column, first.fields)),
     };
-    let mut table = Table::new(engine, asked, columns);
-    match write_rows(
-        alloc,
-        &mut table,
-        asked.delimiter,
-        first,
-        asked.extra,
-        source,
-        sink,
-    ) {
-        Ok(()) => Ok(table.counts),
+    let table = Table::new(engine, asked, columns);
+    match write_records(alloc, table, first, source, sink) {
+        Ok(counts) => Ok(counts),
         Err(error) => Err(TableError::Rows(error)),
+    }
+}
+
+/// Writes a table whose header was read, with the columns of duplicates where they are asked for.
+fn write_records<S: ByteSource, W: ByteSink>(
+    alloc: Global,
+    table: Table<'_>,
+    first: First,
+    source: &mut S,
+    sink: &mut W,
+) -> Result<Counts, RunError>
+    requires partial { partial_of first.fields ≡ [] }
+    requires end { IsNone first.rest → IsAtEnd (S.to_come source.old) }
+    requires counts { table.counts ≡ no_counts }
+    requires keys { table.keys.keys ≡ [] }
+    ensures ends { (before : Option (List ℕ)) → OfRead before (S.to_come source.old) (λ bytes.
+        IsHeader table.entry.asked.delimiter (fields_of first.fields) first.rest first.has_mark
+        bytes) → RowsEnd table.entry.engine.rules table.entry.engine.database.now
+        table.entry.engine.hint table.entry.columns table.entry.asked (fields_of first.fields)
+        (seen before (S.faults source.old) (W.taken sink.old)
+        (W.faults sink.old) (W.unflushed sink.old))
+        (seen (S.to_come source.new) (S.faults source.new) (W.taken sink.new)
+        (W.faults sink.new) (W.unflushed sink.new))
+        result }
+{
+    if table.asked.tells_duplicates {
+        write_marked(alloc, table, first, source, sink)
+    } else {
+        write_plain(alloc, table, first, source, sink)
+    }
+}
+
+/// The same without these columns: each record is written when it was read.
+fn write_plain<S: ByteSource, W: ByteSink>(
+    alloc: Global,
+    table: Table<'_>,
+    first: First,
+    source: &mut S,
+    sink: &mut W,
+) -> Result<Counts, RunError>
+    requires partial { partial_of first.fields ≡ [] }
+    requires end { IsNone first.rest → IsAtEnd (S.to_come source.old) }
+    requires plain { table.asked.tells_duplicates ≡ false }
+    requires counts { table.counts ≡ no_counts }
+    requires keys { table.keys.keys ≡ [] }
+    ensures ends { (before : Option (List ℕ)) → OfRead before (S.to_come source.old) (λ bytes.
+        IsHeader table.entry.asked.delimiter (fields_of first.fields) first.rest first.has_mark
+        bytes) → RowsEnd table.entry.engine.rules table.entry.engine.database.now
+        table.entry.engine.hint table.entry.columns table.entry.asked (fields_of first.fields)
+        (seen before (S.faults source.old) (W.taken sink.old)
+        (W.faults sink.old) (W.unflushed sink.old))
+        (seen (S.to_come source.new) (S.faults source.new) (W.taken sink.new)
+        (W.faults sink.new) (W.unflushed sink.new))
+        result }
+{
+    let mut table = table;
+    let (delimiter, extra) = (table.asked.delimiter, table.asked.extra);
+    match write_rows(alloc, &mut table, delimiter, first, extra, source, sink) {
+        Ok(()) => Ok(table.counts),
+        Err(error) => Err(error),
     }
 }

@@ -2,7 +2,7 @@
 ghost use Rattle.std.specs.Prelude.{◌≡◌, ◌++◌, ◌&&◌, ◌||◌, ℕ, List, [], not, true, false, codes};
 ghost use Rattle.std.specs.List.{list_any};
 ghost use Rattle.std.specs.Str.{bytes_eq};
-ghost use Rattle.std.specs.Prelude.{Err, IfErr, IfOk, None, OnOk, option_map};
+ghost use Rattle.std.specs.Prelude.{Err, IfErr, IfOk, None, OnOk, option_map, string_bytes};
 ghost use Rattle.csv.specs.Records.{fields_of, partial_of};
 ghost use Rattle.phone_csv.specs.Formats.{Record};
 ghost use Rattle.phone_table.specs.Answered.{key_in};
@@ -85,7 +85,7 @@ impl<'d> Table<'d> {
     }
 
     /// The answer to a record, whatever the count of its fields; or why it isn't answered.
-    fn answer_or_refusal(&self, fields: &ByteRecord) -> Result<Answer, Refusal>
+    pub(crate) fn answer_or_refusal(&self, fields: &ByteRecord) -> Result<Answer, Refusal>
         ensures answer { IfOk result (λ a. IsOwnAnswer self.now.engine.rules
             self.now.engine.database.now self.now.engine.hint self.now.columns self.now.asked
             (fields_of fields.now) (number_in a) (spelled a)) }
@@ -122,7 +122,11 @@ impl<'d> Table<'d> {
 
     /// Puts what the columns that are asked for tell, and the fields of an answer, behind
     /// those of a record. Refused only for memory.
-    fn push_row(&self, fields: &mut ByteRecord, answer: &Answer) -> Result<(), AllocError>
+    pub(crate) fn push_row(
+        &self,
+        fields: &mut ByteRecord,
+        answer: &Answer,
+    ) -> Result<(), AllocError>
         requires partial { partial_of fields.old ≡ [] }
         requires known { IsKnownIn self.now.engine.rules self.now.engine.database.now answer.now }
         ensures { OnOk result ((told : Record) ×
@@ -157,14 +161,11 @@ pub(crate) fn field_in(fields: &ByteRecord, column: usize) -> &[u8]
 
 /// The key of the number that an answer is of; none where no number was read. Refused only for
 /// memory.
-pub(crate) fn key_in(alloc: Global, answer: &Answer) -> Result<Option<Vec<u8>>, AllocError>
-    ensures { IfOk result (λ key. option_map (λ k. k.items) key ≡ key_in (number_in answer.now)) }
+pub(crate) fn key_in(alloc: Global, answer: &Answer) -> Result<Option<String>, AllocError>
+    ensures { IfOk result (λ key. option_map string_bytes key ≡ key_in (number_in answer.now)) }
 {
     match answer {
-        Answer::Number(number, _) => {
-            let key = key_text(alloc, number)?;
-            Ok(Some(key.into_bytes()))
-        }
+        Answer::Number(number, _) => Ok(Some(key_text(alloc, number)?)),
         Answer::Short(_, _) | Answer::Refused(_) => Ok(None),
     }
 }
@@ -182,7 +183,7 @@ impl<'d> Table<'d> {
             return Ok(true);
         }
         match key_in(self.engine.database.allocator(), answer)? {
-            Some(key) => add(&mut self.keys, key),
+            Some(key) => add(&mut self.keys, key.into_bytes()),
             None => Ok(true),
         }
     }

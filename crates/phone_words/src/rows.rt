@@ -44,7 +44,7 @@ macro_rules! rows {
 
 /// The options, each by its name, its name of one letter, what its value is, the word beside which
 /// it counts, what it needs, what it doesn't go with, and its help.
-pub(crate) const ROWS: [Cells; 28] = rows! {
+pub(crate) const ROWS: [Cells; 29] = rows! {
     "--json" "" "" "" [] ["--unique" "--typed" "--short"] "
       a JSON object a line: the line's number and text, and the fields that --csv gives; with
       --find an object for each number: line, column, text, those fields but the refusal, and
@@ -82,6 +82,10 @@ pub(crate) const ROWS: [Cells; 28] = rows! {
       where anything else does, it is read under REGION too"
     "--delimiter" "-d" "D" "" ["--csv"] [] "
       what stands between fields, in place of a comma: one ASCII character, or the word tab"
+    "--duplicates" "" "" "" ["--csv"] ["--unique"] "
+      two columns before the others: duplicate_of, where an earlier record has the number and its
+      extension, the number of the first one that has, the header counted as 1; and duplicates, on
+      that one, how many later ones there are. The input is read whole before anything is written"
     "--mark-bad-records" "" "" "" ["--csv"] [] "
       a record with more or fewer fields than the first is given back as it is, and refused"
     "--prefixes" "" "FILE" "" ["--csv" "--as"] [] "
