@@ -4,7 +4,6 @@ use Rattle.std.proofs.Common.{length}
 use Rattle.std.proofs.Common.{Option, None, Some, refl, sym, ap, ap₂, subst, ◌∙◌, arith}
 use Rattle.std.proofs.Math.Seq.{take-append_seam}
 use Rattle.phone_values.specs.declared.country.Id.{Id}
-use Rattle.phone_values.specs.declared.kind.«Type».{«Type»}
 use Rattle.phone_values.specs.declared.reading.Reading.{Reading}
 use Rattle.phone_values.specs.declared.rules.Rules.{Rules}
 use Rattle.phone_csv.specs.Formats.{Record}
@@ -12,14 +11,12 @@ use Rattle.phone_engine.specs.Facts.{kind_by, region_by}
 use Rattle.phone_prefixes.specs.Tables.{Entry}
 use Rattle.phone_records.specs.declared.loader.Metadata.{Metadata}
 use Rattle.phone_table.specs.Answers.{IsAnswer, IsAnswerUnder, IsOwnAnswer, IsUnder, short_of}
-use Rattle.phone_table.specs.Extras.{AreTold, EachHasOneText, HaveOneText, IsFound, IsPart, IsTold}
-use Rattle.phone_table.specs.Extras.{entries_in, looked_up}
+use Rattle.phone_table.specs.Extras.{AreTold, EachHasOneText, HaveOneText, IsFound, IsPartOrFound, IsTold}
+use Rattle.phone_table.specs.Extras.{entries_in, looked_up, part_of}
 use Rattle.phone_table.specs.Extras.AreTold.{none as told_none, next as told_next}
 use Rattle.phone_table.specs.Regions.{Names, RecordNames, field_in, hint_under}
 use Rattle.phone_table.specs.Regions.Names.{no_text, of_text}
 use Rattle.phone_table.specs.declared.extra.Extra.{Extra}
-use Rattle.phone_table.specs.declared.extra.Told.{Told}
-use Rattle.phone_table.specs.declared.extra.Told.TheVariants.{Area, CallingCode, Carrier, Extension, NationalNumber, Prefix, TimeZones}
 use Rattle.phone_table.specs.declared.header.Columns.{Columns}
 use Rattle.phone_table.specs.declared.region.Named.{Named}
 use Rattle.phone_table.specs.declared.run.Asked.{Asked}
@@ -67,23 +64,19 @@ hint_same hint columns asked fields u v (inl (w, h)) (inr (other, f)) = absurd (
 hint_same hint columns asked fields u v (inr (other, e)) (inl (w, h)) = absurd (other w)
 hint_same hint columns asked fields u v (inr (other, e)) (inr (more, f)) = e ∙ sym f
 
--- of a number one text is told
-part_same : (db : List Metadata) (entries : List Entry) → HaveOneText entries → (told : Told) (kind : «Type») (region : Option Id) (n : Reading) (a b : List ℕ) →
-    IsPart db entries told kind region n a → IsPart db entries told kind region n b → a ≡ b
-part_same db entries one Extension kind region n a b h g = h ∙ sym g
-part_same db entries one CallingCode kind region n a b h g = h ∙ sym g
-part_same db entries one NationalNumber kind region n a b h g = h ∙ sym g
-part_same db entries one Prefix kind region n a b h g = found_same entries one (looked_up db Prefix kind region n) a b h g
-part_same db entries one TimeZones kind region n a b h g = found_same entries one (looked_up db TimeZones kind region n) a b h g
-part_same db entries one (Carrier owner) kind region n a b h g = found_same entries one (looked_up db (Carrier owner) kind region n) a b h g
-part_same db entries one Area kind region n a b h g = found_same entries one (looked_up db Area kind region n) a b h g
+-- a part is one text, and so is what is found
+part_same : (entries : List Entry) → HaveOneText entries → (part digits : Option (List ℕ)) (a b : List ℕ) →
+    IsPartOrFound part entries digits a → IsPartOrFound part entries digits b → a ≡ b
+part_same entries one (Some part) digits a b h g = h ∙ sym g
+part_same entries one None digits a b h g = found_same entries one digits a b h g
 
 module _ (rules : Rules) (db : List Metadata) where
   -- a column tells one text
   told_same : (under : Option (Option Id)) (field : List ℕ) (column : Extra) → HaveOneText (entries_in column.table) → (number : Option Reading)
       (a b : List ℕ) → IsTold rules db under field number column a → IsTold rules db under field number column b → a ≡ b
   told_same under field column one None a b h g = h ∙ sym g
-  told_same under field column one (Some n) a b h g = part_same db (entries_in column.table) one column.told (kind_by rules db n) (region_by rules db n) n a b h g
+  told_same under field column one (Some n) a b h g = part_same (entries_in column.table) one (part_of column.told n)
+      (looked_up db column.told (kind_by rules db n) (region_by rules db n) n) a b h g
 
   -- and columns one each
   all_told_same : (under : Option (Option Id)) (field : List ℕ) (number : Option Reading) (columns : List Extra) (a b : Record) →

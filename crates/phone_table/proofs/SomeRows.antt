@@ -11,7 +11,6 @@ use Rattle.std.proofs.lemmas.List.Elements.{Contains-append_right, Contains-push
 use Rattle.std.proofs.lemmas.List.Elements.{Contains-push_cases}
 use Rattle.std.specs.List.{Contains}
 use Rattle.phone_values.specs.declared.country.Id.{Id}
-use Rattle.phone_values.specs.declared.kind.«Type».{«Type»}
 use Rattle.phone_values.specs.declared.reading.Reading.{Reading}
 use Rattle.phone_values.specs.declared.rules.Rules.{Rules}
 use Rattle.phone_csv.specs.Formats.{Record}
@@ -23,11 +22,9 @@ use Rattle.phone_prefixes.specs.Tables.AreEntries.{none as no_entries, next as n
 use Rattle.phone_records.specs.declared.loader.Metadata.{Metadata}
 use Rattle.phone_table.specs.Answers.{IsAnswer, IsAnswerUnder, IsFieldAnswer, IsOfOtherWidth}
 use Rattle.phone_table.specs.Answers.{IsOwnAnswer, IsUnder, short_of}
-use Rattle.phone_table.specs.Extras.{AreTold, HaveOneText, IsFound, IsPart, IsTold, entries_in, looked_up}
+use Rattle.phone_table.specs.Extras.{AreTold, HaveOneText, IsFound, IsPartOrFound, IsTold, entries_in, looked_up, part_of}
 use Rattle.phone_table.specs.Extras.AreTold.{none as told_none, next as told_next}
 use Rattle.phone_table.specs.declared.extra.Extra.{Extra}
-use Rattle.phone_table.specs.declared.extra.Told.{Told}
-use Rattle.phone_table.specs.declared.extra.Told.TheVariants.{Area, CallingCode, Carrier, Extension, NationalNumber, Prefix, TimeZones}
 use Rattle.phone_table.specs.declared.header.Columns.{Columns}
 use Rattle.phone_table.specs.declared.run.Asked.{Asked}
 use Rattle.phone_table.specs.Regions.{RecordNames, field_in, hint_under}
@@ -161,22 +158,18 @@ pub loaded_one : (bytes : List ℕ) (entries : List Entry) → IsTable bytes ent
     HaveOneText entries
 loaded_one bytes entries (lines, cut, are) = entries_one lines entries are
 
--- what is told of a number
-part_some : (db : List Metadata) (entries : List Entry) (told : Told) (kind : «Type») (region : Option Id) (n : Reading) →
-    (text : List ℕ) × IsPart db entries told kind region n text
-part_some db entries Extension kind region n = (_, refl)
-part_some db entries CallingCode kind region n = (_, refl)
-part_some db entries NationalNumber kind region n = (_, refl)
-part_some db entries Prefix kind region n = found_some entries (looked_up db Prefix kind region n)
-part_some db entries TimeZones kind region n = found_some entries (looked_up db TimeZones kind region n)
-part_some db entries (Carrier owner) kind region n = found_some entries (looked_up db (Carrier owner) kind region n)
-part_some db entries Area kind region n = found_some entries (looked_up db Area kind region n)
+-- a part, or what a table has
+part_some : (part : Option (List ℕ)) (entries : List Entry) (digits : Option (List ℕ)) →
+    (text : List ℕ) × IsPartOrFound part entries digits text
+part_some (Some part) entries digits = (part, refl)
+part_some None entries digits = found_some entries digits
 
 module _ (rules : Rules) (db : List Metadata) where
   told_some : (under : Option (Option Id)) (field : List ℕ) (column : Extra) (number : Option Reading) →
       (text : List ℕ) × IsTold rules db under field number column text
   told_some under field column None = ([], refl)
-  told_some under field column (Some n) = part_some db (entries_in column.table) column.told (kind_by rules db n) (region_by rules db n) n
+  told_some under field column (Some n) = part_some (part_of column.told n) (entries_in column.table)
+      (looked_up db column.told (kind_by rules db n) (region_by rules db n) n)
 
   -- what columns tell of a field
   all_told : (under : Option (Option Id)) (field : List ℕ) (number : Option Reading) (columns : List Extra) →

@@ -70,22 +70,26 @@ abbrev pub entries_in : Option (Bor (List Entry)) → List Entry
 entries_in None = []
 entries_in (Some table) = table.now
 
--- what is told of a number of this kind and region: its extension, which is empty where it has
--- none; the digits of its calling code; its national number, the leading zeros with the value; or
--- what a table has
-abbrev pub IsPart : List Metadata → List Entry → Told → «Type» → Option Id → Reading → List ℕ →
-    Type 0
-IsPart db entries Extension kind region n text = text ≡ unwrap_or n.extension []
-IsPart db entries CallingCode kind region n text = text ≡ code_digits n
-IsPart db entries NationalNumber kind region n text = text ≡ text_of n.national
-IsPart db entries told kind region n text = IsFound entries (looked_up db told kind region n) text
+-- the part of a number that is told: its extension, which is empty where it has none; the digits of
+-- its calling code; its national number, the leading zeros with the value; none where a table tells
+abbrev pub part_of : Told → Reading → Option (List ℕ)
+part_of Extension n = Some (unwrap_or n.extension [])
+part_of CallingCode n = Some (code_digits n)
+part_of NationalNumber n = Some (text_of n.national)
+part_of told n = None
+
+-- a text is this part; without one it is what a table has for these digits
+abbrev pub IsPartOrFound : Option (List ℕ) → List Entry → Option (List ℕ) → List ℕ → Type 0
+IsPartOrFound (Some part) entries digits text = text ≡ part
+IsPartOrFound None entries digits text = IsFound entries digits text
 
 -- what is told of a field that was read under a hint, where it was: nothing where it has no number
 abbrev pub IsToldBy : Rules → List Metadata → (under : Option (Option Id)) → (field : List ℕ) →
     Option Reading → List Entry → Told → List ℕ → Type 0
 IsToldBy rules db under field None entries told text = text ≡ []
 IsToldBy rules db under field (Some n) entries told text =
-    IsPart db entries told (kind_by rules db n) (region_by rules db n) n text
+    IsPartOrFound (part_of told n) entries
+    (looked_up db told (kind_by rules db n) (region_by rules db n) n) text
 
 -- what a column tells of such a field
 abbrev pub IsTold : Rules → List Metadata → (under : Option (Option Id)) → (field : List ℕ) →

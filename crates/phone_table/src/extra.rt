@@ -9,8 +9,8 @@ ghost use Rattle.phone_csv.specs.Formats.{Record};
 ghost use Rattle.phone_maps.specs.Maps.{code_digits, digits_of, has_carrier, is_first};
 ghost use Rattle.phone_maps.specs.Maps.{is_geographical};
 ghost use Rattle.phone_values.specs.Numbers.{text_of as national_text};
-ghost use Rattle.phone_table.specs.Extras.{AreTold, IsFound, IsPart, IsTold, entries_in};
-ghost use Rattle.phone_table.specs.Extras.{is_portable, is_unknown, looked_up};
+ghost use Rattle.phone_table.specs.Extras.{AreTold, IsFound, IsPartOrFound, IsTold, entries_in};
+ghost use Rattle.phone_table.specs.Extras.{is_portable, is_unknown, looked_up, part_of};
 ghost use Rattle.phone_table.specs.Spelled.{IsKnownIn, number_in};
 
 use crate::answer::{Answer, Known};
@@ -211,9 +211,9 @@ fn part_of<'a>(
     known: &Known,
 ) -> Result<CowStr<'a>, AllocError>
     requires { string_bytes known.now.texts.e164 ≡ 43 ∷ digits_of number.now }
-    ensures { IfOk result (λ text. IsPart database.now (entries_in column.now.table)
-        column.now.told known.now.facts.kind known.now.facts.region number.now
-        (cow_str_bytes text)) }
+    ensures { IfOk result (λ text. IsPartOrFound (part_of column.now.told number.now)
+        (entries_in column.now.table) (looked_up database.now column.now.told known.now.facts.kind
+        known.now.facts.region number.now) (cow_str_bytes text)) }
 {
     let alloc = database.allocator();
     match column.told {

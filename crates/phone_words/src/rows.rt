@@ -75,8 +75,9 @@ pub(crate) const ROWS: [Cells; 33] = rows! {
     "--short" "" "" "" [] [] "
       takes each line as a number that is dialled within REGION, which has to be named, and writes
       yes or no, parted by tabs: whether its count of digits is possible; whether it is a short
-      number; what it costs; whether only some carriers connect it; whether it is an emergency
-      number; whether it reaches emergency services"
+      number; in place of yes what it costs, TollFree, StandardRate, PremiumRate or Unknown; whether
+      only some carriers connect it; whether it is an emergency number; whether it reaches emergency
+      services"
     "--region-column" "" "COLUMN" "" ["--csv"] [] "
       a record is read under the region whose id stands in this column, or under REGION where
       nothing does; where anything else does, its number is refused as of an unknown region"
