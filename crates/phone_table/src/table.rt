@@ -69,11 +69,11 @@ impl<'d> Table<'d> {
         ensures { IsUnder self.now.engine.hint self.now.columns self.now.asked
             (fields_of fields.now) result }
     {
-        if fields.len() != self.columns.width {
-            return None;
+        if fields.len() == self.columns.width {
+            let named = region_of(self.columns, fields);
+            return hint_under(self.asked.else_hint, self.engine.hint, named);
         }
-        let named = region_of(self.columns, fields);
-        hint_under(self.asked.else_hint, self.engine.hint, named)
+        None
     }
 
     /// The answer to a record's number under this hint. Refused only for memory.
