@@ -130,6 +130,25 @@ pub(crate) fn say_columns<E: ByteSink>(errors: &mut E, name: &str, header: &Byte
     2
 }
 
+/// Writes that a column of a name can't be added to a table.
+fn write_taken<E: ByteSink>(errors: &mut E, name: &[u8]) -> Result<(), Fault> {
+    write_str(errors, "phone: a column ")?;
+    write_all(errors, name)?;
+    write_str(
+        errors,
+        " is there already; --prefix NAME sets NAME before each added name\n",
+    )
+}
+
+/// Tells that a column of a name can't be added to a table, which would have it twice, and gives the
+/// status.
+pub(crate) fn say_taken<E: ByteSink>(errors: &mut E, name: &[u8]) -> u8
+    ensures { result ≡ 2 }
+{
+    let _written = write_taken(errors, name);
+    2
+}
+
 /// What is told behind the count of those that are left out: by which key.
 const LEFT_OUT: &str = ", whose number and extension an earlier one has";
 

@@ -1,6 +1,6 @@
 -- What a table writes for records: of all its rows those that are kept.
 use Rattle.std.proofs.Common.{◌≡◌, ◌&&◌, ◌||◌, ◌==◌, ℕ, Bool, true, false, not, List, [], ◌∷◌, ◌++◌, Option, Some, None, Result, length, refl, sym, ap, ◌∙◌, subst}
-use Rattle.std.specs.Prelude.{⊤, if◌then◌else◌}
+use Rattle.std.specs.Prelude.{⊤}
 use Rattle.std.specs.List.{list_any}
 use Rattle.std.specs.Option.{option_map_or}
 use Rattle.std.specs.Str.{bytes_eq}
@@ -17,8 +17,6 @@ use Rattle.phone_table.specs.Ends.{Ends}
 use Rattle.phone_table.proofs.EndsWeaker.{ends_weaker}
 use Rattle.phone_table.proofs.Writing.{some_told, told}
 use Rattle.phone_table.specs.Counts.{no_counts}
-use Rattle.phone_table.specs.Duplicates.{duplicate_names}
-use Rattle.phone_table.specs.Extras.{added_names}
 use Rattle.phone_table.specs.Answered.{Answered, AreAnswered, has_key, key_in}
 use Rattle.phone_table.specs.Rows.{AreKept, WritesKept, WritesSome, is_taken, row_of}
 use Rattle.phone_table.specs.Answered.AreAnswered.{none as none_answered, next as next_answered}
@@ -153,12 +151,12 @@ table_ends first counts keys last header added d before after r h = ends_weaker 
 -- so does one without the columns of duplicates
 pub plain_ends : (first : Table) → first.counts ≡ no_counts → first.keys.keys ≡ [] → first.asked.tells_duplicates ≡ false → (last : Table) (header : Record)
     (before after : Devices) (r : Result ⊤ RunError) →
-    Ends header (added_names first.asked.extra.now) (told does first last) (some_told does first) (IsOfOtherWidth last.columns last.asked) first.asked.delimiter before after r →
+    Ends header (names_in first.asked) (told does first last) (some_told does first) (IsOfOtherWidth last.columns last.asked) first.asked.delimiter before after r →
     Ends header (names_in first.asked)
     (WritesTable first.engine.rules first.engine.database.now first.engine.hint first.columns first.asked last.counts)
     (WritesSomeTable first.engine.rules first.engine.database.now first.engine.hint first.columns first.asked)
     (IsOfOtherWidth first.columns first.asked) first.asked.delimiter before after r
 plain_ends first counts keys plain last header before after r h =
-    subst (λ b. Ends header ((if b then duplicate_names else []) ++ added_names first.asked.extra.now) (WritesKept (gives first) b first.asked.is_unique last.counts)
+    subst (λ b. Ends header (names_in first.asked) (WritesKept (gives first) b first.asked.is_unique last.counts)
     (WritesSome (gives first) b first.asked.is_unique) (IsOfOtherWidth first.columns first.asked) first.asked.delimiter before after r) (sym plain)
-    (table_ends first counts keys last header (added_names first.asked.extra.now) first.asked.delimiter before after r h)
+    (table_ends first counts keys last header (names_in first.asked) first.asked.delimiter before after r h)

@@ -14,7 +14,6 @@ use Rattle.phone_csv.specs.RecordReports.{IsReport}
 use Rattle.phone_table.specs.Ends.{by}
 use Rattle.phone_table.specs.Answered.{Answered, AreAnswered, key_in}
 use Rattle.phone_table.specs.Duplicates.{marked_rows, marks, shared_of}
-use Rattle.phone_table.specs.Headers.{names}
 use Rattle.phone_table.specs.Rows.{AreKept, AreWritten, WritesKept, row_of}
 use Rattle.phone_values.specs.declared.reading.Reading.{Reading}
 use Rattle.phone_table.specs.Answered.AreAnswered.{none as none_answered, next as next_answered}
@@ -23,11 +22,11 @@ use Rattle.phone_table.specs.declared.counts.Counts.{Counts}
 use Rattle.phone_table.specs.Tables.{IsReadAgain, IsTable, mark_text}
 
 -- a header that names are put behind is no empty one
-no_names : (header marks headings : Record) → header ++ (marks ++ (headings ++ names)) ≢ []
-no_names [] [] [] e = cc e
-no_names [] [] (h ∷ hs) e = cc e
-no_names [] (m ∷ ms) headings e = cc e
-no_names (h ∷ hs) marks headings e = cc e
+no_names : (header marks headings : Record) (name : List ℕ) (names : Record) → header ++ (marks ++ (headings ++ name ∷ names)) ≢ []
+no_names [] [] [] name names e = cc e
+no_names [] [] (h ∷ hs) name names e = cc e
+no_names [] (m ∷ ms) headings name names e = cc e
+no_names (h ∷ hs) marks headings name names e = cc e
 
 -- nothing is passed over where no mark stands
 no_mark : (text : List ℕ) → begins_with_mark text ≡ false → strip_bom text ≡ text
@@ -83,13 +82,13 @@ written_full : (marks once : Bool) (all : List Answered) (rows : List Record) (c
 written_full true once all rows counts (is, plain) full = rw is (marked_full all 2 all full)
 written_full false once all rows counts kept full = kept_full once all rows counts kept full
 
-pub read_back : (gives : Record → Option Reading → Record → Type 0) (told once : Bool) (counts : Counts) (header marks headings : Record)
+pub read_back : (gives : Record → Option Reading → Record → Type 0) (told once : Bool) (counts : Counts) (header marks headings : Record) (name : List ℕ) (names : Record)
     (bytes text : List ℕ) →
-    IsTable header (marks ++ (headings ++ names))
+    IsTable header (marks ++ (headings ++ name ∷ names))
     (by IsReport (WritesKept gives told once counts)) 44 bytes text → IsReadAgain gives told once counts header
-    (marks ++ (headings ++ names)) bytes text
-read_back gives told once counts header marks headings bytes text t =
-    let first = header ++ (marks ++ (headings ++ names)) in
+    (marks ++ (headings ++ name ∷ names)) bytes text
+read_back gives told once counts header marks headings name names bytes text t =
+    let first = header ++ (marks ++ (headings ++ name ∷ names)) in
     let (records, read, (all, rows, answers, keep, is)) = t.answered in
     let full = written_full told once all rows counts keep (all_own gives records all answers (csv.all_full 44 t.after t.rest records read)) in
     let end = line_end_in t.after in
@@ -108,6 +107,6 @@ read_back gives told once counts header marks headings bytes text t =
       kept = keep;
       whole = split;
       again = subst (λ body. AreRecords (reading 44) StartRecord (record_text (commas end) first ++ body) (first ∷ rows)) (sym is)
-          (first_read_again end first rows (no_names header marks headings) full);
+          (first_read_again end first rows (no_names header marks headings name names) full);
       behind_mark = λ h. ap strip_bom split ∙ passed marked _ h;
     }

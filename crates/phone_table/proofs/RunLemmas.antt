@@ -1,10 +1,12 @@
 -- What the reading of a header says of a run.
-use Rattle.std.proofs.Common.{Bool, ◌≡◌, ◌⊎◌, inl, inr, ℕ, ◌+◌, List, length, Option, Some, None, Result, Err, IfSome, IsNone, IsSome, option_map, refl, subst, arith}
+use Rattle.std.proofs.Common.{Bool, ◌≡◌, ◌⊎◌, inl, inr, ℕ, ◌+◌, List, length, Option, Some, None, Result, Err, IfSome, IsNone, refl, subst, arith}
 use Rattle.std.specs.Prelude.{⊤}
 use Rattle.phone_device.specs.Passing.{IsAtEnd}
 use Rattle.phone_csv.specs.Firsts.{EndsNoFirst, IsHead, IsOnly, first_in}
 use Rattle.phone_csv.specs.Formats.{Record, state_of}
 use Rattle.phone_csv.specs.Quotes.{IsOpenHeader}
+use Rattle.phone_csv.specs.RecordReports.{Writes}
+use Rattle.phone_csv.specs.declared.format.Format.{Format}
 use Rattle.phone_csv.specs.Runs.{OfRead, most_bytes}
 use Rattle.phone_csv.specs.declared.blocks.RunError.{RunError}
 use Rattle.phone_csv.specs.declared.cutter.Start.{Start}
@@ -15,14 +17,11 @@ use Rattle.phone_records.specs.declared.loader.Metadata.{Metadata}
 use Rattle.phone_values.specs.declared.country.Id.{Id}
 use Rattle.phone_values.specs.declared.rules.Rules.{Rules}
 use Rattle.phone_table.specs.Ends.{SourceFails}
-use Rattle.phone_table.specs.Headers.{column_of, region_column}
-use Rattle.phone_table.specs.Runs.{Lacks, NoHeader, RowsEnd}
+use Rattle.phone_table.specs.Runs.{NoHeader, RowsEnd}
 use Rattle.phone_table.specs.Runs.NoHeader.{absent, input, memory, quote}
 use Rattle.phone_table.specs.Tables.{IsHeader}
 use Rattle.phone_table.specs.declared.counts.Counts.{Counts}
-use Rattle.phone_table.specs.declared.header.Column.{Column}
 use Rattle.phone_table.specs.declared.header.Columns.{Columns}
-use Rattle.phone_table.specs.declared.header.Column.TheVariants.{Number, Region}
 use Rattle.phone_table.specs.declared.run.Asked.{Asked}
 
 caused : (before after : Devices) → (after.source_faults ≡ before.source_faults + 1) ⊎ OfRead before.to_come after.to_come (λ bytes. length bytes ≡ most_bytes) →
@@ -51,15 +50,6 @@ pub header_read : (d : ℕ) (header : Record) (rest : Option Start) (has_mark : 
     (IsNone rest → OfRead s0 s1 (λ bytes. IsOnly d bytes header has_mark)) → OfRead s0 s1 (λ bytes. IsHeader d header rest has_mark bytes)
 header_read d header (Some start) has_mark s0 s1 ended only = ended
 header_read d header None has_mark s0 s1 ended only = only refl
-
--- which column a header lacks
-pub lacks_by : {T : Type 0} (asked : Asked) (column : Column) (header : Record) →
-    (◌≡◌ {A = Result T Column} (Err column) (Err Number) → column_of header asked.number.now ≡ None) →
-    (◌≡◌ {A = Result T Column} (Err column) (Err Region) → IsSome (column_of header asked.number.now)) →
-    (◌≡◌ {A = Result T Column} (Err column) (Err Region) → region_column header (option_map (λ name. name.now) asked.region) ≡ None) →
-    Lacks asked column header
-lacks_by asked Number header number found region = number refl
-lacks_by asked Region header number found region = (found refl, region refl)
 
 -- a run that begins where the reading of the header ended, which counted no fault
 pub rows_from : {rules : Rules} {db : List Metadata} {hint : Option Id} {columns : Columns} {asked : Asked} {header : Record} {to_come taken : Option (List ℕ)}

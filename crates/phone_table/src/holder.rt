@@ -59,11 +59,12 @@ impl<'d> Answers for Holder<'d> {
     /// the table has columns isn't answered, unless such are marked.
     fn answer(&mut self, alloc: Global, fields: &mut ByteRecord) -> Result<bool, Refusal> {
         let width = fields.len();
-        let answer = match self.table.answer_or_refusal(fields) {
+        let under = self.table.hint_of(fields);
+        let answer = match self.table.answer_or_refusal(under, fields) {
             Ok(answer) => answer,
             Err(refusal) => return Err(refusal),
         };
-        let Ok(()) = self.table.push_row(fields, &answer) else {
+        let Ok(()) = self.table.push_row(fields, under, &answer) else {
             return Err(Refusal::Memory);
         };
         self.table.counts.count(fields, true);

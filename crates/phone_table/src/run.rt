@@ -1,17 +1,21 @@
 //! The run over a table of customers.
-ghost use Rattle.std.specs.Prelude.{◌≡◌, ℕ, List, [], IsNone, Option, false};
+ghost use Rattle.std.specs.Prelude.{◌≡◌, ℕ, List, [], IfErr, IfOk, IsNone, None, Option, Some};
+ghost use Rattle.std.specs.Prelude.{false};
 ghost use Rattle.csv.specs.Records.{fields_of, partial_of};
+ghost use Rattle.phone_csv.specs.Formats.{Record};
 ghost use Rattle.phone_csv.specs.Runs.{OfRead};
 ghost use Rattle.phone_device.specs.Passing.{IsAtEnd};
 ghost use Rattle.phone_lines.specs.Ends.{seen};
 ghost use Rattle.phone_table.specs.Counts.{no_counts};
-ghost use Rattle.phone_table.specs.Runs.{RowsEnd, RunEnds};
+ghost use Rattle.phone_table.specs.Headers.{first_taken};
+ghost use Rattle.phone_table.specs.Runs.{IsRefused, RowsEnd, RunEnds, names_in};
 ghost use Rattle.phone_table.specs.Tables.{IsHeader};
 
 use crate::counts::Counts;
 use crate::extra::Extra;
-use crate::header::{Column, columns_of};
+use crate::header::{ColumnError, columns_of};
 use crate::marked::write_marked;
+use crate::names::{added_names, first_taken};
 use crate::rows::write_rows;
 use crate::table::Table;
 use csv::ByteRecord;
@@ -40,6 +44,8 @@ pub struct Asked<'a> {
     pub is_unique: bool,
     /// Whether columns tell which records have one number, by the same; then each is given back.
     pub tells_duplicates: bool,
+    /// What stands in front of the name of each column behind the header's own.
+    pub front: &'a str,
     /// The columns that stand between the header's own and the answer's.
     pub extra: &'a [Extra<'a>],
     /// The database of short numbers, where the kinds of these are told.
@@ -53,10 +59,44 @@ pub enum TableError {
     Delimiter,
     /// The header was not read.
     Header(FirstError),
-    /// The header, which stands here, lacks a column.
-    NoColumn(Column, ByteRecord),
+    /// The header, which stands here, has no column of a name that is asked for, or more than one.
+    NoColumn(ColumnError, ByteRecord),
+    /// This name, which is to be put behind the header, stands there already.
+    Taken(Vec<u8>),
     /// The run over the records ended.
     Rows(RunError),
+}
+
+/// The error of a name that stands in a header already. By `Rows` where memory is refused.
+fn taken(alloc: Global, name: &[u8]) -> TableError
+    ensures { (header added : Record) → first_taken header added ≡ Some name.now →
+        IsRefused header added result }
+{
+    match name.to_vec(alloc) {
+        Ok(name) => TableError::Taken(name),
+        Err(_) => TableError::Rows(RunError::Memory),
+    }
+}
+
+/// The names that are put behind a header. Refused by `Taken` where one of them stands there
+/// already, or is put there twice, and by `Rows` where memory is refused.
+fn names_behind(
+    alloc: Global,
+    asked: Asked<'_>,
+    header: &ByteRecord,
+) -> Result<ByteRecord, TableError>
+    ensures names { IfOk result (λ added. fields_of added ≡ names_in asked.entry) }
+    ensures free { IfOk result
+        (λ _. first_taken (fields_of header.now) (names_in asked.entry) ≡ None) }
+    ensures refused { IfErr result (IsRefused (fields_of header.now) (names_in asked.entry)) }
+{
+    let Ok(added) = added_names(alloc, asked.front, asked.tells_duplicates, asked.extra) else {
+        return Err(TableError::Rows(RunError::Memory));
+    };
+    if let Some(name) = first_taken(header, &added) {
+        return Err(taken(alloc, name));
+    }
+    Ok(added)
 }
 
 /// Gives a table back: its header with names behind its own, those of the columns that are asked
@@ -66,10 +106,15 @@ pub enum TableError {
 /// its first name, and the output begins with one too. Each record is ended by a carriage return
 /// and a line feed where a carriage return ended the header, else by a line feed. What is read and
 /// written is CSV as the kit's `csv` has it, with this delimiter. Nothing in memory grows with the
-/// number of records, but with `is_unique`, where the keys of numbers are kept: then a record is left
-/// out where an earlier one has a number of the same E.164 text and the same extension. It gives how
-/// many records there were, how many of them were answered otherwise than by a valid number, and how
-/// many were left out.
+/// number of records, but with `is_unique`, where the keys of numbers are kept: then a record is
+/// left out where an earlier one has a number of the same E.164 text and the same extension; and
+/// with `tells_duplicates`, where all are. It gives how many records there were, how many of them
+/// were answered otherwise than by a valid number, and how many were left out.
+///
+/// With `tells_duplicates` two columns stand before the others. `duplicate_of` has, where an earlier
+/// record has the number and its extension, the number of the first one that has, the header
+/// counted as 1; `duplicates` has, on that one, how many later ones there are. They are empty else.
+/// All is read and answered before anything is written, so nothing is where that breaks off.
 ///
 /// The answer to a number, which is read and described by the engine: what each column that is
 /// asked for tells of it, empty where its table has nothing; its texts in three modes, its kind,
@@ -85,8 +130,10 @@ pub enum TableError {
 /// Where the field holds anything else, the number is refused with the words `unknown region`, and
 /// the run goes on; with `else_hint` the number is read under the engine's hint.
 ///
-/// Errors: `Delimiter`, before anything is read; `Header` where there is no header, and `NoColumn`
-/// where the header lacks a column, before anything is written; after the header was written `Rows`
+/// Errors: `Delimiter`, before anything is read; `Header` where there is no header, `NoColumn` where
+/// the header has no column of a name that is asked for, or more than one, and `Taken` where one of
+/// the names that are put behind it stands there already, or is put there twice, before anything is
+/// written; after the header was written `Rows`
 /// as `answer_records` has it, with `Record` at a record that has another count of fields than the
 /// header, and the number of line feeds before that record. With `mark_bad` such a record is given
 /// back as it is instead, and after its fields the answer to a refusal, `wrong count of fields`.
@@ -116,10 +163,14 @@ pub fn write_table<S: ByteSource, W: ByteSink>(
     };
     let columns = match columns_of(&first.fields, asked.number, asked.region) {
         Ok(columns) => columns,
-        Err(column) => return Err(TableError::NoColumn(column, first.fields)),
+        Err(error) => return Err(TableError::NoColumn(error, first.fields)),
+    };
+    let added = match names_behind(alloc, asked, &first.fields) {
+        Ok(added) => added,
+        Err(error) => return Err(error),
     };
     let table = Table::new(engine, asked, columns);
-    match write_records(alloc, table, first, source, sink) {
+    match write_records(alloc, table, first, &added, source, sink) {
         Ok(counts) => Ok(counts),
         Err(error) => Err(TableError::Rows(error)),
     }
@@ -130,11 +181,13 @@ fn write_records<S: ByteSource, W: ByteSink>(
     alloc: Global,
     table: Table<'_>,
     first: First,
+    added: &ByteRecord,
     source: &mut S,
     sink: &mut W,
 ) -> Result<Counts, RunError>
     requires partial { partial_of first.fields ≡ [] }
     requires end { IsNone first.rest → IsAtEnd (S.to_come source.old) }
+    requires added { fields_of added.now ≡ names_in table.asked }
     requires counts { table.counts ≡ no_counts }
     requires keys { table.keys.keys ≡ [] }
     ensures ends { (before : Option (List ℕ)) → OfRead before (S.to_come source.old) (λ bytes.
@@ -148,9 +201,9 @@ fn write_records<S: ByteSource, W: ByteSink>(
         result }
 {
     if table.asked.tells_duplicates {
-        write_marked(alloc, table, first, source, sink)
+        write_marked(alloc, table, first, added, source, sink)
     } else {
-        write_plain(alloc, table, first, source, sink)
+        write_plain(alloc, table, first, added, source, sink)
     }
 }
 
@@ -159,12 +212,14 @@ fn write_plain<S: ByteSource, W: ByteSink>(
     alloc: Global,
     table: Table<'_>,
     first: First,
+    added: &ByteRecord,
     source: &mut S,
     sink: &mut W,
 ) -> Result<Counts, RunError>
     requires partial { partial_of first.fields ≡ [] }
     requires end { IsNone first.rest → IsAtEnd (S.to_come source.old) }
     requires plain { table.asked.tells_duplicates ≡ false }
+    requires added { fields_of added.now ≡ names_in table.asked }
     requires counts { table.counts ≡ no_counts }
     requires keys { table.keys.keys ≡ [] }
     ensures ends { (before : Option (List ℕ)) → OfRead before (S.to_come source.old) (λ bytes.
@@ -178,8 +233,8 @@ fn write_plain<S: ByteSource, W: ByteSink>(
         result }
 {
     let mut table = table;
-    let (delimiter, extra) = (table.asked.delimiter, table.asked.extra);
-    match write_rows(alloc, &mut table, delimiter, first, extra, source, sink) {
+    let delimiter = table.asked.delimiter;
+    match write_rows(alloc, &mut table, delimiter, first, added, source, sink) {
         Ok(()) => Ok(table.counts),
         Err(error) => Err(error),
     }

@@ -43,6 +43,7 @@ fn asked(row: &Row) -> Asked<'_> {
         mark_bad: row.argument(4) == "mark",
         is_unique: row.argument(4) == "unique",
         tells_duplicates: row.argument(4) == "duplicates",
+        front: "",
         extra: &[],
         short: None,
     }
