@@ -1,8 +1,7 @@
 -- The text for a table, read again.
 use Rattle.std.proofs.Common.{◌≡◌, ◌≢◌, ◌⊎◌, inl, inr, ℕ, Bool, true, false, List, [], ◌∷◌, ◌++◌}
-use Rattle.std.proofs.Common.{refl, sym, ap, subst, Option, map}
+use Rattle.std.proofs.Common.{refl, sym, ap, subst, Option}
 use Rattle.std.proofs.Common.{◌∙◌, true≢false, append_assoc}
-use Rattle.std.proofs.lemmas.List.{map-append}
 use Rattle.csv.specs.Reading.{is_bom, strip_bom}
 use Rattle.csv.specs.Reading.{AreRecords}
 use Rattle.csv.specs.declared.parser.State.TheVariants.{StartRecord}
@@ -47,23 +46,31 @@ passed true written h = refl
 passed false written (inl e) = absurd (true≢false (sym e))
 passed false written (inr e) = no_mark written e
 
--- each row for such records has a field, and so each that is kept
-all_full : (gives : Record → Option Reading → Record → Type 0) (records : List Record) (all : List Answered) → AreAnswered gives records all → AllByRecursion IsFull records →
-    AllByRecursion IsFull (map row_of all)
-all_full gives records all none_answered full = tt
-all_full gives records all (next_answered some before fields answer number are given) full =
-    let parts = first_all some (fields ∷ []) full in
-    let a : Answered = record { own = fields; answer = answer; key = key_in number } in
-    subst (AllByRecursion IsFull) (sym (map-append row_of before (a ∷ [])))
-    (all_append (map row_of before) ((fields ++ answer) ∷ []) (all_full gives some before are parts.0) (more_full fields answer parts.1.0, tt))
+-- each record has a field of its own
+abbrev HaveOwn : List Answered → Type 0
+HaveOwn all = AllByRecursion (λ a. IsFull a.own) all
 
-kept_full : (once : Bool) (all : List Answered) (rows : List Record) (counts : Counts) → AreKept once all rows counts → AllByRecursion IsFull (map row_of all) → AllByRecursion IsFull rows
+own_append : (xs ys : List Answered) → HaveOwn xs → HaveOwn ys → HaveOwn (xs ++ ys)
+own_append [] ys a b = b
+own_append (x ∷ xs) ys a b = (a.0, own_append xs ys a.1 b)
+
+own_parts : (xs ys : List Answered) → HaveOwn (xs ++ ys) → HaveOwn xs × HaveOwn ys
+own_parts [] ys all = (tt, all)
+own_parts (x ∷ xs) ys all = let r = own_parts xs ys all.1 in ((all.0, r.0), r.1)
+
+all_own : (gives : Record → Option Reading → Record → Type 0) (records : List Record) (all : List Answered) → AreAnswered gives records all → AllByRecursion IsFull records → HaveOwn all
+all_own gives records all none_answered full = tt
+all_own gives records all (next_answered some before fields answer number are given) full =
+    let parts = first_all some (fields ∷ []) full in
+    own_append before (record { own = fields; answer = answer; key = key_in number } ∷ []) (all_own gives some before are parts.0) (parts.1.0, tt)
+
+-- so each row that is kept has a field
+kept_full : (once : Bool) (all : List Answered) (rows : List Record) (counts : Counts) → AreKept once all rows counts → HaveOwn all → AllByRecursion IsFull rows
 kept_full once all rows counts none_kept full = tt
 kept_full once all rows counts (one_kept some before c a are new) full =
-    let parts = first_all (map row_of some) (row_of a ∷ []) (subst (AllByRecursion IsFull) (map-append row_of some (a ∷ [])) full) in
-    all_append before (row_of a ∷ []) (kept_full once some before c are parts.0) parts.1
-kept_full once all rows counts (one_left_out some before c a are known) full =
-    kept_full once some before c are (first_all (map row_of some) (row_of a ∷ []) (subst (AllByRecursion IsFull) (map-append row_of some (a ∷ [])) full)).0
+    let parts = own_parts some (a ∷ []) full in
+    all_append before (row_of a ∷ []) (kept_full once some before c are parts.0) (more_full a.own a.answer parts.1.0, tt)
+kept_full once all rows counts (one_left_out some before c a are known) full = kept_full once some before c are (own_parts some (a ∷ []) full).0
 
 pub read_back : (gives : Record → Option Reading → Record → Type 0) (once : Bool) (counts : Counts) (header headings : Record) (name : List ℕ) (names : Record)
     (bytes text : List ℕ) →
@@ -73,7 +80,7 @@ pub read_back : (gives : Record → Option Reading → Record → Type 0) (once 
 read_back gives once counts header headings name names bytes text t =
     let first = header ++ (headings ++ name ∷ names) in
     let (records, read, (all, rows, answers, keep, is)) = t.answered in
-    let full = kept_full once all rows counts keep (all_full gives records all answers (csv.all_full 44 t.after t.rest records read)) in
+    let full = kept_full once all rows counts keep (all_own gives records all answers (csv.all_full 44 t.after t.rest records read)) in
     let end = line_end_in t.after in
     let marked = begins_with_mark bytes in
     let split = t.whole ∙ append_assoc (mark_text marked) _ t.body in
