@@ -103,7 +103,7 @@ module _ (rules : Rules) (db : List Metadata) where
     pub answer_same : (a b : Record) → EachHasOneText asked.extra.now →
         IsAnswer rules db hint columns asked fields a →
         IsAnswer rules db hint columns asked fields b → a ≡ b
-    answer_same a b one (n, told, own, is, are, e) (k, told', own', is', are', f) =
+    answer_same a b one (n, (told, own, is, are, e)) (k, (told', own', is', are', f)) =
         let same = own_same n k own own' is is' in
         e ∙ ap₂ (λ x y. x ++ y) (all_told_same k asked.extra.now told told' one
         (subst (λ x. AreTold rules db x asked.extra.now told) same.0 are) are') same.1 ∙ sym f

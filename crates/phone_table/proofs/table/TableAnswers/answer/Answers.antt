@@ -14,7 +14,8 @@ returns-clause-answered c e =
     let new = same_ok _ _ e in
     let k = c.in-Ok-is_new.ensures.keeps in (
       told ++ own,
-      written (number_in c.in-Ok.answer) (told ++ own) (told, own, c.in-Ok.ensures.answer, are, refl) (c.in-Ok-is_new.ensures.new ∙ ap not new) k
+      written (number_in c.in-Ok.answer) (told ++ own) (told, own, c.in-Ok.ensures.answer, are, refl) (c.in-Ok-is_new.ensures.new ∙ ap not new)
+          (record { engine = k.engine; asked = k.asked; columns = k.columns; keys = k.keys })
           (rw is at (c.count.ensures.written new) ∙ ap (λ n. counts_after n (fields ++ (told ++ own))) c.in-Ok-is_new.ensures.counts),
       is,
     )
@@ -26,5 +27,6 @@ returns-clause-left_out c e =
     let own = spelled c.in-Ok.answer in
     let known = same_ok _ _ e in
     let k = c.in-Ok-is_new.ensures.keeps in
-    left_out (number_in c.in-Ok.answer) (told ++ own) (told, own, c.in-Ok.ensures.answer, are, refl) (c.in-Ok-is_new.ensures.new ∙ ap not known) k
+    left_out (number_in c.in-Ok.answer) (told ++ own) (told, own, c.in-Ok.ensures.answer, are, refl) (c.in-Ok-is_new.ensures.new ∙ ap not known)
+    (record { engine = k.engine; asked = k.asked; columns = k.columns; keys = k.keys })
     (rw is at (c.count.ensures.left_out known) ∙ ap (λ n. counts_without n (fields ++ (told ++ own))) c.in-Ok-is_new.ensures.counts)
