@@ -1,13 +1,13 @@
 -- What keeps all records of a table, after a run over them.
 use Rattle.std.proofs.Common.{◌≡◌, false, List, [], ◌∷◌, ◌++◌, refl, sym, ap, subst, ◌∙◌}
 use Rattle.phone_csv.specs.Formats.{Record}
-use Rattle.phone_csv.specs.RecordReports.{AreRows, Gives}
+use Rattle.phone_csv.specs.RecordReports.{AreRows}
 use Rattle.phone_csv.specs.RecordReports.AreRows.{none, answered, left_out}
 use Rattle.phone_values.specs.declared.reading.Reading.{Reading}
 use Rattle.phone_table.specs.Answered.{Answered, AreAnswered, key_in}
 use Rattle.phone_table.specs.Answered.AreAnswered.{none as none_answered, next as next_answered}
 use Rattle.phone_table.specs.Counts.{counts_after, no_counts}
-use Rattle.phone_table.specs.Held.{Holds}
+use Rattle.phone_table.specs.Held.{holds}
 use Rattle.phone_table.specs.Held as held
 use Rattle.phone_table.specs.Held.Holds.{held as one_held}
 use Rattle.phone_table.specs.Rows.{AreKept, row_of}
@@ -16,13 +16,9 @@ use Rattle.phone_table.specs.declared.holder.Holder.{Holder}
 use Rattle.phone_table.specs.declared.table.Table.{Table}
 use Rattle.phone_table.proofs.Kept.{gives}
 
--- what may be done with a record
-abbrev pub holds : Gives Holder
-holds h fields answer after = Holds h fields after answer
-
 -- the records so far are kept with their answers, and counted, and no row was written
 pub record HeldSo (first : Holder) (records rows : List Record) (now : Holder) : Type 0 where
-  pub rows : rows ≡ []
+  pub unwritten : rows ≡ []
   pub table : now.table ≡ record first.table { counts = now.table.counts }
   pub answers : AreAnswered (gives first.table) records (held.answered now.held.items)
   pub plain : List Record
@@ -31,7 +27,7 @@ pub record HeldSo (first : Holder) (records rows : List Record) (now : Holder) :
 module _ (first : Holder) (fresh : held.answered first.held.items ≡ []) (counts : first.table.counts ≡ no_counts) where
   pub all_held : (records rows : List Record) (last : Holder) → AreRows holds first records rows last → HeldSo first records rows last
   all_held records rows last none = record {
-    rows = refl;
+    unwritten = refl;
     table = refl;
     answers = rw fresh none_answered;
     plain = [];
@@ -45,7 +41,7 @@ module _ (first : Holder) (fresh : held.answered first.held.items ≡ []) (count
       let columns = ap (λ t. t.columns) s.table in
       let counted = ap (λ t. t.counts) table in
       record {
-        rows = s.rows;
+        unwritten = s.unwritten;
         table = table ∙ ap (λ t. record t { counts = counts_after now.table.counts (fields ++ answer) }) s.table
             ∙ ap (λ n. record first.table { counts = n }) (sym counted);
         answers = rw more (next_answered some (held.answered now.held.items) fields answer number s.answers (rw (engine, columns, asked) at is));

@@ -9,6 +9,7 @@ use Rattle.phone_csv.specs.Firsts.{begins_with_mark}
 use Rattle.phone_csv.specs.Formats.{Record, format_after, state_behind, state_of}
 use Rattle.phone_csv.specs.RecordReports.{IsReport, IsReportOnFirst, Writes, WritesRows, WritesSomeRows, rows_text}
 use Rattle.phone_csv.specs.Runs.{OfRead, TakesA}
+use Rattle.phone_csv.proofs.AnswerLemmas.{writes_nothing}
 use Rattle.phone_csv.specs.declared.blocks.RunError.{RunError}
 use Rattle.phone_csv.specs.declared.blocks.RunError.TheVariants as error
 use Rattle.phone_csv.specs.declared.cutter.Start.{Start}
@@ -23,6 +24,7 @@ use Rattle.phone_table.specs.Extras.{added_names}
 use Rattle.phone_table.specs.Held as held
 use Rattle.phone_table.specs.Rows.{WritesKept, WritesSome}
 use Rattle.phone_table.specs.Runs.{RowsEnd, WritesSomeTable, WritesTable, names_in}
+use Rattle.phone_table.specs.Runs.RowsEnd.{whole as all_written, broken_off as not_written}
 use Rattle.phone_table.specs.Tables.{IsBeginning, IsHeader, IsTable, head_text}
 use Rattle.phone_table.specs.Unwritten.{IsUnwritten, WritesNone}
 use Rattle.phone_table.specs.Unwritten.IsUnwritten.{broken_off}
@@ -30,7 +32,8 @@ use Rattle.phone_table.specs.declared.counts.Counts.{Counts}
 use Rattle.phone_table.specs.declared.holder.Holder.{Holder}
 use Rattle.phone_table.specs.declared.table.Table.{Table}
 use Rattle.phone_table.proofs.EndsWeaker.{ends_weaker}
-use Rattle.phone_table.proofs.HeldLemmas.{all_held, holds}
+use Rattle.phone_table.specs.Held.{holds}
+use Rattle.phone_table.proofs.HeldLemmas.{all_held}
 use Rattle.phone_table.proofs.Kept.{gives}
 use Rattle.phone_table.proofs.TableLemmas.{no_records}
 
@@ -127,7 +130,7 @@ module _ (first : Holder) (fresh : held.answered first.held.items ≡ []) (count
       WritesNone (gives first.table) format records text
   writes_none format last records text (rows, are, is) =
       let s = all_held first fresh counts records rows last are in
-      (held.answered last.held.items, s.answers, is ∙ ap (rows_text format) s.rows)
+      (held.answered last.held.items, s.answers, is ∙ ap (rows_text format) s.unwritten)
 
   pub same_table : (format : Format) (last : Holder) (records : List Record) (text : List ℕ) → WritesRows holds format first last records text →
       last.table ≡ record first.table { counts = last.table.counts }
@@ -144,3 +147,61 @@ module _ (first : Holder) (fresh : held.answered first.held.items ≡ []) (count
       (λ format records text fields w refused. let same = same_table format last records text w in
       let columns = ap (λ t. t.columns) same in let asked = ap (λ t. t.asked) same in rw (columns, asked) at refused)
       _ _ _ h)
+
+module _ (first : Holder) (fresh : held.answered first.held.items ≡ []) (counts : first.table.counts ≡ no_counts) (told : first.table.asked.tells_duplicates ≡ true) where
+  abbrev t : Table
+  t = first.table
+
+  abbrev d : ℕ
+  d = t.asked.delimiter
+
+  -- what is written for the records of the table
+  abbrev writes : Holder → Format → Writes
+  writes last = WritesTable t.engine.rules t.engine.database.now t.engine.hint t.columns t.asked last.table.counts
+
+  abbrev some_writes : Format → Writes
+  some_writes = WritesSomeTable t.engine.rules t.engine.database.now t.engine.hint t.columns t.asked
+
+  writes_table : (format : Format) (last : Holder) (records : List Record) (text : List ℕ) → WritesRows holds format first last records text →
+      writes last format records (kept_text first fresh counts format last)
+  writes_table format last records text w = subst (λ b. WritesKept (gives t) b t.asked.is_unique last.table.counts format records (kept_text first fresh counts format last)) (sym told)
+      (writes_marked first fresh counts format last records text w)
+
+  module _ (last : Holder) (header : Record) (rest : Option Start) (has_mark : Bool) (s0 s1 s2 : Option (List ℕ)) where
+    -- the text of the table
+    abbrev pub whole_text : List ℕ
+    whole_text = head_text (format_after d (state_behind rest)) has_mark (header ++ names_in t.asked) ++ kept_text first fresh counts (format_after d (state_behind rest)) last
+
+    abbrev Told : Type 0
+    Told = OfRead s0 s2 (λ bytes. IsTable header (names_in t.asked) (by IsReport (writes last)) d bytes whole_text)
+
+  table_told : (last : Holder) (header : Record) (rest : Option Start) (has_mark : Bool) (s0 s1 s2 : Option (List ℕ)) →
+      OfRead s0 s1 (λ bytes. IsHeader d header rest has_mark bytes) →
+      IfSome rest (λ start. OfRead s1 s2 (λ bytes. (text : List ℕ) × IsReport (WritesRows holds (format_after d (state_of start.place)) first last) d (state_of start.place) bytes text)) →
+      (IsNone rest → (last ≡ first) × (s2 ≡ s1)) → Told last header rest has_mark s0 s1 s2
+  table_told last header (Some start) has_mark s0 s1 s2 read (rb, rp, (text, (records, all, w))) none =
+      let format = format_after d (state_of start.place) in
+      table_behind d header (names_in t.asked) has_mark (by IsReport (writes last)) (kept_text first fresh counts format last) s0 s1 start s2 read
+      (rb, rp, (records, all, writes_table format last records text w))
+  table_told last header None has_mark s0 s1 s2 read more none =
+      let format = format_after d st.StartRecord in
+      let (same, source) = none refl in
+      rw (same, source) (table_alone d header (names_in t.asked) has_mark (by IsReport (writes first)) (kept_text first fresh counts format first) s0 s1 read
+      (no_records d header (names_in t.asked) has_mark (writes first format) (kept_text first fresh counts format first) (writes_table format first [] [] (writes_nothing holds format first))))
+
+  module _ (last : Holder) (header : Record) (text : List ℕ) (s0 s2 w0 w2 : Option (List ℕ)) (f0 f2 k0 k2 u0 u2 : ℕ)
+      (table : OfRead s0 s2 (λ bytes. IsTable header (names_in t.asked) (by IsReport (writes last)) d bytes text)) (end : IsAtEnd s2) where
+    pub rows_whole : Takes w0 text w2 → f2 ≡ f0 → k2 ≡ k0 → u2 ≡ 0 →
+        RowsEnd t.engine.rules t.engine.database.now t.engine.hint t.columns t.asked header (seen s0 f0 w0 k0 u0) (seen s2 f2 w2 k2 u2) (Ok last.table.counts)
+    rows_whole took source sink handed = all_written last.table.counts
+        (taken_whole header (names_in t.asked) (writes last) some_writes (IsOfOtherWidth t.columns t.asked) d text s0 s2 w0 w2 f0 f2 k0 k2 u0 u2 table end took source sink handed)
+
+    pub rows_front : TakesFront w0 text w2 → k2 ≡ k0 + 1 →
+        RowsEnd t.engine.rules t.engine.database.now t.engine.hint t.columns t.asked header (seen s0 f0 w0 k0 u0) (seen s2 f2 w2 k2 u2) (Err error.Output)
+    rows_front front fault = not_written last.table.counts error.Output
+        (taken_front header (names_in t.asked) (writes last) some_writes (IsOfOtherWidth t.columns t.asked) d text s0 s2 w0 w2 f0 f2 k0 k2 u0 u2 table end
+        (λ format records text w. (last.table.counts, w)) front fault)
+
+pub if_err : {T E : Type 0} (r : Result T E) (P : E → Type 0) → ((e : E) → r ≡ Err e → P e) → IfErr r P
+if_err (Ok x) P f = tt
+if_err (Err e) P f = f e refl

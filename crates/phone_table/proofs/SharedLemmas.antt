@@ -1,12 +1,13 @@
 -- The records that share a key, after one more.
-use Rattle.std.proofs.Common.{◌≡◌, ℕ, ◌+◌, ◌^◌, ◌<◌, ◌≤◌, ◌&&◌, Bool, true, false, cond, List, [], ◌∷◌, ◌++◌, length, map, take, drop, get_or, Option, None, Some, option_map, IfSome, String, Global, string_bytes, string_eq, refl, sym, ap, ap₂, subst, ◌∙◌, arith, bytes_eq, length-append}
-use Rattle.std.proofs.lemmas.List.{append_assoc, append-nil, length-take-le, length-map, map-append, take_more}
+use Rattle.std.proofs.Common.{◌≡◌, ℕ, ◌+◌, ◌^◌, ◌<◌, ◌≤◌, ◌&&◌, Bool, true, false, cond, List, [], ◌∷◌, ◌++◌, length, map, take, drop, slice_range, zero, suc, ◌-◌, get_or, Option, None, Some, option_map, IfSome, String, Global, string_bytes, string_eq, refl, sym, ap, ap₂, subst, ◌∙◌, arith, bytes_eq, length-append}
+use Rattle.std.proofs.lemmas.List.{append_assoc, append-nil, drop_at, length-take-le, length-map, map-append, take_at, take_more}
 use Rattle.std.proofs.lemmas.List.Sums.{sum_by_push, count_by-le-length}
 use Rattle.std.proofs.lemmas.Slice.Eq.{bytes_eq-Decides}
 use Rattle.std.proofs.lemmas.Grind.{flat_map-append}
 use Rattle.std.specs.List.{count_by, flat_map, position_from}
 use Rattle.std.specs.Map.{lookup}
-use Rattle.std.specs.Option.{option_and_then, option_map_or}
+use Rattle.std.specs.Option.{option_and_then, option_map_or, option_to_list}
+use Rattle.csv.specs.Records.{field_at}
 use Rattle.phone_csv.specs.Formats.{Record, record_text}
 use Rattle.phone_csv.specs.RecordReports.{rows_text}
 use Rattle.phone_csv.specs.declared.format.Format.{Format}
@@ -135,3 +136,38 @@ rows_turn format held h k keys old text new small at are before after =
     after ∙ ap₂ (λ t r. t ++ r) before first ∙ append_assoc old (rows_text format rows) (record_text format row)
     ∙ ap (λ t. old ++ (rows_text format rows ++ t)) (sym (append-nil (record_text format row)))
     ∙ ap (λ t. old ++ t) (sym (flat_map-append (record_text format) rows (row ∷ []))) ∙ ap (λ r. old ++ rows_text format r) (sym more)
+
+-- of a record so many are few
+few_of : (o : Option Shared) (n k : ℕ) → n ≤ k → IfSome o (λ s. s.count ≤ n) → IfSome o (λ s. s.count + 1 < k + 2)
+few_of None n k within few = tt
+few_of (Some s) n k within few = omega (arith, within, few)
+
+pub few_found : (keys : List (String Global × Shared)) (held : List Held) (k : ℕ) → k < length held →
+    ((q : String Global) → found keys q ≡ shared_by (answered (take k held)) (string_bytes q)) →
+    (key : Option (String Global)) → IfSome (found_at keys key) (λ s. s.count + 1 < k + 2)
+few_found keys held k small are None = tt
+few_found keys held k small are (Some key) =
+    let within : length (answered (take k held)) ≤ k = omega (arith, length-map (take k held) answered_of, length-take-le k held (omega (arith, small))) in
+    subst (λ o. IfSome o (λ s. s.count + 1 < k + 2)) (sym (are key)) (few_of (shared_by (answered (take k held)) (string_bytes key)) _ k within (shared_few (answered (take k held)) (string_bytes key)))
+
+-- fields from a place on are the one there, if any, and those behind it
+front_of : (k n : ℕ) (xs : Record) → take (suc k) (drop n xs) ≡ option_to_list (field_at xs n) ++ take k (drop (suc n) xs)
+unfolding field_at
+front_of zero zero [] = refl
+front_of (suc k) zero [] = refl
+front_of k zero (x ∷ xs) = refl
+front_of zero (suc n) [] = refl
+front_of (suc k) (suc n) [] = refl
+front_of k (suc n) (x ∷ xs) = front_of k n xs
+
+pub range_front : (xs : Record) (i end : ℕ) → i < end → slice_range xs i end ≡ option_to_list (field_at xs i) ++ slice_range xs (i + 1) end
+range_front xs i end small =
+    ap (λ n. take n (drop i xs)) (omega (arith, small)) ∙ front_of (end - (i + 1)) i xs ∙ ap (λ n. option_to_list (field_at xs i) ++ take (end - (i + 1)) (drop n xs)) (omega arith)
+
+pub range_end : (xs : Record) (i end : ℕ) → end ≤ i → slice_range xs i end ≡ []
+range_end xs i end past = ap (λ n. take n (drop i xs)) (omega (arith, past))
+
+-- a row, cut where its own fields end
+pub row_parts : (row own answer : Record) (width : ℕ) (key : Option (List ℕ)) → row ≡ own ++ answer → width ≡ length own →
+    (let a : Answered = record { own = take width row; answer = drop width row; key = key } in a) ≡ (let a : Answered = record { own = own; answer = answer; key = key } in a)
+row_parts row own answer width key e w = rw e (ap₂ (λ o b. let a : Answered = record { own = o; answer = b; key = key } in a) (take_at own answer width (sym w)) (drop_at own answer width (sym w)))

@@ -178,8 +178,8 @@ module _ (d : ℕ) (header added : Record) (has_mark : Bool) where
   no_last = refl
 
   -- the report where nothing follows
-  pub no_records : (writes : Writes) → writes [] [] → IsReport writes d st.StartRecord [] []
-  no_records writes none = (
+  pub no_records : (writes : Writes) (text : List ℕ) → writes [] text → IsReport writes d st.StartRecord [] text
+  no_records writes text none = (
     [],
     ([], st.StartRecord, [], uncut st.StartRecord [], (st.StartRecord, [], [], at_start d st.StartRecord st.StartRecord [] [] refl refl refl, refl), no_last),
     none,
@@ -199,7 +199,7 @@ module _ (d : ℕ) (header added : Record) (has_mark : Bool) where
         rest = [];
         body = [];
         begins = h.first;
-        answered = no_records (writes (format_after d st.StartRecord)) (none (format_after d st.StartRecord));
+        answered = no_records (writes (format_after d st.StartRecord)) [] (none (format_after d st.StartRecord));
         whole = sym (append-nil (head st.StartRecord)) ∙ marked st.StartRecord hb [] h.marked;
       },
       wrote,

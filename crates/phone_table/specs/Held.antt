@@ -7,6 +7,7 @@ use Rattle.std.specs.Option.{option_and_then}
 use Rattle.std.specs.String.{string_eq}
 use Rattle.csv.specs.Records.{fields_of}
 use Rattle.phone_csv.specs.Formats.{Record}
+use Rattle.phone_csv.specs.RecordReports.{Gives}
 use Rattle.phone_table.specs.Answered.{Answered, key_in}
 use Rattle.phone_table.specs.Answers.{IsAnswerOf}
 use Rattle.phone_table.specs.Counts.{counts_after}
@@ -59,3 +60,7 @@ pub data Holds (before : Holder) (fields : Record) (after : Holder) : Option Rec
       answered after.held.items ≡ answered before.held.items ++
       record { own = fields; answer = answer; key = key_in number } ∷ [] →
       Holds before fields after None
+
+-- the same, in the order in which a run over records has it
+abbrev pub holds : Gives Holder
+holds before fields answer after = Holds before fields after answer

@@ -128,7 +128,7 @@ pub data RunEnds (rules : Rules) (db : List Metadata) (hint : Option Id) (asked 
       is_delimiter asked.delimiter ≡ true →
       ReadsHeader asked.delimiter header before after → columns_in asked header ≡ Ok columns →
       IsRefused header (names_in asked) e → RunEnds rules db hint asked before after (Err e)
-  rows : (header : Record) (columns : Columns) (result : Result Counts RunError) →
+  answered : (header : Record) (columns : Columns) (result : Result Counts RunError) →
       is_delimiter asked.delimiter ≡ true → columns_in asked header ≡ Ok columns →
       first_taken header (names_in asked) ≡ None →
       RowsEnd rules db hint columns asked header before after result →

@@ -1,9 +1,10 @@
 //! The columns of duplicates: of which record another one has the key, and how many have it.
-ghost use Rattle.std.specs.Prelude.{◌≡◌, ◌+◌, ◌<◌, ◌^◌, ◌++◌, ◌∷◌, [], IfOk, IfSome, OnOk};
+ghost use Rattle.std.specs.Prelude.{◌≡◌, ◌+◌, ◌<◌, ◌++◌, ◌∷◌, [], IfOk, IfSome, OnOk};
 ghost use Rattle.std.specs.Prelude.{Some, String, cond, drop, slice_range, string_bytes, take};
+ghost use Rattle.std.specs.Option.{option_to_list};
 ghost use Rattle.std.specs.String.{string_eq};
 ghost use Rattle.std.specs.declared.alloc.Global as global;
-ghost use Rattle.csv.specs.Records.{fields_of, partial_of};
+ghost use Rattle.csv.specs.Records.{field_at, fields_of, partial_of};
 ghost use Rattle.phone_csv.specs.Formats.{record_text};
 ghost use Rattle.phone_csv.specs.RecordReports.{rows_text};
 ghost use Rattle.phone_table.specs.Duplicates.{duplicate_of, duplicates, marked_rows, marks};
@@ -39,7 +40,7 @@ pub struct Shared {
 
 /// The records that share a key after one more, of this number.
 fn one_more(shared: Option<Shared>, number: usize) -> Shared
-    requires { IfSome shared (λ s. s.count + 1 < 2 ^ 64) }
+    requires { IfSome shared (λ s. s.count + 1 < number) }
     ensures { result ≡ one_more shared number }
 {
     match shared {
@@ -106,6 +107,24 @@ fn push_marks(
     push_number(fields, duplicates(shared, number))
 }
 
+/// Puts the field of a record at a place, where there is one, behind those of another. Refused only
+/// for memory.
+fn push_one(
+    fields: &mut ByteRecord,
+    from: &ByteRecord,
+    place: usize,
+) -> Result<(), AllocError>
+    requires { partial_of fields.old ≡ [] }
+    ensures fields { OnOk result (fields_of fields.new ≡
+        fields_of fields.old ++ option_to_list (field_at (fields_of from.now) place)) }
+    ensures partial { OnOk result (partial_of fields.new ≡ []) }
+{
+    match from.get(place) {
+        Some(field) => fields.push_field(field),
+        None => Ok(()),
+    }
+}
+
 /// Puts some fields of a record behind those of another. Refused only for memory.
 fn push_fields(
     fields: &mut ByteRecord,
@@ -119,9 +138,7 @@ fn push_fields(
     ensures partial { OnOk result (partial_of fields.new ≡ []) }
 {
     'fields: for place in start..end {
-        if let Some(field) = from.get(place) {
-            fields.push_field(field)?;
-        }
+        push_one(fields, from, place)?;
     }
     Ok(())
 }
@@ -182,7 +199,7 @@ fn count_one(
     key: &Option<String>,
     number: usize,
 ) -> Result<(), AllocError>
-    requires { IfSome (found_at keys.old.entries key.now) (λ f. f.count + 1 < 2 ^ 64) }
+    requires { IfSome (found_at keys.old.entries key.now) (λ s. s.count + 1 < number) }
     ensures { OnOk result ((q : String global.Global) → found keys.new.entries q ≡
         found_after keys.old.entries key.now number q) }
 {

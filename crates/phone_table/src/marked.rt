@@ -1,6 +1,6 @@
 //! The run over a table with the columns of duplicates.
 ghost use Rattle.std.specs.Prelude.{◌≡◌, ◌++◌, ℕ, List, [], Err, IfErr, IfOk, IfSome, IsNone, OnOk};
-ghost use Rattle.std.specs.Prelude.{Option, None, Ok, true};
+ghost use Rattle.std.specs.Prelude.{Bool, Option, None, Ok, true};
 ghost use Rattle.csv.specs.Records.{fields_of, partial_of};
 ghost use Rattle.phone_csv.specs.Formats.{Record, format_after, state_of};
 ghost use Rattle.phone_csv.specs.RecordReports.{IsReport, WritesRows, WritesSomeRows};
@@ -10,7 +10,7 @@ ghost use Rattle.phone_lines.specs.Ends.{seen};
 ghost use Rattle.phone_table.specs.Answers.{IsOfOtherWidth};
 ghost use Rattle.phone_table.specs.Counts.{no_counts};
 ghost use Rattle.phone_table.specs.Ends.{Ends};
-ghost use Rattle.phone_table.specs.Held.{Holds};
+ghost use Rattle.phone_table.specs.Held.{holds};
 ghost use Rattle.phone_table.specs.Runs.{RowsEnd, names_in};
 ghost use Rattle.phone_table.specs.Tables.{IsHeader};
 
@@ -34,19 +34,19 @@ fn hold_all<S: ByteSource>(
     source: &mut S,
 ) -> Result<(), RunError>
     requires end { IsNone rest → IsAtEnd (S.to_come source.old) }
-    ensures none { IsNone rest.entry → (holder.new ≡ holder.old) × (source.new ≡ source.old) ×
+    ensures none { IsNone rest → (holder.new ≡ holder.old) × (source.new ≡ source.old) ×
         (result ≡ Ok tt) }
     ensures end { OnOk result (IsAtEnd (S.to_come source.new)) }
     ensures no_fault { OnOk result (S.faults source.new ≡ S.faults source.old) }
-    ensures read { IfSome rest.entry (λ start. OnOk result (OfRead (S.to_come source.old)
+    ensures read { IfSome rest (λ start. OnOk result (OfRead (S.to_come source.old)
         (S.to_come source.new) (λ bytes. (text : List ℕ) ×
-        IsReport (WritesRows Holds (format_after delimiter (state_of start.place)) holder.old holder.new) delimiter
+        IsReport (WritesRows holds (format_after delimiter (state_of start.place)) holder.old holder.new) delimiter
         (state_of start.place) bytes text))) }
     ensures broken_off { IfErr result (λ e. (before : Option (List ℕ)) (header added : Record)
         (has_mark : Bool) → OfRead before (S.to_come source.old) (λ bytes.
-        IsHeader delimiter header rest.entry has_mark bytes) → (unflushed : ℕ) ×
-        Ends header added (λ format. WritesRows Holds format holder.old holder.new)
-        (λ format. WritesSomeRows Holds format holder.old)
+        IsHeader delimiter header rest has_mark bytes) → (unflushed : ℕ) ×
+        Ends header added (λ format. WritesRows holds format holder.old holder.new)
+        (λ format. WritesSomeRows holds format holder.old)
         (IsOfOtherWidth holder.new.table.columns holder.new.table.asked) delimiter
         (seen before (S.faults source.old) None 0 0)
         (seen (S.to_come source.new) (S.faults source.new) None 0 unflushed) (Err e)) }

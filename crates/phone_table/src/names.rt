@@ -109,9 +109,10 @@ fn first_names(alloc: Global, front: &str, tells_duplicates: bool) -> Result<Byt
     ensures partial { IfOk result (λ names. partial_of names ≡ []) }
 {
     let mut names = ByteRecord::new(alloc);
-    if tells_duplicates {
-        push_names(alloc, &mut names, front, &["duplicate_of", "duplicates"])?;
+    if !tells_duplicates {
+        return Ok(names);
     }
+    push_names(alloc, &mut names, front, &["duplicate_of", "duplicates"])?;
     Ok(names)
 }
 

@@ -1,7 +1,7 @@
 use Rattle.std.proofs.Common.{rules, refl, Ok, Err}
 use Rattle.csv.specs.Records.{fields_of}
 use Rattle.phone_table.specs.Runs.{names_in}
-use Rattle.phone_table.specs.Runs.RunEnds.{no_column, no_delimiter, no_header, no_names, rows}
+use Rattle.phone_table.specs.Runs.RunEnds.{no_column, no_delimiter, no_header, no_names, answered}
 use Rattle.phone_table.proofs.TableLemmas.{alone}
 use Rattle.phone_table.proofs.RunLemmas.{header_read, no_header_by, rows_from}
 use Rattle.phone_table.proofs.run.write_table.Goals as goal
@@ -46,7 +46,7 @@ returns-in-Ok-write_records g c =
     let n = c.new-table.ensures in
     let read = header_read c.args.asked.delimiter (fields_of first.fields) first.rest first.has_mark _ _ f.ended f.only in
     record {
-      ends = rows (fields_of first.fields) c.in-Ok-columns_of.columns (Ok c.in-Ok-write_records.counts) (search rules) (search rules) c.in-Ok-names_behind.ensures.free
+      ends = answered (fields_of first.fields) c.in-Ok-columns_of.columns (Ok c.in-Ok-write_records.counts) (search rules) (search rules) c.in-Ok-names_behind.ensures.free
           (rows_from f.no_fault (rw (n.engine, n.columns, n.asked) at (c.in-Ok-write_records.ensures.ends (g.S.ByteSource.to_come c.args.source.now) (rw n.asked read))));
     }
 
@@ -57,6 +57,6 @@ returns g c =
     let n = c.new-table.ensures in
     let read = header_read c.args.asked.delimiter (fields_of first.fields) first.rest first.has_mark _ _ f.ended f.only in
     record {
-      ends = rows (fields_of first.fields) c.in-Ok-columns_of.columns (Err c.in-Err-write_records.error) (search rules) (search rules) c.in-Ok-names_behind.ensures.free
+      ends = answered (fields_of first.fields) c.in-Ok-columns_of.columns (Err c.in-Err-write_records.error) (search rules) (search rules) c.in-Ok-names_behind.ensures.free
           (rows_from f.no_fault (rw (n.engine, n.columns, n.asked) at (c.in-Err-write_records.ensures.ends (g.S.ByteSource.to_come c.args.source.now) (rw n.asked read))));
     }
