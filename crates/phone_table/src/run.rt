@@ -91,15 +91,16 @@ fn names_behind(
 }
 
 /// Gives a table back: its header with names behind its own, those of the columns that are asked
-/// for and then `e164`, `international`, `national`, `type`, `region`, `validity` and `refusal`;
-/// and its records in their order, unchanged, each with its answer behind its fields. The first
-/// record is the header. Where a UTF-8 byte-order mark stands in front of it, that is no part of
-/// its first name, and the output begins with one too. Each record is ended by a carriage return
-/// and a line feed where a carriage return ended the header, else by a line feed. What is read and
-/// written is CSV as the kit's `csv` has it, with this delimiter. Nothing in memory grows with the
-/// number of records, but with `is_unique`, where the E.164 texts are kept: then a record whose
-/// number an earlier one has is left out. It gives how many records there were, how many of
-/// them were answered otherwise than by a valid number, and how many were left out.
+/// for and then `e164`, `international`, `national`, `type`, `region`, `validity` and `refusal`,
+/// each with `front` before it; and its records in their order, unchanged, each with its answer
+/// behind its fields. The first record is the header. Where a UTF-8 byte-order mark stands in front
+/// of it, that is no part of its first name, and the output begins with one too. Each record is
+/// ended by a carriage return and a line feed where a carriage return ended the header, else by a
+/// line feed. What is read and written is CSV as the kit's `csv` has it, with this delimiter.
+/// Nothing in memory grows with the number of records, but with `is_unique`, where the E.164 texts
+/// are kept: then a record whose number an earlier one has is left out. It gives how many records
+/// there were, how many of them were answered otherwise than by a valid number, and how many were
+/// left out.
 ///
 /// The answer to a number, which is read and described by the engine: what each column that is
 /// asked for tells of it, empty where its table has nothing; its texts in three modes, its kind,
