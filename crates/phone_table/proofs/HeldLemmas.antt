@@ -1,9 +1,8 @@
 -- What keeps all records of a table, after a run over them.
-use Rattle.std.proofs.Common.{◌≡◌, false, List, [], ◌∷◌, ◌++◌, refl, sym, ap, subst, ◌∙◌}
+use Rattle.std.proofs.Common.{◌≡◌, false, List, [], ◌∷◌, ◌++◌, refl, sym, ap, ◌∙◌}
 use Rattle.phone_csv.specs.Formats.{Record}
 use Rattle.phone_csv.specs.RecordReports.{AreRows}
 use Rattle.phone_csv.specs.RecordReports.AreRows.{none, answered, left_out}
-use Rattle.phone_values.specs.declared.reading.Reading.{Reading}
 use Rattle.phone_table.specs.Answered.{Answered, AreAnswered, key_in}
 use Rattle.phone_table.specs.Answered.AreAnswered.{none as none_answered, next as next_answered}
 use Rattle.phone_table.specs.Counts.{counts_after, no_counts}
@@ -12,6 +11,7 @@ use Rattle.phone_table.specs.Held as held
 use Rattle.phone_table.specs.Held.Holds.{held as one_held}
 use Rattle.phone_table.specs.Rows.{AreKept, row_of}
 use Rattle.phone_table.specs.Rows.AreKept.{none as none_kept, kept as one_kept}
+use Rattle.phone_table.specs.declared.counts.Counts.{Counts}
 use Rattle.phone_table.specs.declared.holder.Holder.{Holder}
 use Rattle.phone_table.specs.declared.table.Table.{Table}
 use Rattle.phone_table.proofs.Kept.{gives}
@@ -33,6 +33,7 @@ module _ (first : Holder) (fresh : held.answered first.held.items ≡ []) (count
     plain = [];
     counts = rw (fresh, counts) none_kept;
   }
+  all_held records rows last (answered some before now fields answer after are given) = elim given [ ]
   all_held records rows last (left_out some before now fields after are (one_held number answer is table more)) =
       let s = all_held some before now are in
       let a : Answered = record { own = fields; answer = answer; key = key_in number } in
@@ -40,10 +41,10 @@ module _ (first : Holder) (fresh : held.answered first.held.items ≡ []) (count
       let asked = ap (λ t. t.asked) s.table in
       let columns = ap (λ t. t.columns) s.table in
       let counted = ap (λ t. t.counts) table in
+      let put : Counts → Table → Table = λ n t. record t { counts = n } in
       record {
         unwritten = s.unwritten;
-        table = table ∙ ap (λ t. record t { counts = counts_after now.table.counts (fields ++ answer) }) s.table
-            ∙ ap (λ n. record first.table { counts = n }) (sym counted);
+        table = table ∙ ap (put (counts_after now.table.counts (fields ++ answer))) s.table ∙ ap (λ n. put n first.table) (sym counted);
         answers = rw more (next_answered some (held.answered now.held.items) fields answer number s.answers (rw (engine, columns, asked) at is));
         plain = s.plain ++ row_of a ∷ [];
         counts = rw (more, counted) (one_kept (held.answered now.held.items) s.plain now.table.counts a s.counts refl);

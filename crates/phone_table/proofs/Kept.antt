@@ -1,8 +1,7 @@
 -- What a table writes for records: of all its rows those that are kept.
-use Rattle.std.proofs.Common.{◌≡◌, ◌&&◌, ◌||◌, ◌==◌, ℕ, Bool, true, false, not, List, [], ◌∷◌, ◌++◌, Option, Some, None, Result, length, refl, sym, ap, ◌∙◌, subst}
+use Rattle.std.proofs.Common.{◌≡◌, ◌&&◌, ◌||◌, ℕ, Bool, true, false, List, [], ◌∷◌, ◌++◌, Option, Some, None, Result, refl, sym, ap, ◌∙◌, subst}
 use Rattle.std.specs.Prelude.{⊤}
 use Rattle.std.specs.List.{list_any}
-use Rattle.std.specs.Option.{option_map_or}
 use Rattle.std.specs.Str.{bytes_eq}
 use Rattle.std.proofs.lemmas.List.Folds.{list_any-append}
 use Rattle.phone_csv.specs.Formats.{Record}
@@ -18,7 +17,7 @@ use Rattle.phone_table.proofs.EndsWeaker.{ends_weaker}
 use Rattle.phone_table.proofs.Writing.{some_told, told}
 use Rattle.phone_table.specs.Counts.{no_counts}
 use Rattle.phone_table.specs.Answered.{Answered, AreAnswered, has_key, key_in}
-use Rattle.phone_table.specs.Rows.{AreKept, WritesKept, WritesSome, is_taken, row_of}
+use Rattle.phone_table.specs.Rows.{AreKept, WritesKept, WritesSome, is_taken}
 use Rattle.phone_table.specs.Answered.AreAnswered.{none as none_answered, next as next_answered}
 use Rattle.phone_table.specs.Rows.AreKept.{none as none_kept, kept as one_kept, left_out as one_left_out}
 use Rattle.phone_table.specs.Runs.{WritesSomeTable, WritesTable, names_in}

@@ -1,14 +1,14 @@
 -- How the run over a table with the columns of duplicates ends.
-use Rattle.std.proofs.Common.{◌≡◌, ◌≢◌, ◌⊎◌, inl, inr, ℕ, ◌+◌, Bool, true, List, [], ◌∷◌, ◌++◌, Option, Some, None, Result, Ok, Err, IfErr, IfSome, IsNone, OnOk, refl, sym, ap, subst, ◌∙◌}
-use Rattle.std.specs.Prelude.{⊤, if◌then◌else◌}
+use Rattle.std.proofs.Common.{◌≡◌, inr, ℕ, ◌+◌, Bool, true, List, [], ◌++◌, Option, Some, None, Result, Ok, Err, IfErr, IfSome, IsNone, refl, sym, ap, subst, ◌∙◌}
+use Rattle.std.specs.Prelude.{⊤}
 use Rattle.csv.specs.declared.parser.State.{State}
 use Rattle.csv.specs.declared.parser.State.TheVariants as st
-use Rattle.phone_device.specs.Passing.{IsAtEnd, Passes, PassesSome, Takes, TakesFront}
+use Rattle.phone_device.specs.Passing.{IsAtEnd, PassesSome, Takes, TakesFront}
 use Rattle.phone_device.proofs.PassingLemmas.{Passes-then}
 use Rattle.phone_csv.specs.Firsts.{begins_with_mark}
 use Rattle.phone_csv.specs.Formats.{Record, format_after, state_behind, state_of}
-use Rattle.phone_csv.specs.RecordReports.{IsReport, IsReportOnFirst, Writes, WritesRows, WritesSomeRows, rows_text}
-use Rattle.phone_csv.specs.Runs.{OfRead, TakesA}
+use Rattle.phone_csv.specs.RecordReports.{IsReport, Writes, WritesRows, WritesSomeRows, rows_text}
+use Rattle.phone_csv.specs.Runs.{OfRead}
 use Rattle.phone_csv.proofs.AnswerLemmas.{writes_nothing}
 use Rattle.phone_csv.specs.declared.blocks.RunError.{RunError}
 use Rattle.phone_csv.specs.declared.blocks.RunError.TheVariants as error
@@ -17,18 +17,16 @@ use Rattle.phone_csv.specs.declared.format.Format.{Format}
 use Rattle.phone_lines.specs.Ends.{Devices, seen}
 use Rattle.phone_table.specs.Answers.{IsOfOtherWidth}
 use Rattle.phone_table.specs.Counts.{no_counts}
-use Rattle.phone_table.specs.Duplicates.{duplicate_names, marked_rows}
+use Rattle.phone_table.specs.Duplicates.{marked_rows}
 use Rattle.phone_table.specs.Ends.{Ends, by}
 use Rattle.phone_table.specs.Ends.Ends.{output_failed, whole}
-use Rattle.phone_table.specs.Extras.{added_names}
 use Rattle.phone_table.specs.Held as held
-use Rattle.phone_table.specs.Rows.{WritesKept, WritesSome}
+use Rattle.phone_table.specs.Rows.{WritesKept}
 use Rattle.phone_table.specs.Runs.{RowsEnd, WritesSomeTable, WritesTable, names_in}
 use Rattle.phone_table.specs.Runs.RowsEnd.{whole as all_written, broken_off as not_written}
-use Rattle.phone_table.specs.Tables.{IsBeginning, IsHeader, IsTable, head_text}
+use Rattle.phone_table.specs.Tables.{IsHeader, IsTable, head_text}
 use Rattle.phone_table.specs.Unwritten.{IsUnwritten, WritesNone}
 use Rattle.phone_table.specs.Unwritten.IsUnwritten.{broken_off}
-use Rattle.phone_table.specs.declared.counts.Counts.{Counts}
 use Rattle.phone_table.specs.declared.holder.Holder.{Holder}
 use Rattle.phone_table.specs.declared.table.Table.{Table}
 use Rattle.phone_table.proofs.EndsWeaker.{ends_weaker}
@@ -175,7 +173,7 @@ module _ (first : Holder) (fresh : held.answered first.held.items ≡ []) (count
     abbrev Told : Type 0
     Told = OfRead s0 s2 (λ bytes. IsTable header (names_in t.asked) (by IsReport (writes last)) d bytes whole_text)
 
-  table_told : (last : Holder) (header : Record) (rest : Option Start) (has_mark : Bool) (s0 s1 s2 : Option (List ℕ)) →
+  pub table_told : (last : Holder) (header : Record) (rest : Option Start) (has_mark : Bool) (s0 s1 s2 : Option (List ℕ)) →
       OfRead s0 s1 (λ bytes. IsHeader d header rest has_mark bytes) →
       IfSome rest (λ start. OfRead s1 s2 (λ bytes. (text : List ℕ) × IsReport (WritesRows holds (format_after d (state_of start.place)) first last) d (state_of start.place) bytes text)) →
       (IsNone rest → (last ≡ first) × (s2 ≡ s1)) → Told last header rest has_mark s0 s1 s2
@@ -205,3 +203,14 @@ module _ (first : Holder) (fresh : held.answered first.held.items ≡ []) (count
 pub if_err : {T E : Type 0} (r : Result T E) (P : E → Type 0) → ((e : E) → r ≡ Err e → P e) → IfErr r P
 if_err (Ok x) P f = tt
 if_err (Err e) P f = f e refl
+
+-- how a run ends, by its result
+pub err_ends : (header added : Record) (writes some : Format → Writes) (refuses : Record → Type 0) (d : ℕ) (before after : Devices) (r : Result ⊤ RunError) (e : RunError) → r ≡ Err e →
+    Ends header added writes some refuses d before after r → Ends header added writes some refuses d before after (Err e)
+err_ends header added writes some refuses d before after r e is h = subst (λ x. Ends header added writes some refuses d before after x) is h
+
+-- what was read of a header, and behind it
+pub passed : (rest : Option Start) (s0 s1 s2 : Option (List ℕ)) (is : List ℕ → Type 0) (more : Start → List ℕ → Type 0) → OfRead s0 s1 is →
+    IfSome rest (λ start. OfRead s1 s2 (more start)) → (IsNone rest → s2 ≡ s1) → PassesSome s0 s2
+passed None s0 s1 s2 is more h next none = rw (none refl) (h.0, h.1)
+passed (Some start) s0 s1 s2 is more h next none = (h.0 ++ next.0, Passes-then s0 s1 s2 h.0 next.0 h.1 next.1)

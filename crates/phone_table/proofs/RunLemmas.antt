@@ -1,12 +1,9 @@
 -- What the reading of a header says of a run.
 use Rattle.std.proofs.Common.{Bool, ◌≡◌, ◌⊎◌, inl, inr, ℕ, ◌+◌, List, length, Option, Some, None, Result, Err, IfSome, IsNone, refl, subst, arith}
-use Rattle.std.specs.Prelude.{⊤}
 use Rattle.phone_device.specs.Passing.{IsAtEnd}
 use Rattle.phone_csv.specs.Firsts.{EndsNoFirst, IsHead, IsOnly, first_in}
 use Rattle.phone_csv.specs.Formats.{Record, state_of}
 use Rattle.phone_csv.specs.Quotes.{IsOpenHeader}
-use Rattle.phone_csv.specs.RecordReports.{Writes}
-use Rattle.phone_csv.specs.declared.format.Format.{Format}
 use Rattle.phone_csv.specs.Runs.{OfRead, most_bytes}
 use Rattle.phone_csv.specs.declared.blocks.RunError.{RunError}
 use Rattle.phone_csv.specs.declared.cutter.Start.{Start}

@@ -1,18 +1,17 @@
 -- The records that share a key, after one more.
-use Rattle.std.proofs.Common.{◌≡◌, ℕ, ◌+◌, ◌^◌, ◌<◌, ◌≤◌, ◌&&◌, Bool, true, false, cond, List, [], ◌∷◌, ◌++◌, length, map, take, drop, slice_range, zero, suc, ◌-◌, get_or, Option, None, Some, option_map, IfSome, String, Global, string_bytes, string_eq, refl, sym, ap, ap₂, subst, ◌∙◌, arith, bytes_eq, length-append}
+use Rattle.std.proofs.Common.{◌≡◌, ℕ, ◌+◌, ◌<◌, ◌≤◌, Bool, true, false, cond, List, [], ◌∷◌, ◌++◌, length, take, drop, slice_range, zero, suc, ◌-◌, get_or, Option, None, Some, option_map, IfSome, String, Global, string_bytes, string_eq, refl, sym, ap, ap₂, subst, ◌∙◌, arith, bytes_eq}
 use Rattle.std.proofs.lemmas.List.{append_assoc, append-nil, drop_at, length-take-le, length-map, map-append, take_at, take_more}
 use Rattle.std.proofs.lemmas.List.Sums.{sum_by_push, count_by-le-length}
 use Rattle.std.proofs.lemmas.Slice.Eq.{bytes_eq-Decides}
 use Rattle.std.proofs.lemmas.Grind.{flat_map-append}
-use Rattle.std.specs.List.{count_by, flat_map, position_from}
-use Rattle.std.specs.Map.{lookup}
+use Rattle.std.specs.List.{count_by, position_from}
 use Rattle.std.specs.Option.{option_and_then, option_map_or, option_to_list}
 use Rattle.csv.specs.Records.{field_at}
 use Rattle.phone_csv.specs.Formats.{Record, record_text}
 use Rattle.phone_csv.specs.RecordReports.{rows_text}
 use Rattle.phone_csv.specs.declared.format.Format.{Format}
 use Rattle.phone_table.specs.Answered.{Answered, has_key}
-use Rattle.phone_table.specs.Duplicates.{marked_row, marked_rows, marks, shared_by, shared_of}
+use Rattle.phone_table.specs.Duplicates.{marked_row, marked_rows, marks, shared_by}
 use Rattle.phone_table.specs.Held.{answered, answered_of, found, found_after, found_at, one_more}
 use Rattle.phone_table.specs.declared.duplicates.Held.{Held}
 use Rattle.phone_table.specs.declared.duplicates.Shared.{Shared}
@@ -162,10 +161,13 @@ front_of k (suc n) (x ∷ xs) = front_of k n xs
 
 pub range_front : (xs : Record) (i end : ℕ) → i < end → slice_range xs i end ≡ option_to_list (field_at xs i) ++ slice_range xs (i + 1) end
 range_front xs i end small =
-    ap (λ n. take n (drop i xs)) (omega (arith, small)) ∙ front_of (end - (i + 1)) i xs ∙ ap (λ n. option_to_list (field_at xs i) ++ take (end - (i + 1)) (drop n xs)) (omega arith)
+    let k : ℕ = end - (i + 1) in
+    let more : end - i ≡ suc k = omega (arith, small) in
+    let next : suc i ≡ i + 1 = omega arith in
+    ap (λ n. take n (drop i xs)) more ∙ front_of k i xs ∙ ap (λ n. option_to_list (field_at xs i) ++ take k (drop n xs)) next
 
 pub range_end : (xs : Record) (i end : ℕ) → end ≤ i → slice_range xs i end ≡ []
-range_end xs i end past = ap (λ n. take n (drop i xs)) (omega (arith, past))
+range_end xs i end past = let none : end - i ≡ 0 = omega (arith, past) in ap (λ n. take n (drop i xs)) none
 
 -- a row, cut where its own fields end
 pub row_parts : (row own answer : Record) (width : ℕ) (key : Option (List ℕ)) → row ≡ own ++ answer → width ≡ length own →

@@ -1,5 +1,5 @@
 -- Why nothing is written of a table with the columns of duplicates: all is read before.
-use Rattle.std.specs.Prelude.{◌≡◌, ℕ, List, [], Option, None, Result, Err}
+use Rattle.std.specs.Prelude.{◌≡◌, ℕ, List, [], Option, Err}
 use Rattle.phone_csv.specs.Formats.{Record}
 use Rattle.phone_csv.specs.RecordReports.{Writes}
 use Rattle.phone_csv.specs.declared.blocks.RunError.{RunError}

@@ -109,11 +109,7 @@ fn push_marks(
 
 /// Puts the field of a record at a place, where there is one, behind those of another. Refused only
 /// for memory.
-fn push_one(
-    fields: &mut ByteRecord,
-    from: &ByteRecord,
-    place: usize,
-) -> Result<(), AllocError>
+fn push_one(fields: &mut ByteRecord, from: &ByteRecord, place: usize) -> Result<(), AllocError>
     requires { partial_of fields.old ≡ [] }
     ensures fields { OnOk result (fields_of fields.new ≡
         fields_of fields.old ++ option_to_list (field_at (fields_of from.now) place)) }

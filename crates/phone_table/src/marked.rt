@@ -102,7 +102,10 @@ pub(crate) fn write_marked<S: ByteSource, W: ByteSink>(
         table,
         held: Vec::new(alloc),
     };
-    hold_all(alloc, &mut holder, delimiter, rest, source)?;
+    match hold_all(alloc, &mut holder, delimiter, rest, source) {
+        Ok(()) => {}
+        Err(error) => return Err(error),
+    }
     let Ok(text) = marked_text(alloc, format, front, holder.held.as_slice()) else {
         return Err(RunError::Memory);
     };

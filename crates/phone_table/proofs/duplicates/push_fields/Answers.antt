@@ -1,4 +1,4 @@
-use Rattle.std.proofs.Common.{◌≡◌, ◌<◌, ◌≤◌, ◌+◌, ◌++◌, [], slice_range, ap, sym, append_assoc, ◌∙◌, arith}
+use Rattle.std.proofs.Common.{◌+◌, ◌++◌, slice_range, ap, sym, append_assoc, ◌∙◌, arith}
 use Rattle.std.proofs.lemmas.List.{append-nil}
 use Rattle.std.specs.Option.{option_to_list}
 use Rattle.csv.specs.Records.{field_at, fields_of}

@@ -1,4 +1,4 @@
-use Rattle.std.proofs.Common.{◌≡◌, ◌++◌, ◌∷◌, [], ap, refl, ◌∙◌}
+use Rattle.std.proofs.Common.{◌++◌, ◌∷◌, [], ap, refl, ◌∙◌}
 use Rattle.csv.specs.Records.{fields_of}
 use Rattle.phone_table.specs.Answered.{key_in}
 use Rattle.phone_table.specs.Held.{answered}
