@@ -1,5 +1,5 @@
 //! The run over a table of customers.
-ghost use Rattle.std.specs.Prelude.{◌≡◌, IfErr, IfOk, None, Some};
+ghost use Rattle.std.specs.Prelude.{◌≡◌, [], IfErr, IfOk, None, Some, false};
 ghost use Rattle.csv.specs.Records.{fields_of};
 ghost use Rattle.phone_csv.specs.Formats.{Record};
 ghost use Rattle.phone_lines.specs.Ends.{seen};
@@ -41,6 +41,38 @@ pub struct Asked<'a> {
     pub extra: &'a [Extra<'a>],
     /// The database of short numbers, where the kinds of these are told.
     pub short: Option<&'a Plans>,
+}
+
+impl<'a> Asked<'a> {
+    /// What is asked of a table with commas whose numbers stand in the column of this name, and
+    /// nothing more.
+    pub fn of(number: &'a str) -> Asked<'a>
+        ensures asked { result ≡ record {
+          number = number.entry;
+          region = None;
+          delimiter = 44;
+          else_hint = false;
+          mark_bad = false;
+          is_unique = false;
+          front = result.front;
+          extra = result.extra;
+          short = None;
+        } }
+        ensures front { result.front.now ≡ [] }
+        ensures extra { result.extra.now ≡ [] }
+    {
+        Asked {
+            number,
+            region: None,
+            delimiter: b',',
+            else_hint: false,
+            mark_bad: false,
+            is_unique: false,
+            front: "",
+            extra: &[],
+            short: None,
+        }
+    }
 }
 
 /// Why a table was not answered whole.
