@@ -39,6 +39,7 @@ fn asked(row: &Row) -> Asked<'_> {
         region: region(row.argument(2)),
         mark_bad: row.argument(4) == "mark",
         is_unique: row.argument(4) == "unique",
+        tells_duplicates: row.argument(4) == "duplicates",
         ..Asked::of(row.argument(1))
     }
 }
