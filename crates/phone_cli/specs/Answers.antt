@@ -1,6 +1,6 @@
 -- What a call does.
 use Rattle.std.specs.Prelude.{◌≡◌, ℕ, ⊤, Bool, false, true, List, ◌++◌, codes}
-use Rattle.std.specs.Prelude.{IsSome, Option, None, Some, Result, option_map, slice_get}
+use Rattle.std.specs.Prelude.{IsSome, Option, None, Some, Result, is_some, option_map, slice_get}
 use Rattle.std.specs.List.{list_any}
 use Rattle.std.specs.Str.{bytes_eq}
 use Rattle.phone_commands.specs.Columns as columns
@@ -43,6 +43,7 @@ IsLoaded (Some path) short = IsSome short
 pub record IsAsked (t : Table) (shorts : Option (List Metadata)) (a : Asked) : Type 0 where
   pub number : a.number ≡ t.column
   pub region : a.region ≡ t.region_column
+  pub countries : is_some a.countries ≡ is_some t.countries
   pub delimiter : a.delimiter ≡ t.delimiter
   pub else_hint : a.else_hint ≡ t.fallback_region
   pub mark_bad : a.mark_bad ≡ t.mark_bad

@@ -4,7 +4,7 @@ use Rattle.std.specs.Prelude.{if◌then◌else◌, map}
 use Rattle.std.specs.List.{filter_map}
 use Rattle.std.specs.Option.{option_map_or}
 use Rattle.std.specs.Str.{bytes_eq}
-use Rattle.phone_table.specs.Regions.{id_in}
+use Rattle.phone_countries.specs.Ids.{id_in}
 use Rattle.phone_values.specs.declared.country.Id.{Id}
 use Rattle.phone_values.specs.declared.rules.Rules.{Rules}
 use Rattle.phone_values.specs.declared.rules.Rules.TheVariants.{Library}
@@ -99,9 +99,9 @@ further_files f =
 abbrev pub named_files : List (Option Lent) → List (List ℕ)
 named_files files = filter_map text_in files
 
--- the names of the files that a call reads: inputs, the database, that of short numbers, tables of
--- prefixes
+-- the names of the files that a call reads: inputs, the database, that of short numbers, the names of
+-- regions, tables of prefixes
 abbrev pub names_read : Call → (database : Lent) → (files : List Lent) → List (List ℕ)
 names_read c database files = input_names files ++
-    (named_files (Some database ∷ c.short_database ∷ []) ++
+    (named_files (Some database ∷ c.short_database ∷ c.table.countries ∷ []) ++
     named_files (further_files c.table.further))

@@ -26,12 +26,12 @@ use crate::say::{say, say_firsts, say_records, say_word_error};
 use crate::written::is_read;
 use phone_commands::{
     ByLines, Customers, Finder, FirstLines, FoundForm, Job, LineTaker, Loaded, Objects, Reader,
-    Report, Shorts, Typist, on_inputs,
+    Report, Shorts, Typist, countries_in, on_inputs,
 };
 use phone_device::{ByteSink, ByteSource, Fault, Std};
 use phone_engine::{Engine, Rules};
 use phone_plans::Plans;
-use phone_table::{Asked, Counts, Extra};
+use phone_table::{Asked, Counts, Countries, Extra, UnknownNames};
 use phone_words::{Call, Command, Table, call_of, help};
 use phonenumber::country::Id;
 use std::alloc::AllocGlobal;
@@ -550,13 +550,18 @@ fn customers<R: Files + AllocGlobal, S: ByteSource, W: Outlet, E: ByteSink>(
         Ok(loaded) => loaded,
         Err(why) => return say_no_columns(rt.alloc(), why, errors),
     };
+    let countries = match countries_in(rt, table.countries) {
+        Ok(countries) => countries,
+        Err(why) => return say_no_columns(rt.alloc(), why, errors),
+    };
     let Ok(extra) = loaded.extra(rt.alloc()) else {
         return say(errors, &["out of memory"], 1);
     };
     let mut job = Customers {
         engine: reader.engine,
-        asked: asked(table, reader, extra.as_slice()),
+        asked: asked(table, reader, extra.as_slice(), countries.as_ref()),
         counts: Counts::new(),
+        unknown: UnknownNames::new(rt.alloc()),
     };
     run_table(rt, reading, &mut job, input, output, errors)
 }
@@ -580,19 +585,26 @@ fn run_table<R: Files + AllocGlobal, S: ByteSource, W: Outlet, E: ByteSink>(
         job.new.counts end × (result ≡ status_of end) }
 {
     match run(rt, reading, job, input, output, errors) {
-        0 => say_records(job, errors),
+        0 => say_records(rt.alloc(), job, errors),
         status => status,
     }
 }
 
-/// What is asked of a table that this reads, with these further columns.
-fn asked<'t>(table: Table<'t>, reader: Reader<'t>, extra: &'t [Extra<'t>]) -> Asked<'t>
+/// What is asked of a table that this reads, with these further columns and names of regions.
+fn asked<'t>(
+    table: Table<'t>,
+    reader: Reader<'t>,
+    extra: &'t [Extra<'t>],
+    countries: Option<&'t Countries>,
+) -> Asked<'t>
     ensures { columns.asked extra.entry.now ≡ columns.columns_for table.entry.further →
+        is_some countries.entry ≡ is_some table.entry.countries →
         IsAsked table.entry (option_map (λ d. d.now) reader.entry.short) result }
 {
     Asked {
         number: table.column,
         region: table.region_column,
+        countries,
         delimiter: table.delimiter,
         else_hint: table.fallback_region,
         mark_bad: table.mark_bad,

@@ -88,7 +88,7 @@ module _ (first : Table) where
       numbers = λ text u e. ap (list_any (λ k. bytes_eq text k.items)) keys;
     },
   )
-  rows_kept counts keys records rows last (answered some before now fields answer after are (row_written given is new k counted)) =
+  rows_kept counts keys records rows last (answered some before now fields answer after are (row_written given is new k counted noted)) =
       let (all, answers, s) = rows_kept counts keys some before now are in
       let row = fields ++ answer in (
         all ++ row ∷ [],
@@ -101,7 +101,7 @@ module _ (first : Table) where
           numbers = numbers_after all before now last row s k;
         },
       )
-  rows_kept counts keys records rows last (left_out some before now fields after are (row_left_out answer is new k counted)) =
+  rows_kept counts keys records rows last (left_out some before now fields after are (row_left_out answer is new k counted noted)) =
       let (all, answers, s) = rows_kept counts keys some before now are in
       let row = fields ++ answer in (
         all ++ row ∷ [],

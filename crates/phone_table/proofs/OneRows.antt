@@ -10,13 +10,13 @@ use Rattle.phone_csv.specs.Formats.{Record}
 use Rattle.phone_engine.specs.Facts.{kind_by, region_by}
 use Rattle.phone_prefixes.specs.Tables.{Entry}
 use Rattle.phone_records.specs.declared.loader.Metadata.{Metadata}
-use Rattle.phone_table.specs.Answers.{IsAnswer, IsAnswerUnder, IsNumberAnswer, IsOwnAnswer}
+use Rattle.phone_table.specs.Answers.{IsAnswer, IsAnswerUnder, IsNumberAnswer, IsOwnAnswer, countries_of}
 use Rattle.phone_table.specs.Answers.{short_of}
 use Rattle.phone_table.specs.Extras.{AreTold, EachHasOneText, HaveOneText, IsFound, IsTold}
 use Rattle.phone_table.specs.Extras.{looked_up}
 use Rattle.phone_table.specs.Extras.AreTold.{none as told_none, next as told_next}
-use Rattle.phone_table.specs.Regions.{Names, RecordNames, field_in, hint_under}
-use Rattle.phone_table.specs.Regions.Names.{no_text, of_text}
+use Rattle.phone_table.specs.Regions.{RecordNames, RegionText, field_in, hint_under, named_by}
+use Rattle.phone_table.specs.Regions.RegionText.{no_column, no_text, of_text}
 use Rattle.phone_table.specs.declared.extra.Extra.{Extra}
 use Rattle.phone_table.specs.declared.header.Columns.{Columns}
 use Rattle.phone_table.specs.declared.region.Named.{Named}
@@ -62,17 +62,18 @@ module _ (rules : Rules) (db : List Metadata) where
       (all_told_same number cs ts us one.1 hs gs)
 
   module _ (hint : Option Id) (columns : Columns) (asked : Asked) (fields : Record) where
-    -- a field names one region, or none
-    names_same : (field : List ℕ) (r s : Named) → Names field r → Names field s → r ≡ s
-    names_same field _ _ (of_text u) (of_text v) = refl
-    names_same field _ _ (of_text u) (no_text x) = absurd (x u)
-    names_same field _ _ (no_text x) (of_text u) = absurd (x u)
-    names_same field _ _ (no_text x) (no_text y) = refl
+    -- a record names one region, or none
+    text_same : (o : Option ℕ) (r s : Option (List ℕ)) → RegionText fields o r → RegionText fields o s → r ≡ s
+    text_same _ _ _ no_column no_column = refl
+    text_same _ _ _ (of_text c u) (of_text d v) = refl
+    text_same _ _ _ (of_text c u) (no_text d x) = absurd (x u)
+    text_same _ _ _ (no_text c x) (of_text d u) = absurd (x u)
+    text_same _ _ _ (no_text c x) (no_text d y) = refl
 
-    region_same : (o : Option ℕ) (r s : Named) → RecordNames o fields r → RecordNames o fields s →
-        r ≡ s
-    region_same None r s h g = h ∙ sym g
-    region_same (Some column) r s h g = names_same (field_in fields column) r s h g
+    region_same : (o : Option ℕ) (r s : Named) → RecordNames (countries_of asked) db o fields r →
+        RecordNames (countries_of asked) db o fields s → r ≡ s
+    region_same o r s (t, is, e) (u, is', f) =
+        e ∙ ap (named_by (countries_of asked) db) (text_same o t u is is') ∙ sym f
 
     -- under one hint a field has one answer, and without one
     under_same : (o : Option (Option Id)) (field : List ℕ) (n k : Option Reading) (a b : Record) →

@@ -21,13 +21,13 @@ use Rattle.phone_prefixes.specs.Tables.{AreEntries, Entry, IsLongest, IsTable, N
 use Rattle.phone_prefixes.specs.Tables.AreEntries.{none as no_entries, next as next_entry}
 use Rattle.phone_records.specs.declared.loader.Metadata.{Metadata}
 use Rattle.phone_table.specs.Answers.{IsAnswer, IsAnswerUnder, IsFieldAnswer, IsOfOtherWidth}
-use Rattle.phone_table.specs.Answers.{IsOwnAnswer, short_of}
+use Rattle.phone_table.specs.Answers.{IsOwnAnswer, countries_of, short_of}
 use Rattle.phone_table.specs.Extras.{AreTold, HaveOneText, IsFound, IsTold, looked_up}
 use Rattle.phone_table.specs.Extras.AreTold.{none as told_none, next as told_next}
 use Rattle.phone_table.specs.declared.extra.Extra.{Extra}
 use Rattle.phone_table.specs.declared.header.Columns.{Columns}
 use Rattle.phone_table.specs.declared.run.Asked.{Asked}
-use Rattle.phone_table.specs.Regions.{RecordNames, field_in, hint_under}
+use Rattle.phone_table.specs.Regions.{RegionText, field_in, hint_under, named_by}
 use Rattle.phone_table.specs.declared.region.Named.{Named}
 
 -- a prefix begins a text, or it doesn't
@@ -201,11 +201,13 @@ module _ (rules : Rules) (db : List Metadata) where
     of_other_width other false e = inr (e, other)
 
     -- each record is answered, but for such
-    pub answer_some : (region : Named) → RecordNames columns.region fields region → HasAnswers →
+    pub answer_some : (text : Option (List ℕ)) → RegionText fields columns.region text → HasAnswers →
         ((answer : Record) × IsAnswer rules db hint columns asked fields answer) ⊎
         IsOfOtherWidth columns asked fields
-    answer_some region named has = ⊎_elim
-        (λ width. let a = under_some (hint_under asked.else_hint hint region) has in
-        inl (with_told a.0 a.1 (inl (width, (region, named, a.2)))))
+    answer_some text is has = ⊎_elim
+        (λ width.
+          let region = named_by (countries_of asked) db text in
+          let a = under_some (hint_under asked.else_hint hint region) has in
+          inl (with_told a.0 a.1 (inl (width, (region, (text, is, refl), a.2)))))
         (λ other. of_other_width other asked.mark_bad refl)
         (cases_eq (length fields) columns.width)

@@ -9,6 +9,7 @@ use Rattle.phone_values.specs.declared.country.Id.{Id}
 use Rattle.phone_values.specs.declared.error.ParseError.{ParseError}
 use Rattle.phone_values.specs.declared.mode.Mode.TheVariants.{E164, International, National}
 use Rattle.phone_values.specs.declared.reading.Reading.{Reading}
+use Rattle.phone_countries.specs.declared.countries.Entry.{Entry}
 use Rattle.phone_csv.specs.Formats.{Record}
 use Rattle.phone_plans.specs.CodeLookUps.{first_of, territories}
 use Rattle.phone_records.specs.declared.loader.Metadata.{Metadata}
@@ -95,11 +96,15 @@ IsAnswerUnder rules db short (Some hint) field number answer =
 abbrev pub short_of : Asked → Option (List Metadata)
 short_of asked = option_map (λ d. d.now) asked.short
 
+-- the table of names of regions that is asked for
+abbrev pub countries_of : Asked → Option (List Entry)
+countries_of asked = option_map (λ c. c.now) asked.countries
+
 -- what a record's number is answered, by the region that the record names
 abbrev pub IsNumberAnswer : Rules → List Metadata → Option Id → Columns → Asked → Record →
     Option Reading → Record → Type 0
 IsNumberAnswer rules db hint columns asked fields number answer = (region : Named) ×
-    RecordNames columns.region fields region ×
+    RecordNames (countries_of asked) db columns.region fields region ×
     IsAnswerUnder rules db (short_of asked) (hint_under asked.else_hint hint region)
     (field_in fields columns.number) number answer
 

@@ -12,3 +12,4 @@ pub mod Shorts
 pub mod Spelled
 pub mod Tables
 pub mod Taking
+pub mod Unknowns

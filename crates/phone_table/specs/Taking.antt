@@ -7,6 +7,7 @@ use Rattle.phone_csv.specs.Formats.{Record}
 use Rattle.phone_table.specs.Answers.{IsAnswer}
 use Rattle.phone_table.specs.Counts.{counts_after, counts_without}
 use Rattle.phone_table.specs.Rows.{number_of}
+use Rattle.phone_table.specs.Unknowns.{NotesRow}
 use Rattle.phone_table.specs.declared.table.Table.{Table}
 
 -- this is among the texts that a table has kept
@@ -28,17 +29,19 @@ pub record Keeps (before : Table) (row : Record) (after : Table) : Type 0 where
       has after text ≡ (bytes_eq text (number_of row) || has before text)
 
 -- what a table does with a record: its row is written, or left out where each number is kept once
--- and that of the row is known
+-- and that of the row is known; it is counted, and the text noted that names no region
 pub data Takes (before : Table) (fields : Record) (after : Table) : Option Record → Type 0 where
   written : (answer : Record) → IsAnswer before.engine.rules before.engine.database.now
       before.engine.hint before.columns before.asked fields answer →
       (before.asked.is_unique && is_known before (fields ++ answer)) ≡ false →
       Keeps before (fields ++ answer) after →
       after.counts ≡ counts_after before.counts (fields ++ answer) →
-      Takes before fields after (Some answer)
+      NotesRow before.columns (fields ++ answer) before.unknown.names.items
+      after.unknown.names.items → Takes before fields after (Some answer)
   left_out : (answer : Record) → IsAnswer before.engine.rules before.engine.database.now
       before.engine.hint before.columns before.asked fields answer →
       (before.asked.is_unique && is_known before (fields ++ answer)) ≡ true →
       Keeps before (fields ++ answer) after →
       after.counts ≡ counts_without before.counts (fields ++ answer) →
-      Takes before fields after None
+      NotesRow before.columns (fields ++ answer) before.unknown.names.items
+      after.unknown.names.items → Takes before fields after None

@@ -95,7 +95,7 @@ fn tells(row: &ByteRecord, place: usize, word: &str) -> bool
 }
 
 /// Whether a row is refused with these words.
-fn has_refusal(row: &ByteRecord, words: &str) -> bool
+pub(crate) fn has_refusal(row: &ByteRecord, words: &str) -> bool
     ensures { result ≡ has_refusal words.now (fields_of row.now) }
 {
     tells(row, 1, words)

@@ -27,7 +27,8 @@ ghost use Rattle.phone_table.specs.declared.run.Asked as run;
 
 use crate::header::Columns;
 use crate::run::Asked;
-use crate::table::{field_in, region_of};
+use crate::region::region_text;
+use crate::table::field_in;
 use csv::ByteRecord;
 use phone_engine::laws::some_reading;
 
@@ -84,7 +85,7 @@ pub fn some_row(columns: Columns, asked: Asked<'_>, fields: &ByteRecord)
         IsAnswer rules db hint columns asked.entry (fields_of fields.now) answer) ⊎
         IsOfOtherWidth columns asked.entry (fields_of fields.now) }
 {
-    let _named = region_of(columns, fields);
+    let _text = region_text(columns, fields);
     some_answer(field_in(fields, columns.number));
 }
 

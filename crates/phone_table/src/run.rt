@@ -7,7 +7,9 @@ use crate::extra::Extra;
 use crate::header::{Column, columns_of};
 use crate::rows::write_rows;
 use crate::table::Table;
+use crate::unknown::UnknownNames;
 use csv::ByteRecord;
+use phone_countries::Countries;
 use phone_csv::{FirstError, RunError, first_record, is_delimiter};
 use phone_device::{ByteSink, ByteSource};
 use phone_engine::Engine;
@@ -22,6 +24,8 @@ pub struct Asked<'a> {
     pub region: Option<&'a str>,
     /// The byte between fields: any but a quote and a line end.
     pub delimiter: u8,
+    /// The table of the names of regions, where regions are named otherwise than by their ids too.
+    pub countries: Option<&'a Countries>,
     /// Whether a record is read under the engine's hint where it names no region that there is.
     pub else_hint: bool,
     /// Whether a record with another count of fields than the header is given back with a refusal,
@@ -70,8 +74,10 @@ pub enum TableError {
 ///
 /// A record is read under the region whose id stands in its column of regions, in capital or small
 /// letters, with or without white space around; under the engine's hint where that field is empty.
-/// Where the field holds anything else, the number is refused with the words `unknown region`, and
-/// the run goes on; with `else_hint` the number is read under the engine's hint.
+/// Where there is a table of the names of regions, what else the field may hold is a name of the
+/// table, however it is written, or a calling code. Where the field holds anything else, the number is refused with the words `unknown region`, and
+/// the run goes on; with `else_hint` the number is read under the engine's hint. `unknown` is then
+/// the texts that were refused so, each once, with their counts.
 ///
 /// Errors: `Delimiter`, before anything is read; `Header` where there is no header, and `NoColumn`
 /// where the header lacks a column, before anything is written; after the header was written `Rows`
@@ -85,6 +91,7 @@ pub fn write_table<S: ByteSource, W: ByteSink>(
     asked: Asked<'_>,
     source: &mut S,
     sink: &mut W,
+    unknown: &mut UnknownNames,
 ) -> Result<Counts, TableError>
     ensures ends { RunEnds engine.entry.rules engine.entry.database.now engine.entry.hint
         asked.entry
@@ -107,7 +114,7 @@ pub fn write_table<S: ByteSource, W: ByteSink>(
         Err(column) => return Err(TableError::NoColumn(column, first.fields)),
     };
     let mut table = Table::new(engine, asked, columns);
-    match write_rows(
+    let end = write_rows(
         alloc,
         &mut table,
         asked.delimiter,
@@ -115,7 +122,9 @@ pub fn write_table<S: ByteSource, W: ByteSink>(
         asked.extra,
         source,
         sink,
-    ) {
+    );
+    *unknown = table.unknown;
+    match end {
         Ok(()) => Ok(table.counts),
         Err(error) => Err(TableError::Rows(error)),
     }

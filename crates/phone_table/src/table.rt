@@ -8,19 +8,21 @@ ghost use Rattle.phone_csv.specs.Formats.{Record};
 ghost use Rattle.phone_table.specs.Answers.{IsNumberAnswer, IsOfOtherWidth, IsOwnAnswer};
 ghost use Rattle.phone_table.specs.Answers.{refused_answer};
 ghost use Rattle.phone_table.specs.Extras.{AreTold};
-ghost use Rattle.phone_table.specs.Regions.{RecordNames, field_in};
+ghost use Rattle.phone_table.specs.Regions.{field_in};
 ghost use Rattle.phone_table.specs.Counts.{no_counts};
 ghost use Rattle.phone_table.specs.Rows.{number_of};
 ghost use Rattle.phone_table.specs.Taking.{Keeps, is_known};
 ghost use Rattle.phone_table.specs.Spelled.{IsKnownIn, number_in, spelled};
+ghost use Rattle.phone_table.specs.Unknowns.{NotesRow};
 
 use crate::answer::{Answer, answer_to, push_answer};
-use crate::counts::Counts;
+use crate::counts::{Counts, has_refusal};
 use crate::extra::push_told;
 use crate::header::Columns;
 use crate::key::ANSWER_WIDTH;
-use crate::region::{Named, hint_under, region_named};
+use crate::region::{hint_under, named_by, region_text};
 use crate::run::Asked;
+use crate::unknown::UnknownNames;
 use csv::ByteRecord;
 use phone_csv::{Answers, Refusal};
 use phone_engine::Engine;
@@ -41,6 +43,8 @@ pub struct Table<'d> {
     pub counts: Counts,
     /// The E.164 texts of the rows, where each number is kept once.
     pub numbers: HashSet<Vec<u8>>,
+    /// The texts that name no region.
+    pub unknown: UnknownNames,
 }
 
 impl<'d> Table<'d> {
@@ -51,13 +55,16 @@ impl<'d> Table<'d> {
         ensures columns { result.columns ≡ columns }
         ensures counts { result.counts ≡ no_counts }
         ensures numbers { result.numbers.keys ≡ [] }
+        ensures unknown { result.unknown.names.items ≡ [] }
     {
+        let alloc = engine.database.allocator();
         Table {
             engine,
             asked,
             columns,
             counts: Counts::new(),
-            numbers: HashSet::new(engine.database.allocator()),
+            numbers: HashSet::new(alloc),
+            unknown: UnknownNames::new(alloc),
         }
     }
 
@@ -69,7 +76,8 @@ impl<'d> Table<'d> {
         ensures known { IfOk result
             (λ a. IsKnownIn self.now.engine.rules self.now.engine.database.now a) }
     {
-        let named = region_of(self.columns, fields);
+        let text = region_text(self.columns, fields);
+        let named = named_by(self.asked.countries, self.engine.database, text)?;
         let Some(hint) = hint_under(self.asked.else_hint, self.engine.hint, named) else {
             return Ok(Answer::Refused("unknown region"));
         };
@@ -135,16 +143,6 @@ impl<'d> Table<'d> {
     }
 }
 
-/// What a record of a table with these columns names as its region.
-pub(crate) fn region_of(columns: Columns, fields: &ByteRecord) -> Named
-    ensures { RecordNames columns.region (fields_of fields.now) result }
-{
-    match columns.region {
-        Some(column) => region_named(field_in(fields, column)),
-        None => Named::Nothing,
-    }
-}
-
 /// The field of a record in a column; empty where it has none.
 pub(crate) fn field_in(fields: &ByteRecord, column: usize) -> &[u8]
     ensures { result.now ≡ field_in (fields_of fields.now) column }
@@ -170,6 +168,7 @@ impl<'d> Table<'d> {
             is_known self.old (fields_of row.now)) ≡ not is_new) }
         ensures keeps { OnOk result (Keeps self.old (fields_of row.now) self.new) }
         ensures counts { self.new.counts ≡ self.old.counts }
+        ensures unknown { self.new.unknown ≡ self.old.unknown }
     {
         let number = number_of(row);
         if !self.asked.is_unique || number.is_empty() {
@@ -178,6 +177,22 @@ impl<'d> Table<'d> {
         let mut text = Vec::new(self.engine.database.allocator());
         text.extend_from_slice(number)?;
         add(&mut self.numbers, text)
+    }
+
+    /// Notes the text by which a row names its region, where it is refused since that names none.
+    /// Refused only for memory.
+    fn note_unknown(&mut self, row: &ByteRecord) -> Result<(), AllocError>
+        ensures noted { OnOk result (NotesRow self.old.columns (fields_of row.now)
+            self.old.unknown.names.items self.new.unknown.names.items) }
+        ensures kept { self.new ≡ record self.old { unknown = self.new.unknown } }
+    {
+        if !has_refusal(row, "unknown region") {
+            return Ok(());
+        }
+        match region_text(self.columns, row) {
+            Some(text) => self.unknown.note(text),
+            None => Ok(()),
+        }
     }
 }
 
@@ -215,6 +230,9 @@ impl<'d> Answers for Table<'d> {
             return Err(Refusal::Memory);
         };
         let Ok(is_new) = self.is_new(fields) else {
+            return Err(Refusal::Memory);
+        };
+        let Ok(()) = self.note_unknown(fields) else {
             return Err(Refusal::Memory);
         };
         self.counts.count(fields, is_new);

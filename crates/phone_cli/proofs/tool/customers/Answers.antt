@@ -11,6 +11,12 @@ returns-in-Err g c = λ is rules under loaded. elim c.say_no_columns.ensures [
   | inr m ↦ rw m.0 (no_memory is record { idle = refl; said = m.1 })
 ]
 
+pub returns-in-Err-countries_in : goal.returns-in-Err-countries_in
+returns-in-Err-countries_in g c = λ is rules under loaded. elim c.say_no_columns.ensures [
+  | inl r ↦ rw r.0 (refused (r.1.0, record { idle = refl; said = r.1.1 }))
+  | inr m ↦ rw m.0 (no_memory is record { idle = refl; said = m.1 })
+]
+
 pub returns-in_default : goal.returns-in_default
 returns-in_default g c = λ is rules under loaded. rw c.say.ensures.status
     (no_memory is record { idle = refl; said = c.say.ensures.told })

@@ -16,7 +16,8 @@ returns-clause-answered c e =
       told ++ own,
       written (told ++ own) (number_in c.in-Ok.answer, told, own, c.in-Ok.ensures.answer, are, refl) (rw is at c.in-Ok-is_new.ensures.new ∙ ap not new)
           (record { engine = k.engine; asked = k.asked; columns = k.columns; numbers = k.numbers })
-          (rw is at (c.count.ensures.written new) ∙ ap (λ n. counts_after n (fields ++ (told ++ own))) c.in-Ok-is_new.ensures.counts),
+          (rw is at (c.count.ensures.written new) ∙ ap (λ n. counts_after n (fields ++ (told ++ own))) (ap (λ t. t.counts) c.note_unknown.ensures.kept ∙ c.in-Ok-is_new.ensures.counts))
+          (rw (is, c.in-Ok-is_new.ensures.unknown, k.columns) at c.in-Ok-note_unknown.ensures.noted),
       is,
     )
 
@@ -29,4 +30,5 @@ returns-clause-left_out c e =
     let k = rw is at c.in-Ok-is_new.ensures.keeps in
     left_out (told ++ own) (number_in c.in-Ok.answer, told, own, c.in-Ok.ensures.answer, are, refl) (rw is at c.in-Ok-is_new.ensures.new ∙ ap not known)
     (record { engine = k.engine; asked = k.asked; columns = k.columns; numbers = k.numbers })
-    (rw is at (c.count.ensures.left_out known) ∙ ap (λ n. counts_without n (fields ++ (told ++ own))) c.in-Ok-is_new.ensures.counts)
+    (rw is at (c.count.ensures.left_out known) ∙ ap (λ n. counts_without n (fields ++ (told ++ own))) (ap (λ t. t.counts) c.note_unknown.ensures.kept ∙ c.in-Ok-is_new.ensures.counts))
+    (rw (is, c.in-Ok-is_new.ensures.unknown, k.columns) at c.in-Ok-note_unknown.ensures.noted)
