@@ -1,6 +1,6 @@
 //! A table of the names of regions.
 ghost use Rattle.std.specs.Prelude.{◌≡◌, ◌<◌, ◌++◌, ◌∷◌, ℕ, List, [], IfErr, IfOk, OnOk};
-ghost use Rattle.std.specs.Prelude.{length};
+ghost use Rattle.std.specs.Prelude.{IsTrue, length, ◌↔◌};
 ghost use Rattle.phone_countries.specs.Folds.{fold_text};
 ghost use Rattle.phone_countries.specs.Tables.{IsAbove, IsFault, IsLine, IsTable, Lacks, Refuses};
 ghost use Rattle.phone_countries.specs.Tables.{RefusesNext, Rises, name_of, region_in};

@@ -1,6 +1,6 @@
 //! The names of a table that are nearest to a text.
 ghost use Rattle.std.specs.Prelude.{◌≡◌, ◌==◌, IfOk, List, ℕ, MatchOption, [], chars, filter, length};
-ghost use Rattle.std.specs.Prelude.{map};
+ghost use Rattle.std.specs.Prelude.{map, take};
 ghost use Rattle.phone_countries.specs.Folds.{fold_text};
 ghost use Rattle.phone_countries.specs.Nearest.{AreNearest, IsLeast, distance, distances, is_at};
 ghost use Rattle.phone_countries.specs.Nearest.{is_near};
@@ -47,38 +47,38 @@ fn is_near(far: usize, text: &str) -> bool
     far <= text.chars().count() / 3
 }
 
-/// The entries at a distance, of the distances of all. Refused only for memory.
+/// The entries at a distance, where these are the distances of all. Refused only for memory.
 fn at_distance<'c>(
     alloc: Global,
     entries: &'c [Entry],
-    distances: &[usize],
+    ways: &[usize],
     far: usize,
 ) -> Result<Vec<&'c Entry>, AllocError>
-    requires { length distances.now ≡ length entries.now }
-    ensures { IfOk result (λ v. (text : List ℕ) → distances.now ≡ distances entries.now text →
+    requires { length ways.now ≡ length entries.now }
+    ensures { IfOk result (λ v. (text : List ℕ) → ways.now ≡ distances entries.now text →
         map (λ e. e.now) v.items ≡ filter (is_at text far) entries.now) }
 {
     let mut found = Vec::new(alloc);
     for place in 0..entries.len() {
-        if distances[place] == far {
+        if ways[place] == far {
             found.push(&entries[place])?;
         }
     }
     Ok(found)
 }
 
-/// The first three entries at a distance, of the distances of all. Refused only for memory.
+/// The first three entries at a distance, where these are the distances of all. Refused only for memory.
 fn first_at<'c>(
     alloc: Global,
     entries: &'c [Entry],
-    distances: &[usize],
+    ways: &[usize],
     far: usize,
 ) -> Result<Vec<&'c Entry>, AllocError>
-    requires { length distances.now ≡ length entries.now }
-    ensures { IfOk result (λ v. (text : List ℕ) → distances.now ≡ distances entries.now text →
+    requires { length ways.now ≡ length entries.now }
+    ensures { IfOk result (λ v. (text : List ℕ) → ways.now ≡ distances entries.now text →
         map (λ e. e.now) v.items ≡ take 3 (filter (is_at text far) entries.now)) }
 {
-    let mut found = at_distance(alloc, entries, distances, far)?;
+    let mut found = at_distance(alloc, entries, ways, far)?;
     found.truncate(MOST);
     Ok(found)
 }
@@ -92,10 +92,10 @@ impl Countries {
             (map (λ e. e.now) v.items)) }
     {
         let name = fold(alloc, text)?;
-        let distances = distances(alloc, self.entries(), name.as_str())?;
-        match least(distances.as_slice()) {
+        let ways = distances(alloc, self.entries(), name.as_str())?;
+        match least(ways.as_slice()) {
             Some(far) if is_near(far, name.as_str()) => {
-                first_at(alloc, self.entries(), distances.as_slice(), far)
+                first_at(alloc, self.entries(), ways.as_slice(), far)
             }
             _ => Ok(Vec::new(alloc)),
         }
