@@ -5,8 +5,8 @@ ghost use Rattle.std.specs.Str.{bytes_eq};
 ghost use Rattle.std.specs.Prelude.{Err, IfErr, IfOk, None, OnOk};
 ghost use Rattle.csv.specs.Records.{fields_of, partial_of};
 ghost use Rattle.phone_csv.specs.Formats.{Record};
-ghost use Rattle.phone_table.specs.Answers.{IsNumberAnswer, IsOfOtherWidth, IsOwnAnswer};
-ghost use Rattle.phone_table.specs.Answers.{refused_answer};
+ghost use Rattle.phone_table.specs.Answers.{IsAnswerUnder, IsOfOtherWidth, IsOwnAnswer};
+ghost use Rattle.phone_table.specs.Answers.{IsUnder, refused_answer, short_of};
 ghost use Rattle.phone_table.specs.Extras.{AreTold};
 ghost use Rattle.phone_table.specs.Regions.{field_in};
 ghost use Rattle.phone_table.specs.Counts.{no_counts};
@@ -17,7 +17,7 @@ ghost use Rattle.phone_table.specs.Unknowns.{NotesRow};
 
 use crate::answer::{Answer, answer_to, push_answer};
 use crate::counts::{Counts, has_refusal};
-use crate::extra::push_told;
+use crate::extra::{Subject, push_told};
 use crate::header::Columns;
 use crate::key::ANSWER_WIDTH;
 use crate::region::{hint_under, named_by, region_text};
@@ -26,6 +26,7 @@ use crate::unknown::UnknownNames;
 use csv::ByteRecord;
 use phone_csv::{Answers, Refusal};
 use phone_engine::Engine;
+use phonenumber::country::Id;
 use std::alloc::{AllocError, Global};
 use std::collections::HashSet;
 use std::marker::Model;
@@ -68,17 +69,38 @@ impl<'d> Table<'d> {
         }
     }
 
-    /// The answer to a record. Refused only for memory.
-    fn answer_to_record(&self, fields: &ByteRecord) -> Result<Answer, AllocError>
-        ensures answer { IfOk result (λ a. IsNumberAnswer self.now.engine.rules
-            self.now.engine.database.now self.now.engine.hint self.now.columns self.now.asked
-            (fields_of fields.now) (number_in a) (spelled a)) }
+    /// The hint under which a record's number is read, by the region that the record names; none
+    /// where it isn't read: the record names no region that there is, or has another count of
+    /// fields. Refused only for memory.
+    fn hint_of(&self, fields: &ByteRecord) -> Result<Option<Option<Id>>, AllocError>
+        ensures { IfOk result (IsUnder self.now.engine.database.now self.now.engine.hint
+            self.now.columns self.now.asked (fields_of fields.now)) }
+    {
+        if fields.len() != self.columns.width {
+            return Ok(None);
+        }
+        let text = region_text(self.columns, fields);
+        let named = named_by(self.asked.countries, self.engine.database, text)?;
+        Ok(hint_under(
+            self.asked.else_hint,
+            self.engine.hint,
+            named,
+        ))
+    }
+
+    /// The answer to a record's number under this hint. Refused only for memory.
+    fn answer_under(
+        &self,
+        under: Option<Option<Id>>,
+        fields: &ByteRecord,
+    ) -> Result<Answer, AllocError>
+        ensures answer { IfOk result (λ a. IsAnswerUnder self.now.engine.rules
+            self.now.engine.database.now (short_of self.now.asked) under
+            (field_in (fields_of fields.now) self.now.columns.number) (number_in a) (spelled a)) }
         ensures known { IfOk result
             (λ a. IsKnownIn self.now.engine.rules self.now.engine.database.now a) }
     {
-        let text = region_text(self.columns, fields);
-        let named = named_by(self.asked.countries, self.engine.database, text)?;
-        let Some(hint) = hint_under(self.asked.else_hint, self.engine.hint, named) else {
+        let Some(hint) = under else {
             return Ok(Answer::Refused("unknown region"));
         };
         let engine = Engine {
@@ -92,11 +114,16 @@ impl<'d> Table<'d> {
         )
     }
 
-    /// The answer to a record, whatever the count of its fields; or why it isn't answered.
-    fn answer_or_refusal(&self, fields: &ByteRecord) -> Result<Answer, Refusal>
+    /// The answer to a record under this hint, whatever the count of its fields; or why it isn't
+    /// answered.
+    fn answer_or_refusal(
+        &self,
+        under: Option<Option<Id>>,
+        fields: &ByteRecord,
+    ) -> Result<Answer, Refusal>
         ensures answer { IfOk result (λ a. IsOwnAnswer self.now.engine.rules
-            self.now.engine.database.now self.now.engine.hint self.now.columns self.now.asked
-            (fields_of fields.now) (number_in a) (spelled a)) }
+            self.now.engine.database.now self.now.columns self.now.asked (fields_of fields.now)
+            under (number_in a) (spelled a)) }
         ensures known { IfOk result
             (λ a. IsKnownIn self.now.engine.rules self.now.engine.database.now a) }
         ensures refused { result ≡ Err Refusal.Record →
@@ -105,7 +132,7 @@ impl<'d> Table<'d> {
         if fields.len() != self.columns.width {
             return self.marked();
         }
-        match self.answer_to_record(fields) {
+        match self.answer_under(under, fields) {
             Ok(answer) => Ok(answer),
             Err(_) => Err(Refusal::Memory),
         }
@@ -129,16 +156,29 @@ impl<'d> Table<'d> {
     }
 
     /// Puts what the columns that are asked for tell, and the fields of an answer, behind
-    /// those of a record. Refused only for memory.
-    fn push_row(&self, fields: &mut ByteRecord, answer: &Answer) -> Result<(), AllocError>
+    /// those of a record that was read under this hint. Refused only for memory.
+    fn push_row(
+        &self,
+        fields: &mut ByteRecord,
+        under: Option<Option<Id>>,
+        answer: &Answer,
+    ) -> Result<(), AllocError>
         requires partial { partial_of fields.old ≡ [] }
         requires known { IsKnownIn self.now.engine.rules self.now.engine.database.now answer.now }
         ensures { OnOk result ((told : Record) ×
-            AreTold self.now.engine.rules self.now.engine.database.now (number_in answer.now)
+            AreTold self.now.engine.rules self.now.engine.database.now under
+            (field_in (fields_of fields.old) self.now.columns.number) (number_in answer.now)
             self.now.asked.extra.now told ×
             (fields_of fields.new ≡ fields_of fields.old ++ (told ++ spelled answer.now))) }
     {
-        push_told(self.engine, fields, self.asked.extra, answer)?;
+        let alloc = self.engine.database.allocator();
+        let field = field_in(fields, self.columns.number).to_vec(alloc)?;
+        let subject = Subject {
+            under,
+            field: field.as_slice(),
+            answer,
+        };
+        push_told(self.engine, fields, self.asked.extra, subject)?;
         push_answer(fields, answer)
     }
 }
@@ -222,11 +262,14 @@ impl<'d> Answers for Table<'d> {
     /// those of a record, and counts it. A record with another count of fields than the table has
     /// columns isn't answered, unless such are marked.
     fn answer(&mut self, _alloc: Global, fields: &mut ByteRecord) -> Result<bool, Refusal> {
-        let answer = match self.answer_or_refusal(fields) {
+        let Ok(under) = self.hint_of(fields) else {
+            return Err(Refusal::Memory);
+        };
+        let answer = match self.answer_or_refusal(under, fields) {
             Ok(answer) => answer,
             Err(refusal) => return Err(refusal),
         };
-        let Ok(()) = self.push_row(fields, &answer) else {
+        let Ok(()) = self.push_row(fields, under, &answer) else {
             return Err(Refusal::Memory);
         };
         let Ok(is_new) = self.is_new(fields) else {
