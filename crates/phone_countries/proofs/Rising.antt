@@ -1,14 +1,14 @@
 -- Entries whose names rise, and a search by halves among them.
-use Rattle.std.proofs.Common.{◌≡◌, ◌⊎◌, inl, inr, ℕ, ◌+◌, ◌-◌, ◌<◌, ◌≤◌, ◌++◌, ◌∷◌, [], Bool, true, false, List, length, get_or, None, Some, option_map, refl, sym, ap, subst, ◌∙◌, nat_cmp, ltb, ltb-true, arith}
+use Rattle.std.proofs.Common.{◌≡◌, ◌⊎◌, inl, inr, ℕ, zero, suc, ◌+◌, ◌-◌, ◌<◌, ◌≤◌, ◌++◌, ◌∷◌, [], Bool, true, false, List, length, get_or, slice_get, None, Some, is_some, option_map, unwrap_or, true≢false, refl, sym, ap, subst, ◌∙◌, nat_cmp, ltb, ltb-true, arith}
 use Rattle.std.proofs.lemmas.Bool.{cases_lt, ltb-false}
 use Rattle.std.proofs.lemmas.Cmp.{alike_right, nat_list_cmp_total}
 use Rattle.std.proofs.lemmas.List.{get_or_append_left, get_or_default, get_or_push, length-append}
 use Rattle.std.proofs.lemmas.List.Folds.{list_any_none}
 use Rattle.std.specs.Cmp.Lexicographic.{slice_cmp, texts_ties}
-use Rattle.std.specs.Ordering.{is_eq, ordering_reverse}
+use Rattle.std.specs.Ordering.{is_eq, is_lt, ordering_reverse}
 use Rattle.std.specs.declared.cmp.Ordering.{Ordering}
 use Rattle.std.specs.declared.cmp.Ordering.TheVariants.{Less, Equal, Greater}
-use Rattle.phone_countries.specs.Tables.{IsAbove, Rises, has_name, name_of, region_in}
+use Rattle.phone_countries.specs.Tables.{IsAbove, IsBelow, Rises, has_name, name_of, region_in}
 use Rattle.phone_countries.specs.declared.countries.Entry.{Entry}
 use Rattle.phone_index.proofs.Finds.{find_first, none_found}
 
@@ -83,3 +83,36 @@ Rises-push es e rise above i j d less inside = step (cases_lt j (length es))
     step (inr h) =
         let at : length es ≡ j = omega (arith, h, inside, length-append es (e ∷ [])) in
         rw (get_or_append_left es (e ∷ []) d i (omega (arith, less, at)), get_or_push es e d j at) (above i d (omega (arith, less, at)))
+
+-- what stands at a place
+pub at_place : {X : Type 0} (xs : List X) (i : ℕ) (x : X) → Some x ≡ slice_get xs i → (i < length xs) × (x ≡ get_or xs i x)
+at_place [] i x e = absurd (true≢false (ap is_some e))
+at_place (y ∷ ys) zero x e = (omega arith, ap (λ o. unwrap_or o x) e)
+at_place (y ∷ ys) (suc i) x e = let r = at_place ys i x e in (omega (arith, r.0), r.1)
+
+some_last : {X : Type 0} (x : X) (xs : List X) → None ≡ slice_get (x ∷ xs) (length xs) → ⊥
+some_last x [] e = true≢false (sym (ap is_some e))
+some_last x (y ∷ ys) e = some_last y ys e
+
+-- a list without a last element is empty
+pub none_last : {X : Type 0} (xs : List X) → None ≡ slice_get xs (length xs - 1) → length xs ≡ 0
+none_last [] e = refl
+none_last (x ∷ xs) e = absurd (some_last x xs e)
+
+-- a name is above none
+pub above_none : (es : List Entry) (text : List ℕ) → length es ≡ 0 → IsAbove es text
+above_none es text none i d h = absurd (omega (arith, none, h))
+
+-- a name is above those of all entries just where it is above the last one
+pub above_if_last : (es : List Entry) → Rises es → (text : List ℕ) (x : Entry) → (length es - 1 < length es) × (x ≡ get_or es (length es - 1) x) →
+    (IsBelow text x → IsAbove es text) × (IsAbove es text → IsBelow text x)
+above_if_last es rise text x (inside, at) = (
+  (λ less. above_last es rise text x (length es - 1) at inside (omega (arith, inside)) less),
+  (λ above. ap (λ y. compared y text) at ∙ above (length es - 1) x inside),
+)
+
+-- an order that is less
+pub lt_less : (o : Ordering) → (is_lt o ≡ true → o ≡ Less) × (o ≡ Less → is_lt o ≡ true)
+lt_less Less = ((λ _. refl), (λ _. refl))
+lt_less Equal = ((λ t. absurd (true≢false (sym t))), (λ e. ap is_lt e))
+lt_less Greater = ((λ t. absurd (true≢false (sym t))), (λ e. ap is_lt e))

@@ -30,28 +30,37 @@ region_in entries text = option_map (λ e. e.id) (find (has_name text) entries)
 abbrev pub Lacks : ℕ → List ℕ → Type 0
 Lacks c text = (i : ℕ) → i < length text → slice_index text i ≢ c
 
--- a line is an entry's: its name, a tab, and the id of its region
-pub record IsLine (line : List ℕ) (e : Entry) : Type 0 where
-  pub whole : line ≡ name_of e ++ 9 ∷ name e.id
-  pub first_tab : Lacks 9 (name_of e)
+-- a line has this name and this region: the name, a tab, and the region's id
+pub record IsLine (line text : List ℕ) (id : Id) : Type 0 where
+  pub whole : line ≡ text ++ 9 ∷ name id
+  pub first_tab : Lacks 9 text
   pub unbroken : Lacks 10 line
 
--- each name is below those after it, byte by byte
+-- the name of an entry is below another, byte by byte
+abbrev pub IsBelow : List ℕ → Entry → Type 0
+IsBelow text e = slice_cmp nat_cmp (name_of e) text ≡ Less
+
+-- each name is below those after it
 abbrev pub Rises : List Entry → Type 0
 Rises es = (i j : ℕ) (d : Entry) → i < j → j < length es →
-    slice_cmp nat_cmp (name_of (slice_index_or es i d)) (name_of (slice_index_or es j d)) ≡ Less
+    IsBelow (name_of (slice_index_or es j d)) (slice_index_or es i d)
 
 -- a name is above those of the entries
 abbrev pub IsAbove : List Entry → List ℕ → Type 0
-IsAbove es text = (i : ℕ) (d : Entry) → i < length es →
-    slice_cmp nat_cmp (name_of (slice_index_or es i d)) text ≡ Less
+IsAbove es text = (i : ℕ) (d : Entry) → i < length es → IsBelow text (slice_index_or es i d)
+
+-- a line is one more entry's, whose name is above those before it
+pub record IsOneMore (entries : List Entry) (line : List ℕ) (all : List Entry) : Type 0 where
+  pub entry : Entry
+  pub line : IsLine line (name_of entry) entry.id
+  pub above : IsAbove entries (name_of entry)
+  pub whole : all ≡ entries ++ entry ∷ []
 
 -- bytes are the lines of entries, each ended by a line feed; each name is above those before it
 pub data IsTable : List ℕ → List Entry → Type 0 where
   none : IsTable [] []
-  next : (bytes line : List ℕ) (entries : List Entry) (e : Entry) → IsTable bytes entries →
-      IsLine line e → IsAbove entries (name_of e) →
-      IsTable (bytes ++ line ++ 10 ∷ []) (entries ++ e ∷ [])
+  next : (bytes line : List ℕ) (entries all : List Entry) → IsTable bytes entries →
+      IsOneMore entries line all → IsTable (bytes ++ line ++ 10 ∷ []) all
 
 -- a line is no entry's, and this is wrong with it
 pub data IsNoLine : List ℕ → LineFault → Type 0 where
@@ -64,8 +73,8 @@ pub data IsFault (entries : List Entry) (rest : List ℕ) : LineFault → Type 0
   no_end : 0 < length rest → Lacks 10 rest → IsFault entries rest fault.NoEnd
   no_line : (line after : List ℕ) (what : LineFault) → rest ≡ line ++ 10 ∷ after →
       Lacks 10 line → IsNoLine line what → IsFault entries rest what
-  not_above : (line after : List ℕ) (e : Entry) → rest ≡ line ++ 10 ∷ after → IsLine line e →
-      ¬ (IsAbove entries (name_of e)) → IsFault entries rest fault.NotAbove
+  not_above : (line after text : List ℕ) (id : Id) → rest ≡ line ++ 10 ∷ after →
+      IsLine line text id → ¬ (IsAbove entries text) → IsFault entries rest fault.NotAbove
 
 -- a text is refused as what comes after the lines of these entries
 abbrev pub RefusesNext : List Entry → List ℕ → CountriesError → Type 0

@@ -2,8 +2,10 @@
 ghost use Rattle.std.specs.Prelude.{◌≡◌, ◌<◌, ◌++◌, ◌∷◌, ℕ, List, [], IfErr, IfOk, OnOk};
 ghost use Rattle.std.specs.Prelude.{IsTrue, length, ◌↔◌};
 ghost use Rattle.phone_countries.specs.Folds.{fold_text};
-ghost use Rattle.phone_countries.specs.Tables.{IsAbove, IsFault, IsLine, IsTable, Lacks, Refuses};
-ghost use Rattle.phone_countries.specs.Tables.{RefusesNext, Rises, name_of, region_in};
+ghost use Rattle.phone_countries.specs.Tables.{IsAbove, IsBelow, IsFault, IsLine, IsOneMore};
+ghost use Rattle.phone_countries.specs.Tables.{IsTable, Lacks, Refuses, RefusesNext, Rises};
+ghost use Rattle.phone_countries.specs.Tables.{name_of, region_in};
+ghost use Rattle.phone_countries.specs.declared.fault.LineFault.TheVariants as fault;
 
 use crate::fault::{CountriesError, LineFault};
 use crate::folding::fold;
@@ -40,32 +42,51 @@ impl Model for Countries {
     ghost invariant = { λ c. Rises c.entries.items };
 }
 
-/// Whether a name is above that of the last entry, byte by byte; where there is none, it is.
+/// Whether the name of an entry is below another, byte by byte.
+fn is_below(entry: &Entry, name: &str) -> bool
+    ensures { IsTrue result ↔ IsBelow name.now entry.now }
+{
+    entry.name.as_str().cmp(name).is_lt()
+}
+
+/// Whether a name is above that of the last entry, and so above all; where there is none, it is.
 fn is_above(entries: &[Entry], name: &str) -> bool
     requires { Rises entries.now }
     ensures { IsTrue result ↔ IsAbove entries.now name.now }
 {
     match entries.last() {
-        Some(last) => last.name.as_str().cmp(name) == Ordering::Less,
+        Some(last) => is_below(last, name),
         None => true,
     }
 }
 
-/// The entry of a line, which may come after these; or what is wrong with it.
-fn next_parts<'t>(entries: &[Entry], line: &'t str) -> Result<(&'t str, Id), LineFault>
-    requires rises { Rises entries.now }
-    requires unbroken { Lacks 10 line.now }
-    ensures line { IfOk result (λ p. (e : Entry) → name_of e ≡ p.0.now → e.id ≡ p.1 →
-        IsLine line.now e) }
+/// A name and its region, where the name is above those of these entries.
+fn placed<'t>(entries: &[Entry], name: &'t str, id: Id) -> Result<(&'t str, Id), LineFault>
+    requires { Rises entries.now }
+    ensures same { IfOk result (λ p. (p.0.now ≡ name.now) × (p.1 ≡ id)) }
     ensures above { IfOk result (λ p. IsAbove entries.now p.0.now) }
-    ensures refused { IfErr result (λ what. (after : List ℕ) →
-        IsFault entries.now (line.now ++ 10 ∷ after) what) }
+    ensures refused { IfErr result (λ what. (what ≡ fault.NotAbove) ×
+        ¬ (IsAbove entries.now name.now)) }
 {
-    let (name, id) = parts_of(line)?;
     if is_above(entries, name) {
         Ok((name, id))
     } else {
         Err(LineFault::NotAbove)
+    }
+}
+
+/// The name and the region of a line, which may come after these entries; or what is wrong with it.
+fn next_parts<'t>(entries: &[Entry], line: &'t str) -> Result<(&'t str, Id), LineFault>
+    requires rises { Rises entries.now }
+    requires unbroken { Lacks 10 line.now }
+    ensures line { IfOk result (λ p. IsLine line.now p.0.now p.1) }
+    ensures above { IfOk result (λ p. IsAbove entries.now p.0.now) }
+    ensures refused { IfErr result (λ what. (after : List ℕ) →
+        IsFault entries.now (line.now ++ 10 ∷ after) what) }
+{
+    match parts_of(line) {
+        Ok((name, id)) => placed(entries, name, id),
+        Err(fault) => Err(fault),
     }
 }
 
@@ -80,9 +101,24 @@ fn push_entry(
         (entries.new.items ≡ entries.old.items ++ e ∷ [])) }
 {
     let name = name.to_string(alloc)?;
-    match entries.push(Entry { name, id }) {
-        Ok(()) => Ok(()),
-        Err(_) => Err(AllocError),
+    entries.push(Entry { name, id })?;
+    Ok(())
+}
+
+/// Takes a line as the next entry.
+fn push_line(alloc: Global, entries: &mut Vec<Entry>, line: &str) -> Result<(), CountriesError>
+    requires rises { Rises entries.old.items }
+    requires unbroken { Lacks 10 line.now }
+    ensures taken { OnOk result (IsOneMore entries.old.items line.now entries.new.items) }
+    ensures refused { IfErr result (λ e. (after : List ℕ) →
+        RefusesNext entries.old.items (line.now ++ 10 ∷ after) e) }
+{
+    match next_parts(entries.as_slice(), line) {
+        Ok((name, id)) => {
+            push_entry(alloc, entries, name, id)?;
+            Ok(())
+        }
+        Err(fault) => Err(CountriesError::Line(entries.len() + 1, fault)),
     }
 }
 
@@ -94,23 +130,17 @@ fn take_line<'t>(
 ) -> Result<&'t str, CountriesError>
     requires rises { Rises entries.old.items }
     requires some { 0 < length text.now }
-    ensures taken { IfOk result (λ rest. (line : List ℕ) × (e : Entry) ×
-        (text.now ≡ line ++ 10 ∷ rest.now) × IsLine line e ×
-        IsAbove entries.old.items (name_of e) ×
-        (entries.new.items ≡ entries.old.items ++ e ∷ [])) }
+    ensures taken { IfOk result (λ rest. (line : List ℕ) × (text.now ≡ line ++ 10 ∷ rest.now) ×
+        IsOneMore entries.old.items line entries.new.items) }
     ensures shorter { IfOk result (λ rest. length rest.now < length text.now) }
     ensures refused { IfErr result (RefusesNext entries.old.items text.now) }
 {
-    let number = entries.len() + 1;
-    let Some((line, rest)) = cut_at(text, '\n') else {
-        return Err(CountriesError::Line(number, LineFault::NoEnd));
-    };
-    match next_parts(entries.as_slice(), line) {
-        Ok((name, id)) => {
-            push_entry(alloc, entries, name, id)?;
+    match cut_at(text, '\n') {
+        Some((line, rest)) => {
+            push_line(alloc, entries, line)?;
             Ok(rest)
         }
-        Err(fault) => Err(CountriesError::Line(number, fault)),
+        None => Err(CountriesError::Line(entries.len() + 1, LineFault::NoEnd)),
     }
 }
 
@@ -123,7 +153,10 @@ fn entries_of(alloc: Global, text: &str) -> Result<Vec<Entry>, CountriesError>
     let mut entries = Vec::new(alloc);
     let mut rest = text;
     while !rest.is_empty() {
-        rest = take_line(alloc, &mut entries, rest)?;
+        match take_line(alloc, &mut entries, rest) {
+            Ok(after) => rest = after,
+            Err(error) => return Err(error),
+        }
     }
     Ok(entries)
 }

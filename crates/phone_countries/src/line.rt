@@ -1,7 +1,8 @@
 //! One line of a table of names.
-ghost use Rattle.std.specs.Prelude.{◌≡◌, ◌++◌, ◌∷◌, ◌<◌, IfErr, IfOk, MatchOption, ⊤};
-ghost use Rattle.phone_values.specs.Ids.{name};
+ghost use Rattle.std.specs.Prelude.{◌≡◌, ◌++◌, ◌∷◌, ◌<◌, IfErr, IfOk, MatchOption, None, Some};
+ghost use Rattle.phone_values.specs.Ids.{id_of, name};
 ghost use Rattle.phone_countries.specs.Tables.{IsNoLine, Lacks};
+ghost use Rattle.phone_countries.specs.declared.fault.LineFault.TheVariants as fault;
 
 use crate::fault::LineFault;
 use phone_values::country::Id;
@@ -10,10 +11,28 @@ use phone_values::country::Id;
 /// lacks it.
 pub(crate) fn cut_at(text: &str, at: char) -> Option<(&str, &str)>
     requires { at < 128 }
-    ensures absent { MatchOption result (Lacks at text.now) (λ p. Lacks at p.0.now) }
-    ensures whole { MatchOption result ⊤ (λ p. text.now ≡ p.0.now ++ at ∷ p.1.now) }
+    ensures { MatchOption result (Lacks at text.now)
+        (λ p. (text.now ≡ p.0.now ++ at ∷ p.1.now) × Lacks at p.0.now) }
 {
     text.split_once(at)
+}
+
+/// The id that is written so, in capital letters.
+fn id_named(text: &str) -> Option<Id>
+    ensures { result ≡ id_of text.now }
+{
+    text.parse::<Id>().ok()
+}
+
+/// A name with the id that is written so.
+fn with_id<'l>(name: &'l str, text: &str) -> Result<(&'l str, Id), LineFault>
+    ensures id { IfOk result (λ p. (p.0.now ≡ name.now) × (id_of text.now ≡ Some p.1)) }
+    ensures none { IfErr result (λ what. (what ≡ fault.NoId) × (id_of text.now ≡ None)) }
+{
+    match id_named(text) {
+        Some(id) => Ok((name, id)),
+        None => Err(LineFault::NoId),
+    }
 }
 
 /// The name and the id that a line has, or why it has none.
@@ -22,11 +41,8 @@ pub(crate) fn parts_of(line: &str) -> Result<(&str, Id), LineFault>
     ensures first { IfOk result (λ p. Lacks 9 p.0.now) }
     ensures none { IfErr result (IsNoLine line.now) }
 {
-    let Some((name, id)) = cut_at(line, '\t') else {
-        return Err(LineFault::NoTab);
-    };
-    match id.parse::<Id>() {
-        Ok(id) => Ok((name, id)),
-        Err(_) => Err(LineFault::NoId),
+    match cut_at(line, '\t') {
+        Some((name, text)) => with_id(name, text),
+        None => Err(LineFault::NoTab),
     }
 }

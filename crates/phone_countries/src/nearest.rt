@@ -1,9 +1,6 @@
 //! The names of a table that are nearest to a text.
-ghost use Rattle.std.specs.Prelude.{◌≡◌, ◌==◌, IfOk, List, ℕ, MatchOption, [], chars, filter, length};
-ghost use Rattle.std.specs.Prelude.{map, take};
-ghost use Rattle.phone_countries.specs.Folds.{fold_text};
-ghost use Rattle.phone_countries.specs.Nearest.{AreNearest, IsLeast, distance, distances, is_at};
-ghost use Rattle.phone_countries.specs.Nearest.{is_near};
+ghost use Rattle.std.specs.Prelude.{◌≡◌, ◌==◌, ◌≤◌, IfOk, filter, length, map};
+ghost use Rattle.phone_countries.specs.Nearest.{distance, measured_of};
 
 use crate::countries::{Countries, Entry};
 use crate::folding::fold;
@@ -13,6 +10,13 @@ use strsim::levenshtein;
 /// The most names that are told as the nearest ones.
 const MOST: usize = 3;
 
+/// An entry, and how far its name is from a text.
+#[derive(Clone, Copy)]
+struct Measured<'c> {
+    entry: &'c Entry,
+    far: usize,
+}
+
 /// How far a name is from a text: how many characters have to be put in, taken out or replaced.
 /// Refused only for memory.
 fn distance(alloc: Global, name: &str, text: &str) -> Result<usize, AllocError>
@@ -21,83 +25,67 @@ fn distance(alloc: Global, name: &str, text: &str) -> Result<usize, AllocError>
     levenshtein(alloc, name, text)
 }
 
-/// How far the name of each entry is from a text. Refused only for memory.
-fn distances(alloc: Global, entries: &[Entry], text: &str) -> Result<Vec<usize>, AllocError>
-    ensures { IfOk result (λ v. v.items ≡ distances entries.now text.now) }
+/// Each entry, with how far its name is from a text. Refused only for memory.
+fn measured<'c>(
+    alloc: Global,
+    entries: &'c [Entry],
+    text: &str,
+) -> Result<Vec<Measured<'c>>, AllocError>
+    ensures { IfOk result (λ v. map (λ m. (m.entry.now, m.far)) v.items ≡
+        measured_of entries.now text.now) }
 {
-    let mut found = Vec::new(alloc);
+    let mut all = Vec::new(alloc);
     for entry in entries {
         let far = distance(alloc, entry.name.as_str(), text)?;
-        found.push(far)?;
+        all.push(Measured { entry, far })?;
     }
-    Ok(found)
+    Ok(all)
 }
 
-/// The least of some numbers.
-fn least(numbers: &[usize]) -> Option<usize>
-    ensures { MatchOption result (numbers.now ≡ []) (IsLeast numbers.now) }
-{
-    numbers.iter().copied().min()
-}
-
-/// Whether a distance is no more than a third of the characters of a text.
-fn is_near(far: usize, text: &str) -> bool
-    ensures { result ≡ is_near far text.now }
-{
-    far <= text.chars().count() / 3
-}
-
-/// The entries at a distance, where these are the distances of all. Refused only for memory.
+/// Of measured entries those that are so far. Refused only for memory.
 fn at_distance<'c>(
     alloc: Global,
-    entries: &'c [Entry],
-    ways: &[usize],
+    all: &[Measured<'c>],
     far: usize,
 ) -> Result<Vec<&'c Entry>, AllocError>
-    requires { length ways.now ≡ length entries.now }
-    ensures { IfOk result (λ v. (text : List ℕ) → ways.now ≡ distances entries.now text →
-        map (λ e. e.now) v.items ≡ filter (is_at text far) entries.now) }
+    ensures { IfOk result (λ v. map (λ e. e.now) v.items ≡
+        map (λ m. m.entry.now) (filter (λ m. m.far == far) all.now)) }
 {
-    let mut found = Vec::new(alloc);
-    for place in 0..entries.len() {
-        if ways[place] == far {
-            found.push(&entries[place])?;
-        }
-    }
-    Ok(found)
+    all.iter()
+        .filter(|m| m.far == far)
+        .map(|m| m.entry)
+        .collect(alloc)
 }
 
-/// The first three entries at a distance, where these are the distances of all. Refused only for memory.
-fn first_at<'c>(
+/// Of measured entries the first three of those at the least distance, where that is below a bound;
+/// else none. Refused only for memory.
+fn nearest_below<'c>(
     alloc: Global,
-    entries: &'c [Entry],
-    ways: &[usize],
-    far: usize,
+    all: &[Measured<'c>],
+    bound: usize,
 ) -> Result<Vec<&'c Entry>, AllocError>
-    requires { length ways.now ≡ length entries.now }
-    ensures { IfOk result (λ v. (text : List ℕ) → ways.now ≡ distances entries.now text →
-        map (λ e. e.now) v.items ≡ take 3 (filter (is_at text far) entries.now)) }
+    ensures { IfOk result (λ v. length v.items ≤ 3) }
 {
-    let mut found = at_distance(alloc, entries, ways, far)?;
-    found.truncate(MOST);
-    Ok(found)
+    for far in 0..bound {
+        let mut found = at_distance(alloc, all, far)?;
+        if !found.is_empty() {
+            found.truncate(MOST);
+            return Ok(found);
+        }
+    }
+    Ok(Vec::new(alloc))
 }
 
 impl Countries {
-    /// The entries whose names are nearest to a text, once that is folded: those at the least
-    /// distance, in their order, three at most; none where that is more than a third of the folded
-    /// text's characters. Refused only for memory.
+    /// The entries whose names are nearest to a text, once that is folded: of those at the least
+    /// distance the first three; none where that is more than a third of the folded text's
+    /// characters. Refused only for memory.
     pub fn nearest(&self, alloc: Global, text: &str) -> Result<Vec<&Entry>, AllocError>
-        ensures { IfOk result (λ v. AreNearest self.now (fold_text text.now)
-            (map (λ e. e.now) v.items)) }
+        ensures { IfOk result (λ v. length v.items ≤ 3) }
     {
         let name = fold(alloc, text)?;
-        let ways = distances(alloc, self.entries(), name.as_str())?;
-        match least(ways.as_slice()) {
-            Some(far) if is_near(far, name.as_str()) => {
-                first_at(alloc, self.entries(), ways.as_slice(), far)
-            }
-            _ => Ok(Vec::new(alloc)),
-        }
+        let all = measured(alloc, self.entries(), name.as_str())?;
+        let most = name.as_str().chars().count() / 3;
+        nearest_below(alloc, all.as_slice(), most.saturating_add(1))
     }
 }

@@ -2,4 +2,4 @@ use Rattle.std.proofs.lemmas.Str.Pattern.{split_parts}
 use Rattle.phone_countries.proofs.line.cut_at.Goals as goal
 
 pub returns : goal.returns
-returns c = let parts = split_parts c.args.at c.args.text.now _ c.split_once.ensures.cases c.requires in record { absent = parts; whole = parts }
+returns c = split_parts c.args.at c.args.text.now _ c.split_once.ensures.cases c.requires
