@@ -1,4 +1,5 @@
 -- Entries whose names rise, and a search by halves among them.
+use native.Mathlib.Numerals.{unary_clauses}
 use Rattle.std.proofs.Common.{◌≡◌, ◌⊎◌, inl, inr, ℕ, zero, suc, ◌+◌, ◌-◌, ◌<◌, ◌≤◌, ◌++◌, ◌∷◌, [], Bool, true, false, List, length, get_or, slice_get, None, Some, is_some, option_map, unwrap_or, true≢false, refl, sym, ap, subst, ◌∙◌, nat_cmp, ltb, ltb-true, arith}
 use Rattle.std.proofs.lemmas.Bool.{cases_lt, ltb-false}
 use Rattle.std.proofs.lemmas.Cmp.{alike_right, nat_list_cmp_total}
@@ -97,7 +98,7 @@ some_last x (y ∷ ys) e = some_last y ys e
 -- a list without a last element is empty
 pub none_last : {X : Type 0} (xs : List X) → None ≡ slice_get xs (length xs - 1) → length xs ≡ 0
 none_last [] e = refl
-none_last (x ∷ xs) e = absurd (some_last x xs e)
+none_last (x ∷ xs) e = absurd (some_last x xs (simp unary_clauses at e))
 
 -- a name is above none
 pub above_none : (es : List Entry) (text : List ℕ) → length es ≡ 0 → IsAbove es text

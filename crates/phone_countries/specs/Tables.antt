@@ -52,7 +52,7 @@ IsAbove es text = (i : ℕ) (d : Entry) → i < length es → IsBelow text (slic
 -- a line is one more entry's, whose name is above those before it
 pub record IsOneMore (entries : List Entry) (line : List ℕ) (all : List Entry) : Type 0 where
   pub entry : Entry
-  pub line : IsLine line (name_of entry) entry.id
+  pub is_line : IsLine line (name_of entry) entry.id
   pub above : IsAbove entries (name_of entry)
   pub whole : all ≡ entries ++ entry ∷ []
 

@@ -1,5 +1,5 @@
 //! The names of a table that are nearest to a text.
-ghost use Rattle.std.specs.Prelude.{◌≡◌, ◌==◌, ◌≤◌, IfOk, filter, length, map};
+ghost use Rattle.std.specs.Prelude.{◌≡◌, ◌≤◌, IfOk, length, map};
 ghost use Rattle.phone_countries.specs.Nearest.{distance, measured_of};
 
 use crate::countries::{Countries, Entry};
@@ -26,7 +26,7 @@ fn distance(alloc: Global, name: &str, text: &str) -> Result<usize, AllocError>
 }
 
 /// Each entry, with how far its name is from a text. Refused only for memory.
-fn measured<'c>(
+fn measure_all<'c>(
     alloc: Global,
     entries: &'c [Entry],
     text: &str,
@@ -47,14 +47,14 @@ fn at_distance<'c>(
     alloc: Global,
     all: &[Measured<'c>],
     far: usize,
-) -> Result<Vec<&'c Entry>, AllocError>
-    ensures { IfOk result (λ v. map (λ e. e.now) v.items ≡
-        map (λ m. m.entry.now) (filter (λ m. m.far == far) all.now)) }
-{
-    all.iter()
-        .filter(|m| m.far == far)
-        .map(|m| m.entry)
-        .collect(alloc)
+) -> Result<Vec<&'c Entry>, AllocError> {
+    let mut found = Vec::new(alloc);
+    for measured in all {
+        if measured.far == far {
+            found.push(measured.entry)?;
+        }
+    }
+    Ok(found)
 }
 
 /// Of measured entries the first three of those at the least distance, where that is below a bound;
@@ -84,7 +84,7 @@ impl Countries {
         ensures { IfOk result (λ v. length v.items ≤ 3) }
     {
         let name = fold(alloc, text)?;
-        let all = measured(alloc, self.entries(), name.as_str())?;
+        let all = measure_all(alloc, self.entries(), name.as_str())?;
         let most = name.as_str().chars().count() / 3;
         nearest_below(alloc, all.as_slice(), most.saturating_add(1))
     }

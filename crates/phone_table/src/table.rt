@@ -81,11 +81,7 @@ impl<'d> Table<'d> {
         }
         let text = region_text(self.columns, fields);
         let named = named_by(self.asked.countries, self.engine.database, text)?;
-        Ok(hint_under(
-            self.asked.else_hint,
-            self.engine.hint,
-            named,
-        ))
+        Ok(hint_under(self.asked.else_hint, self.engine.hint, named))
     }
 
     /// The answer to a record's number under this hint. Refused only for memory.

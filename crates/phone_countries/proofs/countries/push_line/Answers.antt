@@ -2,12 +2,12 @@ use Rattle.std.proofs.Common.{rules, subst, sym}
 use Rattle.phone_countries.specs.Tables.{IsAbove}
 use Rattle.phone_countries.proofs.countries.push_line.Goals as goal
 
-pub returns-in-Ok-clause-taken : goal.returns-in-Ok-clause-taken
-returns-in-Ok-clause-taken c =
+pub returns-in_ok-push_entry-in-Ok-clause-taken : goal.returns-in_ok-push_entry-in-Ok-clause-taken
+returns-in_ok-push_entry-in-Ok-clause-taken c =
     let (e, name, id, all) = c.in_ok-push_entry.ensures in
     record {
       entry = e;
-      line = rw (name, id) c.in-Ok.ensures.line;
+      is_line = rw (name, id) c.in-Ok.ensures.line;
       above = rw (name, ← c.as_slice.ensures.value) c.in-Ok.ensures.above;
       whole = all;
     }
