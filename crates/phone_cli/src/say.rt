@@ -10,7 +10,7 @@ use itoa::Buffer;
 use phone_commands::{Customers, FirstLines};
 use phone_countries::Entry;
 use phone_device::{ByteSink, Fault, write_all};
-use phone_table::{Countries, UnknownName};
+use phone_table::Countries;
 use phone_words::{Why, WordError, value_word};
 use std::alloc::Global;
 
@@ -227,14 +227,15 @@ fn write_nearest<E: ByteSink>(
 fn write_unknown<E: ByteSink>(
     alloc: Global,
     countries: Option<&Countries>,
-    name: &UnknownName,
+    text: &str,
+    count: u64,
     errors: &mut E,
 ) -> Result<(), Fault> {
     write_str(errors, "phone: unknown region \"")?;
-    write_str(errors, name.text.as_str())?;
-    write_count(errors, "\" (", name.count)?;
-    write_str(errors, if name.count == 1 { " record)" } else { " records)" })?;
-    write_nearest(alloc, countries, name.text.as_str(), errors)?;
+    write_str(errors, text)?;
+    write_count(errors, "\" (", count)?;
+    write_str(errors, if count == 1 { " record)" } else { " records)" })?;
+    write_nearest(alloc, countries, text, errors)?;
     write_str(errors, "\n")
 }
 
@@ -244,8 +245,10 @@ fn write_all_unknown<E: ByteSink>(
     job: &Customers<'_, '_>,
     errors: &mut E,
 ) -> Result<(), Fault> {
-    for name in job.unknown.names.as_slice() {
-        write_unknown(alloc, job.asked.countries, name, errors)?;
+    for at in 0..job.unknown.names.len() {
+        if let Some((text, count)) = job.unknown.names.get_index(at) {
+            write_unknown(alloc, job.asked.countries, text.as_str(), *count, errors)?;
+        }
     }
     Ok(())
 }

@@ -15,8 +15,7 @@ use Rattle.phone_table.specs.Answers.{IsAnswer, IsAnswerUnder, IsOwnAnswer, IsUn
 use Rattle.phone_table.specs.Extras.{AreTold, EachHasOneText, HaveOneText, IsFound, IsPartOrFound, IsTold}
 use Rattle.phone_table.specs.Extras.{entries_in, looked_up, part_of}
 use Rattle.phone_table.specs.Extras.AreTold.{none as told_none, next as told_next}
-use Rattle.phone_table.specs.Regions.{RecordNames, RegionText, field_in, hint_under, named_by}
-use Rattle.phone_table.specs.Regions.RegionText.{no_column, no_text, of_text}
+use Rattle.phone_table.specs.Regions.{RecordNames, RegionText, TextOf, field_in, hint_under, named_by}
 use Rattle.phone_table.specs.declared.extra.Extra.{Extra}
 use Rattle.phone_table.specs.declared.header.Columns.{Columns}
 use Rattle.phone_table.specs.declared.region.Named.{Named}
@@ -45,12 +44,15 @@ found_same entries one (Some digits) a b (inr (none, e)) (inl (q, m)) =
 found_same entries one (Some digits) a b (inr (none, e)) (inr (other, f)) = e ∙ sym f
 
 -- a record names one region, or none
+text_of_same : (field : List ℕ) (r s : Option (List ℕ)) → TextOf field r → TextOf field s → r ≡ s
+text_of_same field None None h g = refl
+text_of_same field None (Some t) h g = absurd (h g.0)
+text_of_same field (Some t) None h g = absurd (g h.0)
+text_of_same field (Some t) (Some u) h g = ap Some (h.1 ∙ sym g.1)
+
 text_same : (fields : Record) (o : Option ℕ) (r s : Option (List ℕ)) → RegionText fields o r → RegionText fields o s → r ≡ s
-text_same fields _ _ _ no_column no_column = refl
-text_same fields _ _ _ (of_text c u) (of_text d v) = refl
-text_same fields _ _ _ (of_text c u) (no_text d x) = absurd (x u)
-text_same fields _ _ _ (no_text c x) (of_text d u) = absurd (x u)
-text_same fields _ _ _ (no_text c x) (no_text d y) = refl
+text_same fields None r s h g = h ∙ sym g
+text_same fields (Some column) r s h g = text_of_same (field_in fields column) r s h g
 
 region_same : (names : Option (List Name)) (db : List Metadata) (fields : Record) (o : Option ℕ) (r s : Named) → RecordNames names db o fields r →
     RecordNames names db o fields s → r ≡ s

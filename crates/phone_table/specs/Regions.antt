@@ -32,14 +32,15 @@ named_by names db None = Unknown
 named_by names db (Some text) =
     if length text == 0 then Nothing else region_or_none (region_meant names db text)
 
--- the text by which a record names its region, white space around it passed over: empty where there
--- is no column of regions; none where the field isn't UTF-8
-pub data RegionText (fields : Record) : Option ℕ → Option (List ℕ) → Type 0 where
-  no_column : RegionText fields None (Some [])
-  of_text : (column : ℕ) → IsUtf8 (field_in fields column) →
-      RegionText fields (Some column) (Some (trim (field_in fields column)))
-  no_text : (column : ℕ) → ¬ (IsUtf8 (field_in fields column)) →
-      RegionText fields (Some column) None
+-- the text of a field, white space around it passed over; none where its bytes aren't UTF-8
+abbrev pub TextOf : List ℕ → Option (List ℕ) → Type 0
+TextOf field None = ¬ (IsUtf8 field)
+TextOf field (Some text) = IsUtf8 field × (text ≡ trim field)
+
+-- the text by which a record names its region: an empty one where there is no column of regions
+abbrev pub RegionText : Record → Option ℕ → Option (List ℕ) → Type 0
+RegionText fields None text = text ≡ Some []
+RegionText fields (Some column) text = TextOf (field_in fields column) text
 
 -- what a record names as its region, by a table of names where there is one
 abbrev pub RecordNames : Option (List Entry) → List Metadata → Option ℕ → Record → Named → Type 0

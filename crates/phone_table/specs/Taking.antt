@@ -36,12 +36,12 @@ pub data Takes (before : Table) (fields : Record) (after : Table) : Option Recor
       (before.asked.is_unique && is_known before (fields ++ answer)) ≡ false →
       Keeps before (fields ++ answer) after →
       after.counts ≡ counts_after before.counts (fields ++ answer) →
-      NotesRow before.columns (fields ++ answer) before.unknown.names.items
-      after.unknown.names.items → Takes before fields after (Some answer)
+      NotesRow before.columns (fields ++ answer) before.unknown.names.entries
+      after.unknown.names.entries → Takes before fields after (Some answer)
   left_out : (answer : Record) → IsAnswer before.engine.rules before.engine.database.now
       before.engine.hint before.columns before.asked fields answer →
       (before.asked.is_unique && is_known before (fields ++ answer)) ≡ true →
       Keeps before (fields ++ answer) after →
       after.counts ≡ counts_without before.counts (fields ++ answer) →
-      NotesRow before.columns (fields ++ answer) before.unknown.names.items
-      after.unknown.names.items → Takes before fields after None
+      NotesRow before.columns (fields ++ answer) before.unknown.names.entries
+      after.unknown.names.entries → Takes before fields after None

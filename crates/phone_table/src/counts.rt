@@ -77,7 +77,7 @@ impl Counts {
 }
 
 /// A count, and one more where this holds; 2^64 - 1 at most.
-fn counted_if(holds: bool, count: u64) -> u64
+pub(crate) fn counted_if(holds: bool, count: u64) -> u64
     ensures { result ≡ counted_if holds count }
 {
     if holds {

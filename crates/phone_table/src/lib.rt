@@ -28,4 +28,4 @@ pub use phone_csv::{ByteSink, ByteSource, FirstError, RunError};
 pub use phone_maps::Owner;
 pub use run::{Asked, TableError, write_table};
 pub use table::Table;
-pub use unknown::{MOST_UNKNOWN, UnknownName, UnknownNames};
+pub use unknown::{MOST_UNKNOWN, UnknownNames};

@@ -1,8 +1,7 @@
 //! The region that a record names, and the hint under which it is read.
-ghost use Rattle.std.specs.Prelude.{◌≡◌, IfOk, IfSome, MatchOption, option_map};
-ghost use Rattle.std.specs.Str.{IsUtf8, trim};
+ghost use Rattle.std.specs.Prelude.{◌≡◌, IfOk, option_map};
 ghost use Rattle.csv.specs.Records.{fields_of};
-ghost use Rattle.phone_table.specs.Regions.{RegionText, hint_under, named_by, region_meant};
+ghost use Rattle.phone_table.specs.Regions.{RegionText, TextOf, hint_under, named_by, region_meant};
 
 use crate::header::Columns;
 use crate::table::field_in;
@@ -25,8 +24,7 @@ pub enum Named {
 
 /// The text of a field without white space around it; none where the field is no UTF-8.
 fn text_in(field: &[u8]) -> Option<&str>
-    ensures text { MatchOption result (¬ (IsUtf8 field.now)) (λ t. IsUtf8 field.now) }
-    ensures trimmed { IfSome result (λ t. t.now ≡ trim field.now) }
+    ensures { TextOf field.now (option_map (λ t. t.now) result) }
 {
     match std::str::from_utf8(field) {
         Ok(text) => Some(text.trim()),

@@ -118,8 +118,8 @@ fn names_behind(
 /// letters, with or without white space around; under the engine's hint where that field is empty.
 /// Where there is a table of the names of regions, what else the field may hold is a name of the
 /// table, however it is written, or a calling code. Where the field holds anything else, the number is refused with the words `unknown region`, and
-/// the run goes on; with `else_hint` the number is read under the engine's hint. `unknown` is then
-/// the texts that were refused so, each once, with their counts.
+/// the run goes on; with `else_hint` the number is read under the engine's hint. Where the
+/// table was answered whole, `unknown` is then the texts that were refused so, with their counts.
 ///
 /// Errors: `Delimiter`, before anything is read; `Header` where there is no header, `NoColumn` where
 /// the header has no column of a name that is asked for, or more than one, and `Taken` where one of
@@ -162,7 +162,7 @@ pub fn write_table<S: ByteSource, W: ByteSink>(
         Err(error) => return Err(error),
     };
     let mut table = Table::new(engine, asked, columns);
-    let end = write_rows(
+    match write_rows(
         alloc,
         &mut table,
         asked.delimiter,
@@ -170,10 +170,11 @@ pub fn write_table<S: ByteSource, W: ByteSink>(
         &added,
         source,
         sink,
-    );
-    *unknown = table.unknown;
-    match end {
-        Ok(()) => Ok(table.counts),
+    ) {
+        Ok(()) => {
+            *unknown = table.unknown;
+            Ok(table.counts)
+        }
         Err(error) => Err(TableError::Rows(error)),
     }
 }

@@ -56,7 +56,7 @@ impl<'d> Table<'d> {
         ensures columns { result.columns ≡ columns }
         ensures counts { result.counts ≡ no_counts }
         ensures numbers { result.numbers.keys ≡ [] }
-        ensures unknown { result.unknown.names.items ≡ [] }
+        ensures unknown { result.unknown.names.entries ≡ [] }
     {
         let alloc = engine.database.allocator();
         Table {
@@ -219,14 +219,14 @@ impl<'d> Table<'d> {
     /// Refused only for memory.
     fn note_unknown(&mut self, row: &ByteRecord) -> Result<(), AllocError>
         ensures noted { OnOk result (NotesRow self.old.columns (fields_of row.now)
-            self.old.unknown.names.items self.new.unknown.names.items) }
+            self.old.unknown.names.entries self.new.unknown.names.entries) }
         ensures kept { self.new ≡ record self.old { unknown = self.new.unknown } }
     {
         if !has_refusal(row, "unknown region") {
             return Ok(());
         }
         match region_text(self.columns, row) {
-            Some(text) => self.unknown.note(text),
+            Some(text) => self.unknown.note(self.engine.database.allocator(), text),
             None => Ok(()),
         }
     }
