@@ -29,7 +29,7 @@ use Rattle.phone_cli.specs.Commands.{AnswersInputs, BeginsFound, Finding, Tables
 use Rattle.phone_cli.specs.Commands.{GivesFound, GivesObjects, GivesShorts, GivesTyped}
 use Rattle.phone_cli.specs.Commands.{GivesWithInput, Reports}
 use Rattle.phone_cli.specs.Commands.{found_form, no_first_lines}
-use Rattle.phone_cli.specs.Operands.{database_of, files_of, is_misfit, names_read, region_of}
+use Rattle.phone_cli.specs.Operands.{database_of, files_of, ignores_words, is_misfit, names_read, region_of}
 use Rattle.phone_cli.specs.Operands.{shorts_of}
 use Rattle.phone_cli.specs.Statuses.{status_of}
 use Rattle.phone_cli.specs.Streams.{IsSinkKept, Refuses, RefusesBySome, Streams, into_file}
@@ -145,18 +145,20 @@ pub data AnswersReading (c : Call) (hint : Option Id) (files : List Name)
       (record after { devices = into_file after.devices faults unflushed }) status →
       AnswersReading c hint files before after status
 
--- what a call does, and its status: it tells of itself, or it reads numbers under the region and
--- from the files that it names
+-- what a call does, and its status: it tells of itself, unless words stand behind that it would
+-- ignore; or it reads numbers under the region and from the files that it names
 pub data Answers (c : Call) (before after : Streams) : ℕ → Type 0 where
   help : (status : ℕ) → c.command ≡ command.Help →
       Tells help_text before.devices after.devices status → Answers c before after status
   no_help : c.command ≡ command.Help → Refuses (codes "out of memory") before after →
       Answers c before after 1
+  ignored : ignores_words c ≡ true → RefusesBySome before after → Answers c before after 2
   version : (status : ℕ) → (version : Option (List ℕ)) → c.command ≡ command.Version →
+      ignores_words c ≡ false →
       (c.database ≡ None → version ≡ None) →
       Tells (version_text c.rules version) before.devices after.devices status →
       Answers c before after status
-  regions : (status : ℕ) → c.command ≡ command.Regions →
+  regions : (status : ℕ) → c.command ≡ command.Regions → ignores_words c ≡ false →
       Tells regions_text before.devices after.devices status → Answers c before after status
   reading : (status : ℕ) → reads c.command ≡ true →
       AnswersReading c (region_of c) (files_of c) before after status →

@@ -1,6 +1,6 @@
 -- The region and the files that a call names.
 use Rattle.std.specs.Prelude.{ℕ, Bool, false, true, List, [], ◌∷◌, ◌++◌, Option, None, Some, codes}
-use Rattle.std.specs.Prelude.{if◌then◌else◌, map}
+use Rattle.std.specs.Prelude.{◌&&◌, ◌==◌, if◌then◌else◌, length, map, not}
 use Rattle.std.specs.List.{filter_map}
 use Rattle.std.specs.Option.{option_map_or}
 use Rattle.std.specs.Str.{bytes_eq}
@@ -76,6 +76,16 @@ has_reader command.Regions = false
 has_reader command.Unique = false
 has_reader command.Short = false
 has_reader other = true
+
+-- a command tells of the program or its table alone, whatever else is named
+abbrev pub tells_alone : Command → Bool
+tells_alone command.Version = true
+tells_alone command.Regions = true
+tells_alone other = false
+
+-- operands are named that a call has no use for
+abbrev pub ignores_words : Call → Bool
+ignores_words c = tells_alone c.command && not (length c.operands.items == 0)
 
 -- the name under which the system has standard input
 abbrev pub standard_input : List ℕ

@@ -5,7 +5,7 @@ ghost use Rattle.phone_cli.specs.Abouts.{Tells};
 ghost use Rattle.phone_cli.specs.Answers.{Answers, AnswersReading, Does, IsAsked, IsLoaded, reads};
 ghost use Rattle.phone_cli.specs.Commands.{AnswersInputs, Tables, found_form};
 ghost use Rattle.phone_cli.specs.Operands.{database_of, files_of, has_reader, is_misfit, region_of};
-ghost use Rattle.phone_cli.specs.Operands.{shorts_of};
+ghost use Rattle.phone_cli.specs.Operands.{ignores_words, shorts_of, tells_alone};
 ghost use Rattle.phone_cli.specs.Programs.{Acts};
 ghost use Rattle.phone_cli.specs.Statuses.{status_of};
 ghost use Rattle.phone_cli.specs.Streams.{Refuses, streams};
@@ -87,6 +87,10 @@ fn on_call<R: Files + AllocGlobal, S: ByteSource, W: Outlet, E: ByteSink>(
         (E.faults errors.new))
         result }
 {
+    if ignores_words(call) {
+        let more = " goes with no region and no file";
+        return say(errors, &[name_alone(call.command), more], 2);
+    }
     match call.command {
         Command::Help => on_help(rt, output, errors),
         Command::Regions => {
@@ -98,6 +102,31 @@ fn on_call<R: Files + AllocGlobal, S: ByteSource, W: Outlet, E: ByteSink>(
             ended(end, output, errors)
         }
         _ => on_files(rt, call, input, output, errors),
+    }
+}
+
+/// Whether a command tells of the program or its table alone, whatever else is named.
+fn tells_alone(command: Command) -> bool
+    ensures { result ≡ tells_alone command }
+{
+    match command {
+        Command::Version | Command::Regions => true,
+        _ => false,
+    }
+}
+
+/// Whether operands are named that a call has no use for.
+fn ignores_words(call: &Call<'_>) -> bool
+    ensures { result ≡ ignores_words call.now }
+{
+    tells_alone(call.command) && !call.operands.is_empty()
+}
+
+/// The option of a command that goes alone.
+fn name_alone(command: Command) -> &'static str {
+    match command {
+        Command::Version => "--version",
+        _ => "--regions",
     }
 }
 
