@@ -1,9 +1,8 @@
 -- The texts that name no region, each with how many records have it.
-use Rattle.std.specs.Prelude.{◌≡◌, ◌<◌, ◌≤◌, ◌+◌, ℕ, true, false, List, length}
-use Rattle.std.specs.Prelude.{None, Some, codes, string_bytes, unwrap_or}
+use Rattle.std.specs.Prelude.{◌≡◌, ◌==◌, ◌&&◌, ◌+◌, ℕ, Bool, true, false, List, String, length}
+use Rattle.std.specs.Prelude.{None, Some, bytes_eq, codes, nat_le, string_bytes, string_eq}
+use Rattle.std.specs.Prelude.{unwrap_or}
 use Rattle.std.specs.Map.{lookup}
-use Rattle.std.specs.Str.{bytes_eq}
-use Rattle.std.specs.String.{String, string_eq}
 use Rattle.std.specs.declared.alloc.Global.{Global}
 use Rattle.indexmap.specs.IndexMap.{insert_entry}
 use Rattle.phone_csv.specs.Feeds.{counted}
@@ -20,12 +19,16 @@ Texts = List (String Global × ℕ)
 abbrev pub count_of : Texts → List ℕ → ℕ
 count_of texts text = unwrap_or (lookup (λ k. bytes_eq text (string_bytes k)) texts) 0
 
+-- a text isn't there, and a hundred others are
+abbrev pub is_full : Texts → List ℕ → Bool
+is_full texts text = (count_of texts text == 0) && nat_le 100 (length texts)
+
 -- one more record has a text: its count is one more; where it isn't there yet it comes last, with a
--- count of 1; where a hundred others are there already it isn't kept
+-- count of 1, unless a hundred others are there
 pub data IsNoted (old : Texts) (text : List ℕ) : Texts → Type 0 where
-  counted_more : (key : String Global) → string_bytes key ≡ text →
+  once_more : (key : String Global) → is_full old text ≡ false → string_bytes key ≡ text →
       IsNoted old text (insert_entry string_eq old key (counted (count_of old text + 1)))
-  full : count_of old text ≡ 0 → 100 ≤ length old → IsNoted old text old
+  full : is_full old text ≡ true → IsNoted old text old
 
 -- what is noted of a row: the text by which it names its region, where it is refused since that
 -- names none; nothing else

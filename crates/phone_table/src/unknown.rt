@@ -1,8 +1,7 @@
 //! The texts that name no region, and how many records have them.
-ghost use Rattle.std.specs.Prelude.{◌≡◌, OnOk, []};
-ghost use Rattle.std.specs.String.{string_eq};
+ghost use Rattle.std.specs.Prelude.{◌≡◌, OnOk, [], string_eq};
 ghost use Rattle.indexmap.specs.IndexMap.{insert_entry};
-ghost use Rattle.phone_table.specs.Unknowns.{IsNoted, count_of};
+ghost use Rattle.phone_table.specs.Unknowns.{IsNoted, count_of, is_full};
 
 use crate::counts::counted_if;
 use indexmap::IndexMap;
@@ -51,14 +50,21 @@ impl UnknownNames {
         }
     }
 
+    /// Whether a text isn't there, and there is no room for it.
+    fn is_full(&self, text: &str) -> bool
+        ensures { result ≡ is_full self.now.names.entries text.now }
+    {
+        self.count(text) == 0 && self.names.len() >= MOST_UNKNOWN
+    }
+
     /// Notes that one more record has this text. Refused only for memory.
     pub(crate) fn note(&mut self, alloc: Global, text: &str) -> Result<(), AllocError>
         ensures { OnOk result (IsNoted self.old.names.entries text.now self.new.names.entries) }
     {
-        let count = self.count(text);
-        if count == 0 && self.names.len() >= MOST_UNKNOWN {
+        if self.is_full(text) {
             return Ok(());
         }
+        let count = self.count(text);
         let text = text.to_string(alloc)?;
         self.put(text, counted_if(true, count))
     }
