@@ -135,12 +135,12 @@ fn take_line<'t>(
     ensures shorter { IfOk result (λ rest. length rest.now < length text.now) }
     ensures refused { IfErr result (RefusesNext entries.old.items text.now) }
 {
-    match cut_at(text, '\n') {
-        Some((line, rest)) => {
-            push_line(alloc, entries, line)?;
-            Ok(rest)
-        }
-        None => Err(CountriesError::Line(entries.len() + 1, LineFault::NoEnd)),
+    let Some((line, rest)) = cut_at(text, '\n') else {
+        return Err(CountriesError::Line(entries.len() + 1, LineFault::NoEnd));
+    };
+    match push_line(alloc, entries, line) {
+        Ok(()) => Ok(rest),
+        Err(error) => Err(error),
     }
 }
 

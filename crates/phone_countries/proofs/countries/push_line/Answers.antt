@@ -4,7 +4,7 @@ use Rattle.phone_countries.proofs.countries.push_line.Goals as goal
 
 pub returns-in_ok-push_entry-in-Ok-clause-taken : goal.returns-in_ok-push_entry-in-Ok-clause-taken
 returns-in_ok-push_entry-in-Ok-clause-taken c =
-    let (e, name, id, all) = c.in_ok-push_entry.ensures in
+    let (e, name, id, all) = c.in_ok-push_entry-in-Ok.ensures in
     record {
       entry = e;
       is_line = rw (name, id) c.in-Ok.ensures.line;
