@@ -63,8 +63,8 @@ pub hint_same : (db : List Metadata) (hint : Option Id) (columns : Columns) (ask
     IsUnder db hint columns asked fields v → u ≡ v
 hint_same db hint columns asked fields u v (inl (w, r, named, e)) (inl (x, s, named', f)) =
     e ∙ ap (hint_under asked.else_hint hint) (region_same (countries_of asked) db fields columns.region r s named named') ∙ sym f
-hint_same db hint columns asked fields u v (inl (w, h)) (inr (other, f)) = absurd (other w)
-hint_same db hint columns asked fields u v (inr (other, e)) (inl (w, h)) = absurd (other w)
+hint_same db hint columns asked fields u v (inl (w, r, named, e)) (inr (other, f)) = absurd (other w)
+hint_same db hint columns asked fields u v (inr (other, e)) (inl (w, r, named, f)) = absurd (other w)
 hint_same db hint columns asked fields u v (inr (other, e)) (inr (more, f)) = e ∙ sym f
 
 -- a part is one text, and so is what is found

@@ -95,15 +95,16 @@ fn names_behind(
 }
 
 /// Gives a table back: its header with names behind its own, those of the columns that are asked
-/// for and then `e164`, `international`, `national`, `type`, `region`, `validity` and `refusal`;
-/// and its records in their order, unchanged, each with its answer behind its fields. The first
-/// record is the header. Where a UTF-8 byte-order mark stands in front of it, that is no part of
-/// its first name, and the output begins with one too. Each record is ended by a carriage return
-/// and a line feed where a carriage return ended the header, else by a line feed. What is read and
-/// written is CSV as the kit's `csv` has it, with this delimiter. Nothing in memory grows with the
-/// number of records, but with `is_unique`, where the E.164 texts are kept: then a record whose
-/// number an earlier one has is left out. It gives how many records there were, how many of
-/// them were answered otherwise than by a valid number, and how many were left out.
+/// for and then `e164`, `international`, `national`, `type`, `region`, `validity` and `refusal`,
+/// each with `front` before it; and its records in their order, unchanged, each with its answer
+/// behind its fields. The first record is the header. Where a UTF-8 byte-order mark stands in front
+/// of it, that is no part of its first name, and the output begins with one too. Each record is
+/// ended by a carriage return and a line feed where a carriage return ended the header, else by a
+/// line feed. What is read and written is CSV as the kit's `csv` has it, with this delimiter.
+/// Nothing in memory grows with the number of records, but with `is_unique`, where the E.164 texts
+/// are kept: then a record whose number an earlier one has is left out. It gives how many records
+/// there were, how many of them were answered otherwise than by a valid number, and how many were
+/// left out.
 ///
 /// The answer to a number, which is read and described by the engine: what each column that is
 /// asked for tells of it, empty where its table has nothing; its texts in three modes, its kind,
@@ -121,15 +122,15 @@ fn names_behind(
 /// the run goes on; with `else_hint` the number is read under the engine's hint. Where the
 /// table was answered whole, `unknown` is then the texts that were refused so, with their counts.
 ///
-/// Errors: `Delimiter`, before anything is read; `Header` where there is no header, `NoColumn` where
-/// the header has no column of a name that is asked for, or more than one, and `Taken` where one of
-/// the names that are put behind it stands there already, or is put there twice, before anything is
-/// written; after the header was written `Rows`
-/// as `answer_records` has it, with `Record` at a record that has another count of fields than the
-/// header, and the number of line feeds before that record. With `mark_bad` such a record is given
-/// back as it is instead, and after its fields the answer to a refusal, `wrong count of fields`.
-/// `Rows` and `Header` have `Quote` where the table ends between quotes, with the line of the quote
-/// that is never closed, counted from 1.
+/// Errors: `Delimiter`, before anything is read; `Header` where there is no header, `NoColumn`
+/// where the header has no column of a name that is asked for, or more than one, and `Taken` where
+/// one of the names that are put behind it stands there already, or is put there twice, before
+/// anything is written; after the header was written `Rows` as `answer_records` has it, with
+/// `Record` at a record that has another count of fields than the header, and the number of line
+/// feeds before that record. With `mark_bad` such a record is given back as it is instead, and
+/// after its fields the answer to a refusal, `wrong count of fields`. `Rows` and `Header` have
+/// `Quote` where the table ends between quotes, with the line of the quote that is never closed,
+/// counted from 1.
 pub fn write_table<S: ByteSource, W: ByteSink>(
     engine: Engine<'_>,
     asked: Asked<'_>,

@@ -6,9 +6,10 @@ ghost use Rattle.std.specs.Prelude.{Err, IfErr, IfOk, None, OnOk};
 ghost use Rattle.csv.specs.Records.{fields_of, partial_of};
 ghost use Rattle.phone_csv.specs.Formats.{Record};
 ghost use Rattle.phone_table.specs.Answers.{IsAnswerUnder, IsOfOtherWidth, IsOwnAnswer};
-ghost use Rattle.phone_table.specs.Answers.{IsUnder, refused_answer, short_of};
+ghost use Rattle.phone_table.specs.Answers.{IsUnder, countries_of, refused_answer, short_of};
 ghost use Rattle.phone_table.specs.Extras.{AreTold};
-ghost use Rattle.phone_table.specs.Regions.{field_in};
+ghost use Rattle.phone_table.specs.Regions.{RecordNames, field_in, hint_under};
+ghost use Rattle.phone_table.specs.declared.region.Named.{Named};
 ghost use Rattle.phone_table.specs.Counts.{no_counts};
 ghost use Rattle.phone_table.specs.Rows.{number_of};
 ghost use Rattle.phone_table.specs.Taking.{Keeps, is_known};
@@ -69,6 +70,19 @@ impl<'d> Table<'d> {
         }
     }
 
+    /// The hint by the region that a record names; none where it names none that there is. Refused
+    /// only for memory.
+    fn hint_named(&self, fields: &ByteRecord) -> Result<Option<Option<Id>>, AllocError>
+        ensures { IfOk result (λ under. (region : Named) ×
+            RecordNames (countries_of self.now.asked) self.now.engine.database.now
+            self.now.columns.region (fields_of fields.now) region ×
+            (under ≡ hint_under self.now.asked.else_hint self.now.engine.hint region)) }
+    {
+        let text = region_text(self.columns, fields);
+        let named = named_by(self.asked.countries, self.engine.database, text)?;
+        Ok(hint_under(self.asked.else_hint, self.engine.hint, named))
+    }
+
     /// The hint under which a record's number is read, by the region that the record names; none
     /// where it isn't read: the record names no region that there is, or has another count of
     /// fields. Refused only for memory.
@@ -76,12 +90,11 @@ impl<'d> Table<'d> {
         ensures { IfOk result (IsUnder self.now.engine.database.now self.now.engine.hint
             self.now.columns self.now.asked (fields_of fields.now)) }
     {
-        if fields.len() != self.columns.width {
-            return Ok(None);
+        let under = self.hint_named(fields)?;
+        if fields.len() == self.columns.width {
+            return Ok(under);
         }
-        let text = region_text(self.columns, fields);
-        let named = named_by(self.asked.countries, self.engine.database, text)?;
-        Ok(hint_under(self.asked.else_hint, self.engine.hint, named))
+        Ok(None)
     }
 
     /// The answer to a record's number under this hint. Refused only for memory.

@@ -27,7 +27,7 @@ columns-preserved c =
       told = one_more rules db under read number extra old column (drop (at + 1) extra) fields (fields_of c.push_field.new.self) (cow_str_bytes c.in_ok-text.text)
           (subst (λ left. Completes rules db under read number extra old left fields) split c.columns.invariant.told)
           c.in_ok-text.ensures
-          (c.in_ok-push_field.ensures.fields ∙ ap₂ (λ p w. fields ++ (p ++ w) ∷ []) c.columns.invariant.partial c.as_bytes.ensures.value);
+          (c.in_ok-push_field.ensures.fields ∙ ap₂ (λ p w. fields ++ (p ++ w) ∷ []) c.columns.invariant.partial (c.as_bytes.ensures.value ∙ c.as_str.ensures.value));
       partial = c.in_ok-push_field.ensures.partial;
     }
 
