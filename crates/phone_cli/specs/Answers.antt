@@ -29,8 +29,8 @@ use Rattle.phone_cli.specs.Commands.{AnswersInputs, BeginsFound, Finding, Tables
 use Rattle.phone_cli.specs.Commands.{GivesFound, GivesObjects, GivesShorts, GivesTyped}
 use Rattle.phone_cli.specs.Commands.{GivesWithInput, Reports}
 use Rattle.phone_cli.specs.Commands.{found_form, no_first_lines}
-use Rattle.phone_cli.specs.Operands.{database_of, files_of, ignores_words, is_misfit, names_read, region_of}
-use Rattle.phone_cli.specs.Operands.{shorts_of}
+use Rattle.phone_cli.specs.Operands.{database_of, files_of, ignores_words, is_misfit, names_read}
+use Rattle.phone_cli.specs.Operands.{region_of, shorts_of}
 use Rattle.phone_cli.specs.Statuses.{status_of}
 use Rattle.phone_cli.specs.Streams.{IsSinkKept, Refuses, RefusesBySome, Streams, into_file}
 

@@ -104,8 +104,8 @@ input_names (file ∷ files) = map input_name (file ∷ files)
 abbrev pub named_files : List (Option Lent) → List (List ℕ)
 named_files files = filter_map text_in files
 
--- the names of the files that a call reads: inputs, the database, that of short numbers, the names of
--- regions, tables of prefixes
+-- the names of the files that a call reads: inputs, the database, that of short numbers, the table
+-- of the names of regions, tables of prefixes
 abbrev pub names_read : Call → (database : Lent) → (files : List Lent) → List (List ℕ)
 names_read c database files = input_names files ++
     (named_files (Some database ∷ c.short_database ∷ c.table.countries ∷ []) ++

@@ -1,5 +1,5 @@
 -- A table of which some lines were taken.
-use Rattle.std.proofs.Common.{◌≡◌, Bool, true, false, not, true≢false, ℕ, ◌+◌, List, [], ◌∷◌, ◌++◌, length, refl, sym, ap, subst, ◌∙◌, arith}
+use Rattle.std.proofs.Common.{◌≡◌, ℕ, ◌+◌, List, [], ◌∷◌, ◌++◌, length, refl, sym, ap, subst, ◌∙◌, arith}
 use Rattle.std.proofs.lemmas.List.{append-nil, append_assoc}
 use Rattle.phone_countries.specs.Tables.{IsFirstFault, IsOneMore, IsTable, Refuses, RefusesNext, Rises}
 use Rattle.phone_countries.specs.Tables.IsTable.{none, next}
@@ -33,14 +33,9 @@ so_far_next text rest entries line after all s is more = record {
   rises = subst Rises (sym more.whole) (Rises-push entries more.entry s.rises more.above);
 }
 
--- what isn't false
-pub from_not : (b : Bool) → not b ≡ false → b ≡ true
-from_not true e = refl
-from_not false e = absurd (true≢false e)
-
 -- nothing is left
 pub so_far_all : (text rest : List ℕ) (entries : List Entry) → IsSoFar text rest entries → rest ≡ [] → IsTable text entries
-so_far_all text rest entries s none = subst (λ t. IsTable t entries) (sym (s.whole ∙ ap (λ t. s.before ++ t) none ∙ append-nil s.before)) s.table
+so_far_all text rest entries s nothing = subst (λ t. IsTable t entries) (sym (s.whole ∙ ap (λ t. s.before ++ t) nothing ∙ append-nil s.before)) s.table
 
 -- what comes next is refused
 pub refuses_next : (text rest : List ℕ) (entries : List Entry) (e : CountriesError) → IsSoFar text rest entries → RefusesNext entries rest e → Refuses text e

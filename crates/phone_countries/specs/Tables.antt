@@ -1,6 +1,7 @@
 -- Tables of the names of regions, and the region of a name.
 use Rattle.std.specs.Prelude.{◌≡◌, ◌≢◌, ◌<◌, ◌+◌, ℕ, Bool, List, [], ◌∷◌, ◌++◌, length}
-use Rattle.std.specs.Prelude.{Option, None, option_map, slice_index, slice_index_or, string_bytes, ⊤}
+use Rattle.std.specs.Prelude.{Option, None, option_map, slice_index, slice_index_or, string_bytes}
+use Rattle.std.specs.Prelude.{⊤}
 use Rattle.std.specs.Cmp.Lexicographic.{slice_cmp}
 use Rattle.std.specs.List.{find}
 use Rattle.std.specs.Ordering.{nat_cmp}

@@ -118,9 +118,10 @@ fn names_behind(
 /// A record is read under the region whose id stands in its column of regions, in capital or small
 /// letters, with or without white space around; under the engine's hint where that field is empty.
 /// Where there is a table of the names of regions, what else the field may hold is a name of the
-/// table, however it is written, or a calling code. Where the field holds anything else, the number is refused with the words `unknown region`, and
-/// the run goes on; with `else_hint` the number is read under the engine's hint. Where the
-/// table was answered whole, `unknown` is then the texts that were refused so, with their counts.
+/// table, however it is written, or a calling code. Where the field holds anything else, the number
+/// is refused with the words `unknown region`, and the run goes on; with `else_hint` the number is
+/// read under the engine's hint. Where the table was answered whole, `unknown` is then the texts
+/// that were refused so, with their counts.
 ///
 /// Errors: `Delimiter`, before anything is read; `Header` where there is no header, `NoColumn`
 /// where the header has no column of a name that is asked for, or more than one, and `Taken` where

@@ -1,7 +1,7 @@
 use Rattle.std.proofs.Common.{rules, sym, ◌∙◌}
 use Rattle.std.proofs.lemmas.Bool.{eqb-true}
 use Rattle.std.proofs.lemmas.List.{nil_from_length}
-use Rattle.phone_countries.proofs.Loading.{from_not, refuses_next, so_far_all, so_far_next, so_far_none}
+use Rattle.phone_countries.proofs.Loading.{refuses_next, so_far_all, so_far_next, so_far_none}
 use Rattle.phone_countries.proofs.countries.entries_of.Goals as goal
 
 pub loop-rest-init : goal.loop-rest-init
@@ -17,7 +17,7 @@ returns-in-Err-clause-refused c = refuses_next c.args.text.now c.loop-rest.rest.
 
 pub returns-clause-table : goal.returns-clause-table
 returns-clause-table c = so_far_all c.args.text.now c.loop-rest.rest.now c.loop-rest.entries.items c.loop-rest.invariant.1
-    (nil_from_length _ (eqb-true _ _ (sym c.is_empty.ensures ∙ from_not c.is_empty.result c.loop-rest-test.false)))
+    (nil_from_length _ (eqb-true _ _ (sym c.is_empty.ensures ∙ c.loop-rest-test.false)))
 
 pub returns-clause-rises : goal.returns-clause-rises
 returns-clause-rises c = c.loop-rest.invariant.1.rises

@@ -1,4 +1,4 @@
-use Rattle.std.proofs.Common.{length, refl, sym}
+use Rattle.std.proofs.Common.{refl}
 use Rattle.phone_countries.proofs.Rising.{above_if_last, above_none, at_place, none_last}
 use Rattle.phone_countries.proofs.countries.is_above.Goals as goal
 

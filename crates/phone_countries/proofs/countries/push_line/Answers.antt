@@ -1,5 +1,4 @@
-use Rattle.std.proofs.Common.{rules, subst, sym}
-use Rattle.phone_countries.specs.Tables.{IsAbove}
+use Rattle.std.proofs.Common.{rules}
 use Rattle.phone_countries.proofs.countries.push_line.Goals as goal
 
 pub returns-in_ok-push_entry-in-Ok-clause-taken : goal.returns-in_ok-push_entry-in-Ok-clause-taken
