@@ -1,7 +1,7 @@
 -- A table of which some lines were taken.
-use Rattle.std.proofs.Common.{◌≡◌, ℕ, ◌+◌, List, [], ◌∷◌, ◌++◌, length, refl, sym, ap, subst, ◌∙◌, arith}
+use Rattle.std.proofs.Common.{◌≡◌, ℕ, List, [], ◌∷◌, ◌++◌, refl, sym, ap, subst, ◌∙◌, arith}
 use Rattle.std.proofs.lemmas.List.{append-nil, append_assoc}
-use Rattle.phone_countries.specs.Tables.{IsFirstFault, IsOneMore, IsTable, Refuses, RefusesNext, Rises}
+use Rattle.phone_countries.specs.Tables.{IsOneMore, IsTable, Refuses, RefusesNext, Rises}
 use Rattle.phone_countries.specs.Tables.IsTable.{none, next}
 use Rattle.phone_countries.specs.declared.countries.Entry.{Entry}
 use Rattle.phone_countries.specs.declared.fault.CountriesError.{CountriesError}
