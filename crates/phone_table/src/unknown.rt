@@ -1,9 +1,13 @@
 //! The texts that name no region, and how many records have them.
 ghost use Rattle.std.specs.Prelude.{◌≡◌, OnOk, [], string_eq};
 ghost use Rattle.indexmap.specs.IndexMap.{insert_entry};
-ghost use Rattle.phone_table.specs.Unknowns.{IsNoted, count_of, is_full};
+ghost use Rattle.csv.specs.Records.{fields_of};
+ghost use Rattle.phone_table.specs.Unknowns.{IsNoted, NotesRow, count_of, is_full};
 
-use crate::counts::counted_if;
+use crate::counts::{counted_if, has_refusal};
+use crate::header::Columns;
+use crate::region::region_text;
+use csv::ByteRecord;
 use indexmap::IndexMap;
 use std::alloc::{AllocError, Global};
 
@@ -67,5 +71,25 @@ impl UnknownNames {
         let count = self.count(text);
         let text = text.to_string(alloc)?;
         self.put(text, counted_if(true, count))
+    }
+}
+
+/// Notes the text by which a row of a table with these columns names its region, where it is
+/// refused since that names none. Refused only for memory.
+pub(crate) fn note_unknown(
+    alloc: Global,
+    columns: Columns,
+    row: &ByteRecord,
+    unknown: &mut UnknownNames,
+) -> Result<(), AllocError>
+    ensures { OnOk result (NotesRow columns (fields_of row.now) unknown.old.names.entries
+        unknown.new.names.entries) }
+{
+    if !has_refusal(row, "unknown region") {
+        return Ok(());
+    }
+    match region_text(columns, row) {
+        Some(text) => unknown.note(alloc, text),
+        None => Ok(()),
     }
 }

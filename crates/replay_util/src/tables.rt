@@ -44,6 +44,7 @@ fn asked(row: &Row) -> Asked<'_> {
         else_hint: false,
         mark_bad: row.argument(4) == "mark",
         is_unique: row.argument(4) == "unique",
+        tells_duplicates: row.argument(4) == "duplicates",
         front: "",
         extra: &[],
         short: None,

@@ -1,4 +1,4 @@
-use Rattle.std.proofs.Common.{◌++◌, ◌≡◌, not, ap, refl, ◌∙◌}
+use Rattle.std.proofs.Common.{◌++◌, not, ap, refl, ◌∙◌}
 use Rattle.csv.specs.Records.{fields_of}
 use Rattle.phone_table.specs.Counts.{counts_after, counts_without}
 use Rattle.phone_table.specs.Spelled.{number_in, spelled}
@@ -12,12 +12,12 @@ returns-clause-answered c e =
     let (told, are, is) = c.in-Ok-push_row.ensures in
     let own = spelled c.in-Ok-answer_or_refusal.answer in
     let new = same_ok _ _ e in
-    let k = rw is at c.in-Ok-is_new.ensures.keeps in (
+    let k = c.in-Ok-is_new.ensures.keeps in (
       told ++ own,
-      written (told ++ own) (c.in-Ok.under, number_in c.in-Ok-answer_or_refusal.answer, told, own, c.in-Ok.ensures, c.in-Ok-answer_or_refusal.ensures.answer, are, refl) (rw is at c.in-Ok-is_new.ensures.new ∙ ap not new)
-          (record { engine = k.engine; asked = k.asked; columns = k.columns; numbers = k.numbers })
-          (rw is at (c.count.ensures.written new) ∙ ap (λ n. counts_after n (fields ++ (told ++ own))) (ap (λ t. t.counts) c.note_unknown.ensures.kept ∙ c.in-Ok-is_new.ensures.counts))
-          (rw (is, c.in-Ok-is_new.ensures.unknown, k.columns) at c.in-Ok-note_unknown.ensures.noted),
+      written (number_in c.in-Ok-answer_or_refusal.answer) (told ++ own) (c.in-Ok.under, told, own, c.in-Ok.ensures, c.in-Ok-answer_or_refusal.ensures.answer, are, refl) (c.in-Ok-is_new.ensures.new ∙ ap not new)
+          (record { engine = k.engine; asked = k.asked; columns = k.columns; keys = k.keys })
+          (rw is at (c.count.ensures.written new) ∙ ap (λ n. counts_after n (fields ++ (told ++ own))) c.in-Ok-is_new.ensures.counts)
+          (rw (is, c.in-Ok-is_new.ensures.unknown, k.columns) at c.in-Ok-note_unknown.ensures),
       is,
     )
 
@@ -27,8 +27,8 @@ returns-clause-left_out c e =
     let (told, are, is) = c.in-Ok-push_row.ensures in
     let own = spelled c.in-Ok-answer_or_refusal.answer in
     let known = same_ok _ _ e in
-    let k = rw is at c.in-Ok-is_new.ensures.keeps in
-    left_out (told ++ own) (c.in-Ok.under, number_in c.in-Ok-answer_or_refusal.answer, told, own, c.in-Ok.ensures, c.in-Ok-answer_or_refusal.ensures.answer, are, refl) (rw is at c.in-Ok-is_new.ensures.new ∙ ap not known)
-    (record { engine = k.engine; asked = k.asked; columns = k.columns; numbers = k.numbers })
-    (rw is at (c.count.ensures.left_out known) ∙ ap (λ n. counts_without n (fields ++ (told ++ own))) (ap (λ t. t.counts) c.note_unknown.ensures.kept ∙ c.in-Ok-is_new.ensures.counts))
-    (rw (is, c.in-Ok-is_new.ensures.unknown, k.columns) at c.in-Ok-note_unknown.ensures.noted)
+    let k = c.in-Ok-is_new.ensures.keeps in
+    left_out (number_in c.in-Ok-answer_or_refusal.answer) (told ++ own) (c.in-Ok.under, told, own, c.in-Ok.ensures, c.in-Ok-answer_or_refusal.ensures.answer, are, refl) (c.in-Ok-is_new.ensures.new ∙ ap not known)
+    (record { engine = k.engine; asked = k.asked; columns = k.columns; keys = k.keys })
+    (rw is at (c.count.ensures.left_out known) ∙ ap (λ n. counts_without n (fields ++ (told ++ own))) c.in-Ok-is_new.ensures.counts)
+    (rw (is, c.in-Ok-is_new.ensures.unknown, k.columns) at c.in-Ok-note_unknown.ensures)
