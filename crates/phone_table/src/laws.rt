@@ -29,8 +29,8 @@ ghost use Rattle.phone_table.specs.declared.header.Columns as header;
 ghost use Rattle.phone_table.specs.declared.run.Asked as run;
 
 use crate::header::Columns;
-use crate::run::Asked;
 use crate::region::region_text;
+use crate::run::Asked;
 use crate::table::field_in;
 use csv::ByteRecord;
 use phone_engine::laws::some_reading;
