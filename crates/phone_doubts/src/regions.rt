@@ -1,0 +1,23 @@
+//! The region of a number beside the hint.
+ghost use Rattle.std.specs.Prelude.{◌≡◌, ◌↔◌, IfOk, IsTrue};
+ghost use Rattle.phone_doubts.specs.Doubts.{IsElsewhere};
+
+use phone_engine::Engine;
+use phone_values::country::Id;
+use phonenumber::PhoneNumber;
+use std::alloc::AllocError;
+
+/// Whether a number has a region, and that isn't the hint. Refused only for memory.
+pub(crate) fn is_elsewhere(
+    engine: Engine<'_>,
+    hint: Id,
+    number: &PhoneNumber,
+) -> Result<bool, AllocError>
+    ensures { IfOk result (λ other. IsTrue other ↔ IsElsewhere engine.entry.rules
+        engine.entry.database.now hint number.now) }
+{
+    match engine.facts(number)?.region {
+        Some(region) => Ok(region != hint),
+        None => Ok(false),
+    }
+}
