@@ -38,10 +38,12 @@ none_written : (t : List ℕ) (e : ParseError) → IsWritten t (Err e) → ¬ (H
 none_written t e written (Lettered.library v g l) = let bad : Ok v ≡ Err e = written_same t (Ok v) (Err e) g written in cc
 
 -- a text without one
-pub unwritten_so : (t : List ℕ) (x : Result WrittenNumber ParseError) (e : ParseError) → x ≡ Err e → ¬ (e ≡ Memory) → (x ≡ Err Memory) ⊎ IsWritten t x →
-    IsTrue false ↔ HasLetters t Library
-unwritten_so t x e is other (inl f) = absurd (other (let bad : Err e ≡ Err Memory = sym is ∙ f in cc))
-unwritten_so t x e is other (inr written) = (λ no. absurd (true≢false (sym no)), λ has. absurd (none_written t e (subst (λ y. IsWritten t y) is written) has))
+pub unwritten_so : {E : Type 0} (t : List ℕ) (x : Result WrittenNumber ParseError) (e : ParseError) → x ≡ Err e → (x ≡ Err Memory) ⊎ IsWritten t x →
+    (r : Result Bool E) → IfOk r (λ b. (b ≡ false) × ¬ (e ≡ Memory)) → IfOk r (λ b. IsTrue b ↔ HasLetters t Library)
+unwritten_so t x e is (inl f) (Ok b) h = absurd (h.1 (let bad : Err e ≡ Err Memory = sym is ∙ f in cc))
+unwritten_so t x e is (inr written) (Ok b) h =
+    (λ so. absurd (true≢false (sym so ∙ h.0)), λ has. absurd (none_written t e (subst (λ y. IsWritten t y) is written) has))
+unwritten_so t x e is why (Err f) h = h
 
 has_letter : (t : List ℕ) (p : Parts) → HasParts t (Some p) → HasLetters t Crate → list_any is_alpha p.national ≡ true
 has_letter t p parts (Lettered.crate q g l) =

@@ -1,5 +1,6 @@
 -- Each doubt, told by what its own function answers.
-use Rattle.std.proofs.Common.{◌≡◌, ◌↔◌, ℕ, Bool, true, false, not, IsTrue, List, chars, Option, Some, None, Result, Ok, Err, IfOk, MatchOption, refl, ap, sym, subst, ◌∙◌, true≢false}
+use Rattle.std.proofs.Common.{◌≡◌, ◌↔◌, ℕ, Bor, Bool, true, false, IsTrue, List, chars, Option, Some, None, Result, Ok, Err, IfOk, refl, sym, subst, ◌∙◌, true≢false}
+use Rattle.std.specs.Option.{option_copied}
 use Rattle.phone_engine.specs.Facts.{is_valid_by, region_by}
 use Rattle.phone_records.specs.declared.loader.Metadata.{Metadata}
 use Rattle.phone_values.specs.declared.country.Id.{Id}
@@ -11,6 +12,8 @@ use Rattle.phone_doubts.specs.Fronts.{has_zero_in_brackets, LacksPlus, LacksZero
 use Rattle.phone_doubts.specs.Lettered.{HasLetters}
 use Rattle.phone_doubts.specs.Spreadsheets.{is_date, is_float}
 use Rattle.phone_doubts.specs.Valid.{AreTwoNumbers}
+use Rattle.phone_doubts.specs.Words.{holds}
+use Rattle.phone_doubts.specs.declared.doubt.Doubts.{Doubts as Found}
 use Rattle.phone_doubts.specs.declared.doubt.Doubt.TheVariants as doubt
 
 -- what is answered by one that answers another question as well
@@ -21,6 +24,15 @@ iff_ok P Q f (Err e) h = h
 -- of what isn't so
 pub never : (P : Type 0) → ¬ P → IsTrue false ↔ P
 never P none = (λ no. absurd (true≢false (sym no)), λ p. absurd (none p))
+
+-- what is equal, as an answer
+pub eq_ok : {E : Type 0} (x : Bool) (r : Result Bool E) → IfOk r (λ b. b ≡ x) → IfOk r (λ b. IsTrue b ↔ (x ≡ true))
+eq_ok x (Ok b) e = (λ yes. sym e ∙ yes, λ is. e ∙ is)
+eq_ok x (Err e) h = h
+
+-- of a number that is lent
+pub of_lent : (P : Option Reading → Type 0) (o : Option (Bor Reading)) (n : Bor Reading) → o ≡ Some n → P (Some n.now) → P (option_copied o)
+of_lent P o n e p = subst (λ (x : Option (Bor Reading)). P (option_copied x)) (sym e) p
 
 module _ (rules : Rules) (db : List Metadata) (hint : Option Id) (t : List ℕ) where
   one : (m n : Reading) → Some n ≡ Some m → m ≡ n
@@ -96,6 +108,27 @@ module _ (rules : Rules) (db : List Metadata) (hint : Option Id) (t : List ℕ) 
 
   pub no_number_elsewhere : ¬ (IsDoubt rules db hint t None doubt.OtherRegion)
   no_number_elsewhere (Doubts.other_region other m e f l) = no_one m f
+
+  -- the eight of them
+  pub each : (number : Option Reading) (f : Found) → (f.float ≡ is_float t) → IsTrue f.no_plus ↔ IsDoubt rules db hint t number doubt.NoPlus →
+      IsTrue f.zero_in_brackets ↔ IsDoubt rules db hint t number doubt.ZeroInBrackets → IsTrue f.letters ↔ IsDoubt rules db hint t number doubt.Letters →
+      IsTrue f.two_numbers ↔ IsDoubt rules db hint t number doubt.TwoNumbers → (f.date ≡ is_date t) →
+      IsTrue f.zero_lost ↔ IsDoubt rules db hint t number doubt.ZeroLost → IsTrue f.other_region ↔ IsDoubt rules db hint t number doubt.OtherRegion →
+      AreDoubts rules db hint t number (holds f)
+  each number f a b c d e g h i doubt.Float = (λ y. Doubts.float (sym a ∙ y), of_float)
+    where
+      of_float : IsDoubt rules db hint t number doubt.Float → f.float ≡ true
+      of_float (Doubts.float x) = a ∙ x
+  each number f a b c d e g h i doubt.NoPlus = b
+  each number f a b c d e g h i doubt.ZeroInBrackets = c
+  each number f a b c d e g h i doubt.Letters = d
+  each number f a b c d e g h i doubt.TwoNumbers = e
+  each number f a b c d e g h i doubt.Date = (λ y. Doubts.date (sym g ∙ y), of_date)
+    where
+      of_date : IsDoubt rules db hint t number doubt.Date → f.date ≡ true
+      of_date (Doubts.date x) = g ∙ x
+  each number f a b c d e g h i doubt.ZeroLost = h
+  each number f a b c d e g h i doubt.OtherRegion = i
 
 -- no valid number was read: of a number, and without one
 pub not_valid : (rules : Rules) (db : List Metadata) (n : Reading) → (is_valid_by rules db n ≡ false) ↔ IsNotValid rules db (Some n)

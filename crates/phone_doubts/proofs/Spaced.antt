@@ -1,24 +1,31 @@
 -- Words that are parted by a space, one more at the end.
-use Rattle.std.proofs.Common.{◌≡◌, ℕ, ◌+◌, ◌<◌, ◌==◌, Bool, true, false, List, [], ◌∷◌, ◌++◌, length, take, map, get_or, refl, ap, sym, ◌∙◌, append_assoc, append-nil}
-use Rattle.std.proofs.lemmas.Bool.{cond-false}
+use Rattle.std.proofs.Common.{◌≡◌, inl, inr, ℕ, ◌+◌, ◌<◌, ◌==◌, Bool, true, false, if◌then◌else◌, List, [], ◌∷◌, ◌++◌, length, take, map, get_or, refl, ap, sym, ◌∙◌, append_assoc, append-nil, arith, eqb-true}
+use Rattle.std.proofs.lemmas.Bool.{cases_Bool, cond-false}
 use Rattle.std.proofs.lemmas.List.{take_more}
 use Rattle.std.proofs.lemmas.List.Elements.{filter-append}
 use Rattle.std.specs.List.{filter}
-use Rattle.phone_doubts.specs.Doubts.{all_doubts, spaced, word_of}
+use Rattle.phone_doubts.specs.Doubts.{spaced, word_of}
 use Rattle.phone_doubts.specs.Words.{behind}
 use Rattle.phone_doubts.specs.declared.doubt.Doubt.{Doubt}
 use Rattle.phone_doubts.specs.declared.doubt.Doubt.TheVariants as doubt
 
+-- more than none
+pos : (n : ℕ) → 0 < n → (n == 0) ≡ false
+pos n h = elim (cases_Bool (n == 0)) [
+  | inl e ↦ absurd (omega (arith, eqb-true n 0 e, h))
+  | inr e ↦ e
+]
+
 -- a doubt has some word
 some_word : (d : Doubt) (t : List ℕ) → (length (word_of d ++ t) == 0) ≡ false
-some_word doubt.Float t = refl
-some_word doubt.NoPlus t = refl
-some_word doubt.ZeroInBrackets t = refl
-some_word doubt.Letters t = refl
-some_word doubt.TwoNumbers t = refl
-some_word doubt.Date t = refl
-some_word doubt.ZeroLost t = refl
-some_word doubt.OtherRegion t = refl
+some_word doubt.Float t = pos _ (omega arith)
+some_word doubt.NoPlus t = pos _ (omega arith)
+some_word doubt.ZeroInBrackets t = pos _ (omega arith)
+some_word doubt.Letters t = pos _ (omega arith)
+some_word doubt.TwoNumbers t = pos _ (omega arith)
+some_word doubt.Date t = pos _ (omega arith)
+some_word doubt.ZeroLost t = pos _ (omega arith)
+some_word doubt.OtherRegion t = pos _ (omega arith)
 
 -- so behind it, and what may follow it, stands a space
 behind_some : (d : Doubt) (t word : List ℕ) → behind (word_of d ++ t) word ≡ (word_of d ++ t) ++ 32 ∷ word
@@ -44,23 +51,20 @@ words-more (a ∷ b ∷ ds) d =
     later b (c ∷ cs) = behind_some b (32 ∷ words (c ∷ cs)) (word_of d)
 
 -- those of the first doubts that hold
-abbrev pub first_words : (Doubt → Bool) → ℕ → List ℕ
-first_words holds n = words (filter holds (take n all_doubts))
+abbrev pub first_words : (Doubt → Bool) → ℕ → List Doubt → List ℕ
+first_words holds n all = words (filter holds (take n all))
 
--- of one doubt more, which holds
-pub more-held : (holds : Doubt → Bool) (n : ℕ) (d : Doubt) → n < length all_doubts → get_or all_doubts n doubt.Float ≡ d → holds d ≡ true →
-    first_words holds (n + 1) ≡ behind (first_words holds n) (word_of d)
-more-held holds n d inside is yes =
-    ap (λ ds. words (filter holds ds)) (take_more all_doubts n doubt.Float inside ∙ ap (λ x. take n all_doubts ++ x ∷ []) is)
-    ∙ ap words (filter-append holds (take n all_doubts) (d ∷ []) ∙ ap (λ ds. filter holds (take n all_doubts) ++ ds) (one (holds d) refl))
-    ∙ words-more (filter holds (take n all_doubts)) d
-  where
-    one : (b : Bool) → holds d ≡ b → filter holds (d ∷ []) ≡ d ∷ []
-    one b e = rw yes refl
+one_more : (holds : Doubt → Bool) (n : ℕ) (all : List Doubt) (d : Doubt) → n < length all → get_or all n doubt.Float ≡ d →
+    filter holds (take (n + 1) all) ≡ filter holds (take n all) ++ filter holds (d ∷ [])
+one_more holds n all d inside is =
+    ap (filter holds) (take_more all n doubt.Float inside ∙ ap (λ x. take n all ++ x ∷ []) is) ∙ filter-append holds (take n all) (d ∷ [])
 
--- which doesn't hold
-pub more-skipped : (holds : Doubt → Bool) (n : ℕ) (d : Doubt) → n < length all_doubts → get_or all_doubts n doubt.Float ≡ d → holds d ≡ false →
-    first_words holds (n + 1) ≡ first_words holds n
-more-skipped holds n d inside is no =
-    ap (λ ds. words (filter holds ds)) (take_more all_doubts n doubt.Float inside ∙ ap (λ x. take n all_doubts ++ x ∷ []) is)
-    ∙ ap words (filter-append holds (take n all_doubts) (d ∷ []) ∙ rw no (append-nil (filter holds (take n all_doubts))))
+with_one : (holds : Doubt → Bool) (ds : List Doubt) (d : Doubt) (b : Bool) → holds d ≡ b →
+    words (ds ++ filter holds (d ∷ [])) ≡ (if b then behind (words ds) (word_of d) else words ds)
+with_one holds ds d true e = ap (λ (b : Bool). words (ds ++ (if b then d ∷ [] else []))) e ∙ words-more ds d
+with_one holds ds d false e = ap (λ (b : Bool). words (ds ++ (if b then d ∷ [] else []))) e ∙ ap words (append-nil ds)
+
+-- one doubt more
+pub first_words-more : (holds : Doubt → Bool) (n : ℕ) (all : List Doubt) (d : Doubt) → n < length all → get_or all n doubt.Float ≡ d →
+    first_words holds (n + 1) all ≡ (if holds d then behind (first_words holds n all) (word_of d) else first_words holds n all)
+first_words-more holds n all d inside is = ap words (one_more holds n all d inside is) ∙ with_one holds (filter holds (take n all)) d (holds d) refl

@@ -57,3 +57,10 @@ module _ (rules : Rules) (db : List Metadata) (hint : Option Id) (t : List ℕ) 
   -- two valid numbers of one text are one
   pub valid_same : (m n : Reading) → IsValidText rules db hint t m → IsValidText rules db hint t n → m ≡ n
   valid_same m n v w = same_number m n v.read w
+
+  -- a valid number that is told, and none
+  pub told_some : (told : Option Reading) (n : Reading) → told ≡ Some n → Told told → IsValidText rules db hint t n
+  told_some told n is h = subst (λ (o : Option Reading). Told o) is h
+
+  pub told_none : (told : Option Reading) → told ≡ None → Told told → (n : Reading) → ¬ (IsValidText rules db hint t n)
+  told_none told is h = subst (λ (o : Option Reading). Told o) is h

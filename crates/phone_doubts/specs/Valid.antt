@@ -1,6 +1,7 @@
 -- Texts that are read as valid numbers, and two of them in one text.
-use Rattle.std.specs.Prelude.{◌≡◌, ℕ, true, List, [], ◌∷◌, ◌++◌, codes, length, drop, Ok, Option}
-use Rattle.std.specs.Prelude.{None, Some, if◌then◌else◌}
+use Rattle.std.specs.Prelude.{◌≡◌, ℕ, ◌-◌, true, if◌then◌else◌, List, [], ◌∷◌, ◌++◌, chars}
+use Rattle.std.specs.Prelude.{codes, drop, length, map, take, Ok, Option, None, Some}
+use Rattle.std.specs.Borrow.{Bor}
 use Rattle.phone_engine.specs.Facts.{is_valid_by}
 use Rattle.phone_engine.specs.Readings.{ReadsBy}
 use Rattle.phone_parts.specs.Texts.{is_front}
@@ -31,12 +32,20 @@ behind_one_of [] t = None
 behind_one_of (word ∷ words) t =
     if is_front word t then Some (drop (length word) t) else behind_one_of words t
 
+-- the characters of texts
+abbrev pub characters : List (Bor (List ℕ)) → List (List ℕ)
+characters texts = map (λ (t : Bor (List ℕ)). chars t.now) texts
+
 -- two texts are numbers, each alone, and a separator stands between them, at the front of the rest
 pub record ArePartedNumbers (rules : Rules) (db : List Metadata) (hint : Option Id)
     (first rest second : List ℕ) : Type 0 where
   pub parted : behind_one_of separators rest ≡ Some second
   pub is_first : IsNumber rules db hint first
   pub is_second : IsNumber rules db hint second
+
+-- what stands before an end of a text
+abbrev pub before_end : List ℕ → List ℕ → List ℕ
+before_end t rest = take (length t - length rest) t
 
 -- a text is two such numbers
 pub record AreTwoNumbers (rules : Rules) (db : List Metadata) (hint : Option Id)

@@ -1,8 +1,9 @@
 //! The doubts about a field.
-ghost use Rattle.std.specs.Prelude.{◌↔◌, ℕ, IfOk, IsTrue, List, Option, string_bytes};
+ghost use Rattle.std.specs.Prelude.{◌≡◌, ◌↔◌, ℕ, IfOk, IsTrue, List, Option, string_bytes};
 ghost use Rattle.std.specs.Option.{option_copied};
 ghost use Rattle.std.specs.Str.{trim};
 ghost use Rattle.phone_doubts.specs.Doubts.{AreDoubts, IsDoubt, IsDoubted, IsNotValid};
+ghost use Rattle.phone_doubts.specs.Spreadsheets.{is_date, is_float};
 ghost use Rattle.phone_doubts.specs.Words.{holds};
 ghost use Rattle.phone_doubts.specs.declared.doubt.Doubt.TheVariants as doubt;
 ghost use Rattle.phone_values.specs.declared.reading.Reading.{Reading};
@@ -42,7 +43,18 @@ pub fn find_doubts(
     ensures { IfOk result (λ found. AreDoubts engine.entry.rules engine.entry.database.now
         engine.entry.hint (trim field.now) (option_copied number.entry) (holds found)) }
 {
-    let text = field.trim();
+    doubts_of_text(engine, field.trim(), number)
+}
+
+/// The doubts about a text. Refused only for memory.
+fn doubts_of_text(
+    engine: Engine<'_>,
+    text: &str,
+    number: Option<&PhoneNumber>,
+) -> Result<Doubts, AllocError>
+    ensures { IfOk result (λ found. AreDoubts engine.entry.rules engine.entry.database.now
+        engine.entry.hint text.now (option_copied number.entry) (holds found)) }
+{
     let no_plus = says_no_plus(engine, text, number)?;
     let zero_in_brackets = says_zero_in_brackets(engine, text, number)?;
     let letters = says_letters(engine, text, number)?;
@@ -50,15 +62,29 @@ pub fn find_doubts(
     let zero_lost = says_zero_lost(engine, text, number)?;
     let other_region = says_other_region(engine, number)?;
     Ok(Doubts {
-        float: is_float(text.as_bytes()),
+        float: says_float(text),
         no_plus,
         zero_in_brackets,
         letters,
         two_numbers,
-        date: is_date(text.as_bytes()),
+        date: says_date(text),
         zero_lost,
         other_region,
     })
+}
+
+/// Whether a text is a float.
+fn says_float(text: &str) -> bool
+    ensures { result ≡ is_float text.now }
+{
+    is_float(text.as_bytes())
+}
+
+/// Whether a text is a date.
+fn says_date(text: &str) -> bool
+    ensures { result ≡ is_date text.now }
+{
+    is_date(text.as_bytes())
 }
 
 /// Whether a plus sign is missing.
@@ -88,10 +114,7 @@ fn says_zero_in_brackets(
         doubt.ZeroInBrackets) }
 {
     match number {
-        Some(number) => {
-            let code = number.code().value();
-            has_zero_in_brackets(engine.database.allocator(), text.as_bytes(), code)
-        }
+        Some(number) => has_zero_in_brackets(engine.database.allocator(), text, number),
         None => Ok(false),
     }
 }

@@ -1,6 +1,6 @@
 //! The doubts about a field, and their words.
-ghost use Rattle.std.specs.Prelude.{◌≡◌, IfOk, OnOk, string_bytes};
-ghost use Rattle.phone_doubts.specs.Doubts.{word_of, words_of};
+ghost use Rattle.std.specs.Prelude.{◌≡◌, filter, if◌then◌else◌, IfOk, map, OnOk, string_bytes};
+ghost use Rattle.phone_doubts.specs.Doubts.{spaced, word_of, words_of};
 ghost use Rattle.phone_doubts.specs.Words.{behind, holds};
 
 use std::alloc::{AllocError, Global};
@@ -49,7 +49,7 @@ impl Doubt {
 
     /// Its word: small letters, and hyphens between.
     pub fn word(self) -> &'static str
-        ensures { result.now ≡ word_of self.entry }
+        ensures { result.now ≡ word_of self }
     {
         match self {
             Doubt::Float => "float",
@@ -88,7 +88,7 @@ pub struct Doubts {
 impl Doubts {
     /// Whether this doubt is one of them.
     pub fn holds(self, doubt: Doubt) -> bool
-        ensures { result ≡ holds self.entry doubt }
+        ensures { result ≡ holds self doubt }
     {
         match doubt {
             Doubt::Float => self.float,
@@ -105,20 +105,37 @@ impl Doubts {
     /// Their words, parted by a space, in the order of [`Doubt::ALL`]; an empty text where there
     /// is none. Refused only for memory.
     pub fn words(self, alloc: Global) -> Result<String, AllocError>
-        ensures { IfOk result (λ text. string_bytes text ≡ words_of (holds self.entry)) }
+        ensures { IfOk result (λ text. string_bytes text ≡ words_of (holds self)) }
+    {
+        self.words_among(alloc, &Doubt::ALL)
+    }
+
+    /// The words of those that are among these, parted by a space. Refused only for memory.
+    fn words_among(self, alloc: Global, doubts: &[Doubt]) -> Result<String, AllocError>
+        ensures { IfOk result (λ text. string_bytes text ≡
+            spaced (map word_of (filter (holds self) doubts.now))) }
     {
         let mut text = String::new(alloc);
-        for doubt in Doubt::ALL {
-            if self.holds(doubt) {
-                push_word(&mut text, doubt.word())?;
-            }
+        for doubt in doubts {
+            push_word(&mut text, self.holds(*doubt), doubt.word())?;
         }
         Ok(text)
     }
 }
 
+/// Puts a word behind others, and a space between, where this holds. Refused only for memory.
+fn push_word(text: &mut String, holds: bool, word: &str) -> Result<(), AllocError>
+    ensures { OnOk result (string_bytes text.new ≡
+        (if holds then behind (string_bytes text.old) word.now else string_bytes text.old)) }
+{
+    if holds {
+        put_behind(text, word)?;
+    }
+    Ok(())
+}
+
 /// Puts a word behind others, and a space between. Refused only for memory.
-fn push_word(text: &mut String, word: &str) -> Result<(), AllocError>
+fn put_behind(text: &mut String, word: &str) -> Result<(), AllocError>
     ensures { OnOk result (string_bytes text.new ≡ behind (string_bytes text.old) word.now) }
 {
     if !text.is_empty() {

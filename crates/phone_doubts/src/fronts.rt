@@ -64,12 +64,20 @@ fn joined(alloc: Global, front: &str, text: &str) -> Result<String, AllocError>
     Ok(whole)
 }
 
-/// Whether a text has brackets around a zero behind this calling code. Refused only for memory.
+/// Whether a text has brackets around a zero behind a number's calling code. Refused only for
+/// memory.
 pub(crate) fn has_zero_in_brackets(
     alloc: Global,
-    text: &[u8],
-    code: u16,
+    text: &str,
+    number: &PhoneNumber,
 ) -> Result<bool, AllocError>
+    ensures { IfOk result (λ has. has ≡ has_zero_in_brackets number.now.code.value text.now) }
+{
+    has_brackets_behind(alloc, text.as_bytes(), number.code().value())
+}
+
+/// Whether a text has brackets around a zero behind this calling code. Refused only for memory.
+fn has_brackets_behind(alloc: Global, text: &[u8], code: u16) -> Result<bool, AllocError>
     ensures { IfOk result (λ has. has ≡ has_zero_in_brackets code text.now) }
 {
     match split_at_word(text, b"(0)") {

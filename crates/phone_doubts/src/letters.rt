@@ -1,5 +1,5 @@
 //! Letters that became digits.
-ghost use Rattle.std.specs.Prelude.{◌≡◌, ◌<◌, ◌↔◌, IfOk, IsTrue, chars, length};
+ghost use Rattle.std.specs.Prelude.{◌≡◌, ◌<◌, ◌↔◌, chars, false, IfOk, IsTrue, length};
 ghost use Rattle.phone_library_text.specs.Letters.{value_of};
 ghost use Rattle.std.specs.List.{filter_map, list_any};
 ghost use Rattle.phone_chars.specs.Characters.{is_alpha};
@@ -31,8 +31,17 @@ fn has_written_letters(alloc: Global, text: &str) -> Result<bool, AllocError>
 {
     match read_written(alloc, text) {
         Ok(number) => has_fewer_digits(alloc, text, number.digits.as_str()),
-        Err(ParseError::Memory) => Err(AllocError),
-        Err(_) => Ok(false),
+        Err(error) => without_letters(error),
+    }
+}
+
+/// That there are no letters, where there is no number. Refused where memory was.
+fn without_letters(error: ParseError) -> Result<bool, AllocError>
+    ensures { IfOk result (λ found. (found ≡ false) × ¬ (error ≡ ParseError.Memory)) }
+{
+    match error {
+        ParseError::Memory => Err(AllocError),
+        _ => Ok(false),
     }
 }
 

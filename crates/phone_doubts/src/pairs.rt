@@ -1,9 +1,10 @@
 //! Two numbers in one field.
-ghost use Rattle.std.specs.Prelude.{◌≡◌, ◌↔◌, ◌++◌, ℕ, chars, IfOk, IsTrue, List, MatchOption};
+ghost use Rattle.std.specs.Prelude.{◌≡◌, ◌↔◌, ℕ, chars, IfOk, IsTrue, List, MatchOption};
 ghost use Rattle.std.specs.Prelude.{None, Some};
 ghost use Rattle.phone_chars.specs.Cuts.{IsEnd};
 ghost use Rattle.phone_doubts.specs.Valid.{ArePartedNumbers, AreTwoNumbers, IsNumber};
-ghost use Rattle.phone_doubts.specs.Valid.{behind_one_of, separators};
+ghost use Rattle.phone_doubts.specs.Valid.{before_end, behind_one_of, characters};
+ghost use Rattle.phone_doubts.specs.Valid.{separators};
 
 use crate::valid::is_number;
 use phone_chars::cuts::{before, split_first};
@@ -28,8 +29,9 @@ pub fn parts<'a>(
 {
     let mut rest = field;
     while let Some((_, next)) = split_first(rest) {
-        if let Some(two) = parts_at(engine, field, rest)? {
-            return Ok(Some(two));
+        let found = parts_at(engine, field, rest)?;
+        if found.is_some() {
+            return Ok(found);
         }
         rest = next;
     }
@@ -43,17 +45,34 @@ fn parts_at<'a>(
     rest: &'a str,
 ) -> Result<Option<(&'a str, &'a str)>, AllocError>
     requires { IsEnd text.now rest.now }
-    ensures { (first : List ℕ) → chars text.now ≡ first ++ chars rest.now →
-        IfOk result (λ found. MatchOption found
+    ensures { IfOk result (λ found. MatchOption found
         ((second : List ℕ) → ¬ (ArePartedNumbers engine.entry.rules engine.entry.database.now
-        engine.entry.hint first (chars rest.now) second))
-        (λ p. (chars p.0.now ≡ first) × ArePartedNumbers engine.entry.rules
-        engine.entry.database.now engine.entry.hint first (chars rest.now) (chars p.1.now))) }
+        engine.entry.hint (before_end (chars text.now) (chars rest.now)) (chars rest.now) second))
+        (λ p. (chars p.0.now ≡ before_end (chars text.now) (chars rest.now)) ×
+        ArePartedNumbers engine.entry.rules engine.entry.database.now engine.entry.hint
+        (before_end (chars text.now) (chars rest.now)) (chars rest.now) (chars p.1.now))) }
 {
-    let Some(second) = behind_separator(rest) else {
-        return Ok(None);
-    };
-    let first = before(text, rest);
+    match behind_separator(rest) {
+        Some(second) => both(engine, before(text, rest), second),
+        None => Ok(None),
+    }
+}
+
+/// Two texts, where each is read as a valid number. Refused only for memory.
+fn both<'a>(
+    engine: Engine<'_>,
+    first: &'a str,
+    second: &'a str,
+) -> Result<Option<(&'a str, &'a str)>, AllocError>
+    ensures { IfOk result (λ found. MatchOption found
+        (¬ (IsNumber engine.entry.rules engine.entry.database.now engine.entry.hint
+        (chars first.now) × IsNumber engine.entry.rules engine.entry.database.now
+        engine.entry.hint (chars second.now)))
+        (λ p. (p.0.now ≡ first.now) × (p.1.now ≡ second.now) ×
+        (IsNumber engine.entry.rules engine.entry.database.now engine.entry.hint
+        (chars first.now) × IsNumber engine.entry.rules engine.entry.database.now
+        engine.entry.hint (chars second.now)))) }
+{
     if are_numbers(engine, first, second)? {
         Ok(Some((first, second)))
     } else {
@@ -80,8 +99,17 @@ fn behind_separator(text: &str) -> Option<&str>
     ensures { MatchOption result (behind_one_of separators (chars text.now) ≡ None)
         (λ rest. behind_one_of separators (chars text.now) ≡ Some (chars rest.now)) }
 {
-    for separator in SEPARATORS {
-        if let Some(rest) = text.strip_prefix(separator) {
+    behind_one_of(text, &SEPARATORS)
+}
+
+/// What follows the first of these words that stands at the front of a text; none where none does.
+fn behind_one_of<'a>(text: &'a str, words: &[&str]) -> Option<&'a str>
+    ensures { MatchOption result (behind_one_of (characters words.now) (chars text.now) ≡ None)
+        (λ rest. behind_one_of (characters words.now) (chars text.now) ≡
+        Some (chars rest.now)) }
+{
+    for word in words {
+        if let Some(rest) = text.strip_prefix(*word) {
             return Some(rest);
         }
     }
