@@ -1,6 +1,7 @@
 //! What holds of answers. These functions do nothing, but for those that read a text to show that
 //! it has an answer; their contracts are the statements.
-ghost use Rattle.std.specs.Prelude.{◌≡◌, ◌⊎◌, ℕ, List, None, Option, Some, chars, true};
+ghost use Rattle.std.specs.Prelude.{◌≡◌, ◌⊎◌, ℕ, List, None, Option, Some, chars, false};
+ghost use Rattle.std.specs.Prelude.{true};
 ghost use Rattle.std.specs.Str.{IsUtf8};
 ghost use Rattle.csv.specs.Records.{fields_of};
 ghost use Rattle.serde_json.specs.Data.{Data};
@@ -15,7 +16,7 @@ ghost use Rattle.phone_short.specs.declared.kind.ShortKind.TheVariants as kind;
 ghost use Rattle.phone_prefixes.specs.Tables as prefixes;
 ghost use Rattle.phone_table.specs.Answers.{IsAnswer, IsFieldAnswer, IsOfOtherWidth};
 ghost use Rattle.phone_table.specs.Answers.{IsOwnAnswer, IsUnder};
-ghost use Rattle.phone_table.specs.Extras.{EachHasOneText, HaveOneText};
+ghost use Rattle.phone_table.specs.Extras.{EachHasOneText, HaveOneText, ask_doubts};
 ghost use Rattle.phone_table.specs.Objects.{IsObject, IsObjectLine};
 ghost use Rattle.phone_table.specs.Ends.{by};
 ghost use Rattle.phone_table.specs.Runs.{WritesTable, names_in};
@@ -81,10 +82,11 @@ pub fn some_answer(field: &[u8])
 }
 
 /// By either rules each record has an answer, under each database and hint, but for one that has
-/// another count of fields than the table has columns, where such aren't marked.
+/// another count of fields than the table has columns, where such aren't marked. This is told of
+/// tables without a column of what is suspicious.
 pub fn some_row(columns: Columns, asked: Asked<'_>, fields: &ByteRecord)
     ensures { (rules : Rules) (db : List loader.Metadata) (hint : Option Id) →
-        ((answer : Record) ×
+        ask_doubts asked.entry.extra.now ≡ false → ((answer : Record) ×
         IsAnswer rules db hint columns asked.entry (fields_of fields.now) answer) ⊎
         IsOfOtherWidth columns asked.entry (fields_of fields.now) }
 {

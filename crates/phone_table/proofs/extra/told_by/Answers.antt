@@ -1,0 +1,15 @@
+use Rattle.std.proofs.Common.{◌≡◌, true, false, IfOk, sym, subst, ◌∙◌}
+use Rattle.std.specs.Cow.{cow_str_bytes}
+use Rattle.phone_table.specs.Extras.{IsToldIf, tells_doubts}
+use Rattle.phone_table.specs.Spelled.{number_in}
+use Rattle.phone_table.proofs.extra.told_by.Goals as goal
+
+pub returns-then-tells_doubts : goal.returns-then-tells_doubts
+returns-then-tells_doubts c =
+    let is : tells_doubts c.args.column.now.told ≡ true = sym c.tells_doubts.ensures ∙ c.if-tells_doubts.true in
+    rw is c.in_ok-suspicion_of.ensures
+
+pub returns-else-tells_doubts : goal.returns-else-tells_doubts
+returns-else-tells_doubts c =
+    let is : tells_doubts c.args.column.now.told ≡ false = sym c.tells_doubts.ensures ∙ c.if-tells_doubts.false in
+    rw is c.told_of_number.ensures
