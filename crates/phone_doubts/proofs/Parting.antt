@@ -1,5 +1,5 @@
 -- Two numbers that a separator parts, looked for place by place.
-use Rattle.std.proofs.Common.{◌≡◌, ◌⊎◌, inl, inr, ℕ, ◌+◌, ◌-◌, ◌<◌, ◌≤◌, Bor, true, false, List, [], ◌∷◌, ◌++◌, chars, drop, length, take, Option, Some, None, is_some, Result, Ok, Err, IfOk, MatchOption, ap, sym, subst, ◌∙◌, true≢false, arith, append-nil, length-append}
+use Rattle.std.proofs.Common.{◌≡◌, ◌⊎◌, inl, inr, ℕ, ◌+◌, ◌-◌, ◌<◌, ◌≤◌, Bor, true, false, List, [], ◌∷◌, ◌++◌, chars, drop, length, take, Option, Some, None, is_some, Result, Ok, Err, IfOk, MatchOption, ap, sym, subst, ◌∙◌, true≢false, arith, append-nil, length-append, IsUtf8}
 use Rattle.std.proofs.Math.Nat.{eq-or-lt_of_le}
 use Rattle.std.proofs.Math.Seq.{drop-append_seam, take-append_seam}
 use Rattle.std.proofs.lemmas.Bool.{cond-false, cond-true}
@@ -7,9 +7,18 @@ use Rattle.std.proofs.lemmas.List.{append_cancel_left}
 use Rattle.phone_records.specs.declared.loader.Metadata.{Metadata}
 use Rattle.phone_values.specs.declared.country.Id.{Id}
 use Rattle.phone_values.specs.declared.rules.Rules.{Rules}
+use Rattle.std.specs.Str.Pattern.{FindsTextPrefix, StripsPrefix}
+use Rattle.phone_library_text.proofs.Words.{word_found, word_lacks}
 use Rattle.phone_parts.proofs.Prefixes.{is_front-append, is_front-no}
 use Rattle.phone_parts.specs.Texts.{is_front}
 use Rattle.phone_doubts.specs.Valid.{ArePartedNumbers, AreTwoNumbers, IsNumber, before_end, behind_one_of, separators}
+
+-- a word at the front of a text, by what follows it
+pub stripped : (word text : List ℕ) → IsUtf8 word → IsUtf8 text → (o : Option (Bor (List ℕ))) →
+    MatchOption o (FindsTextPrefix word text None) (λ x. StripsPrefix (FindsTextPrefix word) text x.now) →
+    MatchOption o ((rest : List ℕ) → ¬ (chars text ≡ chars word ++ rest)) (λ x. chars text ≡ chars word ++ chars x.now)
+stripped word text u v None h = word_lacks word text u v h
+stripped word text u v (Some x) h = word_found word text x.now u h
 
 -- a word stands at the front
 pub front_here : (word rest t : List ℕ) (words : List (List ℕ)) → t ≡ word ++ rest → behind_one_of (word ∷ words) t ≡ Some rest
@@ -68,20 +77,20 @@ module _ (rules : Rules) (db : List Metadata) (hint : Option Id) where
   pub found_in : (t first rest : List ℕ) → t ≡ first ++ rest → (found : Option (Bor (List ℕ) × Bor (List ℕ))) → is_some found ≡ true →
       Found (before_end t rest) rest found →
       MatchOption found ((a b : List ℕ) → ¬ (AreTwoNumbers rules db hint t a b)) (λ p. AreTwoNumbers rules db hint t (chars p.0.now) (chars p.1.now))
-  found_in t first rest e None yes h = absurd (true≢false (sym yes))
-  found_in t first rest e (Some p) yes h =
-      let is : chars p.0.now ≡ first = h.0 ∙ before_end-is t first rest e in
+  found_in t first rest e None is h = absurd (true≢false (sym is))
+  found_in t first rest e (Some p) is h =
+      let same : chars p.0.now ≡ first = h.0 ∙ before_end-is t first rest e in
       record {
         rest = rest;
-        whole = e ∙ ap (λ f. f ++ rest) (sym is);
+        whole = e ∙ ap (λ f. f ++ rest) (sym same);
         numbers = subst (λ f. ArePartedNumbers rules db hint f rest (chars p.1.now)) (sym h.0) h.1;
       }
 
   -- and where nothing is found, there is nothing
   pub none_found : (t first rest : List ℕ) → t ≡ first ++ rest → (found : Option (Bor (List ℕ) × Bor (List ℕ))) → is_some found ≡ false →
       Found (before_end t rest) rest found → (second : List ℕ) → ¬ (ArePartedNumbers rules db hint first rest second)
-  none_found t first rest e None no h = subst (λ f. (second : List ℕ) → ¬ (ArePartedNumbers rules db hint f rest second)) (before_end-is t first rest e) h
-  none_found t first rest e (Some p) no h = absurd (true≢false no)
+  none_found t first rest e None is h = subst (λ f. (second : List ℕ) → ¬ (ArePartedNumbers rules db hint f rest second)) (before_end-is t first rest e) h
+  none_found t first rest e (Some p) is h = absurd (true≢false is)
 
   -- no two numbers are parted before a place
   abbrev pub NoneBefore : List ℕ → ℕ → Type 0

@@ -1,5 +1,5 @@
 -- Each doubt, told by what its own function answers.
-use Rattle.std.proofs.Common.{◌≡◌, ◌↔◌, ℕ, Bor, Bool, true, false, IsTrue, List, chars, Option, Some, None, Result, Ok, Err, IfOk, refl, sym, subst, ◌∙◌, true≢false}
+use Rattle.std.proofs.Common.{◌≡◌, ◌↔◌, ℕ, Bor, Bool, true, false, IsTrue, List, chars, Option, Some, None, is_some, Result, Ok, Err, IfOk, MatchOption, refl, sym, subst, ◌∙◌, true≢false}
 use Rattle.std.specs.Option.{option_copied}
 use Rattle.phone_engine.specs.Facts.{is_valid_by, region_by}
 use Rattle.phone_records.specs.declared.loader.Metadata.{Metadata}
@@ -77,6 +77,13 @@ module _ (rules : Rules) (db : List Metadata) (hint : Option Id) (t : List ℕ) 
     where
       back : ¬ (IsDoubt rules db hint t number doubt.TwoNumbers)
       back (Doubts.two_numbers first second p) = none first second p
+
+  -- two texts, told by whether they are there
+  pub two_so : (number : Option Reading) (found : Option (Bor (List ℕ) × Bor (List ℕ))) →
+      MatchOption found ((a b : List ℕ) → ¬ (AreTwoNumbers rules db hint (chars t) a b)) (λ p. AreTwoNumbers rules db hint (chars t) (chars p.0.now) (chars p.1.now)) →
+      (b : Bool) → b ≡ is_some found → IsTrue b ↔ IsDoubt rules db hint t number doubt.TwoNumbers
+  two_so number None h b e = subst (λ (x : Bool). IsTrue x ↔ IsDoubt rules db hint t number doubt.TwoNumbers) (sym e) (not_two number h)
+  two_so number (Some p) h b e = subst (λ (x : Bool). IsTrue x ↔ IsDoubt rules db hint t number doubt.TwoNumbers) (sym e) (two number (chars p.0.now) (chars p.1.now) h)
 
   pub zero_lost : (number : Option Reading) (region : Id) → hint ≡ Some region → IsNotValid rules db number →
       LacksZero rules db region t ↔ IsDoubt rules db hint t number doubt.ZeroLost

@@ -54,10 +54,9 @@ words-more (a ∷ b ∷ ds) d =
 abbrev pub first_words : (Doubt → Bool) → ℕ → List Doubt → List ℕ
 first_words holds n all = words (filter holds (take n all))
 
-one_more : (holds : Doubt → Bool) (n : ℕ) (all : List Doubt) (d : Doubt) → n < length all → get_or all n doubt.Float ≡ d →
-    filter holds (take (n + 1) all) ≡ filter holds (take n all) ++ filter holds (d ∷ [])
-one_more holds n all d inside is =
-    ap (filter holds) (take_more all n doubt.Float inside ∙ ap (λ x. take n all ++ x ∷ []) is) ∙ filter-append holds (take n all) (d ∷ [])
+one_more : (holds : Doubt → Bool) (n : ℕ) (all : List Doubt) → n < length all →
+    filter holds (take (n + 1) all) ≡ filter holds (take n all) ++ filter holds (get_or all n doubt.Float ∷ [])
+one_more holds n all inside = ap (filter holds) (take_more all n doubt.Float inside) ∙ filter-append holds (take n all) (get_or all n doubt.Float ∷ [])
 
 with_one : (holds : Doubt → Bool) (ds : List Doubt) (d : Doubt) (b : Bool) → holds d ≡ b →
     words (ds ++ filter holds (d ∷ [])) ≡ (if b then behind (words ds) (word_of d) else words ds)
@@ -65,6 +64,8 @@ with_one holds ds d true e = ap (λ (b : Bool). words (ds ++ (if b then d ∷ []
 with_one holds ds d false e = ap (λ (b : Bool). words (ds ++ (if b then d ∷ [] else []))) e ∙ ap words (append-nil ds)
 
 -- one doubt more
-pub first_words-more : (holds : Doubt → Bool) (n : ℕ) (all : List Doubt) (d : Doubt) → n < length all → get_or all n doubt.Float ≡ d →
-    first_words holds (n + 1) all ≡ (if holds d then behind (first_words holds n all) (word_of d) else first_words holds n all)
-first_words-more holds n all d inside is = ap words (one_more holds n all d inside is) ∙ with_one holds (filter holds (take n all)) d (holds d) refl
+pub first_words-more : (holds : Doubt → Bool) (n : ℕ) (all : List Doubt) → n < length all →
+    first_words holds (n + 1) all ≡ (if holds (get_or all n doubt.Float) then behind (first_words holds n all) (word_of (get_or all n doubt.Float))
+    else first_words holds n all)
+first_words-more holds n all inside =
+    let d = get_or all n doubt.Float in ap words (one_more holds n all inside) ∙ with_one holds (filter holds (take n all)) d (holds d) refl

@@ -141,10 +141,8 @@ fn says_two_numbers(engine: Engine<'_>, text: &str) -> Result<bool, AllocError>
         IsDoubt engine.entry.rules engine.entry.database.now engine.entry.hint text.now number
         doubt.TwoNumbers) }
 {
-    match parts(engine, text)? {
-        Some(_) => Ok(true),
-        None => Ok(false),
-    }
+    let found = parts(engine, text)?;
+    Ok(found.is_some())
 }
 
 /// Whether no valid number was read.

@@ -1,5 +1,5 @@
 //! Two numbers in one field.
-ghost use Rattle.std.specs.Prelude.{◌≡◌, ◌↔◌, ℕ, chars, IfOk, IsTrue, List, MatchOption};
+ghost use Rattle.std.specs.Prelude.{◌≡◌, ◌↔◌, ◌++◌, ℕ, chars, IfOk, IsTrue, List, MatchOption};
 ghost use Rattle.std.specs.Prelude.{None, Some};
 ghost use Rattle.phone_chars.specs.Cuts.{IsEnd};
 ghost use Rattle.phone_doubts.specs.Valid.{ArePartedNumbers, AreTwoNumbers, IsNumber};
@@ -53,13 +53,13 @@ fn parts_at<'a>(
         (before_end (chars text.now) (chars rest.now)) (chars rest.now) (chars p.1.now))) }
 {
     match behind_separator(rest) {
-        Some(second) => both(engine, before(text, rest), second),
+        Some(second) => where_numbers(engine, before(text, rest), second),
         None => Ok(None),
     }
 }
 
 /// Two texts, where each is read as a valid number. Refused only for memory.
-fn both<'a>(
+fn where_numbers<'a>(
     engine: Engine<'_>,
     first: &'a str,
     second: &'a str,
@@ -109,11 +109,19 @@ fn behind_one_of<'a>(text: &'a str, words: &[&str]) -> Option<&'a str>
         Some (chars rest.now)) }
 {
     for word in words {
-        if let Some(rest) = text.strip_prefix(*word) {
+        if let Some(rest) = behind_word(text, *word) {
             return Some(rest);
         }
     }
     None
+}
+
+/// What follows a word at the front of a text; none where it doesn't stand there.
+fn behind_word<'a>(text: &'a str, word: &str) -> Option<&'a str>
+    ensures { MatchOption result ((rest : List ℕ) → ¬ (chars text.now ≡ chars word.now ++ rest))
+        (λ rest. chars text.now ≡ chars word.now ++ chars rest.now) }
+{
+    text.strip_prefix(word)
 }
 
 /// What parts two numbers.

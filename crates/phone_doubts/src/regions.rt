@@ -17,7 +17,14 @@ pub(crate) fn is_elsewhere(
         engine.entry.database.now hint number.now) }
 {
     match engine.facts(number)?.region {
-        Some(region) => Ok(region != hint),
+        Some(region) => Ok(is_other(region, hint)),
         None => Ok(false),
     }
+}
+
+/// Whether two regions differ.
+fn is_other(region: Id, hint: Id) -> bool
+    ensures { IsTrue result ↔ ¬ (region ≡ hint) }
+{
+    region != hint
 }

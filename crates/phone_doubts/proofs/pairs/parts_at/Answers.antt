@@ -8,7 +8,7 @@ returns-in-Some c =
     let engine = c.args.engine in
     let text = chars c.args.text.now in
     let rest = chars c.args.rest.now in
-    let first = c.before.result.now in
+    let first = c.before-in-Some.result.now in
     found_so engine.rules engine.database.now engine.hint (before_end text rest) rest first c.in-Some.second.now
-    (sym (before_end-is text (chars first) rest (c.before.ensures.read c.requires)))
-    c.in-Some.ensures c.both.result c.both.ensures
+    (sym (before_end-is text (chars first) rest (c.before-in-Some.ensures.read c.requires)))
+    c.in-Some.ensures c.where_numbers.result c.where_numbers.ensures
