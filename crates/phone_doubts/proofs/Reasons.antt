@@ -1,8 +1,12 @@
 -- Each doubt, told by what its own function answers.
-use Rattle.std.proofs.Common.{◌≡◌, ◌↔◌, ℕ, Bor, Bool, true, false, IsTrue, List, chars, Option, Some, None, is_some, Result, Ok, Err, IfOk, MatchOption, refl, sym, subst, ◌∙◌, true≢false}
+use Rattle.std.proofs.Common.{◌≡◌, ◌↔◌, ℕ, Bor, Bool, true, false, not, IsTrue, List, chars, Option, Some, None, is_some, Result, Ok, Err, IfOk, MatchOption, refl, ap, sym, subst, ◌∙◌, true≢false}
 use Rattle.std.specs.Option.{option_copied}
 use Rattle.phone_engine.specs.Facts.{is_valid_by, region_by}
 use Rattle.phone_records.specs.declared.loader.Metadata.{Metadata}
+use Rattle.std.proofs.lemmas.Slice.Eq.{bytes_eq-Decides}
+use Rattle.std.specs.Str.{bytes_eq}
+use Rattle.phone_values.proofs.Texts.{id_of-name}
+use Rattle.phone_values.specs.Ids.{id_of, name}
 use Rattle.phone_values.specs.declared.country.Id.{Id}
 use Rattle.phone_values.specs.declared.reading.Reading.{Reading}
 use Rattle.phone_values.specs.declared.rules.Rules.{Rules}
@@ -153,3 +157,12 @@ region_so rules db hint region n is = (λ other. (region, sym is, other), back)
 
 pub no_region_so : (rules : Rules) (db : List Metadata) (hint : Id) (n : Reading) → None ≡ region_by rules db n → ¬ (IsElsewhere rules db hint n)
 no_region_so rules db hint n is (r, e, other) = let bad : None ≡ Some r = is ∙ e in cc
+
+-- regions of one name are one
+same_region : (a b : Id) → name a ≡ name b → a ≡ b
+same_region a b e = let both : Some a ≡ Some b = sym (id_of-name a) ∙ ap id_of e ∙ id_of-name b in cc
+
+-- two regions differ where their names do
+pub other_so : (a b : Id) (one : Bool) → one ≡ bytes_eq (name a) (name b) → IsTrue (not one) ↔ ¬ (a ≡ b)
+other_so a b true e = (λ bad. absurd (true≢false (sym bad)), λ other. absurd (other (same_region a b ((bytes_eq-Decides (name a) (name b)).0 (sym e)))))
+other_so a b false e = (λ is same. true≢false (sym ((bytes_eq-Decides (name a) (name b)).1 (ap name same)) ∙ sym e), λ other. refl)

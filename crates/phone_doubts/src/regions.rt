@@ -1,6 +1,8 @@
 //! The region of a number beside the hint.
 ghost use Rattle.std.specs.Prelude.{◌≡◌, ◌↔◌, IfOk, IsTrue};
+ghost use Rattle.std.specs.Str.{bytes_eq};
 ghost use Rattle.phone_doubts.specs.Doubts.{IsElsewhere};
+ghost use Rattle.phone_values.specs.Ids.{name};
 
 use phone_engine::Engine;
 use phone_values::country::Id;
@@ -26,5 +28,12 @@ pub(crate) fn is_elsewhere(
 fn is_other(region: Id, hint: Id) -> bool
     ensures { IsTrue result ↔ ¬ (region ≡ hint) }
 {
-    region != hint
+    !has_name_of(region, hint)
+}
+
+/// Whether two regions have one name.
+fn has_name_of(region: Id, hint: Id) -> bool
+    ensures { result ≡ bytes_eq (name region) (name hint) }
+{
+    region.as_str() == hint.as_str()
 }
