@@ -1,5 +1,5 @@
 -- Two numbers that a separator parts, looked for place by place.
-use Rattle.std.proofs.Common.{◌≡◌, ◌⊎◌, inl, inr, ℕ, ◌+◌, ◌-◌, ◌<◌, ◌≤◌, Bor, true, false, List, [], ◌∷◌, ◌++◌, chars, drop, length, take, Option, Some, None, is_some, Result, Ok, Err, IfOk, MatchOption, ap, sym, subst, ◌∙◌, true≢false, arith, append-nil, length-append, IsUtf8}
+use Rattle.std.proofs.Common.{◌≡◌, inl, inr, ℕ, ◌+◌, ◌-◌, ◌<◌, Bor, true, false, List, [], ◌∷◌, ◌++◌, chars, drop, length, take, Option, Some, None, is_some, Result, Ok, Err, IfOk, MatchOption, ap, sym, subst, ◌∙◌, true≢false, arith, append-nil, length-append, IsUtf8}
 use Rattle.std.proofs.Math.Nat.{eq-or-lt_of_le}
 use Rattle.std.proofs.Math.Seq.{drop-append_seam, take-append_seam}
 use Rattle.std.proofs.lemmas.Bool.{cond-false, cond-true}

@@ -1,8 +1,8 @@
 -- Where a word stands in a text, place by place.
-use Rattle.std.proofs.Common.{◌≡◌, ℕ, ◌+◌, ◌<◌, List, [], ◌∷◌, ◌++◌, length, take, drop, get_or, Some, ap, sym, ◌∙◌}
+use Rattle.std.proofs.Common.{◌≡◌, ℕ, ◌+◌, ◌<◌, List, [], ◌++◌, length, take, drop, get_or, Some, ap, sym, ◌∙◌}
 use Rattle.std.proofs.lemmas.List.{drop_more, take_more}
 use Rattle.phone_library_text.specs.Places.{parted}
-use Rattle.phone_library_text.proofs.Partings.{behind, behind-more, parted-front, parted-later, shifted}
+use Rattle.phone_library_text.proofs.Partings.{behind, behind-more, parted-front, parted-later}
 
 -- a word that stands at a place parts the rest there
 pub parted_here : (word text : List ℕ) (at : ℕ) (rest : List ℕ) → at < length text → drop at text ≡ word ++ rest →

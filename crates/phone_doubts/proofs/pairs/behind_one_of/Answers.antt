@@ -1,4 +1,4 @@
-use Rattle.std.proofs.Common.{◌≡◌, ◌+◌, Bor, List, ℕ, [], chars, drop, get_or, ap, sym, ◌∙◌}
+use Rattle.std.proofs.Common.{◌+◌, Bor, List, ℕ, [], chars, drop, get_or, ap, ◌∙◌}
 use Rattle.std.proofs.lemmas.List.{drop_more}
 use Rattle.phone_doubts.specs.Valid.{behind_one_of, characters}
 use Rattle.phone_doubts.proofs.Parting.{front_here, front_later}

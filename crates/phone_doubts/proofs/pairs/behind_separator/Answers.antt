@@ -1,4 +1,3 @@
-use Rattle.std.proofs.Common.{◌≡◌, refl}
 use Rattle.std.specs.Str.{chars}
 use Rattle.phone_doubts.proofs.pairs.behind_separator.Goals as goal
 

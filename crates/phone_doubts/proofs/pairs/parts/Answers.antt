@@ -1,4 +1,4 @@
-use Rattle.std.proofs.Common.{rules, ◌≡◌, ◌∷◌, [], ◌++◌, chars, encode_utf8, length, append_assoc, ap, sym, ◌∙◌}
+use Rattle.std.proofs.Common.{rules, ◌∷◌, [], ◌++◌, chars, encode_utf8, append_assoc, ap, sym, ◌∙◌}
 use Rattle.std.proofs.lemmas.Str.{chars-nil}
 use Rattle.phone_doubts.proofs.Parting.{found_in, none_at_all, none_found, none_further}
 use Rattle.phone_doubts.proofs.pairs.parts.Goals as goal

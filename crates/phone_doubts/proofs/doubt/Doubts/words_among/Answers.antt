@@ -1,4 +1,4 @@
-use Rattle.std.proofs.Common.{◌≡◌, Bool, List, ℕ, get_or, if◌then◌else◌, string_bytes, ap, ap₂, sym, ◌∙◌}
+use Rattle.std.proofs.Common.{Bool, List, ℕ, get_or, if◌then◌else◌, string_bytes, ap, ap₂, sym, ◌∙◌}
 use Rattle.phone_doubts.specs.Words.{behind, holds}
 use Rattle.phone_doubts.specs.declared.doubt.Doubt.TheVariants as doubt
 use Rattle.phone_doubts.proofs.Spaced.{first_words-more}
