@@ -11,7 +11,7 @@ use Rattle.phone_engine.specs.Facts.{kind_by, region_by}
 use Rattle.phone_prefixes.specs.Tables.{Entry}
 use Rattle.phone_records.specs.declared.loader.Metadata.{Metadata}
 use Rattle.phone_table.specs.Answers.{IsAnswer, IsAnswerUnder, IsOwnAnswer, IsUnder, short_of}
-use Rattle.phone_doubts.proofs.Answered.{answer_same}
+use Rattle.phone_doubts.proofs.Answered.{answer_same as words_same}
 use Rattle.phone_table.specs.Extras.{AreTold, EachHasOneText, HaveOneText, IsFound, IsPartOrFound, IsSuspicion, IsTold}
 use Rattle.phone_table.specs.Extras.{IsToldBy, IsToldIf, entries_in, looked_up, part_of, tells_doubts}
 use Rattle.phone_table.specs.Extras.AreTold.{none as told_none, next as told_next}
@@ -76,7 +76,7 @@ module _ (rules : Rules) (db : List Metadata) where
   suspicion_same : (under : Option (Option Id)) (field : List ℕ) (number : Option Reading) (a b : List ℕ) →
       IsSuspicion rules db under field number a → IsSuspicion rules db under field number b → a ≡ b
   suspicion_same None field number a b h g = h ∙ sym g
-  suspicion_same (Some hint) field number a b (inl (u, h)) (inl (v, g)) = answer_same rules db hint field number a b h g
+  suspicion_same (Some hint) field number a b (inl (u, h)) (inl (v, g)) = words_same rules db hint field number a b h g
   suspicion_same (Some hint) field number a b (inl (u, h)) (inr (v, g)) = absurd (v u)
   suspicion_same (Some hint) field number a b (inr (u, h)) (inl (v, g)) = absurd (u v)
   suspicion_same (Some hint) field number a b (inr (u, h)) (inr (v, g)) = h ∙ sym g

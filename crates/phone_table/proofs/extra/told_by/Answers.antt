@@ -4,8 +4,8 @@ use Rattle.phone_table.specs.Extras.{IsToldIf, tells_doubts}
 use Rattle.phone_table.specs.Spelled.{number_in}
 use Rattle.phone_table.proofs.extra.told_by.Goals as goal
 
-pub returns-then-tells_doubts : goal.returns-then-tells_doubts
-returns-then-tells_doubts c =
+pub returns-in_ok-suspicion_of : goal.returns-in_ok-suspicion_of
+returns-in_ok-suspicion_of c =
     let is : tells_doubts c.args.column.now.told ≡ true = sym c.tells_doubts.ensures ∙ c.if-tells_doubts.true in
     rw is c.in_ok-suspicion_of.ensures
 
