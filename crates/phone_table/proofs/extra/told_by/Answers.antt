@@ -1,7 +1,5 @@
-use Rattle.std.proofs.Common.{◌≡◌, true, false, IfOk, sym, subst, ◌∙◌}
-use Rattle.std.specs.Cow.{cow_str_bytes}
-use Rattle.phone_table.specs.Extras.{IsToldIf, tells_doubts}
-use Rattle.phone_table.specs.Spelled.{number_in}
+use Rattle.std.proofs.Common.{◌≡◌, true, false, sym, ◌∙◌}
+use Rattle.phone_table.specs.Extras.{tells_doubts}
 use Rattle.phone_table.proofs.extra.told_by.Goals as goal
 
 pub returns-in_ok-suspicion_of : goal.returns-in_ok-suspicion_of

@@ -1,4 +1,4 @@
-use Rattle.std.proofs.Common.{◌++◌, ◌≡◌, not, ap, refl, ◌∙◌}
+use Rattle.std.proofs.Common.{◌++◌, not, ap, refl, ◌∙◌}
 use Rattle.csv.specs.Records.{fields_of}
 use Rattle.phone_table.specs.Counts.{counts_after, counts_without}
 use Rattle.phone_table.specs.Spelled.{number_in, spelled}
