@@ -83,7 +83,7 @@ fn push_tables<'w>(columns: &mut Vec<Wanted<'w>>, further: Further<'w>) -> Resul
 }
 
 /// Puts those of parts of the number at the end of others, in their order: `extension`,
-/// `calling_code`, `national_number`. Refused only for memory.
+/// `calling_code`, `national_number`; then `suspicion`. Refused only for memory.
 fn push_parts<'w>(columns: &mut Vec<Wanted<'w>>, further: Further<'w>) -> Result<(), AllocError>
     ensures { OnOk result (wanted columns.new.items ≡
         wanted columns.old.items ++ parts_for further.entry) }
@@ -96,7 +96,8 @@ fn push_parts<'w>(columns: &mut Vec<Wanted<'w>>, further: Further<'w>) -> Result
         further.calling_code,
     )?;
     let is_asked = further.national_number;
-    push_part(columns, "national_number", Told::NationalNumber, is_asked)
+    push_part(columns, "national_number", Told::NationalNumber, is_asked)?;
+    push_part(columns, "suspicion", Told::Doubts, further.suspicion)
 }
 
 /// The columns that are asked for. Refused only for memory.

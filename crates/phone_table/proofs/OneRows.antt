@@ -1,6 +1,6 @@
 -- A record has one answer, and a column tells one text of a number.
 use Rattle.std.proofs.Common.{◌≡◌, inl, inr, ℕ, List, ◌∷◌, ◌++◌, take}
-use Rattle.std.proofs.Common.{length}
+use Rattle.std.proofs.Common.{Bool, true, false, length}
 use Rattle.std.proofs.Common.{Option, None, Some, refl, sym, ap, ap₂, subst, ◌∙◌, arith}
 use Rattle.std.proofs.Math.Seq.{take-append_seam}
 use Rattle.phone_values.specs.declared.country.Id.{Id}
@@ -12,8 +12,8 @@ use Rattle.phone_engine.specs.Facts.{kind_by, region_by}
 use Rattle.phone_prefixes.specs.Tables.{Entry}
 use Rattle.phone_records.specs.declared.loader.Metadata.{Metadata}
 use Rattle.phone_table.specs.Answers.{IsAnswer, IsAnswerUnder, IsOwnAnswer, IsUnder, countries_of, short_of}
-use Rattle.phone_table.specs.Extras.{AreTold, EachHasOneText, HaveOneText, IsFound, IsPartOrFound, IsTold}
-use Rattle.phone_table.specs.Extras.{entries_in, looked_up, part_of}
+use Rattle.phone_table.specs.Extras.{AreTold, EachHasOneText, HaveOneText, IsFound, IsPartOrFound, IsTold, entries_in, looked_up, part_of, IsSuspicion, IsToldBy, IsToldIf, tells_doubts}
+use Rattle.phone_doubts.proofs.Answered.{answer_same as words_same}
 use Rattle.phone_table.specs.Extras.AreTold.{none as told_none, next as told_next}
 use Rattle.phone_table.specs.Regions.{RecordNames, RegionText, TextOf, field_in, hint_under, named_by}
 use Rattle.phone_table.specs.declared.extra.Extra.{Extra}
@@ -74,12 +74,32 @@ part_same entries one (Some part) digits a b h g = h ∙ sym g
 part_same entries one None digits a b h g = found_same entries one digits a b h g
 
 module _ (rules : Rules) (db : List Metadata) where
+  -- a field has one text of words
+  suspicion_same : (under : Option (Option Id)) (field : List ℕ) (number : Option Reading) (a b : List ℕ) →
+      IsSuspicion rules db under field number a → IsSuspicion rules db under field number b → a ≡ b
+  suspicion_same None field number a b h g = h ∙ sym g
+  suspicion_same (Some hint) field number a b (inl (u, h)) (inl (v, g)) = words_same rules db hint field number a b h g
+  suspicion_same (Some hint) field number a b (inl (u, h)) (inr (v, g)) = absurd (v u)
+  suspicion_same (Some hint) field number a b (inr (u, h)) (inl (v, g)) = absurd (u v)
+  suspicion_same (Some hint) field number a b (inr (u, h)) (inr (v, g)) = h ∙ sym g
+
+  -- and one of its number
+  by_same : (under : Option (Option Id)) (field : List ℕ) (column : Extra) → HaveOneText (entries_in column.table) → (number : Option Reading)
+      (a b : List ℕ) → IsToldBy rules db under field number (entries_in column.table) column.told a →
+      IsToldBy rules db under field number (entries_in column.table) column.told b → a ≡ b
+  by_same under field column one None a b h g = h ∙ sym g
+  by_same under field column one (Some n) a b h g = part_same (entries_in column.table) one (part_of column.told n)
+      (looked_up db column.told (kind_by rules db n) (region_by rules db n) n) a b h g
+
+  if_same : (under : Option (Option Id)) (field : List ℕ) (column : Extra) → HaveOneText (entries_in column.table) → (number : Option Reading)
+      (doubts : Bool) (a b : List ℕ) → IsToldIf doubts rules db under field number column a → IsToldIf doubts rules db under field number column b → a ≡ b
+  if_same under field column one number true a b h g = suspicion_same under field number a b h g
+  if_same under field column one number false a b h g = by_same under field column one number a b h g
+
   -- a column tells one text
   told_same : (under : Option (Option Id)) (field : List ℕ) (column : Extra) → HaveOneText (entries_in column.table) → (number : Option Reading)
       (a b : List ℕ) → IsTold rules db under field number column a → IsTold rules db under field number column b → a ≡ b
-  told_same under field column one None a b h g = h ∙ sym g
-  told_same under field column one (Some n) a b h g = part_same (entries_in column.table) one (part_of column.told n)
-      (looked_up db column.told (kind_by rules db n) (region_by rules db n) n) a b h g
+  told_same under field column one number a b h g = if_same under field column one number (tells_doubts column.told) a b h g
 
   -- and columns one each
   all_told_same : (under : Option (Option Id)) (field : List ℕ) (number : Option Reading) (columns : List Extra) (a b : Record) →

@@ -1,7 +1,7 @@
 //! What holds of answers. These functions do nothing, but for those that read a text to show that
 //! it has an answer; their contracts are the statements.
-ghost use Rattle.std.specs.Prelude.{◌≡◌, ◌⊎◌, ◌+◌, ℕ, List, None, Option, Some, chars, slice_get};
-ghost use Rattle.std.specs.Prelude.{true};
+ghost use Rattle.std.specs.Prelude.{◌≡◌, ◌⊎◌, ◌+◌, ℕ, List, None, Option, Some, chars, false};
+ghost use Rattle.std.specs.Prelude.{slice_get, true};
 ghost use Rattle.std.specs.Str.{IsUtf8};
 ghost use Rattle.csv.specs.Records.{fields_of};
 ghost use Rattle.serde_json.specs.Data.{Data};
@@ -18,7 +18,7 @@ ghost use Rattle.phone_table.specs.Answered.{Answered};
 ghost use Rattle.phone_table.specs.Answers.{IsAnswer, IsAnswerOf, IsFieldAnswer, IsOfOtherWidth};
 ghost use Rattle.phone_table.specs.Answers.{IsOwnAnswer, IsUnder};
 ghost use Rattle.phone_table.specs.Duplicates.{NamesFirst, duplicate_of, shared_of};
-ghost use Rattle.phone_table.specs.Extras.{EachHasOneText, HaveOneText};
+ghost use Rattle.phone_table.specs.Extras.{EachHasOneText, HaveOneText, ask_doubts};
 ghost use Rattle.phone_table.specs.Objects.{IsObject, IsObjectLine};
 ghost use Rattle.phone_table.specs.Ends.{by};
 ghost use Rattle.phone_table.specs.Runs.{WritesTable, names_in};
@@ -85,10 +85,11 @@ pub fn some_answer(field: &[u8])
 }
 
 /// By either rules each record has an answer, under each database and hint, but for one that has
-/// another count of fields than the table has columns, where such aren't marked.
+/// another count of fields than the table has columns, where such aren't marked. This is told of
+/// tables without a column of what is suspicious.
 pub fn some_row(columns: Columns, asked: Asked<'_>, fields: &ByteRecord)
     ensures { (rules : Rules) (db : List loader.Metadata) (hint : Option Id) →
-        ((answer : Record) ×
+        ask_doubts asked.entry.extra.now ≡ false → ((answer : Record) ×
         IsAnswer rules db hint columns asked.entry (fields_of fields.now) answer) ⊎
         IsOfOtherWidth columns asked.entry (fields_of fields.now) }
 {

@@ -118,6 +118,9 @@ pub(crate) const ROWS: [Cells; 35] = rows! {
       one of its calling code, calling_code"
     "--national-number" "" "" "" ["--csv"] [] "
       one of its digits behind the calling code, leading zeros with them, national_number"
+    "--suspicion" "" "" "" ["--csv"] [] "
+      one of what is suspicious about the field, in words that change no answer, empty for most:
+      float, no-plus, zero-in-brackets, letters, two-numbers, date, zero-lost, other-region"
     "--prefix" "" "NAME" "" ["--csv"] [] "
       NAME stands in front of the name of each added column, as in NAMEe164. A table that has such
       a name already is refused"

@@ -54,6 +54,8 @@ pub struct Further<'w> {
     pub calling_code: bool,
     /// Whether national numbers are.
     pub national_number: bool,
+    /// Whether words of what is suspicious are.
+    pub suspicion: bool,
 }
 
 impl<'w> Further<'w> {
@@ -95,6 +97,7 @@ fn further_of<'w>(parts: &[Part<'w>]) -> Further<'w>
         extension: has(parts, "--extension"),
         calling_code: has(parts, "--calling-code"),
         national_number: has(parts, "--national-number"),
+        suspicion: has(parts, "--suspicion"),
     }
 }
 
