@@ -65,6 +65,10 @@ const DELIMITER: &str =
 /// What is told behind a word that names no rules.
 const RULES: &str = " names no rules: there are library and crate";
 
+/// What is told behind a word that names no encoding.
+const ENCODING: &str = " names no encoding: there are utf-8, utf-16, utf-16le, utf-16be, latin-1 \
+    and windows-1252";
+
 /// What is told behind a mode that goes with libphonenumber's rules alone.
 const LIBRARY: &str = " knows libphonenumber's rules alone";
 
@@ -84,6 +88,7 @@ fn say_why<E: ByteSink>(errors: &mut E, why: Why, word: &str, other: &str, value
         Why::Delimiter => say(errors, &[word, DELIMITER], 2),
         Why::Skipped => say(errors, &[word, " is no count of lines"], 2),
         Why::Rules => say(errors, &[word, RULES], 2),
+        Why::Encoding => say(errors, &[word, ENCODING], 2),
         Why::LibraryAlone => say(errors, &[word, LIBRARY], 2),
         Why::Memory => say(errors, &["out of memory"], 1),
     }

@@ -4,29 +4,33 @@ ghost use Rattle.std.specs.Prelude.{codes, is_some, option_map, false, true};
 ghost use Rattle.phone_cli.specs.Abouts.{Tells};
 ghost use Rattle.phone_cli.specs.Answers.{Answers, AnswersReading, Does, IsAsked, IsLoaded, reads};
 ghost use Rattle.phone_cli.specs.Commands.{AnswersInputs, Tables, found_form};
-ghost use Rattle.phone_cli.specs.Operands.{database_of, files_of, has_reader, is_misfit, region_of};
-ghost use Rattle.phone_cli.specs.Operands.{shorts_of};
+ghost use Rattle.phone_cli.specs.Operands.{database_of, files_of, has_reader, is_misfit};
+ghost use Rattle.phone_cli.specs.Operands.{names_read, region_of, shorts_of};
 ghost use Rattle.phone_cli.specs.Programs.{Acts};
 ghost use Rattle.phone_cli.specs.Statuses.{status_of};
 ghost use Rattle.phone_cli.specs.Streams.{Refuses, streams};
 ghost use Rattle.phone_commands.specs.Columns as columns;
+ghost use Rattle.phone_commands.specs.EncodedJobs.{ActsIn};
 ghost use Rattle.phone_commands.specs.Jobs.{TakesLines};
 ghost use Rattle.phone_commands.specs.ObjectLines.{after_one};
 ghost use Rattle.phone_commands.specs.declared.inputs.Failure.{Failure};
 ghost use Rattle.phone_lines.specs.Ends.{seen};
+ghost use Rattle.std.specs.List.{list_any};
+ghost use Rattle.std.specs.Str.{bytes_eq};
 ghost use Rattle.phone_words.specs.Help.{help_text};
 ghost use Rattle.phone_words.specs.Rows.{texts_of};
 ghost use Rattle.phone_words.specs.declared.command.Command.TheVariants as command;
 
 use crate::about::{write_regions, write_text, write_version};
+use crate::beside::{Place, Target, Unfinished, create_beside, place, put_in_place};
 use crate::failures::{say_failure, say_no_columns, say_refusal};
 use crate::operands::{hint_and_files, say_missing};
 use crate::outlet::Outlet;
 use crate::say::{say, say_firsts, say_records, say_word_error};
 use crate::written::is_read;
 use phone_commands::{
-    ByLines, Customers, Finder, FirstLines, FoundForm, Job, LineTaker, Loaded, Objects, Reader,
-    Report, Shorts, Typist, on_inputs,
+    ByLines, Customers, Encoded, Finder, FirstLines, FoundForm, Job, LineTaker, Loaded, Objects,
+    Reader, Report, Shorts, Typist, on_inputs,
 };
 use phone_device::{ByteSink, ByteSource, Fault, Std};
 use phone_engine::{Engine, Rules};
@@ -241,10 +245,83 @@ fn to_file<R: Files + AllocGlobal, S: ByteSource, E: ByteSink>(
     if is_read(rt, reading, name) {
         return say(errors, &[name, " is read, so it can't be written"], 2);
     }
+    match place(rt, name) {
+        Place::Itself => to_file_itself(rt, reading, name, input, errors),
+        Place::Beside(target) => to_file_beside(rt, reading, name, &target, input, errors),
+        Place::Nowhere => say(errors, &[name, " can't be written"], 1),
+    }
+}
+
+/// The program where a file is written that isn't one whose bytes are kept, as a pipe.
+fn to_file_itself<R: Files + AllocGlobal, S: ByteSource, E: ByteSink>(
+    rt: &R,
+    reading: Reading<'_, '_>,
+    name: &str,
+    input: &mut S,
+    errors: &mut E,
+) -> u8
+    ensures { (taken : Option (List ℕ)) → (faults unflushed : ℕ) →
+        reads reading.entry.call.now.command ≡ true →
+        is_misfit reading.entry.call.now.command reading.entry.hint reading.entry.files.now
+        ≡ false →
+        database_of reading.entry.call.now ≡ Some reading.entry.path →
+        reading.entry.call.now.output ≡ Some name.entry →
+        list_any (bytes_eq name.now) (names_read reading.entry.call.now reading.entry.path
+        reading.entry.files.now) ≡ false →
+        AnswersReading reading.entry.call.now reading.entry.hint reading.entry.files.now
+        (streams (seen (S.to_come input.old) (S.faults input.old) taken faults unflushed)
+        (E.taken errors.old) (E.faults errors.old))
+        (streams (seen (S.to_come input.new) (S.faults input.new) taken faults unflushed)
+        (E.taken errors.new) (E.faults errors.new))
+        result }
+{
     match fs::create(rt, name) {
         Ok(file) => on_reading(rt, reading, input, &mut Std::new(file), errors),
         Err(_) => say(errors, &[name, " can't be written"], 1),
     }
+}
+
+/// The program where another file is written, which takes the place of the one of the name when all
+/// went well, and else is removed.
+fn to_file_beside<R: Files + AllocGlobal, S: ByteSource, E: ByteSink>(
+    rt: &R,
+    reading: Reading<'_, '_>,
+    name: &str,
+    target: &Target,
+    input: &mut S,
+    errors: &mut E,
+) -> u8
+    ensures { (taken : Option (List ℕ)) → (faults unflushed : ℕ) →
+        reads reading.entry.call.now.command ≡ true →
+        is_misfit reading.entry.call.now.command reading.entry.hint reading.entry.files.now
+        ≡ false →
+        database_of reading.entry.call.now ≡ Some reading.entry.path →
+        reading.entry.call.now.output ≡ Some name.entry →
+        list_any (bytes_eq name.now) (names_read reading.entry.call.now reading.entry.path
+        reading.entry.files.now) ≡ false →
+        AnswersReading reading.entry.call.now reading.entry.hint reading.entry.files.now
+        (streams (seen (S.to_come input.old) (S.faults input.old) taken faults unflushed)
+        (E.taken errors.old) (E.faults errors.old))
+        (streams (seen (S.to_come input.new) (S.faults input.new) taken faults unflushed)
+        (E.taken errors.new) (E.faults errors.new))
+        result }
+{
+    let Some(unfinished) = create_beside(rt, target) else {
+        return say(errors, &[name, " can't be written"], 1);
+    };
+    let Unfinished { file, name: beside } = unfinished;
+    let mut sink = Std::new(file);
+    let status = on_reading(rt, reading, input, &mut sink, errors);
+    if put_in_place(
+        rt,
+        status,
+        &sink.device,
+        beside.as_str(),
+        target.name.as_str(),
+    ) {
+        return status;
+    }
+    say(errors, &[name, " can't be written"], 1)
 }
 
 /// The program where the output is there: the database is loaded.
@@ -417,14 +494,17 @@ fn run<R: Files + AllocGlobal, S: ByteSource, W: Outlet, E: ByteSink, J: Job>(
     output: &mut W,
     errors: &mut E,
 ) -> u8
-    ensures { (end : Result ⊤ Failure) × AnswersInputs J.acts reading.entry.files.now job.old
+    ensures { (end : Result ⊤ Failure) × AnswersInputs
+        (ActsIn reading.entry.call.now.encoding J.acts) reading.entry.files.now job.old
         (seen (S.to_come input.old) (S.faults input.old) (W.taken output.old)
         (W.faults output.old) (W.unflushed output.old))
         (seen (S.to_come input.new) (S.faults input.new) (W.taken output.new)
         (W.faults output.new) (W.unflushed output.new))
         job.new end × (result ≡ status_of end) }
 {
-    let end = on_inputs(rt, reading.files, input, output, job);
+    let encoding = reading.call.encoding;
+    let mut job = Encoded { job, encoding };
+    let end = on_inputs(rt, reading.files, input, output, &mut job);
     output.end_progress();
     match end {
         Ok(()) => 0,
@@ -442,7 +522,8 @@ fn run_lines<R: Files + AllocGlobal, S: ByteSource, W: Outlet, E: ByteSink, T: L
     errors: &mut E,
 ) -> u8
     ensures { (end : Result ⊤ Failure) × (last : T) × AnswersInputs
-        (TakesLines T.begins T.gives) reading.entry.files.now taker.old
+        (ActsIn reading.entry.call.now.encoding (TakesLines T.begins T.gives))
+        reading.entry.files.now taker.old
         (seen (S.to_come input.old) (S.faults input.old) (W.taken output.old)
         (W.faults output.old) (W.unflushed output.old))
         (seen (S.to_come input.new) (S.faults input.new) (W.taken output.new)
@@ -570,8 +651,9 @@ fn run_table<R: Files + AllocGlobal, S: ByteSource, W: Outlet, E: ByteSink>(
     output: &mut W,
     errors: &mut E,
 ) -> u8
-    ensures { (end : Result ⊤ Failure) × AnswersInputs (Tables
-        job.old.engine.rules job.old.engine.database.now job.old.engine.hint job.old.asked)
+    ensures { (end : Result ⊤ Failure) × AnswersInputs
+        (ActsIn reading.entry.call.now.encoding (Tables
+        job.old.engine.rules job.old.engine.database.now job.old.engine.hint job.old.asked))
         reading.entry.files.now job.old.counts
         (seen (S.to_come input.old) (S.faults input.old) (W.taken output.old)
         (W.faults output.old) (W.unflushed output.old))

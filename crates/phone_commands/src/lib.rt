@@ -5,6 +5,7 @@
 
 mod columns;
 mod customers;
+mod encoded;
 mod finder;
 mod inputs;
 mod jobs;
@@ -17,6 +18,7 @@ mod typist;
 
 pub use columns::{Loaded, LoadedColumn, NoColumns};
 pub use customers::Customers;
+pub use encoded::Encoded;
 pub use finder::{Finder, FoundForm};
 pub use inputs::{Failure, is_standard, on_inputs};
 pub use jobs::{ByLines, Job, JobError, Report};

@@ -44,7 +44,7 @@ macro_rules! rows {
 
 /// The options, each by its name, its name of one letter, what its value is, the word beside which
 /// it counts, what it needs, what it doesn't go with, and its help.
-pub(crate) const ROWS: [Cells; 28] = rows! {
+pub(crate) const ROWS: [Cells; 29] = rows! {
     "--json" "" "" "" [] ["--unique" "--typed" "--short"] "
       a JSON object a line: the line's number and text, and the fields that --csv gives; with
       --find an object for each number: line, column, text, those fields but the refusal, and
@@ -115,6 +115,9 @@ pub(crate) const ROWS: [Cells; 28] = rows! {
       that of short numbers"
     "--output" "-o" "FILE" "" [] [] "
       what is written goes there"
+    "--encoding" "" "NAME" "" [] [] "
+      the encoding of the inputs, in place of utf-8: utf-16 (its mark tells the order of its bytes),
+      utf-16le, utf-16be, latin-1 or windows-1252. What is written is UTF-8"
     "--skipped" "" "N" "" [] [] "
       lines are counted as if N stood before them (of a table: after its header)"
     "--regions" "" "" "" [] [] "
