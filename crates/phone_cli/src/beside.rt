@@ -30,7 +30,7 @@ pub(crate) struct Target {
 
 /// Where the output goes that is to be in a file of this name. A link stays: what it leads to is
 /// the file.
-pub(crate) fn place<R: Files + AllocGlobal>(rt: &R, name: &str) -> Place {
+pub(crate) fn place_of<R: Files + AllocGlobal>(rt: &R, name: &str) -> Place {
     match fs::metadata(rt, name) {
         Ok(metadata) if metadata.is_file() => place_of_file(rt, name, metadata),
         Ok(_) => Place::Itself,

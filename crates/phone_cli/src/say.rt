@@ -127,10 +127,18 @@ fn write_columns<E: ByteSink>(
     write_str(errors, "\n")
 }
 
-/// Tells that a header lacks a column, and gives the status.
+/// Whether a header begins with the mark of UTF-16.
+fn is_utf_16(header: &ByteRecord) -> bool {
+    matches!(header.get(0), Some([0xFF, 0xFE, ..] | [0xFE, 0xFF, ..]))
+}
+
+/// Tells that a header lacks a column, or that it is UTF-16, and gives the status.
 pub(crate) fn say_columns<E: ByteSink>(errors: &mut E, name: &str, header: &ByteRecord) -> u8
     ensures { result ≡ 2 }
 {
+    if is_utf_16(header) {
+        return say(errors, &["the input is UTF-16: --encoding utf-16 reads it"], 2);
+    }
     let _written = write_columns(errors, name, header);
     2
 }

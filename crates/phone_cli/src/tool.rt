@@ -22,7 +22,7 @@ ghost use Rattle.phone_words.specs.Rows.{texts_of};
 ghost use Rattle.phone_words.specs.declared.command.Command.TheVariants as command;
 
 use crate::about::{write_regions, write_text, write_version};
-use crate::beside::{Place, Target, Unfinished, create_beside, place, put_in_place};
+use crate::beside::{Place, Target, Unfinished, create_beside, place_of, put_in_place};
 use crate::failures::{say_failure, say_no_columns, say_refusal};
 use crate::operands::{hint_and_files, say_missing};
 use crate::outlet::Outlet;
@@ -245,7 +245,7 @@ fn to_file<R: Files + AllocGlobal, S: ByteSource, E: ByteSink>(
     if is_read(rt, reading, name) {
         return say(errors, &[name, " is read, so it can't be written"], 2);
     }
-    match place(rt, name) {
+    match place_of(rt, name) {
         Place::Itself => to_file_itself(rt, reading, name, input, errors),
         Place::Beside(target) => to_file_beside(rt, reading, name, &target, input, errors),
         Place::Nowhere => say(errors, &[name, " can't be written"], 1),

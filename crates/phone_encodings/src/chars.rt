@@ -1,6 +1,7 @@
 //! The first character of bytes.
 ghost use Rattle.std.specs.Prelude.{◌≡◌, ◌<◌, ◌≤◌, ◌++◌, ◌∷◌, ◌&&◌, [], ℕ, List, length};
-ghost use Rattle.std.specs.Prelude.{IfSome, IsNone, MatchOption, Some, drop, false, if◌then◌else◌};
+ghost use Rattle.std.specs.Prelude.{IfSome, IsNone, MatchOption, None, Some, drop, false, true};
+ghost use Rattle.std.specs.Prelude.{if◌then◌else◌};
 ghost use Rattle.std.specs.Char.Utf16.{is_high_surrogate, is_low_surrogate};
 ghost use Rattle.std.specs.Char.Utf16.{surrogate_pair_char};
 ghost use Rattle.phone_encodings.specs.Encodings.{IsFirst, characters, unit, windows_1252};
@@ -15,10 +16,11 @@ use crate::encoding::{Encoding, Order};
 const REPLACEMENT: char = '\u{FFFD}';
 
 /// The characters of the bytes 128 to 159 in Windows-1252.
-const FROM_128: [u16; 32] = [
-    0x20AC, 0x0081, 0x201A, 0x0192, 0x201E, 0x2026, 0x2020, 0x2021, 0x02C6, 0x2030, 0x0160, 0x2039,
-    0x0152, 0x008D, 0x017D, 0x008F, 0x0090, 0x2018, 0x2019, 0x201C, 0x201D, 0x2022, 0x2013, 0x2014,
-    0x02DC, 0x2122, 0x0161, 0x203A, 0x0153, 0x009D, 0x017E, 0x0178,
+const FROM_128: [char; 32] = [
+    '\u{20AC}', '\u{81}', '\u{201A}', '\u{192}', '\u{201E}', '\u{2026}', '\u{2020}', '\u{2021}',
+    '\u{2C6}', '\u{2030}', '\u{160}', '\u{2039}', '\u{152}', '\u{8D}', '\u{17D}', '\u{8F}',
+    '\u{90}', '\u{2018}', '\u{2019}', '\u{201C}', '\u{201D}', '\u{2022}', '\u{2013}', '\u{2014}',
+    '\u{2DC}', '\u{2122}', '\u{161}', '\u{203A}', '\u{153}', '\u{9D}', '\u{17E}', '\u{178}',
 ];
 
 /// The character of a byte in Windows-1252.
@@ -26,7 +28,7 @@ fn windows_1252(byte: u8) -> char
     ensures { result ≡ windows_1252 byte }
 {
     if 0x80 <= byte && byte < 0xA0 {
-        return lone(FROM_128[usize::from(byte - 0x80)]);
+        return FROM_128[usize::from(byte - 0x80)];
     }
     char::from(byte)
 }

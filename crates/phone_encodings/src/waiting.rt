@@ -34,6 +34,35 @@ fn move_to_front(room: &mut [u8], from: usize, to: usize)
     room.rotate_left(from);
 }
 
+/// Puts bytes behind those of a room between two places.
+fn put(room: &mut [u8], from: usize, to: usize, bytes: &[u8])
+    requires { (from ≤ to) × (to + length bytes.now ≤ length room.old) }
+    ensures put { take (to + length bytes.now - from) (drop from room.new) ≡
+        take (to - from) (drop from room.old) ++ bytes.now }
+    ensures room { length room.new ≡ length room.old }
+{
+    room[to..to + bytes.len()].copy_from_slice(bytes);
+}
+
+/// Reads once, behind this place of a room.
+fn read_at<S: ByteSource>(source: &mut S, room: &mut [u8], at: usize) -> Result<usize, Fault>
+    requires { at ≤ length room.old }
+    ensures passes { IfOk result (λ n. (read : List ℕ) × (length read ≡ n) ×
+        (take (at + n) room.new ≡ take at room.old ++ read) ×
+        Passes (S.to_come source.old) read (S.to_come source.new)) }
+    ensures within { IfOk result (λ n. at + n ≤ length room.old) }
+    ensures end { IfOk result (λ n. n ≡ 0 → at < length room.old →
+        IsAtEnd (S.to_come source.old)) }
+    ensures no_fault { OnOk result (S.faults source.new ≡ S.faults source.old) }
+    ensures fault { OnErr result (S.faults source.new ≡ S.faults source.old + 1) }
+    ensures kept { OnErr result (S.to_come source.new ≡ S.to_come source.old) }
+    ensures same { OnErr result (take at room.new ≡ take at room.old) }
+    ensures room { length room.new ≡ length room.old }
+{
+    let n = source.read(&mut room[at..])?;
+    Ok(n)
+}
+
 impl Waiting {
     /// No bytes.
     pub fn new() -> Waiting
@@ -74,9 +103,8 @@ impl Waiting {
         if BLOCK_LENGTH - self.filled < bytes.len() {
             return false;
         }
-        let end = self.filled + bytes.len();
-        self.room[self.filled..end].copy_from_slice(bytes);
-        self.filled = end;
+        put(&mut self.room, self.passed, self.filled, bytes);
+        self.filled += bytes.len();
         true
     }
 
@@ -95,7 +123,7 @@ impl Waiting {
         move_to_front(&mut self.room, self.passed, self.filled);
         self.filled -= self.passed;
         self.passed = 0;
-        let n = source.read(&mut self.room[self.filled..])?;
+        let n = read_at(source, &mut self.room, self.filled)?;
         self.filled += n;
         Ok(n)
     }
