@@ -58,7 +58,8 @@ ReportActs r before after r' result = AnswersLines
     (IsReportLine r.reader.engine.rules r.reader.engine.database.now r.reader.engine.hint)
     before after result × (r' ≡ r)
 
-pub report_by : (e : Option Encoding) (files : List Name) (r : Report) (before after : Devices) (last : Report)
+pub report_by : (e : Option Encoding) (files : List Name) (r : Report) (before after : Devices)
+    (last : Report)
     (end : Result ⊤ Failure) → AnswersInputs (ActsIn e ReportActs) files r before after last end →
     AnswersInputs (ActsIn e (Reports r.reader.engine.rules r.reader.engine.database.now
     r.reader.engine.hint)) files tt before after tt end
@@ -82,10 +83,13 @@ abbrev pub ReaderGives : Reader → ℕ → List ℕ → List ℕ → ℕ → Ty
 ReaderGives r = GivesObjects r.engine.rules r.engine.database.now
     (option_map (λ d. d.now) r.short) r.engine.hint
 
-pub objects_by : (e : Option Encoding) (files : List Name) (o : Objects) (before after : Devices) (last : Objects)
+pub objects_by : (e : Option Encoding) (files : List Name) (o : Objects) (before after : Devices)
+    (last : Objects)
     (end : Result ⊤ Failure) →
-    AnswersInputs (ActsIn e (TakesLines begins_with_nothing ObjectsGive)) files o before after last end →
-    AnswersInputs (ActsIn e (TakesLines begins_with_nothing (ReaderGives o.reader))) files o.place before
+    AnswersInputs (ActsIn e (TakesLines begins_with_nothing ObjectsGive)) files o before after last
+    end →
+    AnswersInputs (ActsIn e (TakesLines begins_with_nothing (ReaderGives o.reader))) files o.place
+    before
     after last.place end
 objects_by e files o before after last end =
     answers_in (TakesLines begins_with_nothing ObjectsGive)
@@ -120,7 +124,8 @@ FinderGives f line answer after = IsFoundLine f.reader.engine.rules
 abbrev pub finding : Finder → Finding
 finding f = record { place = f.place; begun = f.begun }
 
-abbrev pub ReaderFinds : Reader → FoundForm → List Name → Finding → List ℕ → List ℕ → Finding → Type 0
+abbrev pub ReaderFinds : Reader → FoundForm → List Name → Finding → List ℕ → List ℕ → Finding →
+    Type 0
 ReaderFinds r form names =
     GivesFound r.engine.rules r.engine.database.now r.engine.hint form names
 
@@ -168,7 +173,8 @@ finder_given f a line answer b h is =
     a.place line answer) (ap (λ n. n.now) h.names) by_form in
     ((by_names, ap finding is.1), after_same f a b (after_one a.place) a.begun h is.1)
 
-pub found_by : (e : Option Encoding) (files : List Name) (f : Finder) (before after : Devices) (last : Finder)
+pub found_by : (e : Option Encoding) (files : List Name) (f : Finder) (before after : Devices)
+    (last : Finder)
     (end : Result ⊤ Failure) →
     AnswersInputs (ActsIn e (TakesLines FinderBegins FinderGives)) files f before after last end →
     AnswersInputs (ActsIn e (TakesLines (BeginsFound f.form f.names.now f.first)
@@ -187,11 +193,14 @@ abbrev pub TypistGives : Typist → List ℕ → List ℕ → Typist → Type 0
 TypistGives t line answer after =
     (answer ≡ typed_line t.field line) × (after.field ≡ after_line t.field line)
 
-pub typed_by : (e : Option Encoding) (files : List Name) (t : Typist) (db : List Metadata) (hint : Option Id)
+pub typed_by : (e : Option Encoding) (files : List Name) (t : Typist) (db : List Metadata) (hint :
+    Option Id)
     (before after : Devices) (last : Typist) (end : Result ⊤ Failure) →
     t.field ≡ record { database = db; hint = hint; keys = [] } →
-    AnswersInputs (ActsIn e (TakesLines begins_with_nothing TypistGives)) files t before after last end →
-    AnswersInputs (ActsIn e (TakesLines begins_with_nothing (GivesTyped db hint))) files tt before after tt
+    AnswersInputs (ActsIn e (TakesLines begins_with_nothing TypistGives)) files t before after last
+    end →
+    AnswersInputs (ActsIn e (TakesLines begins_with_nothing (GivesTyped db hint))) files tt before
+    after tt
     end
 typed_by e files t db hint before after last end is =
     let field : Field = record { database = db; hint = hint; keys = [] } in
@@ -210,10 +219,13 @@ typed_by e files t db hint before after last end is =
 abbrev pub ShortsGive : Shorts → List ℕ → List ℕ → Shorts → Type 0
 ShortsGive = each_by_itself (λ (s : Shorts). IsShortLine s.database.now s.region)
 
-pub short_by : (e : Option Encoding) (files : List Name) (s : Shorts) (before after : Devices) (last : Shorts)
+pub short_by : (e : Option Encoding) (files : List Name) (s : Shorts) (before after : Devices)
+    (last : Shorts)
     (end : Result ⊤ Failure) →
-    AnswersInputs (ActsIn e (TakesLines begins_with_nothing ShortsGive)) files s before after last end →
-    AnswersInputs (ActsIn e (TakesLines begins_with_nothing (GivesShorts s.database.now s.region))) files tt
+    AnswersInputs (ActsIn e (TakesLines begins_with_nothing ShortsGive)) files s before after last
+    end →
+    AnswersInputs (ActsIn e (TakesLines begins_with_nothing (GivesShorts s.database.now s.region)))
+    files tt
     before after tt end
 short_by e files s before after last end =
     answers_in (TakesLines begins_with_nothing ShortsGive)
@@ -262,10 +274,12 @@ customers_act c a before after b end h act =
       },
     )
 
-pub table_by : (e : Option Encoding) (files : List Name) (c : Customers) (before after : Devices) (last : Customers)
+pub table_by : (e : Option Encoding) (files : List Name) (c : Customers) (before after : Devices)
+    (last : Customers)
     (end : Result ⊤ Failure) →
     AnswersInputs (ActsIn e CustomersAct) files c before after last end →
-    AnswersInputs (ActsIn e (EngineAnswers c.engine c.asked)) files c.counts before after last.counts end
+    AnswersInputs (ActsIn e (EngineAnswers c.engine c.asked)) files c.counts before after
+    last.counts end
 table_by e files c before after last end =
     answers_in CustomersAct (EngineAnswers c.engine c.asked)
     (λ k. k.counts) (IsTableOf c) (customers_act c) e files c before after last end

@@ -97,10 +97,12 @@ pub report_runs : (c : Call) (hint : Option Id) (files : List Name) (r : Report)
 report_runs c hint files r before after last end is rules under act =
     let db = r.reader.engine.database.now in
     let own = report_by c.encoding files r before after last end act in
-    let by_rules = subst (λ x. AnswersInputs (ActsIn c.encoding (Reports x db r.reader.engine.hint)) files tt before
+    let by_rules = subst (λ x. AnswersInputs (ActsIn c.encoding (Reports x db
+    r.reader.engine.hint)) files tt before
     after tt end) rules own in
     report db is
-    (subst (λ x. AnswersInputs (ActsIn c.encoding (Reports c.rules db x)) files tt before after tt end) under by_rules)
+    (subst (λ x. AnswersInputs (ActsIn c.encoding (Reports c.rules db x)) files tt before after tt
+    end) under by_rules)
 
 -- objects
 pub objects_runs : (c : Call) (hint : Option Id) (files : List Name) (o : Objects)
@@ -109,7 +111,8 @@ pub objects_runs : (c : Call) (hint : Option Id) (files : List Name) (o : Object
     IsLoaded (shorts_of c) shorts → o.reader.engine.rules ≡ c.rules →
     o.reader.engine.hint ≡ hint → option_map (λ d. d.now) o.reader.short ≡ shorts →
     o.place ≡ after_one c.skipped →
-    AnswersInputs (ActsIn c.encoding (TakesLines begins_with_nothing ObjectsGive)) files o before after last end →
+    AnswersInputs (ActsIn c.encoding (TakesLines begins_with_nothing ObjectsGive)) files o before
+    after last end →
     Runs c hint files before after end
 objects_runs c hint files o shorts before after last end is loaded rules under with place act =
     let db = o.reader.engine.database.now in
@@ -132,7 +135,8 @@ pub found_runs : (c : Call) (hint : Option Id) (files : List Name) (f : Finder)
     finds c.command ≡ true → f.reader.engine.rules ≡ c.rules → f.reader.engine.hint ≡ hint →
     f.form ≡ found_form c.command → f.first ≡ after_one c.skipped →
     f.place ≡ after_one c.skipped → f.names.now ≡ files → f.begun ≡ 0 →
-    AnswersInputs (ActsIn c.encoding (TakesLines FinderBegins FinderGives)) files f before after last end →
+    AnswersInputs (ActsIn c.encoding (TakesLines FinderBegins FinderGives)) files f before after
+    last end →
     Runs c hint files before after end
 found_runs c hint files f before after last end is rules under form first place names begun act =
     let db = f.reader.engine.database.now in
@@ -160,7 +164,8 @@ found_runs c hint files f before after last end is rules under form first place 
 pub typed_runs : (c : Call) (hint : Option Id) (files : List Name) (t : Typist)
     (db : List Metadata) (before after : Devices) (last : Typist) (end : Result ⊤ Failure) →
     c.command ≡ command.Typed → t.field ≡ record { database = db; hint = hint; keys = [] } →
-    AnswersInputs (ActsIn c.encoding (TakesLines begins_with_nothing TypistGives)) files t before after last end →
+    AnswersInputs (ActsIn c.encoding (TakesLines begins_with_nothing TypistGives)) files t before
+    after last end →
     Runs c hint files before after end
 typed_runs c hint files t db before after last end is field act =
     typed db is (typed_by c.encoding files t db hint before after last end field act)
@@ -169,7 +174,8 @@ typed_runs c hint files t db before after last end is field act =
 pub short_runs : (c : Call) (hint : Option Id) (files : List Name) (s : Shorts)
     (before after : Devices) (last : Shorts) (end : Result ⊤ Failure) →
     c.command ≡ command.Short → hint ≡ Some s.region →
-    AnswersInputs (ActsIn c.encoding (TakesLines begins_with_nothing ShortsGive)) files s before after last end →
+    AnswersInputs (ActsIn c.encoding (TakesLines begins_with_nothing ShortsGive)) files s before
+    after last end →
     Runs c hint files before after end
 short_runs c hint files s before after last end is region act =
     short s.database.now s.region is region (short_by c.encoding files s before after last end act)
@@ -179,11 +185,13 @@ pub firsts_runs : (c : Call) (hint : Option Id) (files : List Name) (db : List M
     (f : FirstLines) (before after : Devices) (last : FirstLines) (end : Result ⊤ Failure) →
     c.command ≡ command.Unique → is_prefix_free db ≡ true →
     f ≡ no_first_lines db c.rules hint →
-    AnswersInputs (ActsIn c.encoding (TakesLines begins_with_nothing IsFirstLine)) files f before after last end →
+    AnswersInputs (ActsIn c.encoding (TakesLines begins_with_nothing IsFirstLine)) files f before
+    after last end →
     Runs c hint files before after end
 firsts_runs c hint files db f before after last end is free none act =
     firsts db last is free
-    (subst (λ x. AnswersInputs (ActsIn c.encoding (TakesLines begins_with_nothing IsFirstLine)) files x before after
+    (subst (λ x. AnswersInputs (ActsIn c.encoding (TakesLines begins_with_nothing IsFirstLine))
+    files x before after
     last end) none act)
 
 -- a table
@@ -192,15 +200,19 @@ pub table_runs : (c : Call) (hint : Option Id) (files : List Name) (k : Customer
     (end : Result ⊤ Failure) → c.command ≡ command.Table →
     IsLoaded (shorts_of c) shorts → IsAsked c.table shorts k.asked →
     k.engine.rules ≡ c.rules → k.engine.hint ≡ hint → k.counts ≡ no_counts →
-    AnswersInputs (ActsIn c.encoding (Tables k.engine.rules k.engine.database.now k.engine.hint k.asked)) files
+    AnswersInputs (ActsIn c.encoding (Tables k.engine.rules k.engine.database.now k.engine.hint
+    k.asked)) files
     k.counts before after last end →
     Runs c hint files before after end
 table_runs c hint files k shorts before after last end is loaded asked rules under none act =
     let db = k.engine.database.now in
-    let by_rules = subst (λ x. AnswersInputs (ActsIn c.encoding (Tables x db k.engine.hint k.asked)) files k.counts
+    let by_rules = subst (λ x. AnswersInputs (ActsIn c.encoding (Tables x db k.engine.hint
+    k.asked)) files k.counts
     before after last end) rules act in
-    let by_hint = subst (λ x. AnswersInputs (ActsIn c.encoding (Tables c.rules db x k.asked)) files k.counts before
+    let by_hint = subst (λ x. AnswersInputs (ActsIn c.encoding (Tables c.rules db x k.asked)) files
+    k.counts before
     after last end) under by_rules in
     table db shorts k.asked last is loaded asked
-    (subst (λ x. AnswersInputs (ActsIn c.encoding (Tables c.rules db hint k.asked)) files x before after last end)
+    (subst (λ x. AnswersInputs (ActsIn c.encoding (Tables c.rules db hint k.asked)) files x before
+    after last end)
     none by_hint)

@@ -33,7 +33,7 @@ use Rattle.phone_cli.specs.Operands.{database_of, files_of, is_misfit, names_rea
 use Rattle.phone_cli.specs.Operands.{shorts_of}
 use Rattle.phone_cli.specs.Statuses.{status_of}
 use Rattle.phone_cli.specs.Streams.{IsSinkKept, Refuses, RefusesBySome, Says, Streams}
-use Rattle.phone_cli.specs.Streams.{into_file}
+use Rattle.phone_cli.specs.Streams.{into_file, streams}
 
 -- the database of short numbers is there where a file of it is named, and only there
 abbrev pub IsLoaded : Option Lent → Option (List Metadata) → Type 0
@@ -93,7 +93,8 @@ pub data Runs (c : Call) (hint : Option Id) (files : List Name) (before after : 
   table : (db : List Metadata) → (short : Option (List Metadata)) → (asked : Asked) →
       (last : Counts) → c.command ≡ command.Table →
       IsLoaded (shorts_of c) short → IsAsked c.table short asked →
-      AnswersInputs (ActsIn c.encoding (Tables c.rules db hint asked)) files no_counts before after last end →
+      AnswersInputs (ActsIn c.encoding (Tables c.rules db hint asked)) files no_counts before
+      after last end →
       Runs c hint files before after end
 
 -- what a call does once it reads and writes, and its status: a database or a table of prefixes is
@@ -148,9 +149,9 @@ pub data AnswersReading (c : Call) (hint : Option Id) (files : List Name)
       list_any (bytes_eq name.now) (names_read c database files) ≡ false →
       IsSinkKept before.devices after.devices →
       Does c hint files (record before { devices = into_file before.devices 0 0 })
-      (record { devices = into_file after.devices faults unflushed; told = told; told_faults = told_faults }) 0 →
+      (streams (into_file after.devices faults unflushed) told told_faults) 0 →
       Says (name.now ++ codes " can't be written")
-      (record after { told = told; told_faults = told_faults }) after →
+      (streams after.devices told told_faults) after →
       AnswersReading c hint files before after 1
 
 -- what a call does, and its status: it tells of itself, or it reads numbers under the region and

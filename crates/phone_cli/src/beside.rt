@@ -75,7 +75,7 @@ pub(crate) struct Unfinished<F> {
     pub name: String,
 }
 
-/// Makes a file beside another one, under the first number that no file has, and for the same users.
+/// Makes a file beside another one, for the same users, under the first number that no file has.
 /// None where none can be made there.
 pub(crate) fn create_beside<R: Files + AllocGlobal>(
     rt: &R,

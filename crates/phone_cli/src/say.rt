@@ -137,7 +137,11 @@ pub(crate) fn say_columns<E: ByteSink>(errors: &mut E, name: &str, header: &Byte
     ensures { result ≡ 2 }
 {
     if is_utf_16(header) {
-        return say(errors, &["the input is UTF-16: --encoding utf-16 reads it"], 2);
+        return say(
+            errors,
+            &["the input is UTF-16: --encoding utf-16 reads it"],
+            2,
+        );
     }
     let _written = write_columns(errors, name, header);
     2

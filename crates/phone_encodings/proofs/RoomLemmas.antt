@@ -2,9 +2,10 @@
 use Rattle.std.proofs.Common.{◌≡◌, ℕ, ◌+◌, ◌-◌, ◌≤◌, List, ◌++◌, ap, arith, drop, length, sym}
 use Rattle.std.proofs.Common.{refl, take, ◌∙◌}
 use Rattle.std.proofs.lemmas.List.{drop-append-le, drop-drop, drop-take, length-take}
-use Rattle.std.proofs.lemmas.List.{length-take-le}
+use Rattle.std.proofs.lemmas.List.{length-take-le, take-append-le}
+use Rattle.std.proofs.Math.Seq.{take-append-add}
 use Rattle.std.proofs.lemmas.Slice.{take-put_mid}
-use borrow.Rule.Slice.PartMut.{put_mid}
+use borrow.Rule.Slice.PartMut.{post_of, put_mid}
 
 -- a front is as long as it is asked for at most
 pub front_most : (n : ℕ) (xs : List ℕ) → length (take n xs) ≤ n
@@ -38,3 +39,11 @@ put_view room ys p f k from within =
     ap (drop p) (take-put_mid f k room ys all refl within) ∙
     drop-append-le p (take f room) ys long ∙
     ap (λ x. x ++ ys) (sym (between_places room p f from))
+
+-- some were read behind a place
+pub read_view : (room buf : List ℕ) (at k n : ℕ) → at ≤ length room → n ≤ length buf →
+    take (at + n) (put_mid at k room buf) ≡ take at room ++ take n buf
+read_view room buf at k n from within =
+    ap (λ l. take (l + n) (put_mid at k room buf)) (sym (length-take-le at room from)) ∙
+    take-append-add (take at room) (buf ++ post_of at k room) n ∙
+    ap (λ x. take at room ++ x) (take-append-le n buf (post_of at k room) within)

@@ -66,7 +66,7 @@ impl<'s, S: ByteSource> Decoded<'s, S> {
         fill_up(&mut self.held, self.source)?;
         self.encoding = known(self.encoding, self.held.bytes());
         decode(self.encoding, &mut self.held, &mut self.text);
-        if self.text.bytes().is_empty() {
+        if self.text.is_empty() {
             decode_left_over(&mut self.held, &mut self.text);
         }
         Ok(())
@@ -137,9 +137,10 @@ impl<'s, S: ByteSource> ByteSource for Decoded<'s, S> {
     ghost faults = { λ d. S.faults d.source };
 
     fn read(&mut self, buf: &mut [u8]) -> Result<usize, Fault> {
-        if self.text.bytes().is_empty() {
-            self.decode_more()?;
+        if !self.text.is_empty() {
+            return Ok(self.text.give(buf));
         }
+        self.decode_more()?;
         Ok(self.text.give(buf))
     }
 }

@@ -7,4 +7,4 @@ mod encoding;
 mod waiting;
 
 pub use decoded::Decoded;
-pub use encoding::Encoding;
+pub use encoding::{Encoding, Order};

@@ -82,6 +82,14 @@ impl Waiting {
         &self.room[self.passed..self.filled]
     }
 
+    /// Whether there are none.
+    pub fn is_empty(&self) -> bool
+        ensures none { result ≡ true → self.now ≡ [] }
+        ensures some { result ≡ false → ¬ (self.now ≡ []) }
+    {
+        self.bytes().is_empty()
+    }
+
     /// Leaves out the first n bytes.
     pub fn pass(&mut self, n: usize)
         requires { n ≤ length self.old }

@@ -21,9 +21,9 @@ abbrev pub other_named : List ℕ → Option Encoding
 other_named name =
     if str_eq_ignore_ascii_case name (codes "utf-16") then Some encoding.Utf16 else
     if str_eq_ignore_ascii_case name (codes "utf-16le")
-        then Some (encoding.Utf16In LowFirst) else
+    then Some (encoding.Utf16In LowFirst) else
     if str_eq_ignore_ascii_case name (codes "utf-16be")
-        then Some (encoding.Utf16In HighFirst) else
+    then Some (encoding.Utf16In HighFirst) else
     if str_eq_ignore_ascii_case name (codes "latin-1") then Some encoding.Latin1 else
     if str_eq_ignore_ascii_case name (codes "windows-1252") then Some encoding.Windows1252 else None
 

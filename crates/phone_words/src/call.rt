@@ -1,7 +1,7 @@
 //! Words as a call: what is asked for, with what it needs.
 ghost use Rattle.std.specs.Prelude.{◌≡◌, ◌⊎◌, IfErr, IfOk, Err};
-ghost use Rattle.phone_words.specs.Calls.{IsCall, IsCallIn, IsNoCall, delimiter_of, encoding_of, known};
-ghost use Rattle.phone_words.specs.Calls.{meaning_in, rules_of, skipped_of};
+ghost use Rattle.phone_words.specs.Calls.{IsCall, IsCallIn, IsNoCall, delimiter_of, encoding_of};
+ghost use Rattle.phone_words.specs.Calls.{known, meaning_in, rules_of, skipped_of};
 ghost use Rattle.phone_words.specs.Parts.{all_said, fault, told};
 ghost use Rattle.phone_words.specs.Rows.{texts_of};
 ghost use Rattle.phone_words.specs.declared.parts.Why.TheVariants as why;

@@ -1,7 +1,7 @@
 //! The values that words are: rules, encodings, counts of lines, bytes between fields.
 ghost use Rattle.std.specs.Prelude.{◌≡◌};
-ghost use Rattle.phone_words.specs.Values.{count_named, delimiter_named, encoding_named, other_named};
-ghost use Rattle.phone_words.specs.Values.{rules_named};
+ghost use Rattle.phone_words.specs.Values.{count_named, delimiter_named, encoding_named};
+ghost use Rattle.phone_words.specs.Values.{other_named, rules_named};
 
 use phone_csv::is_delimiter;
 use phone_encodings::{Encoding, Order};
