@@ -1,4 +1,4 @@
-use Rattle.std.proofs.Common.{◌≡◌, ◌<◌, ◌++◌, ap, length, subst, sym, ◌∙◌}
+use Rattle.std.proofs.Common.{◌≡◌, ◌<◌, ℕ, List, ◌++◌, ap, length, subst, sym, ◌∙◌}
 use Rattle.phone_encodings.specs.Decodings.{text_to_come}
 use Rattle.phone_encodings.specs.Encodings.{characters, decoded}
 use Rattle.phone_encodings.proofs.DecodedLemmas.{coming, none_left, read_last}
@@ -15,7 +15,9 @@ returns-then-is_empty-clause-to_come g c =
     let done = c.decode.ensures.done (c.is_empty.ensures.none c.if-is_empty.true) in
     let few = subst (λ x. length x < 4) done.0 (unfinished_few _ f done.1) in
     let end = c.in_ok-fill_up.ensures.enough few in
-    let known = λ more. subst (λ x. characters f (x ++ more) ≡ characters w.encoding (x ++ more))
+    let known : (more : List ℕ) → characters f ((w.held ++ r.0) ++ more) ≡
+    characters w.encoding ((w.held ++ r.0) ++ more) =
+    λ more. subst (λ x. characters f (x ++ more) ≡ characters w.encoding (x ++ more))
     (c.bytes.ensures ∙ r.1) (c.known-self-inside.ensures.same more) in
     let last = c.decode_left_over.ensures.to_come f done.1 ∙ ap (decoded f) (done.0 ∙ r.1) in
     read_last w.held r.0 c.decode_left_over.new.text c.decode_left_over.new.held w.encoding f
