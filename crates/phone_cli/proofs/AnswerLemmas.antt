@@ -20,7 +20,9 @@ use Rattle.phone_commands.specs.declared.jobs.Report.{Report}
 use Rattle.phone_commands.specs.declared.reader.Reader.{Reader}
 use Rattle.phone_commands.specs.declared.shorts.Shorts.{Shorts}
 use Rattle.phone_commands.specs.declared.takers.Objects.{Objects}
+use Rattle.phone_commands.specs.WithInputs.{IsWithInput}
 use Rattle.phone_commands.specs.declared.typist.Typist.{Typist}
+use Rattle.phone_commands.specs.declared.with_input.WithInput.{WithInput}
 use Rattle.phone_encodings.specs.declared.encoding.Encoding.{Encoding}
 use Rattle.phone_engine.specs.ReportLines.{IsReportLine}
 use Rattle.phone_engine.specs.declared.engine.Engine.{Engine}
@@ -32,7 +34,7 @@ use Rattle.phone_table.specs.declared.run.Asked.{Asked}
 use Rattle.phone_typed.specs.Fields.{Field}
 use Rattle.phone_values.specs.declared.country.Id.{Id}
 use Rattle.phone_cli.specs.Commands.{AnswersInputs, BeginsFound, Finding, GivesFound}
-use Rattle.phone_cli.specs.Commands.{GivesObjects, GivesShorts, GivesTyped, Reports, Tables}
+use Rattle.phone_cli.specs.Commands.{GivesObjects, GivesShorts, GivesTyped, GivesWithInput, Reports, Tables}
 use Rattle.phone_cli.specs.Commands.AnswersInputs.{named, standard}
 use Rattle.phone_cli.proofs.Carried.{answers_in, lines_by}
 
@@ -214,6 +216,36 @@ typed_by e files t db hint before after last end is =
       s.0 ∙ ap (λ f. barred (shown_after_each f (typed_chars line)) ++ 10 ∷ []) h,
       ap emptied s.1 ∙ h,
     ))) e files t before after last end (ap emptied is)
+
+-- the report, with the lines
+abbrev pub WithInputGives : WithInput → List ℕ → List ℕ → WithInput → Type 0
+WithInputGives = each_by_itself (λ (w : WithInput). IsWithInput w.engine.rules w.engine.database.now w.engine.hint)
+
+pub with_input_by : (e : Option Encoding) (files : List Name) (w : WithInput)
+    (before after : Devices) (last : WithInput) (end : Result ⊤ Failure) →
+    AnswersInputs (ActsIn e (TakesLines begins_with_nothing WithInputGives)) files w before
+    after last end →
+    AnswersInputs (ActsIn e (TakesLines begins_with_nothing
+    (GivesWithInput w.engine.rules w.engine.database.now w.engine.hint))) files tt
+    before after tt end
+with_input_by e files w before after last end =
+    answers_in (TakesLines begins_with_nothing WithInputGives)
+    (TakesLines begins_with_nothing
+    (GivesWithInput w.engine.rules w.engine.database.now w.engine.hint))
+    (λ _. tt) (λ k. k ≡ w)
+    (lines_by begins_with_nothing WithInputGives begins_with_nothing
+    (GivesWithInput w.engine.rules w.engine.database.now w.engine.hint) (λ _. tt) (λ k. k ≡ w)
+    (λ a head b h is. ((is.0, refl), is.1 ∙ h))
+    (λ a line answer b h is. (
+      (
+        is.0,
+        subst (λ (k : WithInput). IsWithInput k.engine.rules k.engine.database.now
+            k.engine.hint line is.0) h is.1,
+        is.2,
+        refl,
+      ),
+      is.3 ∙ h,
+    ))) e files w before after last end refl
 
 -- short numbers
 abbrev pub ShortsGive : Shorts → List ℕ → List ℕ → Shorts → Type 0

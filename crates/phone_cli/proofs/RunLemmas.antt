@@ -16,6 +16,7 @@ use Rattle.phone_commands.specs.declared.shorts.Shorts.{Shorts}
 use Rattle.phone_commands.specs.declared.takers.FirstLines.{FirstLines}
 use Rattle.phone_commands.specs.declared.takers.Objects.{Objects}
 use Rattle.phone_commands.specs.declared.typist.Typist.{Typist}
+use Rattle.phone_commands.specs.declared.with_input.WithInput.{WithInput}
 use Rattle.phone_lines.specs.Ends.{Devices}
 use Rattle.phone_lines.specs.Taken.{begins_with_nothing}
 use Rattle.phone_plans.specs.CodeLookUps.{is_prefix_free}
@@ -28,16 +29,16 @@ use Rattle.phone_words.specs.declared.call.Call.{Call}
 use Rattle.phone_words.specs.declared.command.Command.{Command}
 use Rattle.phone_words.specs.declared.command.Command.TheVariants as command
 use Rattle.phone_cli.specs.Answers.{AnswersReading, IsAsked, IsLoaded, Runs, finds, reads}
-use Rattle.phone_cli.specs.Answers.Runs.{firsts, found, objects, report, short, table, typed}
+use Rattle.phone_cli.specs.Answers.Runs.{firsts, found, objects, report, short, table, typed, with_input}
 use Rattle.phone_cli.specs.Commands.{AnswersInputs, BeginsFound, Finding, GivesFound}
-use Rattle.phone_cli.specs.Commands.{GivesObjects, Reports, Tables}
+use Rattle.phone_cli.specs.Commands.{GivesObjects, GivesWithInput, Reports, Tables}
 use Rattle.phone_cli.specs.Commands.{found_form, no_first_lines}
 use Rattle.phone_cli.specs.Operands.{files_of, has_reader, region_and_files, region_of}
 use Rattle.phone_cli.specs.Operands.{shorts_of}
 use Rattle.phone_cli.specs.Streams.{Streams}
 use Rattle.phone_cli.proofs.AnswerLemmas.{FinderBegins, FinderGives, ObjectsGive}
-use Rattle.phone_cli.proofs.AnswerLemmas.{ReportActs, ShortsGive, TypistGives, finding, found_by}
-use Rattle.phone_cli.proofs.AnswerLemmas.{objects_by, report_by, short_by, typed_by}
+use Rattle.phone_cli.proofs.AnswerLemmas.{ReportActs, ShortsGive, TypistGives, WithInputGives, finding, found_by}
+use Rattle.phone_cli.proofs.AnswerLemmas.{objects_by, report_by, short_by, typed_by, with_input_by}
 
 -- a command that finds numbers
 pub finds_by : (is : Command) → (is ≡ command.Find) ⊎
@@ -49,19 +50,20 @@ finds_by is (inr (inr e)) = ap finds e
 -- a command that reads by an engine, and is no other such, is the report
 pub is_report : (is : Command) → has_reader is ≡ true → ¬ (is ≡ command.Objects) →
     ¬ (is ≡ command.Find) → ¬ (is ≡ command.FoundObjects) → ¬ (is ≡ command.FoundRecords) →
-    ¬ (is ≡ command.Typed) → ¬ (is ≡ command.Table) → is ≡ command.Report
-is_report command.Report r o f fo fr t ta = refl
-is_report command.Objects r o f fo fr t ta = absurd (o refl)
-is_report command.Find r o f fo fr t ta = absurd (f refl)
-is_report command.FoundObjects r o f fo fr t ta = absurd (fo refl)
-is_report command.FoundRecords r o f fo fr t ta = absurd (fr refl)
-is_report command.Typed r o f fo fr t ta = absurd (t refl)
-is_report command.Table r o f fo fr t ta = absurd (ta refl)
-is_report command.Help r o f fo fr t ta = absurd (cc)
-is_report command.Version r o f fo fr t ta = absurd (cc)
-is_report command.Regions r o f fo fr t ta = absurd (cc)
-is_report command.Unique r o f fo fr t ta = absurd (cc)
-is_report command.Short r o f fo fr t ta = absurd (cc)
+    ¬ (is ≡ command.Typed) → ¬ (is ≡ command.Table) → ¬ (is ≡ command.ReportWithInput) → is ≡ command.Report
+is_report command.Report r o f fo fr t ta w = refl
+is_report command.Objects r o f fo fr t ta w = absurd (o refl)
+is_report command.Find r o f fo fr t ta w = absurd (f refl)
+is_report command.FoundObjects r o f fo fr t ta w = absurd (fo refl)
+is_report command.FoundRecords r o f fo fr t ta w = absurd (fr refl)
+is_report command.Typed r o f fo fr t ta w = absurd (t refl)
+is_report command.Table r o f fo fr t ta w = absurd (ta refl)
+is_report command.ReportWithInput r o f fo fr t ta w = absurd (w refl)
+is_report command.Help r o f fo fr t ta w = absurd (cc)
+is_report command.Version r o f fo fr t ta w = absurd (cc)
+is_report command.Regions r o f fo fr t ta w = absurd (cc)
+is_report command.Unique r o f fo fr t ta w = absurd (cc)
+is_report command.Short r o f fo fr t ta w = absurd (cc)
 
 -- a command that tells nothing of the program reads numbers
 pub reads_by : (is : Command) → ¬ (is ≡ command.Help) → ¬ (is ≡ command.Version) →
@@ -70,6 +72,7 @@ reads_by command.Help h v r = absurd (h refl)
 reads_by command.Version h v r = absurd (v refl)
 reads_by command.Regions h v r = absurd (r refl)
 reads_by command.Report h v r = refl
+reads_by command.ReportWithInput h v r = refl
 reads_by command.Objects h v r = refl
 reads_by command.Find h v r = refl
 reads_by command.FoundObjects h v r = refl
@@ -102,6 +105,23 @@ report_runs c hint files r before after last end is rules under act =
     after tt end) rules own in
     report db is
     (subst (λ x. AnswersInputs (ActsIn c.encoding (Reports c.rules db x)) files tt before after tt
+    end) under by_rules)
+
+-- the report, with the lines
+pub with_input_runs : (c : Call) (hint : Option Id) (files : List Name) (w : WithInput)
+    (before after : Devices) (last : WithInput) (end : Result ⊤ Failure) →
+    c.command ≡ command.ReportWithInput → w.engine.rules ≡ c.rules → w.engine.hint ≡ hint →
+    AnswersInputs (ActsIn c.encoding (TakesLines begins_with_nothing WithInputGives)) files w
+    before after last end → Runs c hint files before after end
+with_input_runs c hint files w before after last end is rules under act =
+    let db = w.engine.database.now in
+    let own = with_input_by c.encoding files w before after last end act in
+    let by_rules = subst (λ x. AnswersInputs (ActsIn c.encoding
+    (TakesLines begins_with_nothing (GivesWithInput x db w.engine.hint))) files tt before
+    after tt end) rules own in
+    with_input db is
+    (subst (λ x. AnswersInputs (ActsIn c.encoding
+    (TakesLines begins_with_nothing (GivesWithInput c.rules db x))) files tt before after tt
     end) under by_rules)
 
 -- objects

@@ -27,7 +27,8 @@ use Rattle.phone_words.specs.declared.command.Command.TheVariants as command
 use Rattle.phone_words.specs.declared.table.Table.{Table}
 use Rattle.phone_cli.specs.Abouts.{Tells, regions_text, version_text}
 use Rattle.phone_cli.specs.Commands.{AnswersInputs, BeginsFound, Finding, Tables}
-use Rattle.phone_cli.specs.Commands.{GivesFound, GivesObjects, GivesShorts, GivesTyped, Reports}
+use Rattle.phone_cli.specs.Commands.{GivesFound, GivesObjects, GivesShorts, GivesTyped}
+use Rattle.phone_cli.specs.Commands.{GivesWithInput, Reports}
 use Rattle.phone_cli.specs.Commands.{found_form, no_first_lines}
 use Rattle.phone_cli.specs.Operands.{database_of, files_of, is_misfit, names_read, region_of}
 use Rattle.phone_cli.specs.Operands.{shorts_of}
@@ -49,6 +50,7 @@ pub record IsAsked (t : Table) (shorts : Option (List Metadata)) (a : Asked) : T
   pub else_hint : a.else_hint ≡ t.fallback_region
   pub mark_bad : a.mark_bad ≡ t.mark_bad
   pub is_unique : a.is_unique ≡ t.is_unique
+  pub front : a.front ≡ t.front
   pub further : columns.asked a.extra.now ≡ columns.columns_for t.further
   pub short : option_map (λ d. d.now) a.short ≡ shorts
 
@@ -66,6 +68,10 @@ pub data Runs (c : Call) (hint : Option Id) (files : List Name) (before after : 
   report : (db : List Metadata) → c.command ≡ command.Report →
       AnswersInputs (ActsIn c.encoding (Reports c.rules db hint)) files tt before after tt end →
       Runs c hint files before after end
+  with_input : (db : List Metadata) → c.command ≡ command.ReportWithInput →
+      AnswersInputs (ActsIn c.encoding
+      (TakesLines begins_with_nothing (GivesWithInput c.rules db hint))) files tt
+      before after tt end → Runs c hint files before after end
   objects : (db : List Metadata) → (short : Option (List Metadata)) → (last : ℕ) →
       c.command ≡ command.Objects → IsLoaded (shorts_of c) short →
       AnswersInputs (ActsIn c.encoding

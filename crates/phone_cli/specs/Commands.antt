@@ -7,6 +7,7 @@ use Rattle.phone_commands.specs.ObjectLines.{IsObjectLine, after_one}
 use Rattle.phone_commands.specs.ShortLines.{IsShortLine}
 use Rattle.phone_commands.specs.TableJobs.{AnswersTable}
 use Rattle.phone_commands.specs.TypedLines.{typed_line}
+use Rattle.phone_commands.specs.WithInputs.{IsWithInput}
 use Rattle.phone_commands.specs.declared.finder.FoundForm.{FoundForm}
 use Rattle.phone_commands.specs.declared.finder.FoundForm.TheVariants as form
 use Rattle.phone_commands.specs.declared.inputs.Failure.{Failure}
@@ -38,6 +39,10 @@ pub data AnswersInputs {Kept : Type 0}
 abbrev pub Reports : Rules → List Metadata → Option Id → Acts ⊤
 Reports rules db hint kept before after kept' end =
     AnswersLines (IsReportLine rules db hint) before after end
+
+-- `--with-input`: the same, each with the line
+abbrev pub GivesWithInput : Rules → List Metadata → Option Id → Gives ⊤
+GivesWithInput rules db hint = each_by_itself (λ _. IsWithInput rules db hint)
 
 -- `--json`: the object of each line; what is kept is the number of the next line
 abbrev pub GivesObjects : Rules → List Metadata → Option (List Metadata) → Option Id → Gives ℕ

@@ -8,11 +8,11 @@ use Rattle.phone_table.specs.Regions.{id_in}
 use Rattle.phone_values.specs.declared.country.Id.{Id}
 use Rattle.phone_values.specs.declared.rules.Rules.{Rules}
 use Rattle.phone_values.specs.declared.rules.Rules.TheVariants.{Library}
+use Rattle.phone_words.specs.Calls.{further_files}
 use Rattle.phone_words.specs.Rows.{Lent, text_in}
 use Rattle.phone_words.specs.declared.call.Call.{Call}
 use Rattle.phone_words.specs.declared.command.Command.{Command}
 use Rattle.phone_words.specs.declared.command.Command.TheVariants as command
-use Rattle.phone_words.specs.declared.table.Further.{Further}
 
 -- the region and the files that operands name: the first one is a region's id, in capital or small
 -- letters, or a file
@@ -89,11 +89,6 @@ input_name name = if bytes_eq name.now (codes "-") then standard_input else name
 abbrev pub input_names : List Lent → List (List ℕ)
 input_names [] = standard_input ∷ []
 input_names (file ∷ files) = map input_name (file ∷ files)
-
--- the files by which further columns tell
-abbrev pub further_files : Further → List (Option Lent)
-further_files f =
-    f.prefixes ∷ f.time_zones ∷ f.carriers ∷ f.first_carriers ∷ f.areas ∷ []
 
 -- the names of some files that are there
 abbrev pub named_files : List (Option Lent) → List (List ℕ)

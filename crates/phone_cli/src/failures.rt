@@ -4,12 +4,12 @@ ghost use Rattle.phone_cli.specs.Statuses.{status_of_failure, status_of_table};
 ghost use Rattle.phone_cli.specs.Streams.{IsSomeTold, line_of};
 ghost use Rattle.phone_engine.specs.Programs.{IsTold};
 
-use crate::say::{say, say_columns};
+use crate::say::{say, say_columns, say_taken};
 use itoa::Buffer;
 use phone_commands::{Failure, JobError, NoColumns, is_standard};
 use phone_device::ByteSink;
 use phone_prefixes::{LineFault, PrefixesError};
-use phone_table::{Column, FirstError, RunError, TableError};
+use phone_table::{Column, ColumnError, FirstError, RunError, TableError};
 use phone_words::Call;
 use phonenumber::metadata::LoadMetadata;
 use std::alloc::{AllocError, Global};
@@ -68,9 +68,14 @@ fn say_table<E: ByteSink>(call: &Call<'_>, error: &TableError, errors: &mut E) -
     ensures { result ≡ status_of_table error.now }
 {
     match error {
-        TableError::NoColumn(column, header) => {
+        TableError::NoColumn(ColumnError::Absent(column), header) => {
             say_columns(errors, column_name(call, *column), header)
         }
+        TableError::NoColumn(ColumnError::Twice(column), _) => {
+            let name = column_name(call, *column);
+            say(errors, &["there is more than one column ", name], 2)
+        }
+        TableError::Taken(name) => say_taken(errors, name.as_slice()),
         TableError::Rows(RunError::Record(feeds)) => {
             let line = feeds.saturating_add(call.skipped).saturating_add(1);
             let mut buffer = Buffer::new();

@@ -147,6 +147,25 @@ pub(crate) fn say_columns<E: ByteSink>(errors: &mut E, name: &str, header: &Byte
     2
 }
 
+/// Writes that a column of a name can't be added to a table.
+fn write_taken<E: ByteSink>(errors: &mut E, name: &[u8]) -> Result<(), Fault> {
+    write_str(errors, "phone: a column ")?;
+    write_all(errors, name)?;
+    write_str(
+        errors,
+        " is there already; --prefix NAME sets NAME before each added name\n",
+    )
+}
+
+/// Tells that a column of a name can't be added to a table, which would have it twice, and gives the
+/// status.
+pub(crate) fn say_taken<E: ByteSink>(errors: &mut E, name: &[u8]) -> u8
+    ensures { result ≡ 2 }
+{
+    let _written = write_taken(errors, name);
+    2
+}
+
 /// Tells how many lines gave what, and gives the status.
 pub(crate) fn say_firsts<E: ByteSink>(job: &FirstLines, errors: &mut E) -> u8
     ensures { result ≡ 0 }

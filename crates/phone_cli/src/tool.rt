@@ -30,7 +30,7 @@ use crate::say::{say, say_firsts, say_records, say_word_error};
 use crate::written::is_read;
 use phone_commands::{
     ByLines, Customers, Encoded, Finder, FirstLines, FoundForm, Job, LineTaker, Loaded, Objects,
-    Reader, Report, Shorts, Typist, on_inputs,
+    Reader, Report, Shorts, Typist, WithInput, on_inputs,
 };
 use phone_device::{ByteSink, ByteSource, Fault, Std};
 use phone_engine::{Engine, Rules};
@@ -468,6 +468,12 @@ fn by_reader<R: Files + AllocGlobal, S: ByteSource, W: Outlet, E: ByteSink>(
 {
     let reader = reader_of(reading, database, short);
     match reading.call.command {
+        Command::ReportWithInput => {
+            let mut taker = WithInput {
+                engine: reader.engine,
+            };
+            run_lines(rt, reading, &mut taker, input, output, errors)
+        }
         Command::Objects => {
             let mut taker = objects_of(reading, reader);
             run_lines(rt, reading, &mut taker, input, output, errors)
@@ -679,6 +685,7 @@ fn asked<'t>(table: Table<'t>, reader: Reader<'t>, extra: &'t [Extra<'t>]) -> As
         else_hint: table.fallback_region,
         mark_bad: table.mark_bad,
         is_unique: table.is_unique,
+        front: table.front,
         extra,
         short: reader.short,
     }

@@ -2,7 +2,8 @@
 ghost use Rattle.std.specs.Prelude.{◌≡◌, Some, false};
 ghost use Rattle.std.specs.List.{list_any};
 ghost use Rattle.std.specs.Str.{bytes_eq};
-ghost use Rattle.phone_cli.specs.Operands.{further_files, input_names, named_files, names_read};
+ghost use Rattle.phone_cli.specs.Operands.{input_names, named_files, names_read};
+ghost use Rattle.phone_words.specs.Calls.{further_files};
 
 use crate::tool::Reading;
 use phone_commands::is_standard;
@@ -86,19 +87,7 @@ fn is_of_columns<R: Files>(rt: &R, written: Written<'_>, further: Further<'_>) -
     ensures { result ≡ false → list_any (bytes_eq written.entry.name.now)
         (named_files (further_files further.entry)) ≡ false }
 {
-    let Further {
-        prefixes,
-        time_zones,
-        carriers,
-        first_carriers,
-        areas,
-        ..
-    } = further;
-    is_any_written(
-        rt,
-        written,
-        &[prefixes, time_zones, carriers, first_carriers, areas],
-    )
+    is_any_written(rt, written, &further.files())
 }
 
 /// Whether the file of a name is read, under that name or another one, so that it can't be written

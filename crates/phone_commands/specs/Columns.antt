@@ -1,40 +1,59 @@
--- The further columns of a table, each by its name and what it tells.
-use Rattle.std.specs.Prelude.{ℕ, List, [], ◌∷◌, ◌++◌, codes, map, Option, None, Some}
+-- The further columns of a table, each by its name, what it tells, and whether by a table.
+use Rattle.std.specs.Prelude.{ℕ, Bool, false, true, List, [], ◌∷◌, ◌++◌, codes, map, Option, None}
+use Rattle.std.specs.Prelude.{Some, is_some}
 use Rattle.phone_commands.specs.declared.columns.LoadedColumn.{LoadedColumn}
 use Rattle.phone_commands.specs.declared.columns.Wanted.{Wanted}
 use Rattle.phone_maps.specs.declared.maps.Owner.TheVariants.{First, Today}
 use Rattle.phone_table.specs.declared.extra.Extra.{Extra}
 use Rattle.phone_table.specs.declared.extra.Told.{Told}
-use Rattle.phone_table.specs.declared.extra.Told.TheVariants.{Area, Carrier, Prefix, TimeZones}
+use Rattle.phone_table.specs.declared.extra.Told.TheVariants.{Area, CallingCode, Carrier}
+use Rattle.phone_table.specs.declared.extra.Told.TheVariants.{Extension, NationalNumber, Prefix}
+use Rattle.phone_table.specs.declared.extra.Told.TheVariants.{TimeZones}
 use Rattle.phone_words.specs.Rows.{Lent}
 use Rattle.phone_words.specs.declared.table.Further.{Further}
 
--- a column: its name, and what it tells
+-- a column: its name, what it tells, and whether by a table
 abbrev pub Column : Type 0
-Column = List ℕ × Told
+Column = List ℕ × Told × Bool
 
 -- a column where a file is named for it, else none
 abbrev pub column_if : List ℕ → Told → Option Lent → List Column
 column_if heading told None = []
-column_if heading told (Some file) = (heading, told) ∷ []
+column_if heading told (Some file) = (heading, told, true) ∷ []
 
--- the columns that options ask for, in their order
-abbrev pub columns_for : Further → List Column
-columns_for f =
+-- a column without a table where it is asked for, else none
+abbrev pub part_if : List ℕ → Told → Bool → List Column
+part_if heading told false = []
+part_if heading told true = (heading, told, false) ∷ []
+
+-- the columns by tables that options ask for, in their order
+abbrev pub tables_for : Further → List Column
+tables_for f =
     column_if f.name.now Prefix f.prefixes ++
     (column_if (codes "time_zone") TimeZones f.time_zones ++
     (column_if (codes "carrier") (Carrier Today) f.carriers ++
     (column_if (codes "first_carrier") (Carrier First) f.first_carriers ++
     column_if (codes "area") Area f.areas)))
 
+-- those of parts of the number
+abbrev pub parts_for : Further → List Column
+parts_for f =
+    part_if (codes "extension") Extension f.extension ++
+    (part_if (codes "calling_code") CallingCode f.calling_code ++
+    part_if (codes "national_number") NationalNumber f.national_number)
+
+-- the columns that options ask for, in their order
+abbrev pub columns_for : Further → List Column
+columns_for f = tables_for f ++ parts_for f
+
 -- those that are wanted
 abbrev pub wanted : List Wanted → List Column
-wanted columns = map (λ (c : Wanted). (c.heading.now, c.told)) columns
+wanted columns = map (λ (c : Wanted). (c.heading.now, c.told, is_some c.file)) columns
 
 -- those that are loaded
 abbrev pub loaded : List LoadedColumn → List Column
-loaded columns = map (λ (c : LoadedColumn). (c.heading.now, c.told)) columns
+loaded columns = map (λ (c : LoadedColumn). (c.heading.now, c.told, is_some c.table)) columns
 
 -- those that are asked of a table
 abbrev pub asked : List Extra → List Column
-asked columns = map (λ (c : Extra). (c.heading.now, c.told)) columns
+asked columns = map (λ (c : Extra). (c.heading.now, c.told, is_some c.table)) columns

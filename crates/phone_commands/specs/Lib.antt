@@ -9,3 +9,4 @@ pub mod Pairs
 pub mod ShortLines
 pub mod TableJobs
 pub mod TypedLines
+pub mod WithInputs

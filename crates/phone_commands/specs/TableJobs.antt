@@ -26,7 +26,8 @@ table_error (table.Rows rows.Memory) = job.Memory
 table_error (table.Rows (rows.Record feeds)) = job.Table (table.Rows (rows.Record feeds))
 table_error (table.Rows (rows.Quote line)) = job.Table (table.Rows (rows.Quote line))
 table_error table.Delimiter = job.Table table.Delimiter
-table_error (table.NoColumn column fields) = job.Table (table.NoColumn column fields)
+table_error (table.NoColumn e fields) = job.Table (table.NoColumn e fields)
+table_error (table.Taken name) = job.Table (table.Taken name)
 
 -- a run over a table as a job's end: its counts are told where it is whole
 pub data IsTableEnd (counts : Counts) : Result Counts TableError → Result ⊤ JobError → Type 0 where

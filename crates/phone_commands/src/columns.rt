@@ -1,7 +1,8 @@
 //! The further columns of a table, and the tables of prefixes by which they tell.
-ghost use Rattle.std.specs.Prelude.{◌≡◌, ◌++◌, ◌∷◌, [], IfOk, Ok, OnOk};
+ghost use Rattle.std.specs.Prelude.{◌≡◌, ◌++◌, ◌∷◌, [], IfOk, Ok, OnOk, is_some};
 ghost use Rattle.phone_csv.specs.Runs.{OfRead};
-ghost use Rattle.phone_commands.specs.Columns.{asked, column_if, columns_for, loaded, wanted};
+ghost use Rattle.phone_commands.specs.Columns.{asked, column_if, columns_for, loaded, part_if};
+ghost use Rattle.phone_commands.specs.Columns.{parts_for, tables_for, wanted};
 ghost use Rattle.phone_commands.specs.Pairs.{IsWithTab};
 ghost use Rattle.phone_lines.specs.LineReports.{IsReport};
 
@@ -21,8 +22,8 @@ struct Wanted<'w> {
     heading: &'w str,
     /// What it tells.
     told: Told,
-    /// The file of its table.
-    file: &'w str,
+    /// The file of its table, where a table tells it.
+    file: Option<&'w str>,
 }
 
 /// Puts a column at the end of others, where a file is named for it. Refused only for memory.
@@ -35,7 +36,7 @@ fn push_wanted<'w>(
     ensures { OnOk result (wanted columns.new.items ≡
         wanted columns.old.items ++ column_if heading.entry.now told file.entry) }
 {
-    if let Some(file) = file {
+    if file.is_some() {
         columns.push(Wanted {
             heading,
             told,
@@ -45,11 +46,32 @@ fn push_wanted<'w>(
     Ok(())
 }
 
-/// Puts the columns that are asked for at the end of others, in their order: that of one's own,
-/// `time_zone`, `carrier`, `first_carrier`, `area`. Refused only for memory.
-fn push_further<'w>(columns: &mut Vec<Wanted<'w>>, further: Further<'w>) -> Result<(), AllocError>
+/// Puts a column without a table at the end of others, where it is asked for. Refused only for
+/// memory.
+fn push_part<'w>(
+    columns: &mut Vec<Wanted<'w>>,
+    heading: &'w str,
+    told: Told,
+    is_asked: bool,
+) -> Result<(), AllocError>
     ensures { OnOk result (wanted columns.new.items ≡
-        wanted columns.old.items ++ columns_for further.entry) }
+        wanted columns.old.items ++ part_if heading.entry.now told is_asked) }
+{
+    if is_asked {
+        columns.push(Wanted {
+            heading,
+            told,
+            file: None,
+        })?;
+    }
+    Ok(())
+}
+
+/// Puts the columns by tables that are asked for at the end of others, in their order: that of
+/// one's own, `time_zone`, `carrier`, `first_carrier`, `area`. Refused only for memory.
+fn push_tables<'w>(columns: &mut Vec<Wanted<'w>>, further: Further<'w>) -> Result<(), AllocError>
+    ensures { OnOk result (wanted columns.new.items ≡
+        wanted columns.old.items ++ tables_for further.entry) }
 {
     push_wanted(columns, further.name, Told::Prefix, further.prefixes)?;
     let (today, first) = (Told::Carrier(Owner::Today), Told::Carrier(Owner::First));
@@ -59,12 +81,30 @@ fn push_further<'w>(columns: &mut Vec<Wanted<'w>>, further: Further<'w>) -> Resu
     push_wanted(columns, "area", Told::Area, further.areas)
 }
 
+/// Puts those of parts of the number at the end of others, in their order: `extension`,
+/// `calling_code`, `national_number`. Refused only for memory.
+fn push_parts<'w>(columns: &mut Vec<Wanted<'w>>, further: Further<'w>) -> Result<(), AllocError>
+    ensures { OnOk result (wanted columns.new.items ≡
+        wanted columns.old.items ++ parts_for further.entry) }
+{
+    push_part(columns, "extension", Told::Extension, further.extension)?;
+    push_part(
+        columns,
+        "calling_code",
+        Told::CallingCode,
+        further.calling_code,
+    )?;
+    let is_asked = further.national_number;
+    push_part(columns, "national_number", Told::NationalNumber, is_asked)
+}
+
 /// The columns that are asked for. Refused only for memory.
 fn columns_wanted<'w>(alloc: Global, further: Further<'w>) -> Result<Vec<Wanted<'w>>, AllocError>
     ensures { IfOk result (λ v. wanted v.items ≡ columns_for further.entry) }
 {
     let mut columns = Vec::new(alloc);
-    push_further(&mut columns, further)?;
+    push_tables(&mut columns, further)?;
+    push_parts(&mut columns, further)?;
     Ok(columns)
 }
 
@@ -140,8 +180,21 @@ pub struct LoadedColumn<'w> {
     pub heading: &'w str,
     /// What it tells.
     pub told: Told,
-    /// The table by which it tells that.
-    pub table: Prefixes,
+    /// The table by which it tells that, where a table does.
+    pub table: Option<Prefixes>,
+}
+
+/// The table of prefixes in a file, where one is named.
+fn table_if<'w, R: Files + AllocGlobal>(
+    rt: &R,
+    file: Option<&'w str>,
+) -> Result<Option<Prefixes>, NoColumns<'w>>
+    ensures { IfOk result (λ t. is_some t ≡ is_some file.entry) }
+{
+    match file {
+        Some(file) => Ok(Some(table_in(rt, file)?)),
+        None => Ok(None),
+    }
 }
 
 /// Loads the table of a column, and puts this at the end of others.
@@ -158,7 +211,7 @@ fn push_loaded<'w, R: Files + AllocGlobal>(
         told,
         file,
     } = column;
-    let table = table_in(rt, file)?;
+    let table = table_if(rt, file)?;
     match columns.push(LoadedColumn {
         heading,
         told,
@@ -230,7 +283,7 @@ impl<'w> Loaded<'w> {
             extra.push(Extra {
                 heading: *heading,
                 told: *told,
-                table,
+                table: table.as_ref(),
             })?;
         }
         Ok(())

@@ -15,6 +15,7 @@ mod shorts;
 mod takers;
 mod text;
 mod typist;
+mod with_input;
 
 pub use columns::{Loaded, LoadedColumn, NoColumns};
 pub use customers::Customers;
@@ -27,3 +28,4 @@ pub use reader::Reader;
 pub use shorts::Shorts;
 pub use takers::{FirstLines, Objects};
 pub use typist::Typist;
+pub use with_input::WithInput;

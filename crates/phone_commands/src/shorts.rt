@@ -1,13 +1,13 @@
 //! What is known of short numbers.
 ghost use Rattle.std.specs.Prelude.{◌≡◌, IfOk, chars, string_bytes};
 ghost use Rattle.std.specs.Str.Lossy.{utf8_lossy};
-ghost use Rattle.phone_commands.specs.ShortLines.{short_fields, yes_or_no};
+ghost use Rattle.phone_commands.specs.ShortLines.{cost_word, short_fields, yes_or_no};
 ghost use Rattle.phone_short.specs.Regions as regions;
 
 use crate::text::push_line;
 use phone_lines::LineTaker;
 use phone_plans::Plans;
-use phone_short::{ShortFacts, short_facts};
+use phone_short::{Cost, ShortFacts, short_facts};
 use phonenumber::country::Id;
 use std::alloc::{AllocError, Global};
 
@@ -62,10 +62,23 @@ fn short_fields(alloc: Global, facts: ShortFacts) -> Result<String, AllocError>
     ensures { IfOk result (λ t. string_bytes t ≡ short_fields facts) }
 {
     let (possible, valid) = (yes_or_no(facts.is_possible), yes_or_no(facts.is_valid));
-    let (cost, carrier) = (facts.cost.as_str(), yes_or_no(facts.is_carrier_specific));
+    let (cost, carrier) = (cost_word(facts.cost), yes_or_no(facts.is_carrier_specific));
     let emergency = yes_or_no(facts.is_emergency);
     let reaches = yes_or_no(facts.reaches_emergency);
     format!(in alloc; "{possible}\t{valid}\t{cost}\t{carrier}\t{emergency}\t{reaches}")
+}
+
+/// A cost, spelled as the kinds of numbers are: `TollFree`, `StandardRate`, `PremiumRate` or
+/// `Unknown`.
+fn cost_word(cost: Cost) -> &'static str
+    ensures { result.now ≡ cost_word cost }
+{
+    match cost {
+        Cost::TollFree => "TollFree",
+        Cost::StandardRate => "StandardRate",
+        Cost::PremiumRate => "PremiumRate",
+        Cost::Unknown => "Unknown",
+    }
 }
 
 /// The word `yes` or `no`.

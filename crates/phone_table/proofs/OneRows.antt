@@ -1,7 +1,7 @@
 -- A record has one answer, and a column tells one text of a number.
 use Rattle.std.proofs.Common.{◌≡◌, inl, inr, ℕ, List, ◌∷◌, ◌++◌, take}
 use Rattle.std.proofs.Common.{length}
-use Rattle.std.proofs.Common.{Option, None, Some, refl, sym, ap₂, subst, ◌∙◌, arith}
+use Rattle.std.proofs.Common.{Option, None, Some, refl, sym, ap, ap₂, subst, ◌∙◌, arith}
 use Rattle.std.proofs.Math.Seq.{take-append_seam}
 use Rattle.phone_values.specs.declared.country.Id.{Id}
 use Rattle.phone_values.specs.declared.reading.Reading.{Reading}
@@ -10,10 +10,9 @@ use Rattle.phone_csv.specs.Formats.{Record}
 use Rattle.phone_engine.specs.Facts.{kind_by, region_by}
 use Rattle.phone_prefixes.specs.Tables.{Entry}
 use Rattle.phone_records.specs.declared.loader.Metadata.{Metadata}
-use Rattle.phone_table.specs.Answers.{IsAnswer, IsAnswerUnder, IsNumberAnswer, IsOwnAnswer}
-use Rattle.phone_table.specs.Answers.{short_of}
-use Rattle.phone_table.specs.Extras.{AreTold, EachHasOneText, HaveOneText, IsFound, IsTold}
-use Rattle.phone_table.specs.Extras.{looked_up}
+use Rattle.phone_table.specs.Answers.{IsAnswer, IsAnswerUnder, IsOwnAnswer, IsUnder, short_of}
+use Rattle.phone_table.specs.Extras.{AreTold, EachHasOneText, HaveOneText, IsFound, IsPartOrFound, IsTold}
+use Rattle.phone_table.specs.Extras.{entries_in, looked_up, part_of}
 use Rattle.phone_table.specs.Extras.AreTold.{none as told_none, next as told_next}
 use Rattle.phone_table.specs.Regions.{Names, RecordNames, field_in, hint_under}
 use Rattle.phone_table.specs.Regions.Names.{no_text, of_text}
@@ -44,36 +43,51 @@ found_same entries one (Some digits) a b (inr (none, e)) (inl (q, m)) =
     absurd (none (record { prefix = q; text = b }) m.is m.begins)
 found_same entries one (Some digits) a b (inr (none, e)) (inr (other, f)) = e ∙ sym f
 
+-- a field names one region, or none
+names_same : (field : List ℕ) (r s : Named) → Names field r → Names field s → r ≡ s
+names_same field _ _ (of_text u) (of_text v) = refl
+names_same field _ _ (of_text u) (no_text x) = absurd (x u)
+names_same field _ _ (no_text x) (of_text u) = absurd (x u)
+names_same field _ _ (no_text x) (no_text y) = refl
+
+region_same : (fields : Record) (o : Option ℕ) (r s : Named) → RecordNames o fields r → RecordNames o fields s →
+    r ≡ s
+region_same fields None r s h g = h ∙ sym g
+region_same fields (Some column) r s h g = names_same (field_in fields column) r s h g
+
+-- a record is read under one hint, if it is
+pub hint_same : (hint : Option Id) (columns : Columns) (asked : Asked) (fields : Record) (u v : Option (Option Id)) → IsUnder hint columns asked fields u →
+    IsUnder hint columns asked fields v → u ≡ v
+hint_same hint columns asked fields u v (inl (w, r, named, e)) (inl (x, s, named', f)) =
+    e ∙ ap (hint_under asked.else_hint hint) (region_same fields columns.region r s named named') ∙ sym f
+hint_same hint columns asked fields u v (inl (w, r, named, e)) (inr (other, f)) = absurd (other w)
+hint_same hint columns asked fields u v (inr (other, e)) (inl (w, r, named, f)) = absurd (other w)
+hint_same hint columns asked fields u v (inr (other, e)) (inr (more, f)) = e ∙ sym f
+
+-- a part is one text, and so is what is found
+part_same : (entries : List Entry) → HaveOneText entries → (part digits : Option (List ℕ)) (a b : List ℕ) →
+    IsPartOrFound part entries digits a → IsPartOrFound part entries digits b → a ≡ b
+part_same entries one (Some part) digits a b h g = h ∙ sym g
+part_same entries one None digits a b h g = found_same entries one digits a b h g
+
 module _ (rules : Rules) (db : List Metadata) where
   -- a column tells one text
-  told_same : (column : Extra) → HaveOneText column.table.now → (number : Option Reading)
-      (a b : List ℕ) → IsTold rules db column number a → IsTold rules db column number b → a ≡ b
-  told_same column one None a b h g = h ∙ sym g
-  told_same column one (Some n) a b h g = found_same column.table.now one
+  told_same : (under : Option (Option Id)) (field : List ℕ) (column : Extra) → HaveOneText (entries_in column.table) → (number : Option Reading)
+      (a b : List ℕ) → IsTold rules db under field number column a → IsTold rules db under field number column b → a ≡ b
+  told_same under field column one None a b h g = h ∙ sym g
+  told_same under field column one (Some n) a b h g = part_same (entries_in column.table) one (part_of column.told n)
       (looked_up db column.told (kind_by rules db n) (region_by rules db n) n) a b h g
 
   -- and columns one each
-  all_told_same : (number : Option Reading) (columns : List Extra) (a b : Record) →
-      EachHasOneText columns → AreTold rules db number columns a →
-      AreTold rules db number columns b → a ≡ b
-  all_told_same number _ _ _ one told_none told_none = refl
-  all_told_same number _ _ _ one (told_next c cs t ts h hs) (told_next _ _ u us g gs) =
-      ap₂ (λ x xs. x ∷ xs) (told_same c one.0 number t u h g)
-      (all_told_same number cs ts us one.1 hs gs)
+  all_told_same : (under : Option (Option Id)) (field : List ℕ) (number : Option Reading) (columns : List Extra) (a b : Record) →
+      EachHasOneText columns → AreTold rules db under field number columns a →
+      AreTold rules db under field number columns b → a ≡ b
+  all_told_same under field number _ _ _ one told_none told_none = refl
+  all_told_same under field number _ _ _ one (told_next c cs t ts h hs) (told_next _ _ u us g gs) =
+      ap₂ (λ x xs. x ∷ xs) (told_same under field c one.0 number t u h g)
+      (all_told_same under field number cs ts us one.1 hs gs)
 
-  module _ (hint : Option Id) (columns : Columns) (asked : Asked) (fields : Record) where
-    -- a field names one region, or none
-    names_same : (field : List ℕ) (r s : Named) → Names field r → Names field s → r ≡ s
-    names_same field _ _ (of_text u) (of_text v) = refl
-    names_same field _ _ (of_text u) (no_text x) = absurd (x u)
-    names_same field _ _ (no_text x) (of_text u) = absurd (x u)
-    names_same field _ _ (no_text x) (no_text y) = refl
-
-    region_same : (o : Option ℕ) (r s : Named) → RecordNames o fields r → RecordNames o fields s →
-        r ≡ s
-    region_same None r s h g = h ∙ sym g
-    region_same (Some column) r s h g = names_same (field_in fields column) r s h g
-
+  module _ (columns : Columns) (asked : Asked) (fields : Record) where
     -- under one hint a field has one answer, and without one
     under_same : (o : Option (Option Id)) (field : List ℕ) (n k : Option Reading) (a b : Record) →
         IsAnswerUnder rules db (short_of asked) o field n a →
@@ -82,28 +96,22 @@ module _ (rules : Rules) (db : List Metadata) where
     under_same (Some own) field n k a b h g =
         one_field_answer rules db (short_of asked) own field n k a b h g
 
-    number_same : (n k : Option Reading) (a b : Record) →
-        IsNumberAnswer rules db hint columns asked fields n a →
-        IsNumberAnswer rules db hint columns asked fields k b → AreSame n k a b
-    number_same n k a b (r, named, h) (s, named', g) =
-        under_same (hint_under asked.else_hint hint s) (field_in fields columns.number) n k a b
-        (subst (λ x. IsAnswerUnder rules db (short_of asked) (hint_under asked.else_hint hint x)
-        (field_in fields columns.number) n a) (region_same columns.region r s named named') h) g
-
     -- a record has one answer of its own, whose fields are of one number or of none
-    pub own_same : (n k : Option Reading) (a b : Record) →
-        IsOwnAnswer rules db hint columns asked fields n a →
-        IsOwnAnswer rules db hint columns asked fields k b → AreSame n k a b
-    own_same n k a b (inl (w, h)) (inl (v, g)) = number_same n k a b h g
-    own_same n k a b (inl (w, h)) (inr (e, g)) = absurd (g.1 w)
-    own_same n k a b (inr (e, h)) (inl (v, g)) = absurd (h.1 v)
-    own_same n k a b (inr (e, h)) (inr (f, g)) = (e ∙ sym f, h.2 ∙ sym g.2)
+    pub own_same : (under : Option (Option Id)) (n k : Option Reading) (a b : Record) →
+        IsOwnAnswer rules db columns asked fields under n a →
+        IsOwnAnswer rules db columns asked fields under k b → AreSame n k a b
+    own_same under n k a b (inl (w, h)) (inl (v, g)) = under_same under (field_in fields columns.number) n k a b h g
+    own_same under n k a b (inl (w, h)) (inr (e, g)) = absurd (g.1 w)
+    own_same under n k a b (inr (e, h)) (inl (v, g)) = absurd (h.1 v)
+    own_same under n k a b (inr (e, h)) (inr (f, g)) = (e ∙ sym f, h.2 ∙ sym g.2)
 
     -- and one answer
-    pub answer_same : (a b : Record) → EachHasOneText asked.extra.now →
+    pub answer_same : (hint : Option Id) (a b : Record) → EachHasOneText asked.extra.now →
         IsAnswer rules db hint columns asked fields a →
         IsAnswer rules db hint columns asked fields b → a ≡ b
-    answer_same a b one (n, told, own, is, are, e) (k, told', own', is', are', f) =
-        let same = own_same n k own own' is is' in
-        e ∙ ap₂ (λ x y. x ++ y) (all_told_same k asked.extra.now told told' one
-        (subst (λ x. AreTold rules db x asked.extra.now told) same.0 are) are') same.1 ∙ sym f
+    answer_same hint a b one (u, n, told, own, by, is, are, e) (v, k, told', own', by', is', are', f) =
+        let read = field_in fields columns.number in
+        let under = hint_same hint columns asked fields u v by by' in
+        let same = own_same v n k own own' (subst (λ x. IsOwnAnswer rules db columns asked fields x n own) under is) is' in
+        e ∙ ap₂ (λ x y. x ++ y) (all_told_same v read k asked.extra.now told told' one
+        (subst (λ x. AreTold rules db v read x asked.extra.now told) same.0 (subst (λ x. AreTold rules db x read n asked.extra.now told) under are)) are') same.1 ∙ sym f

@@ -1,5 +1,5 @@
 -- What the reading of a header says of a run.
-use Rattle.std.proofs.Common.{Bool, ◌≡◌, ◌⊎◌, inl, inr, ℕ, ◌+◌, List, length, Option, Some, None, Result, Err, IfSome, IsNone, IsSome, option_map, refl, subst, arith}
+use Rattle.std.proofs.Common.{Bool, ◌≡◌, ◌⊎◌, inl, inr, ℕ, ◌+◌, List, length, Option, Some, None, Result, Err, IfSome, IsNone, refl, subst, arith}
 use Rattle.std.specs.Prelude.{⊤}
 use Rattle.phone_device.specs.Passing.{IsAtEnd}
 use Rattle.phone_csv.specs.Firsts.{EndsNoFirst, IsHead, IsOnly, first_in}
@@ -14,13 +14,9 @@ use Rattle.phone_csv.specs.declared.first.FirstError.{FirstError}
 use Rattle.phone_csv.specs.declared.first.FirstError.TheVariants.{Absent, Input, Memory, Quote}
 use Rattle.phone_lines.specs.Ends.{Devices, seen}
 use Rattle.phone_table.specs.Ends.{Ends, SourceFails}
-use Rattle.phone_table.specs.Headers.{column_of, region_column}
-use Rattle.phone_table.specs.Runs.{Lacks, NoHeader}
+use Rattle.phone_table.specs.Runs.{NoHeader}
 use Rattle.phone_table.specs.Runs.NoHeader.{absent, input, memory, quote}
 use Rattle.phone_table.specs.Tables.{IsHeader}
-use Rattle.phone_table.specs.declared.header.Column.{Column}
-use Rattle.phone_table.specs.declared.header.Column.TheVariants.{Number, Region}
-use Rattle.phone_table.specs.declared.run.Asked.{Asked}
 
 caused : (before after : Devices) → (after.source_faults ≡ before.source_faults + 1) ⊎ OfRead before.to_come after.to_come (λ bytes. length bytes ≡ most_bytes) →
     SourceFails before after
@@ -48,15 +44,6 @@ pub header_read : (d : ℕ) (header : Record) (rest : Option Start) (has_mark : 
     (IsNone rest → OfRead s0 s1 (λ bytes. IsOnly d bytes header has_mark)) → OfRead s0 s1 (λ bytes. IsHeader d header rest has_mark bytes)
 header_read d header (Some start) has_mark s0 s1 ended only = ended
 header_read d header None has_mark s0 s1 ended only = only refl
-
--- which column a header lacks
-pub lacks_by : {T : Type 0} (asked : Asked) (column : Column) (header : Record) →
-    (◌≡◌ {A = Result T Column} (Err column) (Err Number) → column_of header asked.number.now ≡ None) →
-    (◌≡◌ {A = Result T Column} (Err column) (Err Region) → IsSome (column_of header asked.number.now)) →
-    (◌≡◌ {A = Result T Column} (Err column) (Err Region) → region_column header (option_map (λ name. name.now) asked.region) ≡ None) →
-    Lacks asked column header
-lacks_by asked Number header number found region = number refl
-lacks_by asked Region header number found region = (found refl, region refl)
 
 -- a run that begins where the reading of the header ended, which counted no fault
 pub ends_from : {header added : Record} {writes some : Format → Writes} {refuses : Record → Type 0} {d : ℕ} {to_come taken : Option (List ℕ)} {n m faults held : ℕ} {after : Devices}

@@ -21,8 +21,8 @@ use Rattle.phone_prefixes.specs.Tables.{AreEntries, Entry, IsLongest, IsTable, N
 use Rattle.phone_prefixes.specs.Tables.AreEntries.{none as no_entries, next as next_entry}
 use Rattle.phone_records.specs.declared.loader.Metadata.{Metadata}
 use Rattle.phone_table.specs.Answers.{IsAnswer, IsAnswerUnder, IsFieldAnswer, IsOfOtherWidth}
-use Rattle.phone_table.specs.Answers.{IsOwnAnswer, short_of}
-use Rattle.phone_table.specs.Extras.{AreTold, HaveOneText, IsFound, IsTold, looked_up}
+use Rattle.phone_table.specs.Answers.{IsOwnAnswer, IsUnder, short_of}
+use Rattle.phone_table.specs.Extras.{AreTold, HaveOneText, IsFound, IsPartOrFound, IsTold, entries_in, looked_up, part_of}
 use Rattle.phone_table.specs.Extras.AreTold.{none as told_none, next as told_next}
 use Rattle.phone_table.specs.declared.extra.Extra.{Extra}
 use Rattle.phone_table.specs.declared.header.Columns.{Columns}
@@ -41,7 +41,7 @@ begins_or_not prefix text = ⊎_elim
     (λ other. inr (λ b. other (ap (take (length prefix)) b.1 ∙ take-append_seam prefix b.0)))
     (cases_text (take (length prefix) text) prefix)
 
-nothing_in : (x : Entry) → Contains [] x → ⊥
+pub nothing_in : (x : Entry) → Contains [] x → ⊥
 nothing_in x h = absurd (omega (arith, h.1))
 
 first_in : (e : Entry) (es : List Entry) → Contains (e ∷ es) e
@@ -158,20 +158,26 @@ pub loaded_one : (bytes : List ℕ) (entries : List Entry) → IsTable bytes ent
     HaveOneText entries
 loaded_one bytes entries (lines, cut, are) = entries_one lines entries are
 
+-- a part, or what a table has
+part_some : (part : Option (List ℕ)) (entries : List Entry) (digits : Option (List ℕ)) →
+    (text : List ℕ) × IsPartOrFound part entries digits text
+part_some (Some part) entries digits = (part, refl)
+part_some None entries digits = found_some entries digits
+
 module _ (rules : Rules) (db : List Metadata) where
-  told_some : (column : Extra) (number : Option Reading) →
-      (text : List ℕ) × IsTold rules db column number text
-  told_some column None = ([], refl)
-  told_some column (Some n) = found_some column.table.now
+  told_some : (under : Option (Option Id)) (field : List ℕ) (column : Extra) (number : Option Reading) →
+      (text : List ℕ) × IsTold rules db under field number column text
+  told_some under field column None = ([], refl)
+  told_some under field column (Some n) = part_some (part_of column.told n) (entries_in column.table)
       (looked_up db column.told (kind_by rules db n) (region_by rules db n) n)
 
-  -- what columns tell of a number
-  all_told : (number : Option Reading) (columns : List Extra) →
-      (told : Record) × AreTold rules db number columns told
-  all_told number [] = ([], told_none)
-  all_told number (c ∷ cs) =
-      let t = told_some c number in
-      let ts = all_told number cs in
+  -- what columns tell of a field
+  all_told : (under : Option (Option Id)) (field : List ℕ) (number : Option Reading) (columns : List Extra) →
+      (told : Record) × AreTold rules db under field number columns told
+  all_told under field number [] = ([], told_none)
+  all_told under field number (c ∷ cs) =
+      let t = told_some under field c number in
+      let ts = all_told under field number cs in
       (t.0 ∷ ts.0, told_next c cs t.0 ts.0 t.1 ts.1)
 
   module _ (hint : Option Id) (columns : Columns) (asked : Asked) (fields : Record) where
@@ -186,18 +192,18 @@ module _ (rules : Rules) (db : List Metadata) where
     under_some None has = (None, _, (refl, refl))
     under_some (Some own) has = has own
 
-    with_told : (n : Option Reading) (own : Record) →
-        IsOwnAnswer rules db hint columns asked fields n own →
+    with_told : (under : Option (Option Id)) → IsUnder hint columns asked fields under → (n : Option Reading) (own : Record) →
+        IsOwnAnswer rules db columns asked fields under n own →
         (answer : Record) × IsAnswer rules db hint columns asked fields answer
-    with_told n own is =
-        let t = all_told n asked.extra.now in
-        (t.0 ++ own, (n, t.0, own, is, t.1, refl))
+    with_told under by n own is =
+        let t = all_told under (field_in fields columns.number) n asked.extra.now in
+        (t.0 ++ own, (under, n, t.0, own, by, is, t.1, refl))
 
     -- a record of other width is marked, or isn't answered
     of_other_width : (length fields ≡ columns.width → ⊥) → (b : Bool) → asked.mark_bad ≡ b →
         ((answer : Record) × IsAnswer rules db hint columns asked fields answer) ⊎
         IsOfOtherWidth columns asked fields
-    of_other_width other true e = inl (with_told None _ (inr (refl, (e, other, refl))))
+    of_other_width other true e = inl (with_told None (inr (other, refl)) None _ (inr (refl, (e, other, refl))))
     of_other_width other false e = inr (e, other)
 
     -- each record is answered, but for such
@@ -205,7 +211,8 @@ module _ (rules : Rules) (db : List Metadata) where
         ((answer : Record) × IsAnswer rules db hint columns asked fields answer) ⊎
         IsOfOtherWidth columns asked fields
     answer_some region named has = ⊎_elim
-        (λ width. let a = under_some (hint_under asked.else_hint hint region) has in
-        inl (with_told a.0 a.1 (inl (width, (region, named, a.2)))))
+        (λ width. let under = hint_under asked.else_hint hint region in
+        let a = under_some under has in
+        inl (with_told under (inl (width, region, named, refl)) a.0 a.1 (inl (width, a.2))))
         (λ other. of_other_width other asked.mark_bad refl)
         (cases_eq (length fields) columns.width)

@@ -95,39 +95,41 @@ IsAnswerUnder rules db short (Some hint) field number answer =
 abbrev pub short_of : Asked → Option (List Metadata)
 short_of asked = option_map (λ d. d.now) asked.short
 
--- what a record's number is answered, by the region that the record names
-abbrev pub IsNumberAnswer : Rules → List Metadata → Option Id → Columns → Asked → Record →
-    Option Reading → Record → Type 0
-IsNumberAnswer rules db hint columns asked fields number answer = (region : Named) ×
-    RecordNames columns.region fields region ×
-    IsAnswerUnder rules db (short_of asked) (hint_under asked.else_hint hint region)
-    (field_in fields columns.number) number answer
-
 -- a record has as many fields as the header
 abbrev pub IsOfWidth : Columns → Record → Type 0
 IsOfWidth columns fields = length fields ≡ columns.width
+
+-- the hint under which a record's number is read, by the region that the record names; none where
+-- it isn't read: the record names no region that there is, or has another count of fields
+abbrev pub IsUnder : Option Id → Columns → Asked → Record → Option (Option Id) → Type 0
+IsUnder hint columns asked fields under =
+    (IsOfWidth columns fields × (region : Named) × RecordNames columns.region fields region ×
+    (under ≡ hint_under asked.else_hint hint region)) ⊎
+    (¬ (IsOfWidth columns fields) × (under ≡ None))
 
 -- a record with another count of fields is answered by words of its own, where such are marked
 abbrev pub IsMarked : Columns → Asked → Record → Record → Type 0
 IsMarked columns asked fields answer = (asked.mark_bad ≡ true) × ¬ (IsOfWidth columns fields) ×
     (answer ≡ refused_answer (codes "wrong count of fields"))
 
--- the fields of a record's own answer, and the number that was read: as its number is, or so
--- marked
-abbrev pub IsOwnAnswer : Rules → List Metadata → Option Id → Columns → Asked → Record →
-    Option Reading → Record → Type 0
-IsOwnAnswer rules db hint columns asked fields number answer =
-    (IsOfWidth columns fields × IsNumberAnswer rules db hint columns asked fields number answer) ⊎
+-- the fields of a record's own answer, and the number that was read under this hint: as its field
+-- is answered, or so marked
+abbrev pub IsOwnAnswer : Rules → List Metadata → Columns → Asked → Record →
+    (under : Option (Option Id)) → Option Reading → Record → Type 0
+IsOwnAnswer rules db columns asked fields under number answer = (IsOfWidth columns fields ×
+    IsAnswerUnder rules db (short_of asked) under (field_in fields columns.number) number answer) ⊎
     ((number ≡ None) × IsMarked columns asked fields answer)
 
--- what a record is answered: what the columns that are asked for tell of the number that was read,
--- and its own fields
+-- what a record is answered: what the columns that are asked for tell of its field, and of the
+-- number that was read there, and its own fields
 abbrev pub IsAnswer : Rules → List Metadata → Option Id → Columns → Asked → Record → Record →
     Type 0
-IsAnswer rules db hint columns asked fields answer = (number : Option Reading) ×
-    (told : Record) × (own : Record) ×
-    IsOwnAnswer rules db hint columns asked fields number own ×
-    AreTold rules db number asked.extra.now told × (answer ≡ told ++ own)
+IsAnswer rules db hint columns asked fields answer = (under : Option (Option Id)) ×
+    (number : Option Reading) × (told : Record) × (own : Record) ×
+    IsUnder hint columns asked fields under ×
+    IsOwnAnswer rules db columns asked fields under number own ×
+    AreTold rules db under (field_in fields columns.number) number asked.extra.now told ×
+    (answer ≡ told ++ own)
 
 -- a record with another count of fields isn't answered, where such aren't marked
 abbrev pub IsOfOtherWidth : Columns → Asked → Record → Type 0

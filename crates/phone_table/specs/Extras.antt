@@ -1,9 +1,11 @@
--- The columns that are asked for beside the answer's, and what they tell of a number.
+-- The columns that are asked for beside the answer's, and what they tell of a record.
 use Rattle.std.specs.Prelude.{◌≡◌, ◌⊎◌, ◌&&◌, ◌||◌, not, Bool, true, false, ℕ, List, [], ◌∷◌}
-use Rattle.std.specs.Prelude.{◌++◌, map, if◌then◌else◌, Option, None, Some}
+use Rattle.std.specs.Prelude.{◌++◌, map, if◌then◌else◌, Option, None, Some, unwrap_or}
+use Rattle.std.specs.Borrow.{Bor}
 use Rattle.std.specs.List.{AllByRecursion, Contains}
 use Rattle.std.specs.Option.{option_map_or}
 use Rattle.phone_values.specs.Ids.{name}
+use Rattle.phone_values.specs.Numbers.{text_of}
 use Rattle.phone_values.specs.declared.country.Id.{Id}
 use Rattle.phone_values.specs.declared.kind.«Type».{«Type»}
 use Rattle.phone_values.specs.declared.kind.«Type».TheVariants.{Unknown}
@@ -15,18 +17,20 @@ use Rattle.phone_prefixes.specs.Tables.{Entry, IsLongest, NoneBegins}
 use Rattle.phone_maps.specs.Maps.{code_digits, digits_of, has_carrier, is_first, is_geographical}
 use Rattle.phone_engine.specs.Facts.{kind_by, region_by}
 use Rattle.phone_values.specs.declared.rules.Rules.{Rules}
-use Rattle.phone_table.specs.Headers.{names}
+use Rattle.phone_table.specs.Headers.{behind, names}
 use Rattle.phone_table.specs.declared.extra.Extra.{Extra}
 use Rattle.phone_table.specs.declared.extra.Told.{Told}
-use Rattle.phone_table.specs.declared.extra.Told.TheVariants.{Area, Carrier, Prefix, TimeZones}
+use Rattle.phone_table.specs.declared.extra.Told.TheVariants.{Area, CallingCode, Carrier}
+use Rattle.phone_table.specs.declared.extra.Told.TheVariants.{Extension, NationalNumber, Prefix}
+use Rattle.phone_table.specs.declared.extra.Told.TheVariants.{TimeZones}
 
 -- their names, in their order
 abbrev pub headings : List Extra → Record
 headings extra = map (λ e. e.heading.now) extra
 
--- the names that are put behind a header: theirs, and the answer's
-abbrev pub added_names : List Extra → Record
-added_names extra = headings extra ++ names
+-- the names that are put behind a header: theirs, and the answer's, each behind these letters
+abbrev pub added_names : (front : List ℕ) → List Extra → Record
+added_names front extra = behind front (headings extra) ++ behind front names
 
 -- a number is of unknown kind
 abbrev pub is_unknown : «Type» → Bool
@@ -39,9 +43,9 @@ is_portable db None = false
 is_portable db (Some region) =
     option_map_or (λ m. m.mobile_number_portable) (last_with (name region) db) false
 
--- the digits by which a number of this kind and region is looked up: none where there is nothing to
--- tell; for the time zones of a number that belongs to no place in its country those of its calling
--- code
+-- the digits by which a number of this kind and region is looked up: none where no table tells the
+-- column, or has nothing to tell; for the time zones of a number that belongs to no place in its
+-- country those of its calling code
 abbrev pub looked_up : List Metadata → Told → «Type» → Option Id → Reading → Option (List ℕ)
 looked_up db Prefix kind region n = Some (digits_of n)
 looked_up db TimeZones kind region n = if is_unknown kind then None
@@ -51,6 +55,7 @@ looked_up db (Carrier owner) kind region n =
     then Some (digits_of n) else None
 looked_up db Area kind region n =
     if is_geographical kind n.code.value then Some (digits_of n) else None
+looked_up db other kind region n = None
 
 -- a text is that of the longest prefix that begins the digits; empty where none does, and where
 -- there are no digits
@@ -60,19 +65,46 @@ IsFound entries (Some digits) text = ((prefix : List ℕ) ×
     IsLongest entries digits (record { prefix = prefix; text = text })) ⊎
     (NoneBegins entries digits × (text ≡ []))
 
--- what a column tells of a number by its table of prefixes; nothing where none was read
-abbrev pub IsTold : Rules → List Metadata → Extra → Option Reading → List ℕ → Type 0
-IsTold rules db column None text = text ≡ []
-IsTold rules db column (Some n) text = IsFound column.table.now
-    (looked_up db column.told (kind_by rules db n) (region_by rules db n) n) text
+-- the entries of a column's table; none where it has no table
+abbrev pub entries_in : Option (Bor (List Entry)) → List Entry
+entries_in None = []
+entries_in (Some table) = table.now
+
+-- the part of a number that is told: its extension, which is empty where it has none; the digits of
+-- its calling code; its national number, the leading zeros with the value; none where a table tells
+abbrev pub part_of : Told → Reading → Option (List ℕ)
+part_of Extension n = Some (unwrap_or n.extension [])
+part_of CallingCode n = Some (code_digits n)
+part_of NationalNumber n = Some (text_of n.national)
+part_of told n = None
+
+-- a text is this part; without one it is what a table has for these digits
+abbrev pub IsPartOrFound : Option (List ℕ) → List Entry → Option (List ℕ) → List ℕ → Type 0
+IsPartOrFound (Some part) entries digits text = text ≡ part
+IsPartOrFound None entries digits text = IsFound entries digits text
+
+-- what is told of a field that was read under a hint, where it was: nothing where it has no number
+abbrev pub IsToldBy : Rules → List Metadata → (under : Option (Option Id)) → (field : List ℕ) →
+    Option Reading → List Entry → Told → List ℕ → Type 0
+IsToldBy rules db under field None entries told text = text ≡ []
+IsToldBy rules db under field (Some n) entries told text =
+    IsPartOrFound (part_of told n) entries
+    (looked_up db told (kind_by rules db n) (region_by rules db n) n) text
+
+-- what a column tells of such a field
+abbrev pub IsTold : Rules → List Metadata → (under : Option (Option Id)) → (field : List ℕ) →
+    Option Reading → Extra → List ℕ → Type 0
+IsTold rules db under field number column text =
+    IsToldBy rules db under field number (entries_in column.table) column.told text
 
 -- what columns tell, in their order
-pub data AreTold (rules : Rules) (db : List Metadata) (number : Option Reading) :
-    List Extra → Record → Type 0 where
-  none : AreTold rules db number [] []
+pub data AreTold (rules : Rules) (db : List Metadata) (under : Option (Option Id))
+    (field : List ℕ) (number : Option Reading) : List Extra → Record → Type 0 where
+  none : AreTold rules db under field number [] []
   next : (column : Extra) (columns : List Extra) (text : List ℕ) (texts : Record) →
-      IsTold rules db column number text → AreTold rules db number columns texts →
-      AreTold rules db number (column ∷ columns) (text ∷ texts)
+      IsTold rules db under field number column text →
+      AreTold rules db under field number columns texts →
+      AreTold rules db under field number (column ∷ columns) (text ∷ texts)
 
 -- entries of one prefix have one text
 abbrev pub HaveOneText : List Entry → Type 0
@@ -81,4 +113,4 @@ HaveOneText entries = (a b : Entry) → Contains entries a → Contains entries 
 
 -- so have those of each column's table
 abbrev pub EachHasOneText : List Extra → Type 0
-EachHasOneText extra = AllByRecursion (λ column. HaveOneText column.table.now) extra
+EachHasOneText extra = AllByRecursion (λ column. HaveOneText (entries_in column.table)) extra

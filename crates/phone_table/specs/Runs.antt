@@ -1,6 +1,6 @@
 -- How a run over a table of customers ends.
-use Rattle.std.specs.Prelude.{◌≡◌, ℕ, List, Option, None, Some, Result, Ok, Err, option_map}
-use Rattle.std.specs.Prelude.{IsSome, true, false}
+use Rattle.std.specs.Prelude.{◌≡◌, ℕ, ⊤, List, Option, None, Some, Result, Ok, Err, option_map}
+use Rattle.std.specs.Prelude.{true, false}
 use Rattle.csv.specs.Records.{Row, fields_of}
 use Rattle.phone_device.specs.Passing.{IsAtEnd}
 use Rattle.phone_csv.specs.Firsts.{EndsNoFirst, first_in}
@@ -9,6 +9,7 @@ use Rattle.phone_csv.specs.Quotes.{IsOpenHeader}
 use Rattle.phone_csv.specs.RecordReports.{Writes}
 use Rattle.phone_csv.specs.Runs.{OfRead}
 use Rattle.phone_csv.specs.declared.blocks.RunError.{RunError}
+use Rattle.phone_csv.specs.declared.blocks.RunError.TheVariants as rows
 use Rattle.phone_csv.specs.declared.first.FirstError.{FirstError}
 use Rattle.phone_csv.specs.declared.format.Format.{Format}
 use Rattle.phone_csv.specs.declared.first.FirstError.TheVariants.{Absent, Input, Memory, Quote}
@@ -20,31 +21,31 @@ use Rattle.phone_table.specs.Answers.{IsAnswer, IsOfOtherWidth}
 use Rattle.phone_table.specs.Rows.{WritesKept, WritesSome}
 use Rattle.phone_table.specs.Ends.{Ends, IsUntouched, SourceFails}
 use Rattle.phone_table.specs.Extras.{added_names}
-use Rattle.phone_table.specs.Headers.{column_of, columns_of, region_column}
+use Rattle.phone_table.specs.Headers.{columns_of, first_taken}
 use Rattle.phone_table.specs.Tables.{IsHeaderAlone}
 use Rattle.phone_table.specs.declared.counts.Counts.{Counts}
-use Rattle.phone_table.specs.declared.header.Column.{Column}
-use Rattle.phone_table.specs.declared.header.Column.TheVariants.{Number, Region}
+use Rattle.phone_table.specs.declared.header.ColumnError.{ColumnError}
 use Rattle.phone_table.specs.declared.header.Columns.{Columns}
 use Rattle.phone_table.specs.declared.run.Asked.{Asked}
 use Rattle.phone_table.specs.declared.run.TableError.{TableError}
 use Rattle.phone_table.specs.declared.run.TableError.TheVariants.{Delimiter, Header}
-use Rattle.phone_table.specs.declared.run.TableError.TheVariants.{NoColumn, Rows}
+use Rattle.phone_table.specs.declared.run.TableError.TheVariants.{NoColumn, Rows, Taken}
 
 -- the names that are put behind a header
 abbrev pub names_in : Asked → Record
-names_in asked = added_names asked.extra.now
+names_in asked = added_names asked.front.now asked.extra.now
 
 -- the columns of a header that are asked for
-abbrev pub columns_in : Asked → Record → Option Columns
+abbrev pub columns_in : Asked → Record → Result Columns ColumnError
 columns_in asked header =
     columns_of header asked.number.now (option_map (λ name. name.now) asked.region)
 
--- this is the first column of those that are asked for that a header lacks
-abbrev pub Lacks : Asked → Column → Record → Type 0
-Lacks asked Number header = column_of header asked.number.now ≡ None
-Lacks asked Region header = IsSome (column_of header asked.number.now) ×
-    (region_column header (option_map (λ name. name.now) asked.region) ≡ None)
+-- these names aren't put behind a header: the first one that stands there already is told, or
+-- memory was refused
+abbrev pub IsRefused : (header added : Record) → TableError → Type 0
+IsRefused header added (Taken name) = first_taken header added ≡ Some name.items
+IsRefused header added (Rows rows.Memory) = ⊤
+IsRefused header added other = ⊥
 
 -- no header was read, for this reason
 pub data NoHeader (delimiter : ℕ) (before after : Devices) : FirstError → Type 0 where
@@ -59,12 +60,11 @@ pub data NoHeader (delimiter : ℕ) (before after : Devices) : FirstError → Ty
   memory : OfRead before.to_come after.to_come (EndsNoFirst delimiter) →
       after.source_faults ≡ before.source_faults → NoHeader delimiter before after Memory
 
--- a header was read, and no more, that lacks a column
-pub record LacksColumn (asked : Asked) (column : Column) (header : Record)
-    (before after : Devices) : Type 0 where
-  pub read : OfRead before.to_come after.to_come (IsHeaderAlone asked.delimiter header)
-  pub lacks : Lacks asked column header
+-- a header was read, and no more, and nothing was written
+pub record ReadsHeader (delimiter : ℕ) (header : Record) (before after : Devices) : Type 0 where
+  pub read : OfRead before.to_come after.to_come (IsHeaderAlone delimiter header)
   pub no_source_fault : after.source_faults ≡ before.source_faults
+  pub untouched : IsUntouched before after
 
 -- what is written for the records of a table with these columns: each with its answer, by what is
 -- asked for, those left out whose number an earlier one has, where each is kept once
@@ -79,8 +79,9 @@ WritesSomeTable rules db hint columns asked =
     WritesSome (IsAnswer rules db hint columns asked) asked.is_unique
 
 -- a run over a table ends so, which its result tells: under a delimiter that is none nothing is
--- read; without a header or a column that is asked for nothing is written; else as the run over
--- its rows ends, each answered by the region that it names, and counted
+-- read; nothing is written without a header, without the one column of each name that is asked for,
+-- or where a name that is put behind the header stands there already; else as the run over its rows
+-- ends, each answered by the region that it names, and counted
 pub data RunEnds (rules : Rules) (db : List Metadata) (hint : Option Id) (asked : Asked)
     (before after : Devices) : Result Counts TableError → Type 0 where
   no_delimiter : is_delimiter asked.delimiter ≡ false → after ≡ before →
@@ -88,18 +89,24 @@ pub data RunEnds (rules : Rules) (db : List Metadata) (hint : Option Id) (asked 
   no_header : (e : FirstError) → is_delimiter asked.delimiter ≡ true →
       NoHeader asked.delimiter before after e → IsUntouched before after →
       RunEnds rules db hint asked before after (Err (Header e))
-  no_column : (column : Column) (header : Row) → is_delimiter asked.delimiter ≡ true →
-      LacksColumn asked column (fields_of header) before after →
-      IsUntouched before after →
-      RunEnds rules db hint asked before after (Err (NoColumn column header))
+  no_column : (e : ColumnError) (header : Row) → is_delimiter asked.delimiter ≡ true →
+      ReadsHeader asked.delimiter (fields_of header) before after →
+      columns_in asked (fields_of header) ≡ Err e →
+      RunEnds rules db hint asked before after (Err (NoColumn e header))
+  no_names : (header : Record) (columns : Columns) (e : TableError) →
+      is_delimiter asked.delimiter ≡ true →
+      ReadsHeader asked.delimiter header before after → columns_in asked header ≡ Ok columns →
+      IsRefused header (names_in asked) e → RunEnds rules db hint asked before after (Err e)
   whole : (header : Record) (columns : Columns) (counts : Counts) →
-      is_delimiter asked.delimiter ≡ true → columns_in asked header ≡ Some columns →
+      is_delimiter asked.delimiter ≡ true → columns_in asked header ≡ Ok columns →
+      first_taken header (names_in asked) ≡ None →
       Ends header (names_in asked) (WritesTable rules db hint columns asked counts)
       (WritesSomeTable rules db hint columns asked) (IsOfOtherWidth columns asked)
       asked.delimiter before after (Ok tt) →
       RunEnds rules db hint asked before after (Ok counts)
   broken_off : (header : Record) (columns : Columns) (counts : Counts) (e : RunError) →
-      is_delimiter asked.delimiter ≡ true → columns_in asked header ≡ Some columns →
+      is_delimiter asked.delimiter ≡ true → columns_in asked header ≡ Ok columns →
+      first_taken header (names_in asked) ≡ None →
       Ends header (names_in asked) (WritesTable rules db hint columns asked counts)
       (WritesSomeTable rules db hint columns asked) (IsOfOtherWidth columns asked)
       asked.delimiter before after (Err e) →

@@ -1,31 +1,43 @@
-//! Columns that are asked for beside the answer's, each told by a table of prefixes.
+//! Columns that are asked for beside the answer's: parts of the number, and what tables of prefixes
+//! tell of it.
 ghost use Rattle.std.specs.Prelude.{◌≡◌, ◌&&◌, ◌||◌, ◌++◌, ◌∷◌, not, [], ℕ, List};
-ghost use Rattle.std.specs.Prelude.{if◌then◌else◌, None, OnOk, Some};
+ghost use Rattle.std.specs.Prelude.{if◌then◌else◌, IfOk, None, OnOk, Some, string_bytes};
+ghost use Rattle.std.specs.Cow.{cow_str_bytes};
 ghost use Rattle.std.specs.Fmt.{decimal};
 ghost use Rattle.csv.specs.Records.{fields_of, partial_of};
 ghost use Rattle.phone_csv.specs.Formats.{Record};
 ghost use Rattle.phone_maps.specs.Maps.{code_digits, digits_of, has_carrier, is_first};
 ghost use Rattle.phone_maps.specs.Maps.{is_geographical};
-ghost use Rattle.phone_table.specs.Extras.{AreTold, IsFound, IsTold, is_portable, is_unknown};
-ghost use Rattle.phone_table.specs.Extras.{looked_up};
+ghost use Rattle.phone_values.specs.Numbers.{text_of as national_text};
+ghost use Rattle.phone_table.specs.Extras.{AreTold, IsFound, IsPartOrFound, IsTold, entries_in};
+ghost use Rattle.phone_table.specs.Extras.{is_portable, is_unknown, looked_up, part_of};
 ghost use Rattle.phone_table.specs.Spelled.{IsKnownIn, number_in};
 
-use crate::answer::Answer;
+use crate::answer::{Answer, Known};
+use crate::finds::extension_of;
 use csv::ByteRecord;
 use itoa::Buffer;
 use phone_engine::Engine;
 use phone_maps::{Owner, has_carrier, is_geographical};
 use phone_plans::Plans;
 use phone_prefixes::Prefixes;
+use phone_print::written::text_of_value;
 use phone_values::Type;
 use phonenumber::country::Id;
 use phonenumber::{Facts, PhoneNumber};
-use std::alloc::AllocError;
+use std::alloc::{AllocError, Global};
+use std::borrow::CowStr;
 use std::marker::Model;
 
-/// What a column tells of a number, by its table of prefixes.
+/// What a column tells of a number: a part of it, or what a table of prefixes has.
 #[derive(Clone, Copy, PartialEq, Eq, Debug)]
 pub enum Told {
+    /// Its extension; empty where it has none.
+    Extension,
+    /// The digits of its calling code.
+    CallingCode,
+    /// Its national number: the leading zeros, and the digits of the value.
+    NationalNumber,
     /// The text of the longest prefix that begins the digits of its E.164 text.
     Prefix,
     /// Its time zones, of which several are parted by `&`. A number that belongs to no place in its
@@ -45,12 +57,12 @@ pub struct Extra<'a> {
     pub heading: &'a str,
     /// What it tells.
     pub told: Told,
-    /// The table by which it tells that.
-    pub table: &'a Prefixes,
+    /// The table by which it tells that, where a table does; without it nothing is told then.
+    pub table: Option<&'a Prefixes>,
 }
 
-/// The text of the longest prefix that begins these digits; empty where none does.
-fn text_of<'a>(table: &'a Prefixes, digits: &str) -> &'a str
+/// The text of the longest prefix of a table that begins these digits; empty where none does.
+fn longest_text<'a>(table: &'a Prefixes, digits: &str) -> &'a str
     ensures { IsFound table.now (Some digits.now) result.now }
 {
     match table.longest(digits) {
@@ -59,16 +71,27 @@ fn text_of<'a>(table: &'a Prefixes, digits: &str) -> &'a str
     }
 }
 
+/// The same of a table that may be there.
+fn text_of<'a>(table: Option<&'a Prefixes>, digits: &str) -> &'a str
+    ensures { IsFound (entries_in table.entry) (Some digits.now) result.now }
+{
+    match table {
+        Some(table) => longest_text(table, digits),
+        None => "",
+    }
+}
+
 /// The same where this holds; else an empty text.
-fn text_if<'a>(table: &'a Prefixes, holds: bool, digits: &str) -> &'a str
-    ensures { IsFound table.now (if holds then Some digits.now else None) result.now }
+fn text_if<'a>(table: Option<&'a Prefixes>, holds: bool, digits: &str) -> &'a str
+    ensures { IsFound (entries_in table.entry) (if holds then Some digits.now else None)
+        result.now }
 {
     if holds { text_of(table, digits) } else { "" }
 }
 
 /// The text of the longest prefix that begins a calling code; empty where none does.
-fn text_of_code(table: &Prefixes, code: u16) -> &str
-    ensures { IsFound table.now (Some (decimal code)) result.now }
+fn text_of_code(table: Option<&Prefixes>, code: u16) -> &str
+    ensures { IsFound (entries_in table.entry) (Some (decimal code)) result.now }
 {
     let mut buffer = Buffer::new();
     let digits = buffer.format(code);
@@ -104,9 +127,14 @@ fn is_unknown(kind: Type) -> bool
 }
 
 /// The time zones of a number of this kind, whose digits these are.
-fn zones_of<'a>(table: &'a Prefixes, number: &PhoneNumber, kind: Type, digits: &str) -> &'a str
+fn zones_of<'a>(
+    table: Option<&'a Prefixes>,
+    number: &PhoneNumber,
+    kind: Type,
+    digits: &str,
+) -> &'a str
     requires { digits.now ≡ digits_of number.now }
-    ensures { IsFound table.now (if is_unknown kind then None
+    ensures { IsFound (entries_in table.entry) (if is_unknown kind then None
         else Some (if is_geographical kind number.now.code.value then digits_of number.now
         else code_digits number.now)) result.now }
 {
@@ -120,7 +148,8 @@ fn zones_of<'a>(table: &'a Prefixes, number: &PhoneNumber, kind: Type, digits: &
     }
 }
 
-/// What a column tells of a number whose digits these are.
+/// What the table of a column tells of a number whose digits these are; nothing where no table
+/// tells the column.
 fn found<'a>(
     database: &Plans,
     column: &Extra<'a>,
@@ -129,7 +158,7 @@ fn found<'a>(
     digits: &str,
 ) -> &'a str
     requires { digits.now ≡ digits_of number.now }
-    ensures { IsFound column.now.table.now
+    ensures { IsFound (entries_in column.now.table)
         (looked_up database.now column.now.told facts.kind facts.region number.now) result.now }
 {
     let Facts { kind, region, .. } = facts;
@@ -144,6 +173,7 @@ fn found<'a>(
             let has_area = is_geographical(kind, number.code().value());
             text_if(table, has_area, digits)
         }
+        _ => "",
     }
 }
 
@@ -157,38 +187,92 @@ fn behind_plus(text: &str) -> &str
     }
 }
 
-/// What a column tells of an answer: nothing where no number was read.
-fn told_by<'a>(engine: Engine<'_>, column: &Extra<'a>, answer: &Answer) -> &'a str
-    requires { IsKnownIn engine.rules engine.database.now answer.now }
-    ensures { IsTold engine.entry.rules engine.entry.database.now column.now (number_in answer.now)
-        result.now }
+/// The digits of a number's calling code. Refused only for memory.
+fn code_of(alloc: Global, number: &PhoneNumber) -> Result<String, AllocError>
+    ensures { IfOk result (λ text. string_bytes text ≡ code_digits number.now) }
 {
-    match answer {
-        Answer::Number(number, known) => {
+    let code = number.code().value();
+    text_of_value(alloc, format_args!("{code}"))
+}
+
+/// The digits of a national number, its leading zeros with them. Refused only for memory.
+fn national_of(alloc: Global, number: &PhoneNumber) -> Result<String, AllocError>
+    ensures { IfOk result (λ text. string_bytes text ≡ national_text number.now.national) }
+{
+    let national = number.national();
+    text_of_value(alloc, format_args!("{national}"))
+}
+
+/// What a column tells of a number, of which this is known. Refused only for memory.
+fn part_of<'a>(
+    database: &Plans,
+    column: &Extra<'a>,
+    number: &'a PhoneNumber,
+    known: &Known,
+) -> Result<CowStr<'a>, AllocError>
+    requires { string_bytes known.now.texts.e164 ≡ 43 ∷ digits_of number.now }
+    ensures { IfOk result (λ text. IsPartOrFound (part_of column.now.told number.now)
+        (entries_in column.now.table) (looked_up database.now column.now.told known.now.facts.kind
+        known.now.facts.region number.now) (cow_str_bytes text)) }
+{
+    let alloc = database.allocator();
+    match column.told {
+        Told::Extension => Ok(CowStr::Borrowed(extension_of(number))),
+        Told::CallingCode => Ok(CowStr::Owned(code_of(alloc, number)?)),
+        Told::NationalNumber => Ok(CowStr::Owned(national_of(alloc, number)?)),
+        _ => {
             let digits = behind_plus(known.texts.e164.as_str());
-            found(engine.database, column, number, known.facts, digits)
+            Ok(CowStr::Borrowed(found(database, column, number, known.facts, digits)))
         }
-        Answer::Short(_, _) | Answer::Refused(_) => "",
     }
 }
 
-/// Puts what columns tell of an answer behind the fields of a record. Refused only for memory.
+/// A record's field of a number, as it was read.
+#[derive(Clone, Copy)]
+pub(crate) struct Subject<'a> {
+    /// The hint under which it was read; none where it wasn't.
+    pub under: Option<Option<Id>>,
+    /// The field.
+    pub field: &'a [u8],
+    /// Its answer.
+    pub answer: &'a Answer,
+}
+
+/// What a column tells of a field: nothing where no number was read. Refused only for memory.
+fn told_by<'a>(
+    engine: Engine<'_>,
+    column: &Extra<'a>,
+    subject: Subject<'a>,
+) -> Result<CowStr<'a>, AllocError>
+    requires { IsKnownIn engine.rules engine.database.now subject.answer.now }
+    ensures { IfOk result (λ text. IsTold engine.entry.rules engine.entry.database.now
+        subject.entry.under subject.entry.field.now (number_in subject.entry.answer.now) column.now
+        (cow_str_bytes text)) }
+{
+    match subject.answer {
+        Answer::Number(number, known) => part_of(engine.database, column, number, known),
+        Answer::Short(_, _) | Answer::Refused(_) => Ok(CowStr::Borrowed("")),
+    }
+}
+
+/// Puts what columns tell of a field behind the fields of a record. Refused only for memory.
 pub(crate) fn push_told(
     engine: Engine<'_>,
     fields: &mut ByteRecord,
     extra: &[Extra<'_>],
-    answer: &Answer,
+    subject: Subject<'_>,
 ) -> Result<(), AllocError>
     requires partial { partial_of fields.old ≡ [] }
-    requires known { IsKnownIn engine.rules engine.database.now answer.now }
-    ensures told { OnOk result ((told : Record) ×
-        AreTold engine.entry.rules engine.entry.database.now (number_in answer.now) extra.now told ×
+    requires known { IsKnownIn engine.rules engine.database.now subject.answer.now }
+    ensures told { OnOk result ((told : Record) × AreTold engine.entry.rules
+        engine.entry.database.now subject.entry.under subject.entry.field.now
+        (number_in subject.entry.answer.now) extra.now told ×
         (fields_of fields.new ≡ fields_of fields.old ++ told)) }
     ensures partial { OnOk result (partial_of fields.new ≡ []) }
 {
     'columns: for column in extra {
-        let text = told_by(engine, column, answer);
-        fields.push_field(text.as_bytes())?;
+        let text = told_by(engine, column, subject)?;
+        fields.push_field(text.as_str().as_bytes())?;
     }
     Ok(())
 }

@@ -148,7 +148,7 @@ pub fn push_found_names(header: &mut ByteRecord) -> Result<(), AllocError>
 }
 
 /// The text of a number's extension; empty where it has none.
-fn extension_of(number: &PhoneNumber) -> &str
+pub(crate) fn extension_of(number: &PhoneNumber) -> &str
     ensures { result.now ≡ unwrap_or number.now.extension [] }
 {
     match number.extension() {

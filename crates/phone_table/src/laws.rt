@@ -14,7 +14,7 @@ ghost use Rattle.phone_short.specs.Regions.{short_kind};
 ghost use Rattle.phone_short.specs.declared.kind.ShortKind.TheVariants as kind;
 ghost use Rattle.phone_prefixes.specs.Tables as prefixes;
 ghost use Rattle.phone_table.specs.Answers.{IsAnswer, IsFieldAnswer, IsOfOtherWidth};
-ghost use Rattle.phone_table.specs.Answers.{IsOwnAnswer};
+ghost use Rattle.phone_table.specs.Answers.{IsOwnAnswer, IsUnder};
 ghost use Rattle.phone_table.specs.Extras.{EachHasOneText, HaveOneText};
 ghost use Rattle.phone_table.specs.Objects.{IsObject, IsObjectLine};
 ghost use Rattle.phone_table.specs.Ends.{by};
@@ -50,14 +50,18 @@ pub fn one_answer()
         IsFieldAnswer rules db short hint field k b → (n ≡ k) × (a ≡ b) }
 {}
 
-/// By either rules a record has one answer at most: its fields, which are of one number or of
-/// none, and, where in the table of each column that is asked for a prefix has one text, what these
-/// columns tell.
+/// By either rules a record is read under one hint, if it is, and has one answer at most: its
+/// fields, which are of one number or of none, and, where in the table of each column that is asked
+/// for a prefix has one text, what these columns tell.
 pub fn one_row()
-    ensures own { (rules : Rules) (db : List loader.Metadata) (hint : Option Id)
-        (columns : header.Columns) (asked : run.Asked) (fields : Record) (n k : Option Reading)
-        (a b : Record) → IsOwnAnswer rules db hint columns asked fields n a →
-        IsOwnAnswer rules db hint columns asked fields k b → (n ≡ k) × (a ≡ b) }
+    ensures under { (hint : Option Id) (columns : header.Columns) (asked : run.Asked)
+        (fields : Record) (u v : Option (Option Id)) → IsUnder hint columns asked fields u →
+        IsUnder hint columns asked fields v → u ≡ v }
+    ensures own { (rules : Rules) (db : List loader.Metadata) (columns : header.Columns)
+        (asked : run.Asked) (fields : Record) (under : Option (Option Id))
+        (n k : Option Reading) (a b : Record) →
+        IsOwnAnswer rules db columns asked fields under n a →
+        IsOwnAnswer rules db columns asked fields under k b → (n ≡ k) × (a ≡ b) }
     ensures whole { (rules : Rules) (db : List loader.Metadata) (hint : Option Id)
         (columns : header.Columns) (asked : run.Asked) (fields a b : Record) →
         EachHasOneText asked.extra.now → IsAnswer rules db hint columns asked fields a →

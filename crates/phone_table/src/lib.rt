@@ -20,7 +20,7 @@ mod words;
 pub use answer::{Answer, Known, answer_to};
 pub use counts::Counts;
 pub use extra::{Extra, Told};
-pub use header::{Column, Columns, column_of, columns_of};
+pub use header::{Column, ColumnError, Columns, column_of, columns_of};
 pub use key::{ANSWER_WIDTH, e164_of};
 pub use phone_csv::{ByteSink, ByteSource, FirstError, RunError};
 pub use phone_maps::Owner;

@@ -1,13 +1,16 @@
-//! The header that is written.
-ghost use Rattle.std.specs.Prelude.{◌≡◌, ◌+◌, ◌++◌, [], Err, IfOk, OnOk};
+//! The names that are put behind a header, and the header that is written.
+ghost use Rattle.std.specs.Prelude.{◌≡◌, ◌+◌, ◌++◌, ◌∷◌, [], Err, IfOk, OnOk, option_map};
+ghost use Rattle.std.specs.Prelude.{string_bytes};
 ghost use Rattle.csv.specs.Records.{fields_of, partial_of};
 ghost use Rattle.phone_device.specs.Passing.{Takes, TakesFront};
 ghost use Rattle.phone_table.specs.Extras.{added_names, headings};
-ghost use Rattle.phone_table.specs.Headers.{names, texts_of};
+ghost use Rattle.phone_table.specs.Headers.{behind, first_taken, is_taken, names, texts_of};
 ghost use Rattle.phone_table.specs.Tables.{head_text, mark_text};
 ghost use Rattle.phone_table.specs.declared.names.HeaderError.TheVariants as error;
 
 use crate::extra::Extra;
+use crate::header::times;
+use crate::table::field_in;
 use csv::ByteRecord;
 use phone_csv::{Format, add_record};
 use phone_device::{ByteSink, write_all};
@@ -35,13 +38,83 @@ pub(crate) fn push_texts(fields: &mut ByteRecord, texts: &[&str]) -> Result<(), 
     Ok(())
 }
 
-/// Puts the names of an answer's fields behind a header. Refused only for memory.
-fn push_names(header: &mut ByteRecord) -> Result<(), AllocError>
-    requires { partial_of header.old ≡ [] }
-    ensures { OnOk result (fields_of header.new ≡ fields_of header.old ++ names) }
+/// A name behind these letters. Refused only for memory.
+fn behind(alloc: Global, front: &str, name: &str) -> Result<String, AllocError>
+    ensures { IfOk result (λ text. string_bytes text ≡ front.now ++ name.now) }
 {
-    push_texts(
-        header,
+    let mut text = String::new(alloc);
+    text.push_str(front)?;
+    text.push_str(name)?;
+    Ok(text)
+}
+
+/// Puts a name behind others, itself behind these letters. Refused only for memory.
+fn push_name(
+    alloc: Global,
+    names: &mut ByteRecord,
+    front: &str,
+    name: &str,
+) -> Result<(), AllocError>
+    requires { partial_of names.old ≡ [] }
+    ensures fields { OnOk result (fields_of names.new ≡
+        fields_of names.old ++ (front.now ++ name.now) ∷ []) }
+    ensures partial { OnOk result (partial_of names.new ≡ []) }
+{
+    let text = behind(alloc, front, name)?;
+    names.push_field(text.as_bytes())
+}
+
+/// Puts names behind others, each behind these letters. Refused only for memory.
+fn push_names(
+    alloc: Global,
+    names: &mut ByteRecord,
+    front: &str,
+    texts: &[&str],
+) -> Result<(), AllocError>
+    requires { partial_of names.old ≡ [] }
+    ensures fields { OnOk result (fields_of names.new ≡
+        fields_of names.old ++ behind front.now (texts_of texts.now)) }
+    ensures partial { OnOk result (partial_of names.new ≡ []) }
+{
+    'texts: for text in texts {
+        push_name(alloc, names, front, *text)?;
+    }
+    Ok(())
+}
+
+/// Puts the headings of columns behind names, each behind these letters. Refused only for memory.
+fn push_headings(
+    alloc: Global,
+    names: &mut ByteRecord,
+    front: &str,
+    extra: &[Extra<'_>],
+) -> Result<(), AllocError>
+    requires { partial_of names.old ≡ [] }
+    ensures fields { OnOk result (fields_of names.new ≡
+        fields_of names.old ++ behind front.now (headings extra.now)) }
+    ensures partial { OnOk result (partial_of names.new ≡ []) }
+{
+    'columns: for column in extra {
+        push_name(alloc, names, front, column.heading)?;
+    }
+    Ok(())
+}
+
+/// The names that are put behind a header: those of columns, and of an answer's fields, each behind
+/// these letters. Refused only for memory.
+pub(crate) fn added_names(
+    alloc: Global,
+    front: &str,
+    extra: &[Extra<'_>],
+) -> Result<ByteRecord, AllocError>
+    ensures { IfOk result (λ names. fields_of names ≡ added_names front.now extra.now) }
+{
+    let mut names = ByteRecord::new(alloc);
+    push_headings(alloc, &mut names, front, extra)?;
+    push_names(
+        alloc,
+        &mut names,
+        front,
         &[
             "e164",
             "international",
@@ -51,18 +124,40 @@ fn push_names(header: &mut ByteRecord) -> Result<(), AllocError>
             "validity",
             "refusal",
         ],
-    )
+    )?;
+    Ok(names)
 }
 
-/// Puts the headings of columns behind a header. Refused only for memory.
-fn push_headings(header: &mut ByteRecord, extra: &[Extra<'_>]) -> Result<(), AllocError>
-    requires { partial_of header.old ≡ [] }
-    ensures fields { OnOk result (fields_of header.new ≡
-        fields_of header.old ++ headings extra.now) }
-    ensures partial { OnOk result (partial_of header.new ≡ []) }
+/// Whether a name stands more than once among those of a header and those that are put behind it.
+fn is_taken(header: &ByteRecord, added: &ByteRecord, name: &[u8]) -> bool
+    ensures { result ≡ is_taken (fields_of header.now) (fields_of added.now) name.now }
 {
-    'columns: for column in extra {
-        header.push_field(column.heading.as_bytes())?;
+    times(header, name).saturating_add(times(added, name)) > 1
+}
+
+/// The first of the names that are put behind a header that does.
+pub(crate) fn first_taken<'n>(header: &ByteRecord, added: &'n ByteRecord) -> Option<&'n [u8]>
+    ensures { option_map (λ name. name.now) result ≡
+        first_taken (fields_of header.now) (fields_of added.now) }
+{
+    'names: for place in 0..added.len() {
+        let name = field_in(added, place);
+        if is_taken(header, added, name) {
+            return Some(name);
+        }
+    }
+    None
+}
+
+/// Puts the fields of a record behind those of another. Refused only for memory.
+fn push_fields(fields: &mut ByteRecord, more: &ByteRecord) -> Result<(), AllocError>
+    requires { partial_of fields.old ≡ [] }
+    ensures fields { OnOk result (fields_of fields.new ≡
+        fields_of fields.old ++ fields_of more.now) }
+    ensures partial { OnOk result (partial_of fields.new ≡ []) }
+{
+    'fields: for place in 0..more.len() {
+        fields.push_field(field_in(more, place))?;
     }
     Ok(())
 }
@@ -78,44 +173,43 @@ fn mark_text(alloc: Global, has_mark: bool) -> Result<Vec<u8>, AllocError>
     Ok(text)
 }
 
-/// The text of a header with the answer's names behind its own, and with a byte-order mark in front
-/// where there is one. Refused only for memory.
+/// The text of a header with these names behind its own, and with a byte-order mark in front where
+/// there is one. Refused only for memory.
 fn header_text(
     alloc: Global,
     format: Format,
     has_mark: bool,
     header: ByteRecord,
-    extra: &[Extra<'_>],
+    added: &ByteRecord,
 ) -> Result<Vec<u8>, AllocError>
     requires { partial_of header ≡ [] }
     ensures { IfOk result (λ text. text.items ≡
-        head_text format has_mark (fields_of header ++ added_names extra.now)) }
+        head_text format has_mark (fields_of header ++ fields_of added.now)) }
 {
     let mut header = header;
-    push_headings(&mut header, extra)?;
-    push_names(&mut header)?;
+    push_fields(&mut header, added)?;
     let mut text = mark_text(alloc, has_mark)?;
     add_record(alloc, format, &header, &mut text)?;
     Ok(text)
 }
 
-/// Writes a header with the answer's names behind its own, and with a byte-order mark in front
-/// where there is one. Refused by `Output` where the sink fails: then a beginning of it is written.
+/// Writes a header with these names behind its own, and with a byte-order mark in front where there
+/// is one. Refused by `Output` where the sink fails: then a beginning of it is written.
 /// By `Memory`: then nothing is.
 pub(crate) fn write_header<W: ByteSink>(
     alloc: Global,
     format: Format,
     has_mark: bool,
     header: ByteRecord,
-    extra: &[Extra<'_>],
+    added: &ByteRecord,
     sink: &mut W,
 ) -> Result<(), HeaderError>
     requires { partial_of header ≡ [] }
     ensures written { OnOk result (Takes (W.taken sink.old)
-        (head_text format has_mark (fields_of header ++ added_names extra.now))
+        (head_text format has_mark (fields_of header ++ fields_of added.now))
         (W.taken sink.new)) }
     ensures beginning { result ≡ Err error.Output → TakesFront (W.taken sink.old)
-        (head_text format has_mark (fields_of header ++ added_names extra.now))
+        (head_text format has_mark (fields_of header ++ fields_of added.now))
         (W.taken sink.new) }
     ensures nothing { result ≡ Err error.Memory → W.taken sink.new ≡ W.taken sink.old }
     ensures nothing_held { result ≡ Err error.Memory →
@@ -125,7 +219,7 @@ pub(crate) fn write_header<W: ByteSink>(
     ensures no_fault_without_memory { result ≡ Err error.Memory →
         W.faults sink.new ≡ W.faults sink.old }
 {
-    let Ok(text) = header_text(alloc, format, has_mark, header, extra) else {
+    let Ok(text) = header_text(alloc, format, has_mark, header, added) else {
         return Err(HeaderError::Memory);
     };
     match write_all(sink, text.as_slice()) {

@@ -6,16 +6,15 @@ ghost use Rattle.phone_csv.specs.Runs.{OfRead};
 ghost use Rattle.phone_device.specs.Passing.{IsAtEnd};
 ghost use Rattle.phone_lines.specs.Ends.{seen};
 ghost use Rattle.phone_table.specs.Ends.{Ends};
-ghost use Rattle.phone_table.specs.Extras.{added_names};
 ghost use Rattle.phone_table.specs.Tables.{IsHeader};
 
-use crate::extra::Extra;
 use crate::names::{HeaderError, write_header};
+use csv::ByteRecord;
 use phone_csv::{Answers, First, RunError, answer_records, format_after};
 use phone_device::{ByteSink, ByteSource};
 use std::alloc::Global;
 
-/// Writes a header that was read with the answer's names behind it, and then the records that
+/// Writes a header that was read with these names behind it, and then the records that
 /// follow it, each with its answer, unless it is left out. Begins with a byte-order mark where the
 /// table does, and ends each record as the header ends. Refused as `answer_records` refuses; where
 /// memory is refused for the header nothing is written.
@@ -24,7 +23,7 @@ pub(crate) fn write_rows<A: Answers, S: ByteSource, W: ByteSink>(
     answers: &mut A,
     delimiter: u8,
     first: First,
-    extra: &[Extra<'_>],
+    added: &ByteRecord,
     source: &mut S,
     sink: &mut W,
 ) -> Result<(), RunError>
@@ -32,7 +31,7 @@ pub(crate) fn write_rows<A: Answers, S: ByteSource, W: ByteSink>(
     requires end { IsNone first.rest → IsAtEnd (S.to_come source.old) }
     ensures ends { (before : Option (List ℕ)) → OfRead before (S.to_come source.old) (λ bytes.
         IsHeader delimiter (fields_of first.fields) first.rest first.has_mark bytes) →
-        Ends (fields_of first.fields) (added_names extra.now)
+        Ends (fields_of first.fields) (fields_of added.now)
         (λ format. WritesRows A.gives format answers.old answers.new)
         (λ format. WritesSomeRows A.gives format answers.old) (A.refuses answers.new) delimiter
         (seen before (S.faults source.old) (W.taken sink.old)
@@ -47,7 +46,7 @@ pub(crate) fn write_rows<A: Answers, S: ByteSource, W: ByteSink>(
         has_mark,
     } = first;
     let format = format_after(delimiter, rest);
-    match write_header(alloc, format, has_mark, fields, extra, sink) {
+    match write_header(alloc, format, has_mark, fields, added, sink) {
         Ok(()) => {}
         Err(HeaderError::Output) => return Err(RunError::Output),
         Err(HeaderError::Memory) => return Err(RunError::Memory),

@@ -1,10 +1,15 @@
 //! The run over a table of customers.
+ghost use Rattle.std.specs.Prelude.{◌≡◌, IfErr, IfOk, None, Some};
+ghost use Rattle.csv.specs.Records.{fields_of};
+ghost use Rattle.phone_csv.specs.Formats.{Record};
 ghost use Rattle.phone_lines.specs.Ends.{seen};
-ghost use Rattle.phone_table.specs.Runs.{RunEnds};
+ghost use Rattle.phone_table.specs.Headers.{first_taken};
+ghost use Rattle.phone_table.specs.Runs.{IsRefused, RunEnds, names_in};
 
 use crate::counts::Counts;
 use crate::extra::Extra;
-use crate::header::{Column, columns_of};
+use crate::header::{ColumnError, columns_of};
+use crate::names::{added_names, first_taken};
 use crate::rows::write_rows;
 use crate::table::Table;
 use csv::ByteRecord;
@@ -12,6 +17,7 @@ use phone_csv::{FirstError, RunError, first_record, is_delimiter};
 use phone_device::{ByteSink, ByteSource};
 use phone_engine::Engine;
 use phone_plans::Plans;
+use std::alloc::Global;
 
 /// What is asked of a table.
 #[derive(Clone, Copy)]
@@ -29,6 +35,8 @@ pub struct Asked<'a> {
     pub mark_bad: bool,
     /// Whether of the records with one number the first is given back alone.
     pub is_unique: bool,
+    /// What stands in front of the name of each column behind the header's own.
+    pub front: &'a str,
     /// The columns that stand between the header's own and the answer's.
     pub extra: &'a [Extra<'a>],
     /// The database of short numbers, where the kinds of these are told.
@@ -42,22 +50,57 @@ pub enum TableError {
     Delimiter,
     /// The header was not read.
     Header(FirstError),
-    /// The header, which stands here, lacks a column.
-    NoColumn(Column, ByteRecord),
+    /// The header, which stands here, has no column of a name that is asked for, or more than one.
+    NoColumn(ColumnError, ByteRecord),
+    /// This name, which is to be put behind the header, stands there already.
+    Taken(Vec<u8>),
     /// The run over the records ended.
     Rows(RunError),
 }
 
+/// The error of a name that stands in a header already. By `Rows` where memory is refused.
+fn taken(alloc: Global, name: &[u8]) -> TableError
+    ensures { (header added : Record) → first_taken header added ≡ Some name.now →
+        IsRefused header added result }
+{
+    match name.to_vec(alloc) {
+        Ok(name) => TableError::Taken(name),
+        Err(_) => TableError::Rows(RunError::Memory),
+    }
+}
+
+/// The names that are put behind a header. Refused by `Taken` where one of them stands there
+/// already, or is put there twice, and by `Rows` where memory is refused.
+fn names_behind(
+    alloc: Global,
+    asked: Asked<'_>,
+    header: &ByteRecord,
+) -> Result<ByteRecord, TableError>
+    ensures names { IfOk result (λ added. fields_of added ≡ names_in asked.entry) }
+    ensures free { IfOk result
+        (λ _. first_taken (fields_of header.now) (names_in asked.entry) ≡ None) }
+    ensures refused { IfErr result (IsRefused (fields_of header.now) (names_in asked.entry)) }
+{
+    let Ok(added) = added_names(alloc, asked.front, asked.extra) else {
+        return Err(TableError::Rows(RunError::Memory));
+    };
+    if let Some(name) = first_taken(header, &added) {
+        return Err(taken(alloc, name));
+    }
+    Ok(added)
+}
+
 /// Gives a table back: its header with names behind its own, those of the columns that are asked
-/// for and then `e164`, `international`, `national`, `type`, `region`, `validity` and `refusal`;
-/// and its records in their order, unchanged, each with its answer behind its fields. The first
-/// record is the header. Where a UTF-8 byte-order mark stands in front of it, that is no part of
-/// its first name, and the output begins with one too. Each record is ended by a carriage return
-/// and a line feed where a carriage return ended the header, else by a line feed. What is read and
-/// written is CSV as the kit's `csv` has it, with this delimiter. Nothing in memory grows with the
-/// number of records, but with `is_unique`, where the E.164 texts are kept: then a record whose
-/// number an earlier one has is left out. It gives how many records there were, how many of
-/// them were answered otherwise than by a valid number, and how many were left out.
+/// for and then `e164`, `international`, `national`, `type`, `region`, `validity` and `refusal`,
+/// each with `front` before it; and its records in their order, unchanged, each with its answer
+/// behind its fields. The first record is the header. Where a UTF-8 byte-order mark stands in front
+/// of it, that is no part of its first name, and the output begins with one too. Each record is
+/// ended by a carriage return and a line feed where a carriage return ended the header, else by a
+/// line feed. What is read and written is CSV as the kit's `csv` has it, with this delimiter.
+/// Nothing in memory grows with the number of records, but with `is_unique`, where the E.164 texts
+/// are kept: then a record whose number an earlier one has is left out. It gives how many records
+/// there were, how many of them were answered otherwise than by a valid number, and how many were
+/// left out.
 ///
 /// The answer to a number, which is read and described by the engine: what each column that is
 /// asked for tells of it, empty where its table has nothing; its texts in three modes, its kind,
@@ -73,8 +116,10 @@ pub enum TableError {
 /// Where the field holds anything else, the number is refused with the words `unknown region`, and
 /// the run goes on; with `else_hint` the number is read under the engine's hint.
 ///
-/// Errors: `Delimiter`, before anything is read; `Header` where there is no header, and `NoColumn`
-/// where the header lacks a column, before anything is written; after the header was written `Rows`
+/// Errors: `Delimiter`, before anything is read; `Header` where there is no header, `NoColumn` where
+/// the header has no column of a name that is asked for, or more than one, and `Taken` where one of
+/// the names that are put behind it stands there already, or is put there twice, before anything is
+/// written; after the header was written `Rows`
 /// as `answer_records` has it, with `Record` at a record that has another count of fields than the
 /// header, and the number of line feeds before that record. With `mark_bad` such a record is given
 /// back as it is instead, and after its fields the answer to a refusal, `wrong count of fields`.
@@ -104,7 +149,11 @@ pub fn write_table<S: ByteSource, W: ByteSink>(
     };
     let columns = match columns_of(&first.fields, asked.number, asked.region) {
         Ok(columns) => columns,
-        Err(column) => return Err(TableError::NoColumn(column, first.fields)),
+        Err(error) => return Err(TableError::NoColumn(error, first.fields)),
+    };
+    let added = match names_behind(alloc, asked, &first.fields) {
+        Ok(added) => added,
+        Err(error) => return Err(error),
     };
     let mut table = Table::new(engine, asked, columns);
     match write_rows(
@@ -112,7 +161,7 @@ pub fn write_table<S: ByteSource, W: ByteSink>(
         &mut table,
         asked.delimiter,
         first,
-        asked.extra,
+        &added,
         source,
         sink,
     ) {

@@ -5,8 +5,8 @@ ghost use Rattle.std.specs.Str.{bytes_eq};
 ghost use Rattle.std.specs.Prelude.{Err, IfErr, IfOk, None, OnOk};
 ghost use Rattle.csv.specs.Records.{fields_of, partial_of};
 ghost use Rattle.phone_csv.specs.Formats.{Record};
-ghost use Rattle.phone_table.specs.Answers.{IsNumberAnswer, IsOfOtherWidth, IsOwnAnswer};
-ghost use Rattle.phone_table.specs.Answers.{refused_answer};
+ghost use Rattle.phone_table.specs.Answers.{IsAnswerUnder, IsOfOtherWidth, IsOwnAnswer};
+ghost use Rattle.phone_table.specs.Answers.{IsUnder, refused_answer, short_of};
 ghost use Rattle.phone_table.specs.Extras.{AreTold};
 ghost use Rattle.phone_table.specs.Regions.{RecordNames, field_in};
 ghost use Rattle.phone_table.specs.Counts.{no_counts};
@@ -16,7 +16,7 @@ ghost use Rattle.phone_table.specs.Spelled.{IsKnownIn, number_in, spelled};
 
 use crate::answer::{Answer, answer_to, push_answer};
 use crate::counts::Counts;
-use crate::extra::push_told;
+use crate::extra::{Subject, push_told};
 use crate::header::Columns;
 use crate::key::ANSWER_WIDTH;
 use crate::region::{Named, hint_under, region_named};
@@ -24,6 +24,7 @@ use crate::run::Asked;
 use csv::ByteRecord;
 use phone_csv::{Answers, Refusal};
 use phone_engine::Engine;
+use phonenumber::country::Id;
 use std::alloc::{AllocError, Global};
 use std::collections::HashSet;
 use std::marker::Model;
@@ -61,16 +62,33 @@ impl<'d> Table<'d> {
         }
     }
 
-    /// The answer to a record. Refused only for memory.
-    fn answer_to_record(&self, fields: &ByteRecord) -> Result<Answer, AllocError>
-        ensures answer { IfOk result (λ a. IsNumberAnswer self.now.engine.rules
-            self.now.engine.database.now self.now.engine.hint self.now.columns self.now.asked
-            (fields_of fields.now) (number_in a) (spelled a)) }
+    /// The hint under which a record's number is read, by the region that the record names; none
+    /// where it isn't read: the record names no region that there is, or has another count of
+    /// fields.
+    fn hint_of(&self, fields: &ByteRecord) -> Option<Option<Id>>
+        ensures { IsUnder self.now.engine.hint self.now.columns self.now.asked
+            (fields_of fields.now) result }
+    {
+        if fields.len() == self.columns.width {
+            let named = region_of(self.columns, fields);
+            return hint_under(self.asked.else_hint, self.engine.hint, named);
+        }
+        None
+    }
+
+    /// The answer to a record's number under this hint. Refused only for memory.
+    fn answer_under(
+        &self,
+        under: Option<Option<Id>>,
+        fields: &ByteRecord,
+    ) -> Result<Answer, AllocError>
+        ensures answer { IfOk result (λ a. IsAnswerUnder self.now.engine.rules
+            self.now.engine.database.now (short_of self.now.asked) under
+            (field_in (fields_of fields.now) self.now.columns.number) (number_in a) (spelled a)) }
         ensures known { IfOk result
             (λ a. IsKnownIn self.now.engine.rules self.now.engine.database.now a) }
     {
-        let named = region_of(self.columns, fields);
-        let Some(hint) = hint_under(self.asked.else_hint, self.engine.hint, named) else {
+        let Some(hint) = under else {
             return Ok(Answer::Refused("unknown region"));
         };
         let engine = Engine {
@@ -84,11 +102,16 @@ impl<'d> Table<'d> {
         )
     }
 
-    /// The answer to a record, whatever the count of its fields; or why it isn't answered.
-    fn answer_or_refusal(&self, fields: &ByteRecord) -> Result<Answer, Refusal>
+    /// The answer to a record under this hint, whatever the count of its fields; or why it isn't
+    /// answered.
+    fn answer_or_refusal(
+        &self,
+        under: Option<Option<Id>>,
+        fields: &ByteRecord,
+    ) -> Result<Answer, Refusal>
         ensures answer { IfOk result (λ a. IsOwnAnswer self.now.engine.rules
-            self.now.engine.database.now self.now.engine.hint self.now.columns self.now.asked
-            (fields_of fields.now) (number_in a) (spelled a)) }
+            self.now.engine.database.now self.now.columns self.now.asked (fields_of fields.now)
+            under (number_in a) (spelled a)) }
         ensures known { IfOk result
             (λ a. IsKnownIn self.now.engine.rules self.now.engine.database.now a) }
         ensures refused { result ≡ Err Refusal.Record →
@@ -97,7 +120,7 @@ impl<'d> Table<'d> {
         if fields.len() != self.columns.width {
             return self.marked();
         }
-        match self.answer_to_record(fields) {
+        match self.answer_under(under, fields) {
             Ok(answer) => Ok(answer),
             Err(_) => Err(Refusal::Memory),
         }
@@ -121,16 +144,29 @@ impl<'d> Table<'d> {
     }
 
     /// Puts what the columns that are asked for tell, and the fields of an answer, behind
-    /// those of a record. Refused only for memory.
-    fn push_row(&self, fields: &mut ByteRecord, answer: &Answer) -> Result<(), AllocError>
+    /// those of a record that was read under this hint. Refused only for memory.
+    fn push_row(
+        &self,
+        fields: &mut ByteRecord,
+        under: Option<Option<Id>>,
+        answer: &Answer,
+    ) -> Result<(), AllocError>
         requires partial { partial_of fields.old ≡ [] }
         requires known { IsKnownIn self.now.engine.rules self.now.engine.database.now answer.now }
         ensures { OnOk result ((told : Record) ×
-            AreTold self.now.engine.rules self.now.engine.database.now (number_in answer.now)
+            AreTold self.now.engine.rules self.now.engine.database.now under
+            (field_in (fields_of fields.old) self.now.columns.number) (number_in answer.now)
             self.now.asked.extra.now told ×
             (fields_of fields.new ≡ fields_of fields.old ++ (told ++ spelled answer.now))) }
     {
-        push_told(self.engine, fields, self.asked.extra, answer)?;
+        let alloc = self.engine.database.allocator();
+        let field = field_in(fields, self.columns.number).to_vec(alloc)?;
+        let subject = Subject {
+            under,
+            field: field.as_slice(),
+            answer,
+        };
+        push_told(self.engine, fields, self.asked.extra, subject)?;
         push_answer(fields, answer)
     }
 }
@@ -207,11 +243,12 @@ impl<'d> Answers for Table<'d> {
     /// those of a record, and counts it. A record with another count of fields than the table has
     /// columns isn't answered, unless such are marked.
     fn answer(&mut self, _alloc: Global, fields: &mut ByteRecord) -> Result<bool, Refusal> {
-        let answer = match self.answer_or_refusal(fields) {
+        let under = self.hint_of(fields);
+        let answer = match self.answer_or_refusal(under, fields) {
             Ok(answer) => answer,
             Err(refusal) => return Err(refusal),
         };
-        let Ok(()) = self.push_row(fields, &answer) else {
+        let Ok(()) = self.push_row(fields, under, &answer) else {
             return Err(Refusal::Memory);
         };
         let Ok(is_new) = self.is_new(fields) else {

@@ -10,7 +10,7 @@ use Rattle.phone_values.specs.declared.rules.Rules.{Rules}
 use Rattle.phone_values.specs.declared.rules.Rules.TheVariants.{Crate, Library}
 use Rattle.phone_words.specs.Parts.{Fault, Said, either, fault, fault_at, operand, option, parts_in}
 use Rattle.phone_words.specs.Parts.{and_then}
-use Rattle.phone_words.specs.Rows.{Entry, is_empty, text_in, texts_of}
+use Rattle.phone_words.specs.Rows.{Entry, Lent, is_empty, text_in, texts_of}
 use Rattle.phone_words.specs.Values.{count_named, delimiter_named, encoding_named, rules_named}
 use Rattle.phone_words.specs.declared.call.Call.{Call}
 use Rattle.phone_words.specs.declared.command.Command.{Command}
@@ -86,7 +86,8 @@ line_command ps =
     if has ps (codes "--short") then command.Short else
     if has ps (codes "--find") then found_command ps else
     if has ps (codes "--json") then command.Objects else
-    if has ps (codes "--unique") then command.Unique else command.Report
+    if has ps (codes "--unique") then command.Unique else
+    if has ps (codes "--with-input") then command.ReportWithInput else command.Report
 
 -- what is asked for: help before the version, that before the regions, these before what reads
 -- numbers; of that a table, where its column is named, or else lines
@@ -193,6 +194,13 @@ pub record IsFurther (ps : List Said) (f : Further) : Type 0 where
   pub first_carriers : text_in f.first_carriers ≡
       file_if ps (codes "--first-carrier") (codes "--carriers")
   pub areas : text_in f.areas ≡ file_if ps (codes "--area") (codes "--areas")
+  pub extension : f.extension ≡ has ps (codes "--extension")
+  pub calling_code : f.calling_code ≡ has ps (codes "--calling-code")
+  pub national_number : f.national_number ≡ has ps (codes "--national-number")
+
+-- the files by which further columns tell
+abbrev pub further_files : Further → List (Option Lent)
+further_files f = f.prefixes ∷ f.time_zones ∷ f.carriers ∷ f.first_carriers ∷ f.areas ∷ []
 
 -- this is asked of a table
 pub record IsTable (ps : List Said) (t : Table) : Type 0 where
@@ -201,6 +209,7 @@ pub record IsTable (ps : List Said) (t : Table) : Type 0 where
   pub fallback_region : t.fallback_region ≡ has ps (codes "--fallback-region")
   pub is_unique : t.is_unique ≡ has ps (codes "--unique")
   pub mark_bad : t.mark_bad ≡ has ps (codes "--mark-bad-records")
+  pub front : t.front.now ≡ text ps (codes "--prefix")
   pub further : IsFurther ps t.further
 
 -- a call says what this meaning is

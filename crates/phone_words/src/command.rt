@@ -17,6 +17,8 @@ pub enum Command {
     Regions,
     /// The report line of each line.
     Report,
+    /// The report line of each line, with the line.
+    ReportWithInput,
     /// The first line of each number.
     Unique,
     /// A JSON object for each line.
@@ -66,6 +68,9 @@ fn line_command(parts: &[Part<'_>]) -> Command
     }
     if has(parts, "--unique") {
         return Command::Unique;
+    }
+    if has(parts, "--with-input") {
+        return Command::ReportWithInput;
     }
     Command::Report
 }

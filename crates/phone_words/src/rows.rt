@@ -44,7 +44,7 @@ macro_rules! rows {
 
 /// The options, each by its name, its name of one letter, what its value is, the word beside which
 /// it counts, what it needs, what it doesn't go with, and its help.
-pub(crate) const ROWS: [Cells; 29] = rows! {
+pub(crate) const ROWS: [Cells; 34] = rows! {
     "--json" "" "" "" [] ["--unique" "--typed" "--short"] "
       a JSON object a line: the line's number and text, and the fields that --csv gives; with
       --find an object for each number: line, column, text, those fields but the refusal, and
@@ -62,6 +62,8 @@ pub(crate) const ROWS: [Cells; 29] = rows! {
       name of the column of the numbers, in the file's first record. A record with more or fewer
       fields than the first ends the run. How many records there were, and how many had an unknown
       region, no number or one that isn't valid, is told on standard error"
+    "--with-input" "" "" "" [] ["--csv" "--json" "--find" "--unique" "--typed" "--short"] "
+      ends each report line with a tab and the line as it came"
     "--unique" "" "" "" [] ["--typed" "--short"] "
       writes in place of the report the first line of each number: its E.164 text, a tab, the line
       as it came. How many lines were new, repeated or refused is told on standard error. With --csv
@@ -73,8 +75,9 @@ pub(crate) const ROWS: [Cells; 29] = rows! {
     "--short" "" "" "" [] [] "
       takes each line as a number that is dialled within REGION, which has to be named, and writes
       yes or no, parted by tabs: whether its count of digits is possible; whether it is a short
-      number; what it costs; whether only some carriers connect it; whether it is an emergency
-      number; whether it reaches emergency services"
+      number; in place of yes what it costs, TollFree, StandardRate, PremiumRate or Unknown; whether
+      only some carriers connect it; whether it is an emergency number; whether it reaches emergency
+      services"
     "--region-column" "" "COLUMN" "" ["--csv"] [] "
       a record is read under the region whose id stands in this column, or under REGION where
       nothing does; where anything else does, its number is refused as of an unknown region"
@@ -95,11 +98,22 @@ pub(crate) const ROWS: [Cells; 29] = rows! {
     "--time-zone" "" "" "" ["--csv" "--time-zones"] [] "
       a column of the number's time zones"
     "--carrier" "" "" "" ["--csv" "--carriers"] [] "
-      one of its carrier, where numbers can't be taken along to another one"
+      one of the company that has the number today; empty in each region where numbers can be taken
+      to another company, since no table tells then who has it"
     "--first-carrier" "" "" "" ["--csv" "--carriers"] [] "
-      one of the carrier that it was first assigned to"
+      one of the company that the number was first given to, which is what most people mean"
     "--area" "" "" "" ["--csv" "--areas"] [] "
       one of its area"
+    "--extension" "" "" "" ["--csv"] [] "
+      a column of the number's extension, so before the seven, but by no table; empty where the
+      number has none or there is no number"
+    "--calling-code" "" "" "" ["--csv"] [] "
+      one of its calling code, calling_code"
+    "--national-number" "" "" "" ["--csv"] [] "
+      one of its digits behind the calling code, leading zeros with them, national_number"
+    "--prefix" "" "NAME" "" ["--csv"] [] "
+      NAME stands in front of the name of each added column, as in NAMEe164. A table that has such
+      a name already is refused"
     "--areas" "" "FILE" "" [] [] "
       the table of areas"
     "--time-zones" "" "FILE" "" [] [] "

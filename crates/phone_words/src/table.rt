@@ -1,6 +1,6 @@
 //! What options ask of a table.
 ghost use Rattle.std.specs.Prelude.{◌≡◌};
-ghost use Rattle.phone_words.specs.Calls.{IsFurther, IsTable, file_if};
+ghost use Rattle.phone_words.specs.Calls.{IsFurther, IsTable, file_if, further_files};
 ghost use Rattle.phone_words.specs.Parts.{all_said};
 ghost use Rattle.phone_words.specs.Rows.{text_in};
 
@@ -22,11 +22,14 @@ pub struct Table<'w> {
     pub is_unique: bool,
     /// Whether a record with a wrong count of fields is given back as such.
     pub mark_bad: bool,
+    /// What stands in front of the name of each added column.
+    pub front: &'w str,
     /// Its further columns.
     pub further: Further<'w>,
 }
 
-/// What further columns tell of each number, by tables of prefixes in files.
+/// What further columns tell of each number: parts of it, and what tables of prefixes in files
+/// have.
 #[derive(Clone, Copy)]
 pub struct Further<'w> {
     /// The file of the prefixes and texts of a column of one's own, where there is one.
@@ -41,6 +44,27 @@ pub struct Further<'w> {
     pub first_carriers: Option<&'w str>,
     /// The file of the areas, where they are asked for.
     pub areas: Option<&'w str>,
+    /// Whether extensions are asked for.
+    pub extension: bool,
+    /// Whether calling codes are.
+    pub calling_code: bool,
+    /// Whether national numbers are.
+    pub national_number: bool,
+}
+
+impl<'w> Further<'w> {
+    /// The files by which they tell, those that are there.
+    pub fn files(self) -> [Option<&'w str>; 5]
+        ensures { result ≡ further_files self.entry }
+    {
+        [
+            self.prefixes,
+            self.time_zones,
+            self.carriers,
+            self.first_carriers,
+            self.areas,
+        ]
+    }
 }
 
 /// The file of a column, where that is asked for.
@@ -64,6 +88,9 @@ fn further_of<'w>(parts: &[Part<'w>]) -> Further<'w>
         carriers: file_if(parts, "--carrier", "--carriers"),
         first_carriers: file_if(parts, "--first-carrier", "--carriers"),
         areas: file_if(parts, "--area", "--areas"),
+        extension: has(parts, "--extension"),
+        calling_code: has(parts, "--calling-code"),
+        national_number: has(parts, "--national-number"),
     }
 }
 
@@ -79,6 +106,7 @@ pub(crate) fn table_of<'w>(parts: &[Part<'w>], delimiter: u8) -> Table<'w>
         delimiter,
         is_unique: has(parts, "--unique"),
         mark_bad: has(parts, "--mark-bad-records"),
+        front: text(parts, "--prefix"),
         further: further_of(parts),
     }
 }

@@ -11,7 +11,8 @@ use std::alloc::{AllocError, Global};
 pub(crate) const FRONT: &str = "\
 Reads phone numbers, one a line, and writes one report line for each; or reads a table of customers,
 and writes it back with what is known of each number. Input are the files that are named, one after
-the other, where - is standard input; without a file it is standard input.
+the other, where - is standard input; without a file it is standard input. A table of customers is
+one file, and so is what --find --json reads.
 
 usage: ./phone [OPTION..] [--] [REGION] [FILE..]
        ./phone --prove

@@ -42,6 +42,7 @@ fn asked(row: &Row) -> Asked<'_> {
         else_hint: false,
         mark_bad: row.argument(4) == "mark",
         is_unique: row.argument(4) == "unique",
+        front: "",
         extra: &[],
         short: None,
     }

@@ -3,8 +3,15 @@ use Rattle.std.specs.Prelude.{option_map}
 use Rattle.phone_commands.specs.declared.reader.Reader.{Reader}
 use Rattle.phone_cli.specs.Answers.Does.{ran}
 use Rattle.phone_cli.proofs.RunLemmas.{finds_by, found_runs, is_report, objects_runs}
-use Rattle.phone_cli.proofs.RunLemmas.{report_runs, typed_runs}
+use Rattle.phone_cli.proofs.RunLemmas.{report_runs, typed_runs, with_input_runs}
 use Rattle.phone_cli.proofs.tool.by_reader.Goals as goal
+
+pub returns-in-ReportWithInput : goal.returns-in-ReportWithInput
+returns-in-ReportWithInput g c = λ reads loaded.
+    let made = c.reader_of-reader.ensures in
+    rw c.run_lines-in-ReportWithInput.ensures.3 (ran c.run_lines-in-ReportWithInput.ensures.0 (with_input_runs _ _ _
+    (record { engine = c.reader_of-reader.result.engine }) _ _ c.run_lines-in-ReportWithInput.ensures.1 _
+    c.in-ReportWithInput.is made.rules made.hint c.run_lines-in-ReportWithInput.ensures.2))
 
 pub returns-in-Objects : goal.returns-in-Objects
 returns-in-Objects g c = λ reads loaded.
@@ -41,5 +48,5 @@ returns-in_default g c = λ reads loaded.
     rw c.run.ensures.2 (ran c.run.ensures.0 (report_runs _ _ _
     (record { reader = c.reader_of-reader.result }) _ _ c.run.new.job _
     (is_report _ reads other.not-Objects other.not-Find other.not-FoundObjects
-    other.not-FoundRecords other.not-Typed other.not-Table) made.rules made.hint
+    other.not-FoundRecords other.not-Typed other.not-Table other.not-ReportWithInput) made.rules made.hint
     c.run.ensures.1))

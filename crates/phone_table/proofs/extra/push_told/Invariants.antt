@@ -6,6 +6,6 @@ use Rattle.phone_table.proofs.extra.push_told.Given as goal
 
 abbrev pub invariant-columns : goal.invariant-columns
 invariant-columns l = record {
-  told : Completes l.engine.rules l.engine.database.now (number_in l.answer) l.extra (fields_of l.fn.fields) (drop l.column-index l.extra) (fields_of l.fields);
+  told : Completes l.engine.rules l.engine.database.now l.subject.under l.subject.field.now (number_in l.subject.answer.now) l.extra (fields_of l.fn.fields) (drop l.column-index l.extra) (fields_of l.fields);
   partial : partial_of l.fields ≡ [];
 }

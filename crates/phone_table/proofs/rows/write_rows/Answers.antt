@@ -3,7 +3,6 @@ use Rattle.csv.specs.Records.{fields_of}
 use Rattle.phone_device.specs.Passing.{Takes}
 use Rattle.phone_csv.specs.Formats.{format_after, state_behind}
 use Rattle.phone_csv.specs.Runs.{OfRead}
-use Rattle.phone_table.specs.Extras.{added_names}
 use Rattle.phone_table.specs.Tables.{IsHeader, head_text}
 use Rattle.phone_table.proofs.Writing.{nothing_told, some_told, told, writes_nothing_by}
 use Rattle.phone_table.proofs.EndLemmas.{header_ends, header_refused, only_ends, only_held, rows_end}
@@ -12,7 +11,7 @@ use Rattle.phone_table.proofs.rows.write_rows.Goals as goal
 pub returns-in-Err-Output : goal.returns-in-Err-Output
 returns-in-Err-Output g c =
     let e = c.in-Err-Output.ensures in
-    let added = added_names c.args.extra.now in
+    let added = fields_of c.args.added.now in
     let is = ap Err c.in-Err-Output.field-0-is in
     let begun = rw c.format_after-format.ensures at (e.beginning is) in
     record {
@@ -22,7 +21,7 @@ returns-in-Err-Output g c =
 pub returns-in-Err-Memory : goal.returns-in-Err-Memory
 returns-in-Err-Memory g c =
     let e = c.in-Err-Memory.ensures in
-    let added = added_names c.args.extra.now in
+    let added = fields_of c.args.added.now in
     let is = ap Err c.in-Err-Memory.field-0-is in
     record {
       ends = λ before h. header_refused _ added (told g.A.Answers.gives c.args.answers.now c.args.answers.now) (some_told g.A.Answers.gives c.args.answers.now) (nothing_told g.A.Answers.gives c.args.answers.now) _ c.args.delimiter c.args.first.has_mark before _ _ _ _ _ _ _ _ c.args.first.rest h (e.nothing is) (e.nothing_held is) (e.no_fault_without_memory is);
@@ -34,7 +33,7 @@ returns-in-Some g c =
     let r = c.answer_records.ensures in
     let d = c.args.delimiter in
     let header = fields_of c.args.first.fields in
-    let added = added_names c.args.extra.now in
+    let added = fields_of c.args.added.now in
     let mark = c.args.first.has_mark in
     let source = g.S.ByteSource.to_come c.args.source.now in
     let same = c.format_after-format.ensures ∙ ap (λ rest. format_after d (state_behind rest)) c.in-Some.is in
@@ -51,7 +50,7 @@ returns-in-Ok-flush g c =
     let f = c.in-Ok-flush.ensures in
     let d = c.args.delimiter in
     let header = fields_of c.args.first.fields in
-    let added = added_names c.args.extra.now in
+    let added = fields_of c.args.added.now in
     let mark = c.args.first.has_mark in
     let source = g.S.ByteSource.to_come c.args.source.now in
     let end = rw c.in-None.is at c.requires.end in
@@ -68,7 +67,7 @@ returns-in-Err g c =
     let f = c.in-Err.ensures in
     let d = c.args.delimiter in
     let header = fields_of c.args.first.fields in
-    let added = added_names c.args.extra.now in
+    let added = fields_of c.args.added.now in
     let mark = c.args.first.has_mark in
     let source = g.S.ByteSource.to_come c.args.source.now in
     let same = c.format_after-format.ensures ∙ ap (λ rest. format_after d (state_behind rest)) c.in-None.is in

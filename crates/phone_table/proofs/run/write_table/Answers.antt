@@ -1,10 +1,10 @@
 use Rattle.std.proofs.Common.{rules, refl}
 use Rattle.csv.specs.Records.{fields_of}
 use Rattle.phone_table.specs.Runs.{names_in}
-use Rattle.phone_table.specs.Runs.RunEnds.{broken_off, no_column, no_delimiter, no_header, whole}
+use Rattle.phone_table.specs.Runs.RunEnds.{broken_off, no_column, no_delimiter, no_header, no_names, whole}
 use Rattle.phone_table.proofs.Kept.{table_ends}
 use Rattle.phone_table.proofs.TableLemmas.{alone}
-use Rattle.phone_table.proofs.RunLemmas.{ends_from, header_read, lacks_by, no_header_by}
+use Rattle.phone_table.proofs.RunLemmas.{ends_from, header_read, no_header_by}
 use Rattle.phone_table.proofs.run.write_table.Goals as goal
 
 pub returns-then-not-is_delimiter : goal.returns-then-not-is_delimiter
@@ -19,13 +19,25 @@ pub returns-in-Err-columns_of : goal.returns-in-Err-columns_of
 returns-in-Err-columns_of g c =
     let f = c.in-Ok.ensures in
     let first = c.in-Ok.first in
-    let e = c.in-Err-columns_of.ensures in
+    let e = c.in-Err-columns_of in
     record {
-      ends = no_column c.in-Err-columns_of.column first.fields (search rules) (record {
+      ends = no_column e.error first.fields (search rules) (record {
         read = alone c.args.asked.delimiter (fields_of first.fields) (names_in c.args.asked) first.has_mark first.rest _ _ (header_read c.args.asked.delimiter (fields_of first.fields) first.rest first.has_mark _ _ f.ended f.only);
-        lacks = lacks_by c.args.asked c.in-Err-columns_of.column (fields_of first.fields) e.no_number e.number_first e.no_region;
         no_source_fault = f.no_fault;
-      }) (record { taken = refl; unflushed = refl; sink = refl });
+        untouched = record { taken = refl; unflushed = refl; sink = refl };
+      }) (search rules);
+    }
+
+pub returns-in-Err-names_behind : goal.returns-in-Err-names_behind
+returns-in-Err-names_behind g c =
+    let f = c.in-Ok.ensures in
+    let first = c.in-Ok.first in
+    record {
+      ends = no_names (fields_of first.fields) c.in-Ok-columns_of.columns c.in-Err-names_behind.error (search rules) (record {
+        read = alone c.args.asked.delimiter (fields_of first.fields) (names_in c.args.asked) first.has_mark first.rest _ _ (header_read c.args.asked.delimiter (fields_of first.fields) first.rest first.has_mark _ _ f.ended f.only);
+        no_source_fault = f.no_fault;
+        untouched = record { taken = refl; unflushed = refl; sink = refl };
+      }) (search rules) c.in-Err-names_behind.ensures.refused;
     }
 
 pub returns-in-Ok-write_rows : goal.returns-in-Ok-write_rows
@@ -36,8 +48,8 @@ returns-in-Ok-write_rows g c =
     let ends = ends_from f.no_fault (c.in-Ok-write_rows.ensures.ends (g.S.ByteSource.to_come c.args.source.now)
     (header_read c.args.asked.delimiter (fields_of first.fields) first.rest first.has_mark _ _ f.ended f.only)) in
     record {
-      ends = whole (fields_of first.fields) c.in-Ok-columns_of.columns c.write_rows.new.answers.counts (search rules) c.in-Ok-columns_of.ensures.found
-          (rw (n.engine, n.columns, n.asked) at (table_ends c.new-table.result n.counts n.numbers c.write_rows.new.answers (fields_of first.fields) _ c.args.asked.delimiter _ _ _ ends));
+      ends = whole (fields_of first.fields) c.in-Ok-columns_of.columns c.write_rows.new.answers.counts (search rules) (search rules) c.in-Ok-names_behind.ensures.free
+          (rw (n.engine, n.columns, n.asked, c.in-Ok-names_behind.ensures.names) at (table_ends c.new-table.result n.counts n.numbers c.write_rows.new.answers (fields_of first.fields) _ c.args.asked.delimiter _ _ _ ends));
     }
 
 pub returns : goal.returns
@@ -48,6 +60,6 @@ returns g c =
     let ends = ends_from f.no_fault (c.in-Err-write_rows.ensures.ends (g.S.ByteSource.to_come c.args.source.now)
     (header_read c.args.asked.delimiter (fields_of first.fields) first.rest first.has_mark _ _ f.ended f.only)) in
     record {
-      ends = broken_off (fields_of first.fields) c.in-Ok-columns_of.columns c.write_rows.new.answers.counts c.in-Err-write_rows.error (search rules) c.in-Ok-columns_of.ensures.found
-          (rw (n.engine, n.columns, n.asked) at (table_ends c.new-table.result n.counts n.numbers c.write_rows.new.answers (fields_of first.fields) _ c.args.asked.delimiter _ _ _ ends));
+      ends = broken_off (fields_of first.fields) c.in-Ok-columns_of.columns c.write_rows.new.answers.counts c.in-Err-write_rows.error (search rules) (search rules) c.in-Ok-names_behind.ensures.free
+          (rw (n.engine, n.columns, n.asked, c.in-Ok-names_behind.ensures.names) at (table_ends c.new-table.result n.counts n.numbers c.write_rows.new.answers (fields_of first.fields) _ c.args.asked.delimiter _ _ _ ends));
     }

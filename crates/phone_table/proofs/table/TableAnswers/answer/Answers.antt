@@ -14,7 +14,7 @@ returns-clause-answered c e =
     let new = same_ok _ _ e in
     let k = rw is at c.in-Ok-is_new.ensures.keeps in (
       told ++ own,
-      written (told ++ own) (number_in c.in-Ok.answer, told, own, c.in-Ok.ensures.answer, are, refl) (rw is at c.in-Ok-is_new.ensures.new ∙ ap not new)
+      written (told ++ own) (c.hint_of-under.result, number_in c.in-Ok.answer, told, own, c.hint_of-under.ensures, c.in-Ok.ensures.answer, are, refl) (rw is at c.in-Ok-is_new.ensures.new ∙ ap not new)
           (record { engine = k.engine; asked = k.asked; columns = k.columns; numbers = k.numbers })
           (rw is at (c.count.ensures.written new) ∙ ap (λ n. counts_after n (fields ++ (told ++ own))) c.in-Ok-is_new.ensures.counts),
       is,
@@ -27,6 +27,6 @@ returns-clause-left_out c e =
     let own = spelled c.in-Ok.answer in
     let known = same_ok _ _ e in
     let k = rw is at c.in-Ok-is_new.ensures.keeps in
-    left_out (told ++ own) (number_in c.in-Ok.answer, told, own, c.in-Ok.ensures.answer, are, refl) (rw is at c.in-Ok-is_new.ensures.new ∙ ap not known)
+    left_out (told ++ own) (c.hint_of-under.result, number_in c.in-Ok.answer, told, own, c.hint_of-under.ensures, c.in-Ok.ensures.answer, are, refl) (rw is at c.in-Ok-is_new.ensures.new ∙ ap not known)
     (record { engine = k.engine; asked = k.asked; columns = k.columns; numbers = k.numbers })
     (rw is at (c.count.ensures.left_out known) ∙ ap (λ n. counts_without n (fields ++ (told ++ own))) c.in-Ok-is_new.ensures.counts)
