@@ -1,5 +1,5 @@
 -- The first character of bytes that nothing comes after.
-use Rattle.std.proofs.Common.{◌≡◌, ℕ, ◌<◌, ◌≤◌, ◌&&◌, true, false, List, [], ◌∷◌, ap, arith, drop}
+use Rattle.std.proofs.Common.{◌≡◌, ℕ, ◌<◌, ◌≤◌, true, List, [], ◌∷◌, ap, arith, drop}
 use Rattle.std.proofs.Common.{length, refl, ◌∙◌}
 use Rattle.std.proofs.lemmas.Bool.{and_parts, leb-true, lt-ltb, ltb-true, le-leb}
 use Rattle.std.specs.Char.Utf16.{is_high_surrogate, utf16_chars, utf16_lossy_chars}

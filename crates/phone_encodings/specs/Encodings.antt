@@ -1,5 +1,5 @@
 -- Texts of other encodings than UTF-8, as characters and as UTF-8.
-use Rattle.std.specs.Prelude.{◌≡◌, ℕ, ◌+◌, ◌-◌, ◌*◌, ◌<◌, ◌≤◌, ◌==◌, Bool, false, ◌&&◌, nat_le}
+use Rattle.std.specs.Prelude.{◌≡◌, ℕ, ◌+◌, ◌-◌, ◌*◌, ◌<◌, ◌≤◌, ◌==◌, ◌&&◌, nat_le}
 use Rattle.std.specs.Prelude.{nat_lt, if◌then◌else◌, List, [], ◌∷◌, ◌++◌, drop, length, map}
 use Rattle.std.specs.Prelude.{slice_index, encode_utf8_all}
 use Rattle.std.specs.Char.Utf16.{utf16_lossy_chars}

@@ -1,4 +1,4 @@
-use Rattle.std.proofs.Common.{◌≡◌, ◌<◌, ◌++◌, ap, arith, length, subst, sym, ◌∙◌}
+use Rattle.std.proofs.Common.{◌<◌, ◌++◌, ap, arith, length, subst, sym, ◌∙◌}
 use Rattle.std.proofs.lemmas.List.{length-append}
 use Rattle.phone_encodings.proofs.decoded.push_char.Goals as goal
 

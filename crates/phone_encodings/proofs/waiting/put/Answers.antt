@@ -1,4 +1,4 @@
-use Rattle.std.proofs.Common.{◌+◌, ◌-◌, ◌++◌, ap, arith, drop, length, subst, sym, take}
+use Rattle.std.proofs.Common.{arith}
 use Rattle.phone_encodings.proofs.RoomLemmas.{put_view}
 use Rattle.phone_encodings.proofs.waiting.put.Goals as goal
 

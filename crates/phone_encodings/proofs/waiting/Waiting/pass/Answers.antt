@@ -1,4 +1,4 @@
-use Rattle.std.proofs.Common.{◌+◌, ◌-◌, ◌≤◌, ap, arith, drop, length, subst, sym, ◌∙◌}
+use Rattle.std.proofs.Common.{◌-◌, ◌≤◌, ap, arith, drop, length, subst, sym, ◌∙◌}
 use Rattle.phone_encodings.proofs.RoomLemmas.{front_most, pass_view}
 use Rattle.phone_encodings.proofs.waiting.Waiting.pass.Goals as goal
 
