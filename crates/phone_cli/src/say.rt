@@ -157,8 +157,8 @@ fn write_taken<E: ByteSink>(errors: &mut E, name: &[u8]) -> Result<(), Fault> {
     )
 }
 
-/// Tells that a column of a name can't be added to a table, which would have it twice, and gives the
-/// status.
+/// Tells that a column of a name can't be added to a table, which would have it twice, and gives
+/// the status.
 pub(crate) fn say_taken<E: ByteSink>(errors: &mut E, name: &[u8]) -> u8
     ensures { result ≡ 2 }
 {

@@ -116,15 +116,15 @@ fn names_behind(
 /// Where the field holds anything else, the number is refused with the words `unknown region`, and
 /// the run goes on; with `else_hint` the number is read under the engine's hint.
 ///
-/// Errors: `Delimiter`, before anything is read; `Header` where there is no header, `NoColumn` where
-/// the header has no column of a name that is asked for, or more than one, and `Taken` where one of
-/// the names that are put behind it stands there already, or is put there twice, before anything is
-/// written; after the header was written `Rows`
-/// as `answer_records` has it, with `Record` at a record that has another count of fields than the
-/// header, and the number of line feeds before that record. With `mark_bad` such a record is given
-/// back as it is instead, and after its fields the answer to a refusal, `wrong count of fields`.
-/// `Rows` and `Header` have `Quote` where the table ends between quotes, with the line of the quote
-/// that is never closed, counted from 1.
+/// Errors: `Delimiter`, before anything is read; `Header` where there is no header, `NoColumn`
+/// where the header has no column of a name that is asked for, or more than one, and `Taken` where
+/// one of the names that are put behind it stands there already, or is put there twice, before
+/// anything is written; after the header was written `Rows` as `answer_records` has it, with
+/// `Record` at a record that has another count of fields than the header, and the number of line
+/// feeds before that record. With `mark_bad` such a record is given back as it is instead, and
+/// after its fields the answer to a refusal, `wrong count of fields`. `Rows` and `Header` have
+/// `Quote` where the table ends between quotes, with the line of the quote that is never closed,
+/// counted from 1.
 pub fn write_table<S: ByteSource, W: ByteSink>(
     engine: Engine<'_>,
     asked: Asked<'_>,
