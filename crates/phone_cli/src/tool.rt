@@ -43,9 +43,14 @@ use std::fs::{self, Files};
 
 /// The program on its words, which come after its own name, as `call_of` reads them: it reads the
 /// files that are named, one after the other, or the input, and writes to the output or the file
-/// that is named for it. It gives the status to end with, and for each but 0 writes a line to
-/// `errors`, unless what read the output is gone; that this fails changes no status. After a table
-/// and after `--unique` a line there counts what was read.
+/// that is named for it. Inputs in another encoding that is named are read as their text in UTF-8.
+/// It gives the status to end with, and for each but 0 writes a line to `errors`, unless what read
+/// the output is gone; that this fails changes no status. After a table and after `--unique` a line
+/// there counts what was read.
+///
+/// The file gets all that was written at once, where the status is 0: until then it is written
+/// beside it, under its name, `.new-` and a number, and at another status removed. What is no
+/// file whose bytes are kept, as a pipe, is written as the output is.
 ///
 /// Status 0: all was written. 1: an input, the output or memory failed, or a record of a table has
 /// another count of fields than the header; what is in front is written. 2: the words are no call,
