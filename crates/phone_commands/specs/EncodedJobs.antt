@@ -13,6 +13,6 @@ as_text e d = record d { to_come = option_map (decoded e) d.to_come }
 -- an input in an encoding other than UTF-8, where there is one, is answered as its text is; no
 -- contract tells then how much of it was read
 abbrev pub ActsIn : {Kept : Type 0} → Option Encoding → Acts Kept → Acts Kept
-ActsIn None acts = acts
+ActsIn None acts first before after last end = acts first before after last end
 ActsIn (Some e) acts first before after last end = (to_come : Option (List ℕ)) ×
     acts first (as_text e before) (record after { to_come = to_come }) last end
