@@ -1,30 +1,46 @@
 -- The first numbers of a list, after one more came.
 use Rattle.std.proofs.Common.{◌≡◌, ℕ, ◌==◌, ◌&&◌, ◌||◌, not, Bool, true, false, cond, List, []}
-use Rattle.std.proofs.Common.{◌∷◌, ◌++◌, filter, get_or, slice_get, Some, refl, ap, ap₂, sym, ◌∙◌, true≢false, eqb-true}
+use Rattle.std.proofs.Common.{◌∷◌, ◌++◌, filter, get_or, slice_get, Option, None, Some, refl, ap, ap₂, sym, ◌∙◌, true≢false, eqb-true}
 use Rattle.std.proofs.lemmas.Bool.{and_parts}
 use Rattle.std.proofs.lemmas.List.{append-nil}
 use Rattle.std.proofs.lemmas.List.Elements.{filter-append}
 use Rattle.std.proofs.lemmas.List.Folds.{list_any_at}
 use Rattle.std.proofs.lemmas.Option.{get_or_from_slice_get, slice_get_within}
+use Rattle.std.proofs.lemmas.Slice.Eq.{bytes_eq-Decides}
 use Rattle.phone_values.specs.Numbers.{National}
 use Rattle.phone_values.specs.declared.reading.Reading.{Reading}
-use Rattle.phone_book.specs.Firsts.{firsts, is_among, is_same_national, is_same_number}
+use Rattle.phone_book.specs.Firsts.{firsts, is_among, is_same_extension, is_same_national, is_same_number}
+
+-- two extensions that are one
+same-extension : (a b : Option (List ℕ)) → is_same_extension a b ≡ true → a ≡ b
+same-extension None None e = refl
+same-extension None (Some y) e = absurd (true≢false (sym e))
+same-extension (Some x) None e = absurd (true≢false (sym e))
+same-extension (Some x) (Some y) e = ap (λ t. Some t) ((bytes_eq-Decides x y).0 e)
+
+pub extension-same : (a : Option (List ℕ)) → is_same_extension a a ≡ true
+extension-same None = refl
+extension-same (Some x) = (bytes_eq-Decides x x).1 refl
 
 -- what counts of two numbers that are the same
-pub same-parts : (a b : Reading) → is_same_number a b ≡ true → (a.code.value ≡ b.code.value) × (a.national ≡ b.national)
+pub same-parts : (a b : Reading) → is_same_number a b ≡ true →
+    (a.code.value ≡ b.code.value) × (a.national ≡ b.national) × (a.extension ≡ b.extension)
 same-parts a b e =
-    let both = and_parts (a.code.value == b.code.value) (is_same_national a.national b.national) e in
-    let parts = and_parts (a.national.zeros == b.national.zeros) (a.national.value == b.national.value) both.1 in (
+    let both = and_parts (a.code.value == b.code.value) (is_same_national a.national b.national && is_same_extension a.extension b.extension) e in
+    let rest = and_parts (is_same_national a.national b.national) (is_same_extension a.extension b.extension) both.1 in
+    let parts = and_parts (a.national.zeros == b.national.zeros) (a.national.value == b.national.value) rest.0 in (
       eqb-true a.code.value b.code.value both.0,
       ap₂ (λ z v. let n : National = record { zeros = z; value = v } in n) (eqb-true a.national.zeros b.national.zeros parts.0)
           (eqb-true a.national.value b.national.value parts.1),
+      same-extension a.extension b.extension rest.1,
     )
 
 -- of two same numbers each is the same as a third, or none
 pub same-alike : (a b n : Reading) → is_same_number a b ≡ true → is_same_number a n ≡ is_same_number b n
 same-alike a b n e =
-    let both = same-parts a b e in
-    ap₂ (λ c m. (c == n.code.value) && is_same_national m n.national) both.0 both.1
+    let all = same-parts a b e in
+    ap₂ (λ c b. (c == n.code.value) && b) all.0
+    (ap₂ (λ m x. is_same_national m n.national && is_same_extension x n.extension) all.1 all.2)
 
 -- a list less what is the same as one number, asked for another
 others-among : (e n : Reading) (ms : List Reading) → is_same_number e n ≡ false → is_among n (filter (λ m. not (is_same_number e m)) ms) ≡ is_among n ms

@@ -1,5 +1,4 @@
--- Entries whose keys are the texts of their numbers: a key is there exactly where a number of the same calling code and national
--- number is.
+-- Entries whose keys are those of their numbers: a key is there exactly where the same number is.
 use Rattle.std.proofs.Common.{◌≡◌, ◌==◌, ◌||◌, Bool, true, false, cond, List, [], ◌∷◌, ◌++◌, Option, None}
 use Rattle.std.proofs.Common.{Some, is_some, String, Global, string_bytes, string_eq, refl, ap, ap₂, sym, subst, ◌∙◌, true≢false}
 use Rattle.std.proofs.lemmas.Bool.{and_from, eq-eqb}
@@ -17,11 +16,14 @@ use Rattle.phone_records.specs.declared.loader.Metadata.{Metadata}
 use Rattle.phone_values.specs.declared.reading.Reading.{Reading}
 use Rattle.phone_print.specs.Texts.{e164_text}
 use Rattle.phone_book.specs.Books.{AreKept, Entry, IsKept}
-use Rattle.phone_book.specs.Firsts.{firsts, is_among, is_same_number}
-use Rattle.phone_book.proofs.FirstLemmas.{firsts-new, same-parts}
+use Rattle.phone_book.specs.Firsts.{firsts, is_among, is_same_extension, is_same_national, is_same_number}
+use Rattle.phone_book.specs.Keys.{key_text}
+use Rattle.phonenumber.specs.Bounds.{IsBounded}
+use Rattle.phone_book.proofs.FirstLemmas.{extension-same, firsts-new, same-parts}
+use Rattle.phone_book.proofs.KeyLemmas.{key_parts, key_same}
 
-pub AreKept-push : (db : List Metadata) (es : List Entry) (p : Entry) → AreKept db es → string_bytes p.0 ≡ e164_text p.1 →
-    is_listed p.1.code.value db ≡ true → IsHeld p.1.national → AreKept db (es ++ p ∷ [])
+pub AreKept-push : (db : List Metadata) (es : List Entry) (p : Entry) → AreKept db es → string_bytes p.0 ≡ key_text p.1 →
+    is_listed p.1.code.value db ≡ true → IsBounded p.1 → AreKept db (es ++ p ∷ [])
 AreKept-push db [] p h text listed held = ((text, listed, held), tt)
 AreKept-push db (q ∷ es) p h text listed held = (h.0, AreKept-push db es p h.1 text listed held)
 
@@ -48,7 +50,7 @@ TellsNumbers = (db : List Metadata) (a b : Reading) → is_prefix_free db ≡ tr
     IsHeld a.national → IsHeld b.national → e164_text a ≡ e164_text b → (a.code.value ≡ b.code.value) × (a.national ≡ b.national)
 
 module _ (law : TellsNumbers) (db : List Metadata) (free : is_prefix_free db ≡ true) (n : Reading) (listed : is_listed n.code.value db ≡ true)
-    (held : IsHeld n.national) (key : String Global) (is_key : string_bytes key ≡ e164_text n) where
+    (held : IsBounded n) (key : String Global) (is_key : string_bytes key ≡ key_text n) where
   -- numbers are the same where their keys are
   same-key : (p : Entry) → IsKept db p → string_eq key p.0 ≡ is_same_number p.1 n
   same-key p h = both_ways (string_eq key p.0) (is_same_number p.1 n) there back
@@ -56,15 +58,18 @@ module _ (law : TellsNumbers) (db : List Metadata) (free : is_prefix_free db ≡
       there : string_eq key p.0 ≡ true → is_same_number p.1 n ≡ true
       there e =
           let texts : string_bytes key ≡ string_bytes p.0 = (bytes_eq-Decides (string_bytes key) (string_bytes p.0)).0 e in
-          let parts = law db p.1 n free h.1 listed h.2 held (sym h.0 ∙ sym texts ∙ is_key) in
+          let keys = key_parts p.1 n h.2 held (sym h.0 ∙ sym texts ∙ is_key) in
+          let parts = law db p.1 n free h.1 listed h.2.national held.national keys.0 in
           and_from (p.1.code.value == n.code.value) _ (eq-eqb _ _ parts.0)
+          (and_from (is_same_national p.1.national n.national) _
           (and_from (p.1.national.zeros == n.national.zeros) _ (eq-eqb _ _ (ap (λ m. m.zeros) parts.1)) (eq-eqb _ _ (ap (λ m. m.value) parts.1)))
+          (subst (λ x. is_same_extension p.1.extension x ≡ true) keys.1 (extension-same p.1.extension)))
 
       back : is_same_number p.1 n ≡ true → string_eq key p.0 ≡ true
       back e =
           let parts = same-parts p.1 n e in
           (bytes_eq-Decides (string_bytes key) (string_bytes p.0)).1
-          (is_key ∙ ap₂ (λ c m. 43 ∷ (decimal c ++ text_of m)) (sym parts.0) (sym parts.1) ∙ sym h.0)
+          (is_key ∙ sym (key_same p.1 n (ap₂ (λ c m. 43 ∷ (decimal c ++ text_of m)) parts.0 parts.1) parts.2) ∙ sym h.0)
 
   -- the key is among the keys where the number is among the numbers
   among-keys : (es : List Entry) → AreKept db es → list_any (string_eq key) (keys_of es) ≡ is_among n (values_of es)

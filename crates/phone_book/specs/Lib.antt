@@ -1,4 +1,5 @@
 pub mod Answers
 pub mod Books
 pub mod Firsts
+pub mod Keys
 pub mod Samples

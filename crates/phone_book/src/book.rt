@@ -5,14 +5,15 @@ ghost use Rattle.std.specs.Option.{option_copied};
 ghost use Rattle.phone_plans.specs.CodeLookUps.{is_listed, is_prefix_free};
 ghost use Rattle.phone_values.specs.declared.reading.Reading.{Reading};
 ghost use Rattle.phone_values.specs.declared.rules.Rules.TheVariants as by;
-ghost use Rattle.phone_print.specs.Texts.{e164_text};
 ghost use Rattle.phone_book.specs.Answers.{AreAnswered, HasNumbers, HaveNumbers, IsAnswered};
 ghost use Rattle.phone_book.specs.Answers.{IsPlaced, line_of};
 ghost use Rattle.phone_book.specs.Firsts.{firsts};
+ghost use Rattle.phone_book.specs.Keys.{key_text};
 ghost use Rattle.phone_book.specs.declared.answers.BookNewError.TheVariants as new_error;
 
 use crate::answers::{BookError, BookNewError, Place};
 use crate::iter::Iter;
+use crate::key::key_text;
 use indexmap::IndexMap;
 use phone_engine::Engine;
 use phone_engine::laws::code_is_listed;
@@ -24,9 +25,9 @@ use phonenumber::{PhoneNumber, laws};
 use std::alloc::AllocError;
 use std::marker::Model;
 
-/// Numbers under one database, in order of arrival, of which no two have one calling code and one
-/// national number: each stays as it was first written. Contracts see the records of the database,
-/// the rules by which lines are read, and the numbers.
+/// Numbers under one database, in order of arrival, of which no two have one calling code, one
+/// national number and one extension: each stays as it was first written. Contracts see the records
+/// of the database, the rules by which lines are read, and the numbers.
 #[derive(Drop)]
 pub struct Book {
     database: Plans,
@@ -119,15 +120,15 @@ impl Book {
         Iter::new(self.entries.values())
     }
 
-    /// The key of a number: its E.164 text. Refused only for memory.
+    /// The key of a number. Refused only for memory.
     fn key_of(&self, number: &PhoneNumber) -> Result<String, AllocError>
-        ensures { IfOk result (λ key. string_bytes key ≡ e164_text number.now) }
+        ensures { IfOk result (λ key. string_bytes key ≡ key_text number.now) }
     {
-        number.to_string(self.database.allocator())
+        key_text(self.database.allocator(), number)
     }
 
-    /// The place of a number: that of the one of the same calling code and national number, or a
-    /// new one at the end. Refused only for memory.
+    /// The place of a number: that of the same one, or a new one at the end. Refused only for
+    /// memory.
     fn place(&mut self, number: PhoneNumber) -> Result<Place, AllocError>
         requires { is_listed number.code.value self.old.database ≡ true }
         ensures placed { IfOk result (λ p. IsPlaced self.old.entries number p self.new.entries) }
@@ -149,7 +150,7 @@ impl Book {
     }
 
     /// Reads a line under a hint, as an engine of the book's rules does, and adds its number unless
-    /// one of the same calling code and national number is there: source, extension and carrier
+    /// one of the same calling code, national number and extension is there: source and carrier
     /// don't count, and the first one stays as it was written.
     ///
     /// `Added` with the place of the new number, which is the count of those before it; `Present`

@@ -50,6 +50,7 @@ pub record IsAsked (t : Table) (shorts : Option (List Metadata)) (a : Asked) : T
   pub else_hint : a.else_hint ≡ t.fallback_region
   pub mark_bad : a.mark_bad ≡ t.mark_bad
   pub is_unique : a.is_unique ≡ t.is_unique
+  pub tells_duplicates : a.tells_duplicates ≡ t.duplicates
   pub front : a.front ≡ t.front
   pub further : columns.asked a.extra.now ≡ columns.columns_for t.further
   pub short : option_map (λ d. d.now) a.short ≡ shorts

@@ -166,6 +166,9 @@ pub(crate) fn say_taken<E: ByteSink>(errors: &mut E, name: &[u8]) -> u8
     2
 }
 
+/// What is told behind the count of those that are left out: by which key.
+const LEFT_OUT: &str = ", whose number and extension an earlier one has";
+
 /// Tells how many lines gave what, and gives the status.
 pub(crate) fn say_firsts<E: ByteSink>(job: &FirstLines, errors: &mut E) -> u8
     ensures { result ≡ 0 }
@@ -176,10 +179,11 @@ pub(crate) fn say_firsts<E: ByteSink>(job: &FirstLines, errors: &mut E) -> u8
         &[
             "new: ",
             added.format(job.added),
-            ", repeated: ",
-            present.format(job.present),
             ", refused: ",
             refused.format(job.refused),
+            ", left out: ",
+            present.format(job.present),
+            LEFT_OUT,
         ],
         0,
     )
@@ -204,7 +208,8 @@ fn write_records<E: ByteSink>(job: &Customers<'_, '_>, errors: &mut E) -> Result
         write_count(errors, ", short numbers: ", job.counts.short)?;
     }
     if job.asked.is_unique {
-        write_count(errors, ", repeated: ", job.counts.repeated)?;
+        write_count(errors, ", left out: ", job.counts.repeated)?;
+        write_str(errors, LEFT_OUT)?;
     }
     write_str(errors, "\n")
 }

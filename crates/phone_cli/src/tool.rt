@@ -690,6 +690,7 @@ fn asked<'t>(table: Table<'t>, reader: Reader<'t>, extra: &'t [Extra<'t>]) -> As
         else_hint: table.fallback_region,
         mark_bad: table.mark_bad,
         is_unique: table.is_unique,
+        tells_duplicates: table.duplicates,
         front: table.front,
         extra,
         short: reader.short,

@@ -1,15 +1,15 @@
 //! What lines are answered by commands that count them or keep numbers.
 ghost use Rattle.std.specs.Prelude.{◌≡◌, ◌↔◌, ◌++◌, ◌∷◌, [], IfSome, IsNone, List, OnOk, ℕ};
 ghost use Rattle.std.specs.Prelude.{Some, false, slice_get};
+ghost use Rattle.phone_book.specs.Keys.{key_text};
 ghost use Rattle.phone_commands.specs.FirstLines.{IsFirstLine};
 ghost use Rattle.phone_commands.specs.ObjectLines.{after_one};
 ghost use Rattle.phone_plans.specs.CodeLookUps.{is_prefix_free};
-ghost use Rattle.phone_print.specs.Texts.{e164_text};
 ghost use Rattle.phone_values.specs.declared.reading.Reading.{Reading};
 
 use crate::reader::Reader;
 use crate::text::{push_line, push_text};
-use phone_book::{Book, BookError, Place};
+use phone_book::{Book, BookError, Place, key_text};
 use phone_engine::Rules;
 use phone_lines::LineTaker;
 use phone_plans::Plans;
@@ -107,12 +107,13 @@ impl FirstLines {
     ) -> Result<(), AllocError>
         ensures { OnOk result (((n : Reading) → slice_get self.old.book.entries place ≡ Some n →
             answers.new.items ≡ answers.old.items ++
-            (e164_text n ++ 9 ∷ (text.now ++ 10 ∷ []))) ×
+            (key_text n ++ 9 ∷ (text.now ++ 10 ∷ []))) ×
             (self.new ≡ record self.old { added = after_one self.old.added })) }
     {
         self.added = self.added.saturating_add(1);
         if let Some(number) = self.book.get(place) {
-            let told = format!(in alloc; "{number}\t{text}\n")?;
+            let key = key_text(alloc, number)?;
+            let told = format!(in alloc; "{key}\t{text}\n")?;
             push_text(answers, told.as_str())?;
         }
         Ok(())

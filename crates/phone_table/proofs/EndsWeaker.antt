@@ -1,5 +1,5 @@
 -- A run that ends so ends in what follows from that.
-use Rattle.std.proofs.Common.{◌≡◌, ◌⊎◌, inl, inr, ℕ, ◌-◌, List, [], ◌++◌, Option, Result, Ok, Err}
+use Rattle.std.proofs.Common.{◌⊎◌, inl, inr, ℕ, ◌-◌, List, ◌++◌, Option, Result}
 use Rattle.std.specs.Prelude.{⊤}
 use Rattle.csv.specs.declared.parser.State.{State}
 use Rattle.phone_device.specs.Passing.{IsAtEnd}

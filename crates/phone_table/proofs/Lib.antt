@@ -2,6 +2,10 @@ pub mod ColumnLemmas
 pub mod AnswerLemmas
 pub mod EndsWeaker
 pub mod Kept
+pub mod HeldLemmas
+pub mod MarkedLemmas
+pub mod SharedLemmas
+pub mod DuplicateLaws
 pub mod Numbers
 pub mod TableLemmas
 pub mod Writing

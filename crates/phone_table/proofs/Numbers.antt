@@ -1,7 +1,6 @@
 -- A text put among others.
 use Rattle.std.proofs.Common.{◌≡◌, ◌||◌, ℕ, Bool, Result, Ok, Err, true, false, not, List, ◌∷◌, Decides, MatchBool, IsPermutation, refl, sym, ap, subst, ◌∙◌, bytes_eq}
 use Rattle.std.specs.List.{list_any}
-use Rattle.std.proofs.lemmas.Bool.{false≢true}
 use Rattle.std.proofs.lemmas.List.Sorted.{list_any-IsPermutation}
 use Rattle.std.proofs.lemmas.Slice.Eq.{bytes_eq-Decides}
 

@@ -109,7 +109,7 @@ module _ (rules : Rules) (db : List Metadata) where
     pub answer_same : (hint : Option Id) (a b : Record) → EachHasOneText asked.extra.now →
         IsAnswer rules db hint columns asked fields a →
         IsAnswer rules db hint columns asked fields b → a ≡ b
-    answer_same hint a b one (u, n, told, own, by, is, are, e) (v, k, told', own', by', is', are', f) =
+    answer_same hint a b one (n, (u, told, own, by, is, are, e)) (k, (v, told', own', by', is', are', f)) =
         let read = field_in fields columns.number in
         let under = hint_same hint columns asked fields u v by by' in
         let same = own_same v n k own own' (subst (λ x. IsOwnAnswer rules db columns asked fields x n own) under is) is' in

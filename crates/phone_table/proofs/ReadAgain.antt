@@ -1,6 +1,6 @@
 -- The text for a table, read again.
-use Rattle.std.proofs.Common.{◌≡◌, ◌≢◌, ◌⊎◌, inl, inr, ℕ, Bool, true, false, List, [], ◌∷◌, ◌++◌}
-use Rattle.std.proofs.Common.{refl, sym, ap, subst}
+use Rattle.std.proofs.Common.{◌≡◌, ◌≢◌, ◌⊎◌, inl, inr, ℕ, ◌+◌, Bool, true, false, List, [], ◌∷◌, ◌++◌}
+use Rattle.std.proofs.Common.{refl, sym, ap, subst, Option}
 use Rattle.std.proofs.Common.{◌∙◌, true≢false, append_assoc}
 use Rattle.csv.specs.Reading.{is_bom, strip_bom}
 use Rattle.csv.specs.Reading.{AreRecords}
@@ -12,18 +12,21 @@ use Rattle.phone_csv.specs.Firsts.{begins_with_mark}
 use Rattle.phone_csv.specs.Formats.{Record, commas, line_end_in, reading, record_text}
 use Rattle.phone_csv.specs.RecordReports.{IsReport}
 use Rattle.phone_table.specs.Ends.{by}
-use Rattle.phone_table.specs.Rows.{AreAnswered, AreKept, WritesKept}
-use Rattle.phone_table.specs.Rows.AreAnswered.{none as none_answered, next as next_answered}
+use Rattle.phone_table.specs.Answered.{Answered, AreAnswered, key_in}
+use Rattle.phone_table.specs.Duplicates.{marked_rows, marks, shared_of}
+use Rattle.phone_table.specs.Rows.{AreKept, AreWritten, WritesKept, row_of}
+use Rattle.phone_values.specs.declared.reading.Reading.{Reading}
+use Rattle.phone_table.specs.Answered.AreAnswered.{none as none_answered, next as next_answered}
 use Rattle.phone_table.specs.Rows.AreKept.{none as none_kept, kept as one_kept, left_out as one_left_out}
 use Rattle.phone_table.specs.declared.counts.Counts.{Counts}
 use Rattle.phone_table.specs.Tables.{IsReadAgain, IsTable, mark_text}
 
 -- a header that names are put behind is no empty one
-no_names : (header headings : Record) (name : List ℕ) (names : Record) →
-    header ++ (headings ++ name ∷ names) ≢ []
-no_names [] [] name names e = cc e
-no_names [] (h ∷ hs) name names e = cc e
-no_names (h ∷ hs) headings name names e = cc e
+no_names : (header marks headings : Record) (name : List ℕ) (names : Record) → header ++ (marks ++ (headings ++ name ∷ names)) ≢ []
+no_names [] [] [] name names e = cc e
+no_names [] [] (h ∷ hs) name names e = cc e
+no_names [] (m ∷ ms) headings name names e = cc e
+no_names (h ∷ hs) marks headings name names e = cc e
 
 -- nothing is passed over where no mark stands
 no_mark : (text : List ℕ) → begins_with_mark text ≡ false → strip_bom text ≡ text
@@ -44,29 +47,50 @@ passed true written h = refl
 passed false written (inl e) = absurd (true≢false (sym e))
 passed false written (inr e) = no_mark written e
 
--- each row for such records has a field, and so each that is kept
-all_full : (gives : Record → Record → Type 0) (records rows : List Record) → AreAnswered gives records rows → AllByRecursion IsFull records → AllByRecursion IsFull rows
-all_full gives records rows none_answered full = tt
-all_full gives records rows (next_answered some before fields answer are given) full =
+-- each record has a field of its own
+abbrev HaveOwn : List Answered → Type 0
+HaveOwn all = AllByRecursion (λ a. IsFull a.own) all
+
+own_append : (xs ys : List Answered) → HaveOwn xs → HaveOwn ys → HaveOwn (xs ++ ys)
+own_append [] ys a b = b
+own_append (x ∷ xs) ys a b = (a.0, own_append xs ys a.1 b)
+
+own_parts : (xs ys : List Answered) → HaveOwn (xs ++ ys) → HaveOwn xs × HaveOwn ys
+own_parts [] ys all = (tt, all)
+own_parts (x ∷ xs) ys all = let r = own_parts xs ys all.1 in ((all.0, r.0), r.1)
+
+all_own : (gives : Record → Option Reading → Record → Type 0) (records : List Record) (all : List Answered) → AreAnswered gives records all → AllByRecursion IsFull records → HaveOwn all
+all_own gives records all none_answered full = tt
+all_own gives records all (next_answered some before fields answer number are given) full =
     let parts = first_all some (fields ∷ []) full in
-    all_append before ((fields ++ answer) ∷ []) (all_full gives some before are parts.0) (more_full fields answer parts.1.0, tt)
+    own_append before (record { own = fields; answer = answer; key = key_in number } ∷ []) (all_own gives some before are parts.0) (parts.1.0, tt)
 
-kept_full : (once : Bool) (all rows : List Record) (counts : Counts) → AreKept once all rows counts → AllByRecursion IsFull all → AllByRecursion IsFull rows
+-- so each row that is kept has a field
+kept_full : (once : Bool) (all : List Answered) (rows : List Record) (counts : Counts) → AreKept once all rows counts → HaveOwn all → AllByRecursion IsFull rows
 kept_full once all rows counts none_kept full = tt
-kept_full once all rows counts (one_kept some before c row are new) full =
-    let parts = first_all some (row ∷ []) full in
-    all_append before (row ∷ []) (kept_full once some before c are parts.0) parts.1
-kept_full once all rows counts (one_left_out some before c row are known) full = kept_full once some before c are (first_all some (row ∷ []) full).0
+kept_full once all rows counts (one_kept some before c a are new) full =
+    let parts = own_parts some (a ∷ []) full in
+    all_append before (row_of a ∷ []) (kept_full once some before c are parts.0) (more_full a.own a.answer parts.1.0, tt)
+kept_full once all rows counts (one_left_out some before c a are known) full = kept_full once some before c are (own_parts some (a ∷ []) full).0
 
-pub read_back : (gives : Record → Record → Type 0) (once : Bool) (counts : Counts) (header headings : Record) (name : List ℕ) (names : Record)
+-- and each with the columns of duplicates
+marked_full : (all : List Answered) (number : ℕ) (some : List Answered) → HaveOwn some → AllByRecursion IsFull (marked_rows all number some)
+marked_full all number [] full = tt
+marked_full all number (a ∷ more) full = (more_full a.own (marks (shared_of all a) number ++ a.answer) full.0, marked_full all (number + 1) more full.1)
+
+written_full : (marks once : Bool) (all : List Answered) (rows : List Record) (counts : Counts) → AreWritten marks once all rows counts → HaveOwn all → AllByRecursion IsFull rows
+written_full true once all rows counts (is, plain) full = rw is (marked_full all 2 all full)
+written_full false once all rows counts kept full = kept_full once all rows counts kept full
+
+pub read_back : (gives : Record → Option Reading → Record → Type 0) (told once : Bool) (counts : Counts) (header marks headings : Record) (name : List ℕ) (names : Record)
     (bytes text : List ℕ) →
-    IsTable header (headings ++ name ∷ names)
-    (by IsReport (WritesKept gives once counts)) 44 bytes text → IsReadAgain gives once counts header
-    (headings ++ name ∷ names) bytes text
-read_back gives once counts header headings name names bytes text t =
-    let first = header ++ (headings ++ name ∷ names) in
+    IsTable header (marks ++ (headings ++ name ∷ names))
+    (by IsReport (WritesKept gives told once counts)) 44 bytes text → IsReadAgain gives told once counts header
+    (marks ++ (headings ++ name ∷ names)) bytes text
+read_back gives told once counts header marks headings name names bytes text t =
+    let first = header ++ (marks ++ (headings ++ name ∷ names)) in
     let (records, read, (all, rows, answers, keep, is)) = t.answered in
-    let full = kept_full once all rows counts keep (all_full gives records all answers (csv.all_full 44 t.after t.rest records read)) in
+    let full = written_full told once all rows counts keep (all_own gives records all answers (csv.all_full 44 t.after t.rest records read)) in
     let end = line_end_in t.after in
     let marked = begins_with_mark bytes in
     let split = t.whole ∙ append_assoc (mark_text marked) _ t.body in
@@ -83,6 +107,6 @@ read_back gives once counts header headings name names bytes text t =
       kept = keep;
       whole = split;
       again = subst (λ body. AreRecords (reading 44) StartRecord (record_text (commas end) first ++ body) (first ∷ rows)) (sym is)
-          (first_read_again end first rows (no_names header headings name names) full);
+          (first_read_again end first rows (no_names header marks headings name names) full);
       behind_mark = λ h. ap strip_bom split ∙ passed marked _ h;
     }

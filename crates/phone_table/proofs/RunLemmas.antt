@@ -1,22 +1,25 @@
 -- What the reading of a header says of a run.
 use Rattle.std.proofs.Common.{Bool, ◌≡◌, ◌⊎◌, inl, inr, ℕ, ◌+◌, List, length, Option, Some, None, Result, Err, IfSome, IsNone, refl, subst, arith}
-use Rattle.std.specs.Prelude.{⊤}
 use Rattle.phone_device.specs.Passing.{IsAtEnd}
 use Rattle.phone_csv.specs.Firsts.{EndsNoFirst, IsHead, IsOnly, first_in}
 use Rattle.phone_csv.specs.Formats.{Record, state_of}
 use Rattle.phone_csv.specs.Quotes.{IsOpenHeader}
-use Rattle.phone_csv.specs.RecordReports.{Writes}
-use Rattle.phone_csv.specs.declared.format.Format.{Format}
 use Rattle.phone_csv.specs.Runs.{OfRead, most_bytes}
 use Rattle.phone_csv.specs.declared.blocks.RunError.{RunError}
 use Rattle.phone_csv.specs.declared.cutter.Start.{Start}
 use Rattle.phone_csv.specs.declared.first.FirstError.{FirstError}
 use Rattle.phone_csv.specs.declared.first.FirstError.TheVariants.{Absent, Input, Memory, Quote}
 use Rattle.phone_lines.specs.Ends.{Devices, seen}
-use Rattle.phone_table.specs.Ends.{Ends, SourceFails}
-use Rattle.phone_table.specs.Runs.{NoHeader}
+use Rattle.phone_records.specs.declared.loader.Metadata.{Metadata}
+use Rattle.phone_values.specs.declared.country.Id.{Id}
+use Rattle.phone_values.specs.declared.rules.Rules.{Rules}
+use Rattle.phone_table.specs.Ends.{SourceFails}
+use Rattle.phone_table.specs.Runs.{NoHeader, RowsEnd}
 use Rattle.phone_table.specs.Runs.NoHeader.{absent, input, memory, quote}
 use Rattle.phone_table.specs.Tables.{IsHeader}
+use Rattle.phone_table.specs.declared.counts.Counts.{Counts}
+use Rattle.phone_table.specs.declared.header.Columns.{Columns}
+use Rattle.phone_table.specs.declared.run.Asked.{Asked}
 
 caused : (before after : Devices) → (after.source_faults ≡ before.source_faults + 1) ⊎ OfRead before.to_come after.to_come (λ bytes. length bytes ≡ most_bytes) →
     SourceFails before after
@@ -46,8 +49,8 @@ header_read d header (Some start) has_mark s0 s1 ended only = ended
 header_read d header None has_mark s0 s1 ended only = only refl
 
 -- a run that begins where the reading of the header ended, which counted no fault
-pub ends_from : {header added : Record} {writes some : Format → Writes} {refuses : Record → Type 0} {d : ℕ} {to_come taken : Option (List ℕ)} {n m faults held : ℕ} {after : Devices}
-    {r : Result ⊤ RunError} → n ≡ m → Ends header added writes some refuses d (seen to_come n taken faults held) after r →
-    Ends header added writes some refuses d (seen to_come m taken faults held) after r
-ends_from {header = header} {added = added} {writes = writes} {some = some} {refuses = refuses} {d = d} {to_come = to_come} {taken = taken} {faults = faults} {held = held} {after = after} {r = r} same h =
-    subst (λ n. Ends header added writes some refuses d (seen to_come n taken faults held) after r) same h
+pub rows_from : {rules : Rules} {db : List Metadata} {hint : Option Id} {columns : Columns} {asked : Asked} {header : Record} {to_come taken : Option (List ℕ)}
+    {n m faults held : ℕ} {after : Devices} {r : Result Counts RunError} → n ≡ m →
+    RowsEnd rules db hint columns asked header (seen to_come n taken faults held) after r → RowsEnd rules db hint columns asked header (seen to_come m taken faults held) after r
+rows_from {rules = rules} {db = db} {hint = hint} {columns = columns} {asked = asked} {header = header} {to_come = to_come} {taken = taken} {faults = faults} {held = held} {after = after} {r = r} same h =
+    subst (λ n. RowsEnd rules db hint columns asked header (seen to_come n taken faults held) after r) same h

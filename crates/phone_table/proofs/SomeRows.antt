@@ -197,7 +197,7 @@ module _ (rules : Rules) (db : List Metadata) where
         (answer : Record) × IsAnswer rules db hint columns asked fields answer
     with_told under by n own is =
         let t = all_told under (field_in fields columns.number) n asked.extra.now in
-        (t.0 ++ own, (under, n, t.0, own, by, is, t.1, refl))
+        (t.0 ++ own, (n, (under, t.0, own, by, is, t.1, refl)))
 
     -- a record of other width is marked, or isn't answered
     of_other_width : (length fields ≡ columns.width → ⊥) → (b : Bool) → asked.mark_bad ≡ b →

@@ -177,6 +177,14 @@ module _ (d : ℕ) (header added : Record) (has_mark : Bool) where
   unfolding next_record
   no_last = refl
 
+  -- the report where nothing follows
+  pub no_records : (writes : Writes) (text : List ℕ) → writes [] text → IsReport writes d st.StartRecord [] text
+  no_records writes text none = (
+    [],
+    ([], st.StartRecord, [], uncut st.StartRecord [], (st.StartRecord, [], [], at_start d st.StartRecord st.StartRecord [] [] refl refl refl, refl), no_last),
+    none,
+  )
+
   -- a header that nothing follows
   pub table_only : (writes : Format → Writes) → ((format : Format) → writes format [] []) → (s0 s1 w0 w1 : Option (List ℕ)) →
       OfRead s0 s1 (λ bytes. IsHeader d header None has_mark bytes) → Takes w0 (head st.StartRecord) w1 →
@@ -191,11 +199,7 @@ module _ (d : ℕ) (header added : Record) (has_mark : Bool) where
         rest = [];
         body = [];
         begins = h.first;
-        answered = (
-          [],
-          ([], st.StartRecord, [], uncut st.StartRecord [], (st.StartRecord, [], [], at_start d st.StartRecord st.StartRecord [] [] refl refl refl, refl), no_last),
-          none (format_after d st.StartRecord),
-        );
+        answered = no_records (writes (format_after d st.StartRecord)) [] (none (format_after d st.StartRecord));
         whole = sym (append-nil (head st.StartRecord)) ∙ marked st.StartRecord hb [] h.marked;
       },
       wrote,

@@ -120,16 +120,22 @@ IsOwnAnswer rules db columns asked fields under number answer = (IsOfWidth colum
     IsAnswerUnder rules db (short_of asked) under (field_in fields columns.number) number answer) ⊎
     ((number ≡ None) × IsMarked columns asked fields answer)
 
--- what a record is answered: what the columns that are asked for tell of its field, and of the
--- number that was read there, and its own fields
-abbrev pub IsAnswer : Rules → List Metadata → Option Id → Columns → Asked → Record → Record →
-    Type 0
-IsAnswer rules db hint columns asked fields answer = (under : Option (Option Id)) ×
-    (number : Option Reading) × (told : Record) × (own : Record) ×
+-- what a record is answered, of which this number was read: what the columns that are asked for
+-- tell of its field, and of the number, and its own fields
+abbrev pub IsAnswerOf : Rules → List Metadata → Option Id → Columns → Asked → Record →
+    Option Reading → Record → Type 0
+IsAnswerOf rules db hint columns asked fields number answer = (under : Option (Option Id)) ×
+    (told : Record) × (own : Record) ×
     IsUnder hint columns asked fields under ×
     IsOwnAnswer rules db columns asked fields under number own ×
     AreTold rules db under (field_in fields columns.number) number asked.extra.now told ×
     (answer ≡ told ++ own)
+
+-- the same, whatever the number
+abbrev pub IsAnswer : Rules → List Metadata → Option Id → Columns → Asked → Record → Record →
+    Type 0
+IsAnswer rules db hint columns asked fields answer = (number : Option Reading) ×
+    IsAnswerOf rules db hint columns asked fields number answer
 
 -- a record with another count of fields isn't answered, where such aren't marked
 abbrev pub IsOfOtherWidth : Columns → Asked → Record → Type 0

@@ -1,9 +1,12 @@
+pub mod Answered
 pub mod Answers
 pub mod Counts
+pub mod Duplicates
 pub mod Ends
 pub mod Extras
 pub mod Finds
 pub mod Headers
+pub mod Held
 pub mod Objects
 pub mod Regions
 pub mod Rows
@@ -12,3 +15,4 @@ pub mod Shorts
 pub mod Spelled
 pub mod Tables
 pub mod Taking
+pub mod Unwritten

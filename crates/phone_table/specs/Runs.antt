@@ -1,6 +1,6 @@
 -- How a run over a table of customers ends.
 use Rattle.std.specs.Prelude.{◌≡◌, ℕ, ⊤, List, Option, None, Some, Result, Ok, Err, option_map}
-use Rattle.std.specs.Prelude.{true, false}
+use Rattle.std.specs.Prelude.{true, false, [], ◌++◌, if◌then◌else◌}
 use Rattle.csv.specs.Records.{Row, fields_of}
 use Rattle.phone_device.specs.Passing.{IsAtEnd}
 use Rattle.phone_csv.specs.Firsts.{EndsNoFirst, first_in}
@@ -17,12 +17,14 @@ use Rattle.phone_lines.specs.Ends.{Devices}
 use Rattle.phone_records.specs.declared.loader.Metadata.{Metadata}
 use Rattle.phone_values.specs.declared.country.Id.{Id}
 use Rattle.phone_values.specs.declared.rules.Rules.{Rules}
-use Rattle.phone_table.specs.Answers.{IsAnswer, IsOfOtherWidth}
+use Rattle.phone_table.specs.Answers.{IsAnswerOf, IsOfOtherWidth}
 use Rattle.phone_table.specs.Rows.{WritesKept, WritesSome}
+use Rattle.phone_table.specs.Duplicates.{duplicate_names}
 use Rattle.phone_table.specs.Ends.{Ends, IsUntouched, SourceFails}
 use Rattle.phone_table.specs.Extras.{added_names}
-use Rattle.phone_table.specs.Headers.{columns_of, first_taken}
+use Rattle.phone_table.specs.Headers.{behind, columns_of, first_taken}
 use Rattle.phone_table.specs.Tables.{IsHeaderAlone}
+use Rattle.phone_table.specs.Unwritten.{IsUnwritten, WritesNone}
 use Rattle.phone_table.specs.declared.counts.Counts.{Counts}
 use Rattle.phone_table.specs.declared.header.ColumnError.{ColumnError}
 use Rattle.phone_table.specs.declared.header.Columns.{Columns}
@@ -31,9 +33,12 @@ use Rattle.phone_table.specs.declared.run.TableError.{TableError}
 use Rattle.phone_table.specs.declared.run.TableError.TheVariants.{Delimiter, Header}
 use Rattle.phone_table.specs.declared.run.TableError.TheVariants.{NoColumn, Rows, Taken}
 
--- the names that are put behind a header
+-- the names that are put behind a header: those of duplicates, where they are told, and the others,
+-- each behind these letters
 abbrev pub names_in : Asked → Record
-names_in asked = added_names asked.front.now asked.extra.now
+names_in asked =
+    behind asked.front.now (if asked.tells_duplicates then duplicate_names else []) ++
+    added_names asked.front.now asked.extra.now
 
 -- the columns of a header that are asked for
 abbrev pub columns_in : Asked → Record → Result Columns ColumnError
@@ -67,21 +72,47 @@ pub record ReadsHeader (delimiter : ℕ) (header : Record) (before after : Devic
   pub untouched : IsUntouched before after
 
 -- what is written for the records of a table with these columns: each with its answer, by what is
--- asked for, those left out whose number an earlier one has, where each is kept once
+-- asked for, those left out whose key an earlier one has, where each number is kept once, or with
+-- the columns of duplicates
 abbrev pub WritesTable : Rules → List Metadata → Option Id → Columns → Asked → Counts → Format →
     Writes
 WritesTable rules db hint columns asked =
-    WritesKept (IsAnswer rules db hint columns asked) asked.is_unique
+    WritesKept (IsAnswerOf rules db hint columns asked) asked.tells_duplicates asked.is_unique
 
 -- the same, whatever its counts
 abbrev pub WritesSomeTable : Rules → List Metadata → Option Id → Columns → Asked → Format → Writes
 WritesSomeTable rules db hint columns asked =
-    WritesSome (IsAnswer rules db hint columns asked) asked.is_unique
+    WritesSome (IsAnswerOf rules db hint columns asked) asked.tells_duplicates asked.is_unique
+
+-- the run over the rows behind a header ends so, each answered by the region that it names, and
+-- counted; with the columns of duplicates nothing is written before all is read
+pub data RowsEnd (rules : Rules) (db : List Metadata) (hint : Option Id) (columns : Columns)
+    (asked : Asked) (header : Record) (before after : Devices) :
+    Result Counts RunError → Type 0 where
+  whole : (counts : Counts) →
+      Ends header (names_in asked) (WritesTable rules db hint columns asked counts)
+      (WritesSomeTable rules db hint columns asked) (IsOfOtherWidth columns asked)
+      asked.delimiter before after (Ok tt) →
+      RowsEnd rules db hint columns asked header before after (Ok counts)
+  broken_off : (counts : Counts) (e : RunError) →
+      Ends header (names_in asked) (WritesTable rules db hint columns asked counts)
+      (WritesSomeTable rules db hint columns asked) (IsOfOtherWidth columns asked)
+      asked.delimiter before after (Err e) →
+      RowsEnd rules db hint columns asked header before after (Err e)
+  unwritten : (e : RunError) → asked.tells_duplicates ≡ true → IsUntouched before after →
+      IsUnwritten header (names_in asked) (WritesNone (IsAnswerOf rules db hint columns asked))
+      (IsOfOtherWidth columns asked) asked.delimiter before after e →
+      RowsEnd rules db hint columns asked header before after (Err e)
+
+-- how the run over the rows ended, as the end of that over the table
+abbrev pub rows_result : Result Counts RunError → Result Counts TableError
+rows_result (Ok counts) = Ok counts
+rows_result (Err e) = Err (Rows e)
 
 -- a run over a table ends so, which its result tells: under a delimiter that is none nothing is
 -- read; nothing is written without a header, without the one column of each name that is asked for,
 -- or where a name that is put behind the header stands there already; else as the run over its rows
--- ends, each answered by the region that it names, and counted
+-- ends
 pub data RunEnds (rules : Rules) (db : List Metadata) (hint : Option Id) (asked : Asked)
     (before after : Devices) : Result Counts TableError → Type 0 where
   no_delimiter : is_delimiter asked.delimiter ≡ false → after ≡ before →
@@ -97,17 +128,8 @@ pub data RunEnds (rules : Rules) (db : List Metadata) (hint : Option Id) (asked 
       is_delimiter asked.delimiter ≡ true →
       ReadsHeader asked.delimiter header before after → columns_in asked header ≡ Ok columns →
       IsRefused header (names_in asked) e → RunEnds rules db hint asked before after (Err e)
-  whole : (header : Record) (columns : Columns) (counts : Counts) →
+  answered : (header : Record) (columns : Columns) (result : Result Counts RunError) →
       is_delimiter asked.delimiter ≡ true → columns_in asked header ≡ Ok columns →
       first_taken header (names_in asked) ≡ None →
-      Ends header (names_in asked) (WritesTable rules db hint columns asked counts)
-      (WritesSomeTable rules db hint columns asked) (IsOfOtherWidth columns asked)
-      asked.delimiter before after (Ok tt) →
-      RunEnds rules db hint asked before after (Ok counts)
-  broken_off : (header : Record) (columns : Columns) (counts : Counts) (e : RunError) →
-      is_delimiter asked.delimiter ≡ true → columns_in asked header ≡ Ok columns →
-      first_taken header (names_in asked) ≡ None →
-      Ends header (names_in asked) (WritesTable rules db hint columns asked counts)
-      (WritesSomeTable rules db hint columns asked) (IsOfOtherWidth columns asked)
-      asked.delimiter before after (Err e) →
-      RunEnds rules db hint asked before after (Err (Rows e))
+      RowsEnd rules db hint columns asked header before after result →
+      RunEnds rules db hint asked before after (rows_result result)

@@ -8,8 +8,10 @@ use Rattle.phone_device.specs.Passing.{IsAtEnd}
 use Rattle.phone_csv.specs.Firsts.{IsHead, IsOnly, begins_with_mark, byte_order_mark, first_in}
 use Rattle.phone_csv.specs.Formats.{Record, format_after, reading, record_text, state_of}
 use Rattle.phone_csv.specs.RecordReports.{AreAll, IsReport, IsReportOnFirst, Writes}
-use Rattle.phone_table.specs.Rows.{AreAnswered, AreKept}
+use Rattle.phone_table.specs.Answered.{Answered, AreAnswered}
+use Rattle.phone_table.specs.Rows.{AreWritten}
 use Rattle.phone_table.specs.declared.counts.Counts.{Counts}
+use Rattle.phone_values.specs.declared.reading.Reading.{Reading}
 use Rattle.phone_csv.specs.declared.cutter.Start.{Start}
 use Rattle.phone_csv.specs.declared.format.Format.{Format}
 
@@ -57,21 +59,21 @@ IsBeginning some header added delimiter to_come bytes text = (left : List ℕ) �
     delimiter bytes (text ++ left)
 
 -- the text for a table with commas, read as the kit's `csv` reads: what stands behind the mark are
--- the header with the added names, and the rows that are kept of the table's records, each with its
--- answer behind its fields; the mark is passed over, and nothing else, but where the first name
+-- the header with the added names, and the rows that are written of the table's records, each with
+-- its answer behind its fields; the mark is passed over, and nothing else, but where the first name
 -- begins with one itself
-pub record IsReadAgain (gives : Record → Record → Type 0) (once : Bool) (counts : Counts)
-    (header added : Record) (bytes text : List ℕ) : Type 0 where
+pub record IsReadAgain (gives : Record → Option Reading → Record → Type 0) (marks once : Bool)
+    (counts : Counts) (header added : Record) (bytes text : List ℕ) : Type 0 where
   pub after : State
   pub rest : List ℕ
   pub records : List Record
-  pub all : List Record
+  pub all : List Answered
   pub rows : List Record
   pub written : List ℕ
   pub begins : first_in 44 bytes ≡ Some (header, after, rest)
   pub read : AreAll 44 after rest records
   pub answered : AreAnswered gives records all
-  pub kept : AreKept once all rows counts
+  pub kept : AreWritten marks once all rows counts
   pub whole : text ≡ mark_text (begins_with_mark bytes) ++ written
   pub again : AreRecords (reading 44) StartRecord written ((header ++ added) ∷ rows)
   pub behind_mark : (begins_with_mark bytes ≡ true) ⊎ (begins_with_mark written ≡ false) →

@@ -1,44 +1,47 @@
 -- What a table keeps from record to record.
-use Rattle.std.specs.Prelude.{◌≡◌, ◌&&◌, ◌||◌, ◌==◌, ℕ, Bool, true, false, not, List, ◌++◌, length}
+use Rattle.std.specs.Prelude.{◌≡◌, ◌&&◌, ◌||◌, ℕ, Bool, true, false, List, ◌++◌}
 use Rattle.std.specs.Prelude.{Option, None, Some}
 use Rattle.std.specs.List.{list_any}
+use Rattle.std.specs.Option.{option_map_or}
 use Rattle.std.specs.Str.{bytes_eq}
 use Rattle.phone_csv.specs.Formats.{Record}
-use Rattle.phone_table.specs.Answers.{IsAnswer}
+use Rattle.phone_table.specs.Answered.{key_in}
+use Rattle.phone_table.specs.Answers.{IsAnswerOf}
 use Rattle.phone_table.specs.Counts.{counts_after, counts_without}
-use Rattle.phone_table.specs.Rows.{number_of}
 use Rattle.phone_table.specs.declared.table.Table.{Table}
+use Rattle.phone_values.specs.declared.reading.Reading.{Reading}
 
--- this is among the texts that a table has kept
+-- this is among the keys that a table has kept
 abbrev pub has : Table → List ℕ → Bool
-has t text = list_any (λ k. bytes_eq text k.items) t.numbers.keys
+has t key = list_any (λ k. bytes_eq key k.items) t.keys.keys
 
--- the number of a row is among them
-abbrev pub is_known : Table → Record → Bool
-is_known t row = not (length (number_of row) == 0) && has t (number_of row)
+-- the key of a record is among them
+abbrev pub is_known : Table → Option (List ℕ) → Bool
+is_known t key = option_map_or (has t) key false
 
--- what reads, what is asked for and the columns stay, and the number of a row is kept, where each
--- is kept once
-pub record Keeps (before : Table) (row : Record) (after : Table) : Type 0 where
+-- what reads, what is asked for and the columns stay, and the key of a record is kept, where each
+-- number is kept once
+pub record Keeps (before : Table) (key : Option (List ℕ)) (after : Table) : Type 0 where
   pub engine : after.engine ≡ before.engine
   pub asked : after.asked ≡ before.asked
   pub columns : after.columns ≡ before.columns
-  pub numbers : (text : List ℕ) → before.asked.is_unique ≡ true →
-      (length text == 0) ≡ false →
-      has after text ≡ (bytes_eq text (number_of row) || has before text)
+  pub keys : (text : List ℕ) → before.asked.is_unique ≡ true →
+      has after text ≡ (option_map_or (bytes_eq text) key false || has before text)
 
 -- what a table does with a record: its row is written, or left out where each number is kept once
--- and that of the row is known
+-- and the key of the record's is known
 pub data Takes (before : Table) (fields : Record) (after : Table) : Option Record → Type 0 where
-  written : (answer : Record) → IsAnswer before.engine.rules before.engine.database.now
-      before.engine.hint before.columns before.asked fields answer →
-      (before.asked.is_unique && is_known before (fields ++ answer)) ≡ false →
-      Keeps before (fields ++ answer) after →
+  written : (number : Option Reading) (answer : Record) →
+      IsAnswerOf before.engine.rules before.engine.database.now before.engine.hint before.columns
+      before.asked fields number answer →
+      (before.asked.is_unique && is_known before (key_in number)) ≡ false →
+      Keeps before (key_in number) after →
       after.counts ≡ counts_after before.counts (fields ++ answer) →
       Takes before fields after (Some answer)
-  left_out : (answer : Record) → IsAnswer before.engine.rules before.engine.database.now
-      before.engine.hint before.columns before.asked fields answer →
-      (before.asked.is_unique && is_known before (fields ++ answer)) ≡ true →
-      Keeps before (fields ++ answer) after →
+  left_out : (number : Option Reading) (answer : Record) →
+      IsAnswerOf before.engine.rules before.engine.database.now before.engine.hint before.columns
+      before.asked fields number answer →
+      (before.asked.is_unique && is_known before (key_in number)) ≡ true →
+      Keeps before (key_in number) after →
       after.counts ≡ counts_without before.counts (fields ++ answer) →
       Takes before fields after None

@@ -25,7 +25,7 @@ pub struct Counts {
     pub invalid: u64,
     /// Those whose number is a short number.
     pub short: u64,
-    /// Those that are left out, since an earlier one has their number.
+    /// Those that are left out, since an earlier one has their number and extension.
     pub repeated: u64,
 }
 

@@ -1,6 +1,7 @@
 //! What holds of answers. These functions do nothing, but for those that read a text to show that
 //! it has an answer; their contracts are the statements.
-ghost use Rattle.std.specs.Prelude.{◌≡◌, ◌⊎◌, ℕ, List, None, Option, Some, chars, true};
+ghost use Rattle.std.specs.Prelude.{◌≡◌, ◌⊎◌, ◌+◌, ℕ, List, None, Option, Some, chars, slice_get};
+ghost use Rattle.std.specs.Prelude.{true};
 ghost use Rattle.std.specs.Str.{IsUtf8};
 ghost use Rattle.csv.specs.Records.{fields_of};
 ghost use Rattle.serde_json.specs.Data.{Data};
@@ -13,8 +14,10 @@ ghost use Rattle.phone_records.specs.declared.loader.Metadata as loader;
 ghost use Rattle.phone_short.specs.Regions.{short_kind};
 ghost use Rattle.phone_short.specs.declared.kind.ShortKind.TheVariants as kind;
 ghost use Rattle.phone_prefixes.specs.Tables as prefixes;
-ghost use Rattle.phone_table.specs.Answers.{IsAnswer, IsFieldAnswer, IsOfOtherWidth};
+ghost use Rattle.phone_table.specs.Answered.{Answered};
+ghost use Rattle.phone_table.specs.Answers.{IsAnswer, IsAnswerOf, IsFieldAnswer, IsOfOtherWidth};
 ghost use Rattle.phone_table.specs.Answers.{IsOwnAnswer, IsUnder};
+ghost use Rattle.phone_table.specs.Duplicates.{NamesFirst, duplicate_of, shared_of};
 ghost use Rattle.phone_table.specs.Extras.{EachHasOneText, HaveOneText};
 ghost use Rattle.phone_table.specs.Objects.{IsObject, IsObjectLine};
 ghost use Rattle.phone_table.specs.Ends.{by};
@@ -122,14 +125,26 @@ pub fn some_object(line: &[u8])
 }
 
 /// What a run writes for a whole table with commas, read again, is the byte-order mark that the
-/// table begins with, if it does, the header with the added names, and the rows that are kept of
-/// the table's records, each with its answer.
+/// table begins with, if it does, the header with the added names, and the rows that are written
+/// of the table's records, each with its answer.
 pub fn read_again()
     ensures { (rules : Rules) (db : List loader.Metadata) (hint : Option Id)
         (columns : header.Columns) (asked : run.Asked) (counts : Counts) (header : Record)
         (bytes text : List ℕ) →
         IsTable header (names_in asked)
         (by IsReport (WritesTable rules db hint columns asked counts)) 44 bytes text →
-        IsReadAgain (IsAnswer rules db hint columns asked) asked.is_unique counts header
-        (names_in asked) bytes text }
+        IsReadAgain (IsAnswerOf rules db hint columns asked) asked.tells_duplicates
+        asked.is_unique counts header (names_in asked) bytes text }
+{}
+
+/// A record whose `duplicate_of` has a number names an earlier one with its key, which names no
+/// other; and of the records with one key only one names no other.
+pub fn one_first()
+    ensures named { (all : List Answered) (place first : ℕ) (a : Answered) →
+        slice_get all place ≡ Some a → duplicate_of (shared_of all a) (place + 2) ≡ Some first →
+        NamesFirst all a place first }
+    ensures one { (all : List Answered) (key : List ℕ) (p q : ℕ) (a b : Answered) →
+        slice_get all p ≡ Some a → slice_get all q ≡ Some b → a.key ≡ Some key →
+        b.key ≡ Some key → duplicate_of (shared_of all a) (p + 2) ≡ None →
+        duplicate_of (shared_of all b) (q + 2) ≡ None → p ≡ q }
 {}

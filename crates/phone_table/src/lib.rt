@@ -4,11 +4,14 @@
 
 mod answer;
 mod counts;
+mod duplicates;
 mod extra;
 pub mod finds;
 mod header;
+mod holder;
 mod key;
 pub mod laws;
+mod marked;
 mod names;
 pub mod objects;
 mod region;

@@ -1,8 +1,9 @@
 //! The names that are put behind a header, and the header that is written.
 ghost use Rattle.std.specs.Prelude.{◌≡◌, ◌+◌, ◌++◌, ◌∷◌, [], Err, IfOk, OnOk, option_map};
-ghost use Rattle.std.specs.Prelude.{string_bytes};
+ghost use Rattle.std.specs.Prelude.{if◌then◌else◌, string_bytes};
 ghost use Rattle.csv.specs.Records.{fields_of, partial_of};
 ghost use Rattle.phone_device.specs.Passing.{Takes, TakesFront};
+ghost use Rattle.phone_table.specs.Duplicates.{duplicate_names};
 ghost use Rattle.phone_table.specs.Extras.{added_names, headings};
 ghost use Rattle.phone_table.specs.Headers.{behind, first_taken, is_taken, names, texts_of};
 ghost use Rattle.phone_table.specs.Tables.{head_text, mark_text};
@@ -100,16 +101,34 @@ fn push_headings(
     Ok(())
 }
 
-/// The names that are put behind a header: those of columns, and of an answer's fields, each behind
-/// these letters. Refused only for memory.
+/// The names of the columns of duplicates, where these are told, each behind these letters. Refused
+/// only for memory.
+fn first_names(alloc: Global, front: &str, tells_duplicates: bool) -> Result<ByteRecord, AllocError>
+    ensures names { IfOk result (λ names. fields_of names ≡
+        behind front.now (if tells_duplicates then duplicate_names else [])) }
+    ensures partial { IfOk result (λ names. partial_of names ≡ []) }
+{
+    let mut names = ByteRecord::new(alloc);
+    if !tells_duplicates {
+        return Ok(names);
+    }
+    push_names(alloc, &mut names, front, &["duplicate_of", "duplicates"])?;
+    Ok(names)
+}
+
+/// The names that are put behind a header: those of the columns of duplicates, where these are told,
+/// of other columns, and of an answer's fields, each behind these letters. Refused only for memory.
 pub(crate) fn added_names(
     alloc: Global,
     front: &str,
+    tells_duplicates: bool,
     extra: &[Extra<'_>],
 ) -> Result<ByteRecord, AllocError>
-    ensures { IfOk result (λ names. fields_of names ≡ added_names front.now extra.now) }
+    ensures { IfOk result (λ names. fields_of names ≡
+        behind front.now (if tells_duplicates then duplicate_names else []) ++
+        added_names front.now extra.now) }
 {
-    let mut names = ByteRecord::new(alloc);
+    let mut names = first_names(alloc, front, tells_duplicates)?;
     push_headings(alloc, &mut names, front, extra)?;
     push_names(
         alloc,
@@ -175,7 +194,7 @@ fn mark_text(alloc: Global, has_mark: bool) -> Result<Vec<u8>, AllocError>
 
 /// The text of a header with these names behind its own, and with a byte-order mark in front where
 /// there is one. Refused only for memory.
-fn header_text(
+pub(crate) fn header_text(
     alloc: Global,
     format: Format,
     has_mark: bool,

@@ -1,19 +1,25 @@
 //! The run over a table of customers.
-ghost use Rattle.std.specs.Prelude.{◌≡◌, IfErr, IfOk, None, Some};
-ghost use Rattle.csv.specs.Records.{fields_of};
+ghost use Rattle.std.specs.Prelude.{◌≡◌, ℕ, List, [], IfErr, IfOk, IsNone, None, Option, Some};
+ghost use Rattle.std.specs.Prelude.{false};
+ghost use Rattle.csv.specs.Records.{fields_of, partial_of};
 ghost use Rattle.phone_csv.specs.Formats.{Record};
+ghost use Rattle.phone_csv.specs.Runs.{OfRead};
+ghost use Rattle.phone_device.specs.Passing.{IsAtEnd};
 ghost use Rattle.phone_lines.specs.Ends.{seen};
+ghost use Rattle.phone_table.specs.Counts.{no_counts};
 ghost use Rattle.phone_table.specs.Headers.{first_taken};
-ghost use Rattle.phone_table.specs.Runs.{IsRefused, RunEnds, names_in};
+ghost use Rattle.phone_table.specs.Runs.{IsRefused, RowsEnd, RunEnds, names_in};
+ghost use Rattle.phone_table.specs.Tables.{IsHeader};
 
 use crate::counts::Counts;
 use crate::extra::Extra;
 use crate::header::{ColumnError, columns_of};
+use crate::marked::write_marked;
 use crate::names::{added_names, first_taken};
 use crate::rows::write_rows;
 use crate::table::Table;
 use csv::ByteRecord;
-use phone_csv::{FirstError, RunError, first_record, is_delimiter};
+use phone_csv::{First, FirstError, RunError, first_record, is_delimiter};
 use phone_device::{ByteSink, ByteSource};
 use phone_engine::Engine;
 use phone_plans::Plans;
@@ -33,14 +39,51 @@ pub struct Asked<'a> {
     /// Whether a record with another count of fields than the header is given back with a refusal,
     /// and doesn't end the run.
     pub mark_bad: bool,
-    /// Whether of the records with one number the first is given back alone.
+    /// Whether of the records with one number, by its E.164 text and its extension, the first is
+    /// given back alone.
     pub is_unique: bool,
+    /// Whether columns tell which records have one number, by the same; then each is given back.
+    pub tells_duplicates: bool,
     /// What stands in front of the name of each column behind the header's own.
     pub front: &'a str,
     /// The columns that stand between the header's own and the answer's.
     pub extra: &'a [Extra<'a>],
     /// The database of short numbers, where the kinds of these are told.
     pub short: Option<&'a Plans>,
+}
+
+impl<'a> Asked<'a> {
+    /// What is asked of a table with commas whose numbers stand in the column of this name, and
+    /// nothing more.
+    pub fn of(number: &'a str) -> Asked<'a>
+        ensures asked { result ≡ record {
+          number = number.entry;
+          region = None;
+          delimiter = 44;
+          else_hint = false;
+          mark_bad = false;
+          is_unique = false;
+          tells_duplicates = false;
+          front = result.front;
+          extra = result.extra;
+          short = None;
+        } }
+        ensures front { result.front.now ≡ [] }
+        ensures extra { result.extra.now ≡ [] }
+    {
+        Asked {
+            number,
+            region: None,
+            delimiter: b',',
+            else_hint: false,
+            mark_bad: false,
+            is_unique: false,
+            tells_duplicates: false,
+            front: "",
+            extra: &[],
+            short: None,
+        }
+    }
 }
 
 /// Why a table was not answered whole.
@@ -81,7 +124,7 @@ fn names_behind(
         (λ _. first_taken (fields_of header.now) (names_in asked.entry) ≡ None) }
     ensures refused { IfErr result (IsRefused (fields_of header.now) (names_in asked.entry)) }
 {
-    let Ok(added) = added_names(alloc, asked.front, asked.extra) else {
+    let Ok(added) = added_names(alloc, asked.front, asked.tells_duplicates, asked.extra) else {
         return Err(TableError::Rows(RunError::Memory));
     };
     if let Some(name) = first_taken(header, &added) {
@@ -91,16 +134,21 @@ fn names_behind(
 }
 
 /// Gives a table back: its header with names behind its own, those of the columns that are asked
-/// for and then `e164`, `international`, `national`, `type`, `region`, `validity` and `refusal`,
-/// each with `front` before it; and its records in their order, unchanged, each with its answer
-/// behind its fields. The first record is the header. Where a UTF-8 byte-order mark stands in front
-/// of it, that is no part of its first name, and the output begins with one too. Each record is
-/// ended by a carriage return and a line feed where a carriage return ended the header, else by a
-/// line feed. What is read and written is CSV as the kit's `csv` has it, with this delimiter.
-/// Nothing in memory grows with the number of records, but with `is_unique`, where the E.164 texts
-/// are kept: then a record whose number an earlier one has is left out. It gives how many records
-/// there were, how many of them were answered otherwise than by a valid number, and how many were
-/// left out.
+/// for and then `e164`, `international`, `national`, `type`, `region`, `validity` and `refusal`;
+/// and its records in their order, unchanged, each with its answer behind its fields. The first
+/// record is the header. Where a UTF-8 byte-order mark stands in front of it, that is no part of
+/// its first name, and the output begins with one too. Each record is ended by a carriage return
+/// and a line feed where a carriage return ended the header, else by a line feed. What is read and
+/// written is CSV as the kit's `csv` has it, with this delimiter. Nothing in memory grows with the
+/// number of records, but with `is_unique`, where the keys of numbers are kept: then a record is
+/// left out where an earlier one has a number of the same E.164 text and the same extension; and
+/// with `tells_duplicates`, where all are. It gives how many records there were, how many of them
+/// were answered otherwise than by a valid number, and how many were left out.
+///
+/// With `tells_duplicates` two columns stand before the others. `duplicate_of` has, where an earlier
+/// record has the number and its extension, the number of the first one that has, the header
+/// counted as 1; `duplicates` has, on that one, how many later ones there are. They are empty else.
+/// All is read and answered before anything is written, so nothing is where that breaks off.
 ///
 /// The answer to a number, which is read and described by the engine: what each column that is
 /// asked for tells of it, empty where its table has nothing; its texts in three modes, its kind,
@@ -155,17 +203,73 @@ pub fn write_table<S: ByteSource, W: ByteSink>(
         Ok(added) => added,
         Err(error) => return Err(error),
     };
-    let mut table = Table::new(engine, asked, columns);
-    match write_rows(
-        alloc,
-        &mut table,
-        asked.delimiter,
-        first,
-        &added,
-        source,
-        sink,
-    ) {
-        Ok(()) => Ok(table.counts),
+    let table = Table::new(engine, asked, columns);
+    match write_records(alloc, table, first, &added, source, sink) {
+        Ok(counts) => Ok(counts),
         Err(error) => Err(TableError::Rows(error)),
+    }
+}
+
+/// Writes a table whose header was read, with the columns of duplicates where they are asked for.
+fn write_records<S: ByteSource, W: ByteSink>(
+    alloc: Global,
+    table: Table<'_>,
+    first: First,
+    added: &ByteRecord,
+    source: &mut S,
+    sink: &mut W,
+) -> Result<Counts, RunError>
+    requires partial { partial_of first.fields ≡ [] }
+    requires end { IsNone first.rest → IsAtEnd (S.to_come source.old) }
+    requires added { fields_of added.now ≡ names_in table.asked }
+    requires counts { table.counts ≡ no_counts }
+    requires keys { table.keys.keys ≡ [] }
+    ensures ends { (before : Option (List ℕ)) → OfRead before (S.to_come source.old) (λ bytes.
+        IsHeader table.entry.asked.delimiter (fields_of first.fields) first.rest first.has_mark
+        bytes) → RowsEnd table.entry.engine.rules table.entry.engine.database.now
+        table.entry.engine.hint table.entry.columns table.entry.asked (fields_of first.fields)
+        (seen before (S.faults source.old) (W.taken sink.old)
+        (W.faults sink.old) (W.unflushed sink.old))
+        (seen (S.to_come source.new) (S.faults source.new) (W.taken sink.new)
+        (W.faults sink.new) (W.unflushed sink.new))
+        result }
+{
+    if table.asked.tells_duplicates {
+        write_marked(alloc, table, first, added, source, sink)
+    } else {
+        write_plain(alloc, table, first, added, source, sink)
+    }
+}
+
+/// The same without these columns: each record is written when it was read.
+fn write_plain<S: ByteSource, W: ByteSink>(
+    alloc: Global,
+    table: Table<'_>,
+    first: First,
+    added: &ByteRecord,
+    source: &mut S,
+    sink: &mut W,
+) -> Result<Counts, RunError>
+    requires partial { partial_of first.fields ≡ [] }
+    requires end { IsNone first.rest → IsAtEnd (S.to_come source.old) }
+    requires plain { table.asked.tells_duplicates ≡ false }
+    requires added { fields_of added.now ≡ names_in table.asked }
+    requires counts { table.counts ≡ no_counts }
+    requires keys { table.keys.keys ≡ [] }
+    ensures ends { (before : Option (List ℕ)) → OfRead before (S.to_come source.old) (λ bytes.
+        IsHeader table.entry.asked.delimiter (fields_of first.fields) first.rest first.has_mark
+        bytes) → RowsEnd table.entry.engine.rules table.entry.engine.database.now
+        table.entry.engine.hint table.entry.columns table.entry.asked (fields_of first.fields)
+        (seen before (S.faults source.old) (W.taken sink.old)
+        (W.faults sink.old) (W.unflushed sink.old))
+        (seen (S.to_come source.new) (S.faults source.new) (W.taken sink.new)
+        (W.faults sink.new) (W.unflushed sink.new))
+        result }
+{
+    let mut table = table;
+    let delimiter = table.asked.delimiter;
+    match write_rows(alloc, &mut table, delimiter, first, added, source, sink) {
+        Ok(()) => Ok(table.counts),
+        Err(error) => Err(error),
     }
 }

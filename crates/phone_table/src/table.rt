@@ -2,15 +2,15 @@
 ghost use Rattle.std.specs.Prelude.{◌≡◌, ◌++◌, ◌&&◌, ◌||◌, ℕ, List, [], not, true, false, codes};
 ghost use Rattle.std.specs.List.{list_any};
 ghost use Rattle.std.specs.Str.{bytes_eq};
-ghost use Rattle.std.specs.Prelude.{Err, IfErr, IfOk, None, OnOk};
+ghost use Rattle.std.specs.Prelude.{Err, IfErr, IfOk, None, OnOk, option_map, string_bytes};
 ghost use Rattle.csv.specs.Records.{fields_of, partial_of};
 ghost use Rattle.phone_csv.specs.Formats.{Record};
+ghost use Rattle.phone_table.specs.Answered.{key_in};
 ghost use Rattle.phone_table.specs.Answers.{IsAnswerUnder, IsOfOtherWidth, IsOwnAnswer};
 ghost use Rattle.phone_table.specs.Answers.{IsUnder, refused_answer, short_of};
 ghost use Rattle.phone_table.specs.Extras.{AreTold};
 ghost use Rattle.phone_table.specs.Regions.{RecordNames, field_in};
 ghost use Rattle.phone_table.specs.Counts.{no_counts};
-ghost use Rattle.phone_table.specs.Rows.{number_of};
 ghost use Rattle.phone_table.specs.Taking.{Keeps, is_known};
 ghost use Rattle.phone_table.specs.Spelled.{IsKnownIn, number_in, spelled};
 
@@ -18,10 +18,10 @@ use crate::answer::{Answer, answer_to, push_answer};
 use crate::counts::Counts;
 use crate::extra::{Subject, push_told};
 use crate::header::Columns;
-use crate::key::ANSWER_WIDTH;
 use crate::region::{Named, hint_under, region_named};
 use crate::run::Asked;
 use csv::ByteRecord;
+use phone_book::key_text;
 use phone_csv::{Answers, Refusal};
 use phone_engine::Engine;
 use phonenumber::country::Id;
@@ -40,8 +40,8 @@ pub struct Table<'d> {
     pub columns: Columns,
     /// How many records were answered, and how.
     pub counts: Counts,
-    /// The E.164 texts of the rows, where each number is kept once.
-    pub numbers: HashSet<Vec<u8>>,
+    /// The keys of the numbers that were read, where each number is kept once.
+    pub keys: HashSet<Vec<u8>>,
 }
 
 impl<'d> Table<'d> {
@@ -51,21 +51,21 @@ impl<'d> Table<'d> {
         ensures asked { result.asked ≡ asked.entry }
         ensures columns { result.columns ≡ columns }
         ensures counts { result.counts ≡ no_counts }
-        ensures numbers { result.numbers.keys ≡ [] }
+        ensures keys { result.keys.keys ≡ [] }
     {
         Table {
             engine,
             asked,
             columns,
             counts: Counts::new(),
-            numbers: HashSet::new(engine.database.allocator()),
+            keys: HashSet::new(engine.database.allocator()),
         }
     }
 
     /// The hint under which a record's number is read, by the region that the record names; none
     /// where it isn't read: the record names no region that there is, or has another count of
     /// fields.
-    fn hint_of(&self, fields: &ByteRecord) -> Option<Option<Id>>
+    pub(crate) fn hint_of(&self, fields: &ByteRecord) -> Option<Option<Id>>
         ensures { IsUnder self.now.engine.hint self.now.columns self.now.asked
             (fields_of fields.now) result }
     {
@@ -104,7 +104,7 @@ impl<'d> Table<'d> {
 
     /// The answer to a record under this hint, whatever the count of its fields; or why it isn't
     /// answered.
-    fn answer_or_refusal(
+    pub(crate) fn answer_or_refusal(
         &self,
         under: Option<Option<Id>>,
         fields: &ByteRecord,
@@ -145,7 +145,7 @@ impl<'d> Table<'d> {
 
     /// Puts what the columns that are asked for tell, and the fields of an answer, behind
     /// those of a record that was read under this hint. Refused only for memory.
-    fn push_row(
+    pub(crate) fn push_row(
         &self,
         fields: &mut ByteRecord,
         under: Option<Option<Id>>,
@@ -191,29 +191,33 @@ pub(crate) fn field_in(fields: &ByteRecord, column: usize) -> &[u8]
     }
 }
 
-/// The E.164 text of a row; empty where it has no number.
-fn number_of(row: &ByteRecord) -> &[u8]
-    ensures { result.now ≡ number_of (fields_of row.now) }
+/// The key of the number that an answer is of; none where no number was read. Refused only for
+/// memory.
+pub(crate) fn key_in(alloc: Global, answer: &Answer) -> Result<Option<String>, AllocError>
+    ensures { IfOk result (λ key. option_map string_bytes key ≡ key_in (number_in answer.now)) }
 {
-    field_in(row, row.len().saturating_sub(ANSWER_WIDTH))
+    match answer {
+        Answer::Number(number, _) => Ok(Some(key_text(alloc, number)?)),
+        Answer::Short(_, _) | Answer::Refused(_) => Ok(None),
+    }
 }
 
 impl<'d> Table<'d> {
-    /// Whether a row is written: where each number is kept once, its own is kept then. Refused only
-    /// for memory.
-    fn is_new(&mut self, row: &ByteRecord) -> Result<bool, AllocError>
+    /// Whether the row of an answer is written: where each number is kept once, its key is kept
+    /// then. Refused only for memory.
+    fn is_new(&mut self, answer: &Answer) -> Result<bool, AllocError>
         ensures new { IfOk result (λ is_new. (self.old.asked.is_unique &&
-            is_known self.old (fields_of row.now)) ≡ not is_new) }
-        ensures keeps { OnOk result (Keeps self.old (fields_of row.now) self.new) }
+            is_known self.old (key_in (number_in answer.now))) ≡ not is_new) }
+        ensures keeps { OnOk result (Keeps self.old (key_in (number_in answer.now)) self.new) }
         ensures counts { self.new.counts ≡ self.old.counts }
     {
-        let number = number_of(row);
-        if !self.asked.is_unique || number.is_empty() {
+        if !self.asked.is_unique {
             return Ok(true);
         }
-        let mut text = Vec::new(self.engine.database.allocator());
-        text.extend_from_slice(number)?;
-        add(&mut self.numbers, text)
+        match key_in(self.engine.database.allocator(), answer)? {
+            Some(key) => add(&mut self.keys, key.into_bytes()),
+            None => Ok(true),
+        }
     }
 }
 
@@ -251,7 +255,7 @@ impl<'d> Answers for Table<'d> {
         let Ok(()) = self.push_row(fields, under, &answer) else {
             return Err(Refusal::Memory);
         };
-        let Ok(is_new) = self.is_new(fields) else {
+        let Ok(is_new) = self.is_new(&answer) else {
             return Err(Refusal::Memory);
         };
         self.counts.count(fields, is_new);

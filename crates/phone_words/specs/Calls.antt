@@ -208,6 +208,7 @@ pub record IsTable (ps : List Said) (t : Table) : Type 0 where
   pub region_column : text_in t.region_column ≡ value ps (codes "--region-column")
   pub fallback_region : t.fallback_region ≡ has ps (codes "--fallback-region")
   pub is_unique : t.is_unique ≡ has ps (codes "--unique")
+  pub duplicates : t.duplicates ≡ has ps (codes "--duplicates")
   pub mark_bad : t.mark_bad ≡ has ps (codes "--mark-bad-records")
   pub front : t.front.now ≡ text ps (codes "--prefix")
   pub further : IsFurther ps t.further

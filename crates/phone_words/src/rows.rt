@@ -44,7 +44,7 @@ macro_rules! rows {
 
 /// The options, each by its name, its name of one letter, what its value is, the word beside which
 /// it counts, what it needs, what it doesn't go with, and its help.
-pub(crate) const ROWS: [Cells; 34] = rows! {
+pub(crate) const ROWS: [Cells; 35] = rows! {
     "--json" "" "" "" [] ["--unique" "--typed" "--short"] "
       a JSON object a line: the line's number and text, and the fields that --csv gives; with
       --find an object for each number: line, column, text, those fields but the refusal, and
@@ -65,10 +65,10 @@ pub(crate) const ROWS: [Cells; 34] = rows! {
     "--with-input" "" "" "" [] ["--csv" "--json" "--find" "--unique" "--typed" "--short"] "
       ends each report line with a tab and the line as it came"
     "--unique" "" "" "" [] ["--typed" "--short"] "
-      writes in place of the report the first line of each number: its E.164 text, a tab, the line
-      as it came. How many lines were new, repeated or refused is told on standard error. With --csv
-      it leaves out each record whose number was in a record before it; records without a number
-      stay"
+      writes in place of the report the first line of each number: its E.164 text and, behind
+      ;ext=, its extension, a tab, the line as it came. With --csv it leaves out each record whose
+      number and extension were in a record before it; records without a number stay. How many lines
+      or records were left out is told on standard error"
     "--typed" "" "" "" [] ["--short"] "
       takes each line as the keys of a number that is typed, and writes what is shown after each
       key, parted by |. In a terminal, without FILE, it shows the number in place, key by key"
@@ -85,6 +85,10 @@ pub(crate) const ROWS: [Cells; 34] = rows! {
       where anything else does, it is read under REGION too"
     "--delimiter" "-d" "D" "" ["--csv"] [] "
       what stands between fields, in place of a comma: one ASCII character, or the word tab"
+    "--duplicates" "" "" "" ["--csv"] ["--unique"] "
+      two columns before the others: duplicate_of, where an earlier record has the number and its
+      extension, the number of the first one that has, the header counted as 1; and duplicates, on
+      that one, how many later ones there are. The input is read whole before anything is written"
     "--mark-bad-records" "" "" "" ["--csv"] [] "
       a record with more or fewer fields than the first is given back as it is, and refused"
     "--prefixes" "" "FILE" "" ["--csv" "--as"] [] "

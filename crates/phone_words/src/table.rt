@@ -20,6 +20,8 @@ pub struct Table<'w> {
     pub delimiter: u8,
     /// Whether the first record of each number is kept alone.
     pub is_unique: bool,
+    /// Whether columns tell which records have one number.
+    pub duplicates: bool,
     /// Whether a record with a wrong count of fields is given back as such.
     pub mark_bad: bool,
     /// What stands in front of the name of each added column.
@@ -105,6 +107,7 @@ pub(crate) fn table_of<'w>(parts: &[Part<'w>], delimiter: u8) -> Table<'w>
         fallback_region: has(parts, "--fallback-region"),
         delimiter,
         is_unique: has(parts, "--unique"),
+        duplicates: has(parts, "--duplicates"),
         mark_bad: has(parts, "--mark-bad-records"),
         front: text(parts, "--prefix"),
         further: further_of(parts),

@@ -1,4 +1,4 @@
-use Rattle.std.proofs.Common.{◌≡◌, ◌<◌, ◌+◌, ◌++◌, ◌∷◌, [], drop, length, ap, ap₂, sym, append_assoc, ◌∙◌, arith}
+use Rattle.std.proofs.Common.{◌<◌, ◌+◌, ◌++◌, ◌∷◌, [], drop, length, ap, ap₂, sym, append_assoc, ◌∙◌, arith}
 use Rattle.csv.specs.Records.{fields_of}
 use Rattle.phone_table.specs.Regions.{field_in}
 use Rattle.phone_table.proofs.ColumnLemmas.{drop-field}

@@ -1,10 +1,9 @@
-use Rattle.std.proofs.Common.{rules, refl}
+use Rattle.std.proofs.Common.{rules, refl, Ok, Err}
 use Rattle.csv.specs.Records.{fields_of}
 use Rattle.phone_table.specs.Runs.{names_in}
-use Rattle.phone_table.specs.Runs.RunEnds.{broken_off, no_column, no_delimiter, no_header, no_names, whole}
-use Rattle.phone_table.proofs.Kept.{table_ends}
+use Rattle.phone_table.specs.Runs.RunEnds.{no_column, no_delimiter, no_header, no_names, answered}
 use Rattle.phone_table.proofs.TableLemmas.{alone}
-use Rattle.phone_table.proofs.RunLemmas.{ends_from, header_read, no_header_by}
+use Rattle.phone_table.proofs.RunLemmas.{header_read, no_header_by, rows_from}
 use Rattle.phone_table.proofs.run.write_table.Goals as goal
 
 pub returns-then-not-is_delimiter : goal.returns-then-not-is_delimiter
@@ -40,16 +39,15 @@ returns-in-Err-names_behind g c =
       }) (search rules) c.in-Err-names_behind.ensures.refused;
     }
 
-pub returns-in-Ok-write_rows : goal.returns-in-Ok-write_rows
-returns-in-Ok-write_rows g c =
+pub returns-in-Ok-write_records : goal.returns-in-Ok-write_records
+returns-in-Ok-write_records g c =
     let f = c.in-Ok.ensures in
     let first = c.in-Ok.first in
     let n = c.new-table.ensures in
-    let ends = ends_from f.no_fault (c.in-Ok-write_rows.ensures.ends (g.S.ByteSource.to_come c.args.source.now)
-    (header_read c.args.asked.delimiter (fields_of first.fields) first.rest first.has_mark _ _ f.ended f.only)) in
+    let read = header_read c.args.asked.delimiter (fields_of first.fields) first.rest first.has_mark _ _ f.ended f.only in
     record {
-      ends = whole (fields_of first.fields) c.in-Ok-columns_of.columns c.write_rows.new.answers.counts (search rules) (search rules) c.in-Ok-names_behind.ensures.free
-          (rw (n.engine, n.columns, n.asked, c.in-Ok-names_behind.ensures.names) at (table_ends c.new-table.result n.counts n.numbers c.write_rows.new.answers (fields_of first.fields) _ c.args.asked.delimiter _ _ _ ends));
+      ends = answered (fields_of first.fields) c.in-Ok-columns_of.columns (Ok c.in-Ok-write_records.counts) (search rules) (search rules) c.in-Ok-names_behind.ensures.free
+          (rows_from f.no_fault (rw (n.engine, n.columns, n.asked) at (c.in-Ok-write_records.ensures.ends (g.S.ByteSource.to_come c.args.source.now) (rw n.asked read))));
     }
 
 pub returns : goal.returns
@@ -57,9 +55,8 @@ returns g c =
     let f = c.in-Ok.ensures in
     let first = c.in-Ok.first in
     let n = c.new-table.ensures in
-    let ends = ends_from f.no_fault (c.in-Err-write_rows.ensures.ends (g.S.ByteSource.to_come c.args.source.now)
-    (header_read c.args.asked.delimiter (fields_of first.fields) first.rest first.has_mark _ _ f.ended f.only)) in
+    let read = header_read c.args.asked.delimiter (fields_of first.fields) first.rest first.has_mark _ _ f.ended f.only in
     record {
-      ends = broken_off (fields_of first.fields) c.in-Ok-columns_of.columns c.write_rows.new.answers.counts c.in-Err-write_rows.error (search rules) (search rules) c.in-Ok-names_behind.ensures.free
-          (rw (n.engine, n.columns, n.asked, c.in-Ok-names_behind.ensures.names) at (table_ends c.new-table.result n.counts n.numbers c.write_rows.new.answers (fields_of first.fields) _ c.args.asked.delimiter _ _ _ ends));
+      ends = answered (fields_of first.fields) c.in-Ok-columns_of.columns (Err c.in-Err-write_records.error) (search rules) (search rules) c.in-Ok-names_behind.ensures.free
+          (rows_from f.no_fault (rw (n.engine, n.columns, n.asked) at (c.in-Err-write_records.ensures.ends (g.S.ByteSource.to_come c.args.source.now) (rw n.asked read))));
     }

@@ -15,7 +15,7 @@ returns-in-Some-clause-placed c =
     let found = some_from _ c.in-Some.ensures.found in (
       found.0,
       subst (λ b. slice_get b.entries c.in-Some.n ≡ Some found.0) c.self.view_is (c.in-Some.ensures.value ∙ found.1),
-      found-same c.key.ensures c.self.inside.database c.self.invariant.0 n listed c.national-national.ensures.bounded.national c.in_ok-key.key c.in_ok-key.ensures
+      found-same c.key.ensures c.self.inside.database c.self.invariant.0 n listed c.national-national.ensures.bounded c.in_ok-key.key c.in_ok-key.ensures
           c.self.inside.entries.entries found.0 c.self.invariant.2 found.1,
       refl,
     )
@@ -24,7 +24,7 @@ pub invariant_of-self : goal.invariant_of-self
 invariant_of-self c =
     let n : Reading = c.args.number in
     let listed = subst (λ b. is_listed n.code.value b.database ≡ true) (sym c.self.view_is) c.requires in
-    let after = after-new c.key.ensures c.self.inside.database c.self.invariant.0 n listed c.national-national.ensures.bounded.national c.in_ok-key.key c.in_ok-key.ensures
+    let after = after-new c.key.ensures c.self.inside.database c.self.invariant.0 n listed c.national-national.ensures.bounded c.in_ok-key.key c.in_ok-key.ensures
     c.self.inside.entries c.insert.new.self.entries c.self.invariant.2 c.self.invariant.1 c.in-Ok.ensures.entries c.in_default.ensures.found in
     (c.self.invariant.0, after.all_first, after.kept)
 
@@ -32,7 +32,7 @@ pub returns-in-Ok-clause-placed : goal.returns-in-Ok-clause-placed
 returns-in-Ok-clause-placed c =
     let n : Reading = c.args.number in
     let listed = subst (λ b. is_listed n.code.value b.database ≡ true) (sym c.self.view_is) c.requires in
-    let after = after-new c.key.ensures c.self.inside.database c.self.invariant.0 n listed c.national-national.ensures.bounded.national c.in_ok-key.key c.in_ok-key.ensures
+    let after = after-new c.key.ensures c.self.inside.database c.self.invariant.0 n listed c.national-national.ensures.bounded c.in_ok-key.key c.in_ok-key.ensures
     c.self.inside.entries c.insert.new.self.entries c.self.invariant.2 c.self.invariant.1 c.in-Ok.ensures.entries c.in_default.ensures.found in (
       subst (λ b. is_among n b.entries ≡ false) c.self.view_is after.fresh,
       c.len-n.ensures.len ∙ sym (length-map c.self.inside.entries.entries (λ p. p.1)) ∙ ap (λ b. length b.entries) c.self.view_is,

@@ -2,12 +2,12 @@ use Rattle.std.proofs.Common.{◌≡◌, Some, slice_get, [], ◌∷◌, ◌++�
 use Rattle.std.proofs.lemmas.List.{append-nil}
 use Rattle.std.proofs.lemmas.Result.{on_ok_weaker}
 use Rattle.phone_book.specs.Books.{Contacts}
+use Rattle.phone_book.specs.Keys.{key_text}
 use Rattle.phone_commands.specs.FirstLines.{IsFirstLine}
 use Rattle.phone_commands.specs.FirstLines.IsFirstLine.{added, no_number, present}
 use Rattle.phone_commands.specs.ObjectLines.{after_one}
 use Rattle.phone_commands.specs.declared.takers.FirstLines.{FirstLines}
 use Rattle.phone_commands.proofs.FirstLemmas.{contacts_are, is_among-at, slice_get-last}
-use Rattle.phone_print.specs.Texts.{e164_text}
 use Rattle.phone_commands.proofs.takers.FirstLines.take_text.Goals as goal
 
 pub returns-in-Ok-Added : goal.returns-in-Ok-Added
@@ -21,7 +21,7 @@ returns-in-Ok-Added c =
     let got : slice_get c.add.new.self.entries c.in-Ok-Added.place ≡ Some n =
     ap₂ slice_get told.2.2 told.2.1 ∙ slice_get-last self.book.entries n in
     let kept : Contacts → FirstLines = λ b. record self { book = b; added = after_one self.added } in
-    let line = e164_text n ++ 9 ∷ (text ++ 10 ∷ []) in
+    let line = key_text n ++ 9 ∷ (text ++ 10 ∷ []) in
     on_ok_weaker c.push_added.result
     (λ t. (
       line,

@@ -1,4 +1,4 @@
-use Rattle.std.proofs.Common.{◌++◌, ◌≡◌, not, ap, refl, ◌∙◌}
+use Rattle.std.proofs.Common.{◌++◌, not, ap, refl, ◌∙◌}
 use Rattle.csv.specs.Records.{fields_of}
 use Rattle.phone_table.specs.Counts.{counts_after, counts_without}
 use Rattle.phone_table.specs.Spelled.{number_in, spelled}
@@ -12,10 +12,10 @@ returns-clause-answered c e =
     let (told, are, is) = c.in-Ok-push_row.ensures in
     let own = spelled c.in-Ok.answer in
     let new = same_ok _ _ e in
-    let k = rw is at c.in-Ok-is_new.ensures.keeps in (
+    let k = c.in-Ok-is_new.ensures.keeps in (
       told ++ own,
-      written (told ++ own) (c.hint_of-under.result, number_in c.in-Ok.answer, told, own, c.hint_of-under.ensures, c.in-Ok.ensures.answer, are, refl) (rw is at c.in-Ok-is_new.ensures.new ∙ ap not new)
-          (record { engine = k.engine; asked = k.asked; columns = k.columns; numbers = k.numbers })
+      written (number_in c.in-Ok.answer) (told ++ own) (c.hint_of-under.result, told, own, c.hint_of-under.ensures, c.in-Ok.ensures.answer, are, refl) (c.in-Ok-is_new.ensures.new ∙ ap not new)
+          (record { engine = k.engine; asked = k.asked; columns = k.columns; keys = k.keys })
           (rw is at (c.count.ensures.written new) ∙ ap (λ n. counts_after n (fields ++ (told ++ own))) c.in-Ok-is_new.ensures.counts),
       is,
     )
@@ -26,7 +26,7 @@ returns-clause-left_out c e =
     let (told, are, is) = c.in-Ok-push_row.ensures in
     let own = spelled c.in-Ok.answer in
     let known = same_ok _ _ e in
-    let k = rw is at c.in-Ok-is_new.ensures.keeps in
-    left_out (told ++ own) (c.hint_of-under.result, number_in c.in-Ok.answer, told, own, c.hint_of-under.ensures, c.in-Ok.ensures.answer, are, refl) (rw is at c.in-Ok-is_new.ensures.new ∙ ap not known)
-    (record { engine = k.engine; asked = k.asked; columns = k.columns; numbers = k.numbers })
+    let k = c.in-Ok-is_new.ensures.keeps in
+    left_out (number_in c.in-Ok.answer) (told ++ own) (c.hint_of-under.result, told, own, c.hint_of-under.ensures, c.in-Ok.ensures.answer, are, refl) (c.in-Ok-is_new.ensures.new ∙ ap not known)
+    (record { engine = k.engine; asked = k.asked; columns = k.columns; keys = k.keys })
     (rw is at (c.count.ensures.left_out known) ∙ ap (λ n. counts_without n (fields ++ (told ++ own))) c.in-Ok-is_new.ensures.counts)

@@ -1,0 +1,20 @@
+use Rattle.std.proofs.Common.{◌++◌, ◌∷◌, [], ap, refl, ◌∙◌}
+use Rattle.csv.specs.Records.{fields_of}
+use Rattle.phone_table.specs.Answered.{key_in}
+use Rattle.phone_table.specs.Held.{answered}
+use Rattle.phone_table.specs.Held.Holds.{held}
+use Rattle.phone_table.specs.Spelled.{number_in, spelled}
+use Rattle.phone_table.proofs.SharedLemmas.{row_parts}
+use Rattle.phone_table.proofs.holder.HolderAnswers.answer.Goals as goal
+
+pub returns-in-Ok-hold-clause-left_out : goal.returns-in-Ok-hold-clause-left_out
+returns-in-Ok-hold-clause-left_out c e =
+    let fields = fields_of c.args.fields.now in
+    let table = c.args.self.now.table in
+    let number = number_in c.in-Ok.answer in
+    let own = spelled c.in-Ok.answer in
+    let (told, are, is) = c.in-Ok-push_row.ensures in
+    held number (told ++ own) (c.hint_of-under.result, told, own, c.hint_of-under.ensures, c.in-Ok.ensures.answer, are, refl)
+    (c.in-Ok-hold.ensures.table ∙ ap (λ n. record table { counts = n }) (rw is at (c.count.ensures.written refl)))
+    (c.in-Ok-hold.ensures.held ∙ ap (λ a. answered c.args.self.now.held.items ++ a ∷ [])
+    (row_parts (fields_of c.replace-row.result) fields (told ++ own) c.len-width.result (key_in number) (ap fields_of c.replace-row.ensures.value ∙ is) c.len-width.ensures))
