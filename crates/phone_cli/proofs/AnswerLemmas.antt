@@ -2,6 +2,7 @@
 use Rattle.std.proofs.Common.{◌≡◌, ℕ, List, [], ◌∷◌, ◌++◌, Option}
 use Rattle.std.proofs.Common.{Result, Ok, ap, ap₂, refl, subst, ◌∙◌}
 use Rattle.std.specs.Prelude.{⊤, option_map}
+use Rattle.phone_commands.specs.EncodedJobs.{ActsIn}
 use Rattle.phone_commands.specs.FoundLines.{IsFoundLine, in_front, name_told}
 use Rattle.phone_commands.specs.Inputs.{InputsEnd, IsAnswered, IsStandard, Name}
 use Rattle.phone_commands.specs.Jobs.{AnswersLines, TakesLines}
@@ -22,6 +23,7 @@ use Rattle.phone_commands.specs.declared.takers.Objects.{Objects}
 use Rattle.phone_commands.specs.WithInputs.{IsWithInput}
 use Rattle.phone_commands.specs.declared.typist.Typist.{Typist}
 use Rattle.phone_commands.specs.declared.with_input.WithInput.{WithInput}
+use Rattle.phone_encodings.specs.declared.encoding.Encoding.{Encoding}
 use Rattle.phone_engine.specs.ReportLines.{IsReportLine}
 use Rattle.phone_engine.specs.declared.engine.Engine.{Engine}
 use Rattle.phone_lines.specs.Ends.{Devices}
@@ -34,7 +36,7 @@ use Rattle.phone_values.specs.declared.country.Id.{Id}
 use Rattle.phone_cli.specs.Commands.{AnswersInputs, BeginsFound, Finding, GivesFound}
 use Rattle.phone_cli.specs.Commands.{GivesObjects, GivesShorts, GivesTyped, GivesWithInput, Reports, Tables}
 use Rattle.phone_cli.specs.Commands.AnswersInputs.{named, standard}
-use Rattle.phone_cli.proofs.Carried.{answers_by, lines_by}
+use Rattle.phone_cli.proofs.Carried.{answers_in, lines_by}
 
 not_empty : (name : Name) (names : List Name) → ¬ (name ∷ names ≡ [])
 not_empty name names e = cc
@@ -58,19 +60,20 @@ ReportActs r before after r' result = AnswersLines
     (IsReportLine r.reader.engine.rules r.reader.engine.database.now r.reader.engine.hint)
     before after result × (r' ≡ r)
 
-pub report_by : (files : List Name) (r : Report) (before after : Devices) (last : Report)
-    (end : Result ⊤ Failure) → AnswersInputs ReportActs files r before after last end →
-    AnswersInputs (Reports r.reader.engine.rules r.reader.engine.database.now
-    r.reader.engine.hint) files tt before after tt end
-report_by files r before after last end =
-    answers_by ReportActs
+pub report_by : (e : Option Encoding) (files : List Name) (r : Report) (before after : Devices)
+    (last : Report)
+    (end : Result ⊤ Failure) → AnswersInputs (ActsIn e ReportActs) files r before after last end →
+    AnswersInputs (ActsIn e (Reports r.reader.engine.rules r.reader.engine.database.now
+    r.reader.engine.hint)) files tt before after tt end
+report_by e files r before after last end =
+    answers_in ReportActs
     (Reports r.reader.engine.rules r.reader.engine.database.now r.reader.engine.hint)
     (λ _. tt) (λ k. k ≡ r)
     (λ a before after b end h act. (
       subst (λ k. AnswersLines (IsReportLine k.reader.engine.rules
           k.reader.engine.database.now k.reader.engine.hint) before after end) h act.0,
       λ _. act.1 ∙ h,
-    )) files r before after last end refl
+    )) e files r before after last end refl
 
 -- objects
 abbrev pub ObjectsGive : Objects → List ℕ → List ℕ → Objects → Type 0
@@ -82,13 +85,16 @@ abbrev pub ReaderGives : Reader → ℕ → List ℕ → List ℕ → ℕ → Ty
 ReaderGives r = GivesObjects r.engine.rules r.engine.database.now
     (option_map (λ d. d.now) r.short) r.engine.hint
 
-pub objects_by : (files : List Name) (o : Objects) (before after : Devices) (last : Objects)
+pub objects_by : (e : Option Encoding) (files : List Name) (o : Objects) (before after : Devices)
+    (last : Objects)
     (end : Result ⊤ Failure) →
-    AnswersInputs (TakesLines begins_with_nothing ObjectsGive) files o before after last end →
-    AnswersInputs (TakesLines begins_with_nothing (ReaderGives o.reader)) files o.place before
+    AnswersInputs (ActsIn e (TakesLines begins_with_nothing ObjectsGive)) files o before after last
+    end →
+    AnswersInputs (ActsIn e (TakesLines begins_with_nothing (ReaderGives o.reader))) files o.place
+    before
     after last.place end
-objects_by files o before after last end =
-    answers_by (TakesLines begins_with_nothing ObjectsGive)
+objects_by e files o before after last end =
+    answers_in (TakesLines begins_with_nothing ObjectsGive)
     (TakesLines begins_with_nothing (ReaderGives o.reader))
     (λ k. k.place) (λ k. k.reader ≡ o.reader)
     (lines_by begins_with_nothing ObjectsGive begins_with_nothing (ReaderGives o.reader)
@@ -104,7 +110,7 @@ objects_by files o before after last end =
         ap (λ (k : Objects). k.place) is.1,
       ),
       ap (λ (k : Objects). k.reader) is.1 ∙ h,
-    ))) files o before after last end refl
+    ))) e files o before after last end refl
 
 -- found numbers
 abbrev pub FinderBegins : Finder → List ℕ → Finder → Type 0
@@ -120,7 +126,8 @@ FinderGives f line answer after = IsFoundLine f.reader.engine.rules
 abbrev pub finding : Finder → Finding
 finding f = record { place = f.place; begun = f.begun }
 
-abbrev pub ReaderFinds : Reader → FoundForm → List Name → Finding → List ℕ → List ℕ → Finding → Type 0
+abbrev pub ReaderFinds : Reader → FoundForm → List Name → Finding → List ℕ → List ℕ → Finding →
+    Type 0
 ReaderFinds r form names =
     GivesFound r.engine.rules r.engine.database.now r.engine.hint form names
 
@@ -168,18 +175,19 @@ finder_given f a line answer b h is =
     a.place line answer) (ap (λ n. n.now) h.names) by_form in
     ((by_names, ap finding is.1), after_same f a b (after_one a.place) a.begun h is.1)
 
-pub found_by : (files : List Name) (f : Finder) (before after : Devices) (last : Finder)
+pub found_by : (e : Option Encoding) (files : List Name) (f : Finder) (before after : Devices)
+    (last : Finder)
     (end : Result ⊤ Failure) →
-    AnswersInputs (TakesLines FinderBegins FinderGives) files f before after last end →
-    AnswersInputs (TakesLines (BeginsFound f.form f.names.now f.first)
-    (ReaderFinds f.reader f.form f.names.now)) files (finding f) before after (finding last) end
-found_by files f before after last end =
-    answers_by (TakesLines FinderBegins FinderGives)
+    AnswersInputs (ActsIn e (TakesLines FinderBegins FinderGives)) files f before after last end →
+    AnswersInputs (ActsIn e (TakesLines (BeginsFound f.form f.names.now f.first)
+    (ReaderFinds f.reader f.form f.names.now))) files (finding f) before after (finding last) end
+found_by e files f before after last end =
+    answers_in (TakesLines FinderBegins FinderGives)
     (TakesLines (BeginsFound f.form f.names.now f.first)
     (ReaderFinds f.reader f.form f.names.now)) finding (IsFinderOf f)
     (lines_by FinderBegins FinderGives (BeginsFound f.form f.names.now f.first)
     (ReaderFinds f.reader f.form f.names.now) finding (IsFinderOf f)
-    (finder_begun f) (finder_given f)) files f before after last end
+    (finder_begun f) (finder_given f)) e files f before after last end
     (record { reader = refl; form = refl; first = refl; names = refl })
 
 -- what is typed
@@ -187,15 +195,18 @@ abbrev pub TypistGives : Typist → List ℕ → List ℕ → Typist → Type 0
 TypistGives t line answer after =
     (answer ≡ typed_line t.field line) × (after.field ≡ after_line t.field line)
 
-pub typed_by : (files : List Name) (t : Typist) (db : List Metadata) (hint : Option Id)
+pub typed_by : (e : Option Encoding) (files : List Name) (t : Typist) (db : List Metadata) (hint :
+    Option Id)
     (before after : Devices) (last : Typist) (end : Result ⊤ Failure) →
     t.field ≡ record { database = db; hint = hint; keys = [] } →
-    AnswersInputs (TakesLines begins_with_nothing TypistGives) files t before after last end →
-    AnswersInputs (TakesLines begins_with_nothing (GivesTyped db hint)) files tt before after tt
+    AnswersInputs (ActsIn e (TakesLines begins_with_nothing TypistGives)) files t before after last
+    end →
+    AnswersInputs (ActsIn e (TakesLines begins_with_nothing (GivesTyped db hint))) files tt before
+    after tt
     end
-typed_by files t db hint before after last end is =
+typed_by e files t db hint before after last end is =
     let field : Field = record { database = db; hint = hint; keys = [] } in
-    answers_by (TakesLines begins_with_nothing TypistGives)
+    answers_in (TakesLines begins_with_nothing TypistGives)
     (TakesLines begins_with_nothing (GivesTyped db hint))
     (λ _. tt) (λ (k : Typist). emptied k.field ≡ field)
     (lines_by begins_with_nothing TypistGives begins_with_nothing (GivesTyped db hint)
@@ -204,20 +215,23 @@ typed_by files t db hint before after last end is =
     (λ a line answer b h s. (
       s.0 ∙ ap (λ f. barred (shown_after_each f (typed_chars line)) ++ 10 ∷ []) h,
       ap emptied s.1 ∙ h,
-    ))) files t before after last end (ap emptied is)
+    ))) e files t before after last end (ap emptied is)
 
 -- the report, with the lines
 abbrev pub WithInputGives : WithInput → List ℕ → List ℕ → WithInput → Type 0
 WithInputGives = each_by_itself (λ (w : WithInput). IsWithInput w.engine.rules w.engine.database.now w.engine.hint)
 
-pub with_input_by : (files : List Name) (w : WithInput) (before after : Devices) (last : WithInput)
-    (end : Result ⊤ Failure) →
-    AnswersInputs (TakesLines begins_with_nothing WithInputGives) files w before after last end →
-    AnswersInputs (TakesLines begins_with_nothing (GivesWithInput w.engine.rules w.engine.database.now w.engine.hint)) files tt
+pub with_input_by : (e : Option Encoding) (files : List Name) (w : WithInput)
+    (before after : Devices) (last : WithInput) (end : Result ⊤ Failure) →
+    AnswersInputs (ActsIn e (TakesLines begins_with_nothing WithInputGives)) files w before
+    after last end →
+    AnswersInputs (ActsIn e (TakesLines begins_with_nothing
+    (GivesWithInput w.engine.rules w.engine.database.now w.engine.hint))) files tt
     before after tt end
-with_input_by files w before after last end =
-    answers_by (TakesLines begins_with_nothing WithInputGives)
-    (TakesLines begins_with_nothing (GivesWithInput w.engine.rules w.engine.database.now w.engine.hint))
+with_input_by e files w before after last end =
+    answers_in (TakesLines begins_with_nothing WithInputGives)
+    (TakesLines begins_with_nothing
+    (GivesWithInput w.engine.rules w.engine.database.now w.engine.hint))
     (λ _. tt) (λ k. k ≡ w)
     (lines_by begins_with_nothing WithInputGives begins_with_nothing
     (GivesWithInput w.engine.rules w.engine.database.now w.engine.hint) (λ _. tt) (λ k. k ≡ w)
@@ -225,24 +239,28 @@ with_input_by files w before after last end =
     (λ a line answer b h is. (
       (
         is.0,
-        subst (λ (k : WithInput). IsWithInput k.engine.rules k.engine.database.now k.engine.hint line is.0) h is.1,
+        subst (λ (k : WithInput). IsWithInput k.engine.rules k.engine.database.now
+            k.engine.hint line is.0) h is.1,
         is.2,
         refl,
       ),
       is.3 ∙ h,
-    ))) files w before after last end refl
+    ))) e files w before after last end refl
 
 -- short numbers
 abbrev pub ShortsGive : Shorts → List ℕ → List ℕ → Shorts → Type 0
 ShortsGive = each_by_itself (λ (s : Shorts). IsShortLine s.database.now s.region)
 
-pub short_by : (files : List Name) (s : Shorts) (before after : Devices) (last : Shorts)
+pub short_by : (e : Option Encoding) (files : List Name) (s : Shorts) (before after : Devices)
+    (last : Shorts)
     (end : Result ⊤ Failure) →
-    AnswersInputs (TakesLines begins_with_nothing ShortsGive) files s before after last end →
-    AnswersInputs (TakesLines begins_with_nothing (GivesShorts s.database.now s.region)) files tt
+    AnswersInputs (ActsIn e (TakesLines begins_with_nothing ShortsGive)) files s before after last
+    end →
+    AnswersInputs (ActsIn e (TakesLines begins_with_nothing (GivesShorts s.database.now s.region)))
+    files tt
     before after tt end
-short_by files s before after last end =
-    answers_by (TakesLines begins_with_nothing ShortsGive)
+short_by e files s before after last end =
+    answers_in (TakesLines begins_with_nothing ShortsGive)
     (TakesLines begins_with_nothing (GivesShorts s.database.now s.region))
     (λ _. tt) (λ k. k ≡ s)
     (lines_by begins_with_nothing ShortsGive begins_with_nothing
@@ -256,7 +274,7 @@ short_by files s before after last end =
         refl,
       ),
       is.3 ∙ h,
-    ))) files s before after last end refl
+    ))) e files s before after last end refl
 
 -- a table
 abbrev pub CustomersAct : Customers → Devices → Devices → Customers → Result ⊤ JobError → Type 0
@@ -288,11 +306,13 @@ customers_act c a before after b end h act =
       },
     )
 
-pub table_by : (files : List Name) (c : Customers) (before after : Devices) (last : Customers)
+pub table_by : (e : Option Encoding) (files : List Name) (c : Customers) (before after : Devices)
+    (last : Customers)
     (end : Result ⊤ Failure) →
-    AnswersInputs CustomersAct files c before after last end →
-    AnswersInputs (EngineAnswers c.engine c.asked) files c.counts before after last.counts end
-table_by files c before after last end =
-    answers_by CustomersAct (EngineAnswers c.engine c.asked)
-    (λ k. k.counts) (IsTableOf c) (customers_act c) files c before after last end
+    AnswersInputs (ActsIn e CustomersAct) files c before after last end →
+    AnswersInputs (ActsIn e (EngineAnswers c.engine c.asked)) files c.counts before after
+    last.counts end
+table_by e files c before after last end =
+    answers_in CustomersAct (EngineAnswers c.engine c.asked)
+    (λ k. k.counts) (IsTableOf c) (customers_act c) e files c before after last end
     (record { engine = refl; asked = refl })

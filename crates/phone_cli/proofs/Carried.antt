@@ -1,7 +1,8 @@
 -- Answers to inputs, told by a part of what is kept.
-use Rattle.std.proofs.Common.{◌≡◌, ◌⊎◌, ⊎_elim, inl, inr, ℕ, List, Result, Ok}
+use Rattle.std.proofs.Common.{◌≡◌, ◌⊎◌, ⊎_elim, inl, inr, ℕ, List, Option, None, Some, Result, Ok}
 use Rattle.std.proofs.Common.{Err, ap, refl, sym, ◌∙◌}
 use Rattle.std.specs.Prelude.{⊤}
+use Rattle.phone_commands.specs.EncodedJobs.{ActsIn, as_text}
 use Rattle.phone_commands.specs.Inputs.{AreAnswered, InputsEnd, IsAnswered, Name}
 use Rattle.phone_commands.specs.Inputs.{failed_in}
 use Rattle.phone_commands.specs.Inputs.AreAnswered.{next, none}
@@ -10,6 +11,7 @@ use Rattle.phone_commands.specs.Inputs.IsAnswered.{file, standard, unopened}
 use Rattle.phone_commands.specs.Jobs.{TakesLines, ended}
 use Rattle.phone_commands.specs.declared.inputs.Failure.{Failure}
 use Rattle.phone_commands.specs.declared.jobs.JobError.{JobError}
+use Rattle.phone_encodings.specs.declared.encoding.Encoding.{Encoding}
 use Rattle.phone_lines.specs.Ends.{Devices}
 use Rattle.phone_lines.specs.Lines.{without_return}
 use Rattle.phone_lines.specs.Taken as taken
@@ -79,6 +81,29 @@ module _ {A B : Type 0} (acts : A → Devices → Devices → A → Result ⊤ J
       of_standard name empty is (one name a before after b end h act)
   answers_by names a before after b end h (named some act) =
       named some (ends names a before after b end h act)
+
+  -- so are those in an encoding
+  encoded : (e : Option Encoding) (a : A) (before after : Devices) (b : A)
+      (end : Result ⊤ JobError) → holds a → ActsIn e acts a before after b end →
+      ActsIn e parts (part a) before after (part b) end × (end ≡ Ok tt → holds b)
+  encoded None a before after b end h act = step a before after b end h act
+  encoded (Some e) a before after b end h act =
+      let s = step a (as_text e before) (record after { to_come = act.0 }) b end h act.1 in
+      ((act.0, s.0), s.1)
+
+-- the same of inputs in an encoding
+module _ {A B : Type 0} (acts : A → Devices → Devices → A → Result ⊤ JobError → Type 0)
+    (parts : B → Devices → Devices → B → Result ⊤ JobError → Type 0) (part : A → B)
+    (holds : A → Type 0)
+    (step : (a : A) (before after : Devices) (b : A) (end : Result ⊤ JobError) → holds a →
+    acts a before after b end → parts (part a) before after (part b) end ×
+    (end ≡ Ok tt → holds b)) where
+  pub answers_in : (e : Option Encoding) (names : List Name) (a : A) (before after : Devices)
+      (b : A) (end : Result ⊤ Failure) → holds a →
+      AnswersInputs (ActsIn e acts) names a before after b end →
+      AnswersInputs (ActsIn e parts) names (part a) before after (part b) end
+  answers_in e = answers_by (ActsIn e acts) (ActsIn e parts) part holds
+      (encoded acts parts part holds step e)
 
 -- lines that are taken are so by a part of what is kept, where each line is, as long as something
 -- holds of what is kept that a line leaves

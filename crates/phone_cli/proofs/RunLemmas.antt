@@ -2,6 +2,7 @@
 use Rattle.std.proofs.Common.{◌≡◌, ◌⊎◌, ℕ, List, [], true, Option, Some, Result, ap, inl, inr, refl}
 use Rattle.std.proofs.Common.{subst}
 use Rattle.std.specs.Prelude.{⊤, option_map}
+use Rattle.phone_commands.specs.EncodedJobs.{ActsIn}
 use Rattle.phone_commands.specs.FirstLines.{IsFirstLine}
 use Rattle.phone_commands.specs.Inputs.{Name}
 use Rattle.phone_commands.specs.Jobs.{TakesLines}
@@ -94,29 +95,34 @@ pub report_runs : (c : Call) (hint : Option Id) (files : List Name) (r : Report)
     (before after : Devices) (last : Report) (end : Result ⊤ Failure) →
     c.command ≡ command.Report → r.reader.engine.rules ≡ c.rules →
     r.reader.engine.hint ≡ hint →
-    AnswersInputs ReportActs files r before after last end →
+    AnswersInputs (ActsIn c.encoding ReportActs) files r before after last end →
     Runs c hint files before after end
 report_runs c hint files r before after last end is rules under act =
     let db = r.reader.engine.database.now in
-    let own = report_by files r before after last end act in
-    let by_rules = subst (λ x. AnswersInputs (Reports x db r.reader.engine.hint) files tt before
+    let own = report_by c.encoding files r before after last end act in
+    let by_rules = subst (λ x. AnswersInputs (ActsIn c.encoding (Reports x db
+    r.reader.engine.hint)) files tt before
     after tt end) rules own in
     report db is
-    (subst (λ x. AnswersInputs (Reports c.rules db x) files tt before after tt end) under by_rules)
+    (subst (λ x. AnswersInputs (ActsIn c.encoding (Reports c.rules db x)) files tt before after tt
+    end) under by_rules)
 
 -- the report, with the lines
 pub with_input_runs : (c : Call) (hint : Option Id) (files : List Name) (w : WithInput)
     (before after : Devices) (last : WithInput) (end : Result ⊤ Failure) →
     c.command ≡ command.ReportWithInput → w.engine.rules ≡ c.rules → w.engine.hint ≡ hint →
-    AnswersInputs (TakesLines begins_with_nothing WithInputGives) files w before after last end →
-    Runs c hint files before after end
+    AnswersInputs (ActsIn c.encoding (TakesLines begins_with_nothing WithInputGives)) files w
+    before after last end → Runs c hint files before after end
 with_input_runs c hint files w before after last end is rules under act =
     let db = w.engine.database.now in
-    let own = with_input_by files w before after last end act in
-    let by_rules = subst (λ x. AnswersInputs (TakesLines begins_with_nothing (GivesWithInput x db w.engine.hint)) files tt before
+    let own = with_input_by c.encoding files w before after last end act in
+    let by_rules = subst (λ x. AnswersInputs (ActsIn c.encoding
+    (TakesLines begins_with_nothing (GivesWithInput x db w.engine.hint))) files tt before
     after tt end) rules own in
     with_input db is
-    (subst (λ x. AnswersInputs (TakesLines begins_with_nothing (GivesWithInput c.rules db x)) files tt before after tt end) under by_rules)
+    (subst (λ x. AnswersInputs (ActsIn c.encoding
+    (TakesLines begins_with_nothing (GivesWithInput c.rules db x))) files tt before after tt
+    end) under by_rules)
 
 -- objects
 pub objects_runs : (c : Call) (hint : Option Id) (files : List Name) (o : Objects)
@@ -125,22 +131,23 @@ pub objects_runs : (c : Call) (hint : Option Id) (files : List Name) (o : Object
     IsLoaded (shorts_of c) shorts → o.reader.engine.rules ≡ c.rules →
     o.reader.engine.hint ≡ hint → option_map (λ d. d.now) o.reader.short ≡ shorts →
     o.place ≡ after_one c.skipped →
-    AnswersInputs (TakesLines begins_with_nothing ObjectsGive) files o before after last end →
+    AnswersInputs (ActsIn c.encoding (TakesLines begins_with_nothing ObjectsGive)) files o before
+    after last end →
     Runs c hint files before after end
 objects_runs c hint files o shorts before after last end is loaded rules under with place act =
     let db = o.reader.engine.database.now in
-    let own = objects_by files o before after last end act in
-    let by_rules = subst (λ x. AnswersInputs (TakesLines begins_with_nothing
-    (GivesObjects x db (option_map (λ d. d.now) o.reader.short) o.reader.engine.hint)) files
+    let own = objects_by c.encoding files o before after last end act in
+    let by_rules = subst (λ x. AnswersInputs (ActsIn c.encoding (TakesLines begins_with_nothing
+    (GivesObjects x db (option_map (λ d. d.now) o.reader.short) o.reader.engine.hint))) files
     o.place before after last.place end) rules own in
-    let by_hint = subst (λ x. AnswersInputs (TakesLines begins_with_nothing
-    (GivesObjects c.rules db (option_map (λ d. d.now) o.reader.short) x)) files o.place before
+    let by_hint = subst (λ x. AnswersInputs (ActsIn c.encoding (TakesLines begins_with_nothing
+    (GivesObjects c.rules db (option_map (λ d. d.now) o.reader.short) x))) files o.place before
     after last.place end) under by_rules in
-    let by_shorts = subst (λ x. AnswersInputs (TakesLines begins_with_nothing
-    (GivesObjects c.rules db x hint)) files o.place before after last.place end) with by_hint in
+    let by_shorts = subst (λ x. AnswersInputs (ActsIn c.encoding (TakesLines begins_with_nothing
+    (GivesObjects c.rules db x hint))) files o.place before after last.place end) with by_hint in
     objects db shorts last.place is loaded
-    (subst (λ x. AnswersInputs (TakesLines begins_with_nothing
-    (GivesObjects c.rules db shorts hint)) files x before after last.place end) place by_shorts)
+    (subst (λ x. AnswersInputs (ActsIn c.encoding (TakesLines begins_with_nothing
+    (GivesObjects c.rules db shorts hint))) files x before after last.place end) place by_shorts)
 
 -- found numbers
 pub found_runs : (c : Call) (hint : Option Id) (files : List Name) (f : Finder)
@@ -148,15 +155,16 @@ pub found_runs : (c : Call) (hint : Option Id) (files : List Name) (f : Finder)
     finds c.command ≡ true → f.reader.engine.rules ≡ c.rules → f.reader.engine.hint ≡ hint →
     f.form ≡ found_form c.command → f.first ≡ after_one c.skipped →
     f.place ≡ after_one c.skipped → f.names.now ≡ files → f.begun ≡ 0 →
-    AnswersInputs (TakesLines FinderBegins FinderGives) files f before after last end →
+    AnswersInputs (ActsIn c.encoding (TakesLines FinderBegins FinderGives)) files f before after
+    last end →
     Runs c hint files before after end
 found_runs c hint files f before after last end is rules under form first place names begun act =
     let db = f.reader.engine.database.now in
     let Told = λ (r : Rules) (h : Option Id) (form : FoundForm) (first : ℕ) (names : List Name)
-    (from : Finding). AnswersInputs (TakesLines (BeginsFound form names first)
-    (GivesFound r db h form names)) files from before after (finding last) end in
+    (from : Finding). AnswersInputs (ActsIn c.encoding (TakesLines (BeginsFound form names first)
+    (GivesFound r db h form names))) files from before after (finding last) end in
     let own : Told f.reader.engine.rules f.reader.engine.hint f.form f.first f.names.now
-    (finding f) = found_by files f before after last end act in
+    (finding f) = found_by c.encoding files f before after last end act in
     let by_rules = subst (λ x. Told x f.reader.engine.hint f.form f.first f.names.now
     (finding f)) rules own in
     let by_hint = subst (λ x. Told c.rules x f.form f.first f.names.now (finding f)) under
@@ -176,30 +184,34 @@ found_runs c hint files f before after last end is rules under form first place 
 pub typed_runs : (c : Call) (hint : Option Id) (files : List Name) (t : Typist)
     (db : List Metadata) (before after : Devices) (last : Typist) (end : Result ⊤ Failure) →
     c.command ≡ command.Typed → t.field ≡ record { database = db; hint = hint; keys = [] } →
-    AnswersInputs (TakesLines begins_with_nothing TypistGives) files t before after last end →
+    AnswersInputs (ActsIn c.encoding (TakesLines begins_with_nothing TypistGives)) files t before
+    after last end →
     Runs c hint files before after end
 typed_runs c hint files t db before after last end is field act =
-    typed db is (typed_by files t db hint before after last end field act)
+    typed db is (typed_by c.encoding files t db hint before after last end field act)
 
 -- short numbers
 pub short_runs : (c : Call) (hint : Option Id) (files : List Name) (s : Shorts)
     (before after : Devices) (last : Shorts) (end : Result ⊤ Failure) →
     c.command ≡ command.Short → hint ≡ Some s.region →
-    AnswersInputs (TakesLines begins_with_nothing ShortsGive) files s before after last end →
+    AnswersInputs (ActsIn c.encoding (TakesLines begins_with_nothing ShortsGive)) files s before
+    after last end →
     Runs c hint files before after end
 short_runs c hint files s before after last end is region act =
-    short s.database.now s.region is region (short_by files s before after last end act)
+    short s.database.now s.region is region (short_by c.encoding files s before after last end act)
 
 -- first lines
 pub firsts_runs : (c : Call) (hint : Option Id) (files : List Name) (db : List Metadata)
     (f : FirstLines) (before after : Devices) (last : FirstLines) (end : Result ⊤ Failure) →
     c.command ≡ command.Unique → is_prefix_free db ≡ true →
     f ≡ no_first_lines db c.rules hint →
-    AnswersInputs (TakesLines begins_with_nothing IsFirstLine) files f before after last end →
+    AnswersInputs (ActsIn c.encoding (TakesLines begins_with_nothing IsFirstLine)) files f before
+    after last end →
     Runs c hint files before after end
 firsts_runs c hint files db f before after last end is free none act =
     firsts db last is free
-    (subst (λ x. AnswersInputs (TakesLines begins_with_nothing IsFirstLine) files x before after
+    (subst (λ x. AnswersInputs (ActsIn c.encoding (TakesLines begins_with_nothing IsFirstLine))
+    files x before after
     last end) none act)
 
 -- a table
@@ -208,15 +220,19 @@ pub table_runs : (c : Call) (hint : Option Id) (files : List Name) (k : Customer
     (end : Result ⊤ Failure) → c.command ≡ command.Table →
     IsLoaded (shorts_of c) shorts → IsAsked c.table shorts k.asked →
     k.engine.rules ≡ c.rules → k.engine.hint ≡ hint → k.counts ≡ no_counts →
-    AnswersInputs (Tables k.engine.rules k.engine.database.now k.engine.hint k.asked) files
+    AnswersInputs (ActsIn c.encoding (Tables k.engine.rules k.engine.database.now k.engine.hint
+    k.asked)) files
     k.counts before after last end →
     Runs c hint files before after end
 table_runs c hint files k shorts before after last end is loaded asked rules under none act =
     let db = k.engine.database.now in
-    let by_rules = subst (λ x. AnswersInputs (Tables x db k.engine.hint k.asked) files k.counts
+    let by_rules = subst (λ x. AnswersInputs (ActsIn c.encoding (Tables x db k.engine.hint
+    k.asked)) files k.counts
     before after last end) rules act in
-    let by_hint = subst (λ x. AnswersInputs (Tables c.rules db x k.asked) files k.counts before
+    let by_hint = subst (λ x. AnswersInputs (ActsIn c.encoding (Tables c.rules db x k.asked)) files
+    k.counts before
     after last end) under by_rules in
     table db shorts k.asked last is loaded asked
-    (subst (λ x. AnswersInputs (Tables c.rules db hint k.asked) files x before after last end)
+    (subst (λ x. AnswersInputs (ActsIn c.encoding (Tables c.rules db hint k.asked)) files x before
+    after last end)
     none by_hint)

@@ -4,6 +4,7 @@ use Rattle.std.specs.Prelude.{IsSome, Option, None, Some, Result, is_some, optio
 use Rattle.std.specs.List.{list_any}
 use Rattle.std.specs.Str.{bytes_eq}
 use Rattle.phone_commands.specs.Columns as columns
+use Rattle.phone_commands.specs.EncodedJobs.{ActsIn}
 use Rattle.phone_commands.specs.FirstLines.{IsFirstLine}
 use Rattle.phone_commands.specs.Inputs.{IsStandard, Name}
 use Rattle.phone_commands.specs.Jobs.{TakesLines}
@@ -32,7 +33,8 @@ use Rattle.phone_cli.specs.Commands.{found_form, no_first_lines}
 use Rattle.phone_cli.specs.Operands.{database_of, files_of, ignores_words, is_misfit, names_read}
 use Rattle.phone_cli.specs.Operands.{region_of, shorts_of}
 use Rattle.phone_cli.specs.Statuses.{status_of}
-use Rattle.phone_cli.specs.Streams.{IsSinkKept, Refuses, RefusesBySome, Streams, into_file}
+use Rattle.phone_cli.specs.Streams.{IsSinkKept, Refuses, RefusesBySome, Says, Streams}
+use Rattle.phone_cli.specs.Streams.{into_file, streams}
 
 -- the database of short numbers is there where a file of it is named, and only there
 abbrev pub IsLoaded : Option Lent → Option (List Metadata) → Type 0
@@ -61,43 +63,46 @@ finds command.FoundObjects = true
 finds command.FoundRecords = true
 finds other = false
 
--- what was written is the answer of a call's command to its inputs, under the region, over some
--- database; or, where that failed, a beginning of it
+-- what was written is the answer of a call's command to its inputs, read in its encoding, under
+-- the region, over some database; or, where that failed, a beginning of it
 pub data Runs (c : Call) (hint : Option Id) (files : List Name) (before after : Devices)
     (end : Result ⊤ Failure) : Type 0 where
   report : (db : List Metadata) → c.command ≡ command.Report →
-      AnswersInputs (Reports c.rules db hint) files tt before after tt end →
+      AnswersInputs (ActsIn c.encoding (Reports c.rules db hint)) files tt before after tt end →
       Runs c hint files before after end
   with_input : (db : List Metadata) → c.command ≡ command.ReportWithInput →
-      AnswersInputs (TakesLines begins_with_nothing (GivesWithInput c.rules db hint)) files tt
+      AnswersInputs (ActsIn c.encoding
+      (TakesLines begins_with_nothing (GivesWithInput c.rules db hint))) files tt
       before after tt end → Runs c hint files before after end
   objects : (db : List Metadata) → (short : Option (List Metadata)) → (last : ℕ) →
       c.command ≡ command.Objects → IsLoaded (shorts_of c) short →
-      AnswersInputs (TakesLines begins_with_nothing (GivesObjects c.rules db short hint)) files
+      AnswersInputs (ActsIn c.encoding
+      (TakesLines begins_with_nothing (GivesObjects c.rules db short hint))) files
       (after_one c.skipped) before after last end →
       Runs c hint files before after end
   found : (db : List Metadata) → (last : Finding) → finds c.command ≡ true →
-      AnswersInputs (TakesLines
+      AnswersInputs (ActsIn c.encoding (TakesLines
       (BeginsFound (found_form c.command) files (after_one c.skipped))
-      (GivesFound c.rules db hint (found_form c.command) files)) files
+      (GivesFound c.rules db hint (found_form c.command) files))) files
       (record { place = after_one c.skipped; begun = 0 }) before after last end →
       Runs c hint files before after end
   typed : (db : List Metadata) → c.command ≡ command.Typed →
-      AnswersInputs (TakesLines begins_with_nothing (GivesTyped db hint)) files tt before after tt
-      end → Runs c hint files before after end
+      AnswersInputs (ActsIn c.encoding (TakesLines begins_with_nothing (GivesTyped db hint)))
+      files tt before after tt end → Runs c hint files before after end
   short : (db : List Metadata) → (region : Id) → c.command ≡ command.Short →
       hint ≡ Some region →
-      AnswersInputs (TakesLines begins_with_nothing (GivesShorts db region)) files tt before after
-      tt end → Runs c hint files before after end
+      AnswersInputs (ActsIn c.encoding (TakesLines begins_with_nothing (GivesShorts db region)))
+      files tt before after tt end → Runs c hint files before after end
   firsts : (db : List Metadata) → (last : FirstLines) → c.command ≡ command.Unique →
       is_prefix_free db ≡ true →
-      AnswersInputs (TakesLines begins_with_nothing IsFirstLine) files
+      AnswersInputs (ActsIn c.encoding (TakesLines begins_with_nothing IsFirstLine)) files
       (no_first_lines db c.rules hint) before after last end →
       Runs c hint files before after end
   table : (db : List Metadata) → (short : Option (List Metadata)) → (asked : Asked) →
       (last : Counts) → c.command ≡ command.Table →
       IsLoaded (shorts_of c) short → IsAsked c.table short asked →
-      AnswersInputs (Tables c.rules db hint asked) files no_counts before after last end →
+      AnswersInputs (ActsIn c.encoding (Tables c.rules db hint asked)) files no_counts before
+      after last end →
       Runs c hint files before after end
 
 -- what a call does once it reads and writes, and its status: a database or a table of prefixes is
@@ -119,7 +124,8 @@ reads other = true
 
 -- what a call that reads numbers does, and its status: a file isn't there; the command doesn't go
 -- with region and files; no database is named; the file that is to be written is read, or can't be
--- written; or it reads, and writes to the output or to a file that isn't named as one that is read
+-- written; or it reads, and writes to the output or to a file that isn't named as one that is read;
+-- or then that file can't take its place
 pub data AnswersReading (c : Call) (hint : Option Id) (files : List Name)
     (before after : Streams) : ℕ → Type 0 where
   no_file : (name : Name) → (at : ℕ) → slice_get files at ≡ Some name → ¬ (IsStandard name) →
@@ -145,6 +151,16 @@ pub data AnswersReading (c : Call) (hint : Option Id) (files : List Name)
       Does c hint files (record before { devices = into_file before.devices 0 0 })
       (record after { devices = into_file after.devices faults unflushed }) status →
       AnswersReading c hint files before after status
+  unplaced : (database name : Name) → (told : Option (List ℕ)) →
+      (faults unflushed told_faults : ℕ) → is_misfit c.command hint files ≡ false →
+      database_of c ≡ Some database → c.output ≡ Some name →
+      list_any (bytes_eq name.now) (names_read c database files) ≡ false →
+      IsSinkKept before.devices after.devices →
+      Does c hint files (record before { devices = into_file before.devices 0 0 })
+      (streams (into_file after.devices faults unflushed) told told_faults) 0 →
+      Says (name.now ++ codes " can't be written")
+      (streams after.devices told told_faults) after →
+      AnswersReading c hint files before after 1
 
 -- what a call does, and its status: it tells of itself, unless words stand behind that it would
 -- ignore; or it reads numbers under the region and from the files that it names

@@ -3,6 +3,7 @@
 #![tactic(auto)]
 
 mod about;
+mod beside;
 mod failures;
 mod operands;
 mod outlet;

@@ -68,6 +68,10 @@ const DELIMITER: &str =
 /// What is told behind a word that names no rules.
 const RULES: &str = " names no rules: there are library and crate";
 
+/// What is told behind a word that names no encoding.
+const ENCODING: &str = " names no encoding: there are utf-8, utf-16, utf-16le, utf-16be, latin-1 \
+    and windows-1252";
+
 /// What is told behind a mode that goes with libphonenumber's rules alone.
 const LIBRARY: &str = " knows libphonenumber's rules alone";
 
@@ -87,6 +91,7 @@ fn say_why<E: ByteSink>(errors: &mut E, why: Why, word: &str, other: &str, value
         Why::Delimiter => say(errors, &[word, DELIMITER], 2),
         Why::Skipped => say(errors, &[word, " is no count of lines"], 2),
         Why::Rules => say(errors, &[word, RULES], 2),
+        Why::Encoding => say(errors, &[word, ENCODING], 2),
         Why::LibraryAlone => say(errors, &[word, LIBRARY], 2),
         Why::Memory => say(errors, &["out of memory"], 1),
     }
@@ -125,10 +130,22 @@ fn write_columns<E: ByteSink>(
     write_str(errors, "\n")
 }
 
-/// Tells that a header lacks a column, and gives the status.
+/// Whether a header begins with the mark of UTF-16.
+fn is_utf_16(header: &ByteRecord) -> bool {
+    matches!(header.get(0), Some([0xFF, 0xFE, ..] | [0xFE, 0xFF, ..]))
+}
+
+/// Tells that a header lacks a column, or that it is UTF-16, and gives the status.
 pub(crate) fn say_columns<E: ByteSink>(errors: &mut E, name: &str, header: &ByteRecord) -> u8
     ensures { result ≡ 2 }
 {
+    if is_utf_16(header) {
+        return say(
+            errors,
+            &["the input is UTF-16: --encoding utf-16 reads it"],
+            2,
+        );
+    }
     let _written = write_columns(errors, name, header);
     2
 }

@@ -4,29 +4,34 @@ ghost use Rattle.std.specs.Prelude.{codes, is_some, option_map, false, true};
 ghost use Rattle.phone_cli.specs.Abouts.{Tells};
 ghost use Rattle.phone_cli.specs.Answers.{Answers, AnswersReading, Does, IsAsked, IsLoaded, reads};
 ghost use Rattle.phone_cli.specs.Commands.{AnswersInputs, Tables, found_form};
-ghost use Rattle.phone_cli.specs.Operands.{database_of, files_of, has_reader, is_misfit, region_of};
-ghost use Rattle.phone_cli.specs.Operands.{ignores_words, shorts_of, tells_alone};
+ghost use Rattle.phone_cli.specs.Operands.{database_of, files_of, has_reader, ignores_words};
+ghost use Rattle.phone_cli.specs.Operands.{is_misfit, names_read, region_of, shorts_of};
+ghost use Rattle.phone_cli.specs.Operands.{tells_alone};
 ghost use Rattle.phone_cli.specs.Programs.{Acts};
 ghost use Rattle.phone_cli.specs.Statuses.{status_of};
 ghost use Rattle.phone_cli.specs.Streams.{Refuses, streams};
 ghost use Rattle.phone_commands.specs.Columns as columns;
+ghost use Rattle.phone_commands.specs.EncodedJobs.{ActsIn};
 ghost use Rattle.phone_commands.specs.Jobs.{TakesLines};
 ghost use Rattle.phone_commands.specs.ObjectLines.{after_one};
 ghost use Rattle.phone_commands.specs.declared.inputs.Failure.{Failure};
 ghost use Rattle.phone_lines.specs.Ends.{seen};
+ghost use Rattle.std.specs.List.{list_any};
+ghost use Rattle.std.specs.Str.{bytes_eq};
 ghost use Rattle.phone_words.specs.Help.{help_text};
 ghost use Rattle.phone_words.specs.Rows.{texts_of};
 ghost use Rattle.phone_words.specs.declared.command.Command.TheVariants as command;
 
 use crate::about::{write_regions, write_text, write_version};
+use crate::beside::{Place, Target, Unfinished, create_beside, place_of, put_in_place};
 use crate::failures::{say_failure, say_no_columns, say_refusal};
 use crate::operands::{hint_and_files, say_missing};
 use crate::outlet::Outlet;
 use crate::say::{say, say_firsts, say_records, say_word_error};
 use crate::written::is_read;
 use phone_commands::{
-    ByLines, Customers, Finder, FirstLines, FoundForm, Job, LineTaker, Loaded, Objects, Reader,
-    Report, Shorts, Typist, WithInput, countries_in, on_inputs,
+    ByLines, Customers, Encoded, Finder, FirstLines, FoundForm, Job, LineTaker, Loaded, Objects,
+    Reader, Report, Shorts, Typist, WithInput, countries_in, on_inputs,
 };
 use phone_device::{ByteSink, ByteSource, Fault, Std};
 use phone_engine::{Engine, Rules};
@@ -39,9 +44,14 @@ use std::fs::{self, Files};
 
 /// The program on its words, which come after its own name, as `call_of` reads them: it reads the
 /// files that are named, one after the other, or the input, and writes to the output or the file
-/// that is named for it. It gives the status to end with, and for each but 0 writes a line to
-/// `errors`, unless what read the output is gone; that this fails changes no status. After a table
-/// and after `--unique` a line there counts what was read.
+/// that is named for it. Inputs in another encoding that is named are read as their text in UTF-8.
+/// It gives the status to end with, and for each but 0 writes a line to `errors`, unless what read
+/// the output is gone; that this fails changes no status. After a table and after `--unique` a line
+/// there counts what was read.
+///
+/// The file gets all that was written at once, where the status is 0: until then it is written
+/// beside it, under its name, `.new-` and a number, and at another status removed. What is no
+/// file whose bytes are kept, as a pipe, is written as the output is.
 ///
 /// Status 0: all was written. 1: an input, the output or memory failed, or a record of a table has
 /// another count of fields than the header; what is in front is written. 2: the words are no call,
@@ -270,10 +280,83 @@ fn to_file<R: Files + AllocGlobal, S: ByteSource, E: ByteSink>(
     if is_read(rt, reading, name) {
         return say(errors, &[name, " is read, so it can't be written"], 2);
     }
+    match place_of(rt, name) {
+        Place::Itself => to_file_itself(rt, reading, name, input, errors),
+        Place::Beside(target) => to_file_beside(rt, reading, name, &target, input, errors),
+        Place::Nowhere => say(errors, &[name, " can't be written"], 1),
+    }
+}
+
+/// The program where a file is written that isn't one whose bytes are kept, as a pipe.
+fn to_file_itself<R: Files + AllocGlobal, S: ByteSource, E: ByteSink>(
+    rt: &R,
+    reading: Reading<'_, '_>,
+    name: &str,
+    input: &mut S,
+    errors: &mut E,
+) -> u8
+    ensures { (taken : Option (List ℕ)) → (faults unflushed : ℕ) →
+        reads reading.entry.call.now.command ≡ true →
+        is_misfit reading.entry.call.now.command reading.entry.hint reading.entry.files.now
+        ≡ false →
+        database_of reading.entry.call.now ≡ Some reading.entry.path →
+        reading.entry.call.now.output ≡ Some name.entry →
+        list_any (bytes_eq name.now) (names_read reading.entry.call.now reading.entry.path
+        reading.entry.files.now) ≡ false →
+        AnswersReading reading.entry.call.now reading.entry.hint reading.entry.files.now
+        (streams (seen (S.to_come input.old) (S.faults input.old) taken faults unflushed)
+        (E.taken errors.old) (E.faults errors.old))
+        (streams (seen (S.to_come input.new) (S.faults input.new) taken faults unflushed)
+        (E.taken errors.new) (E.faults errors.new))
+        result }
+{
     match fs::create(rt, name) {
         Ok(file) => on_reading(rt, reading, input, &mut Std::new(file), errors),
         Err(_) => say(errors, &[name, " can't be written"], 1),
     }
+}
+
+/// The program where another file is written, which takes the place of the one of the name when all
+/// went well, and else is removed.
+fn to_file_beside<R: Files + AllocGlobal, S: ByteSource, E: ByteSink>(
+    rt: &R,
+    reading: Reading<'_, '_>,
+    name: &str,
+    target: &Target,
+    input: &mut S,
+    errors: &mut E,
+) -> u8
+    ensures { (taken : Option (List ℕ)) → (faults unflushed : ℕ) →
+        reads reading.entry.call.now.command ≡ true →
+        is_misfit reading.entry.call.now.command reading.entry.hint reading.entry.files.now
+        ≡ false →
+        database_of reading.entry.call.now ≡ Some reading.entry.path →
+        reading.entry.call.now.output ≡ Some name.entry →
+        list_any (bytes_eq name.now) (names_read reading.entry.call.now reading.entry.path
+        reading.entry.files.now) ≡ false →
+        AnswersReading reading.entry.call.now reading.entry.hint reading.entry.files.now
+        (streams (seen (S.to_come input.old) (S.faults input.old) taken faults unflushed)
+        (E.taken errors.old) (E.faults errors.old))
+        (streams (seen (S.to_come input.new) (S.faults input.new) taken faults unflushed)
+        (E.taken errors.new) (E.faults errors.new))
+        result }
+{
+    let Some(unfinished) = create_beside(rt, target) else {
+        return say(errors, &[name, " can't be written"], 1);
+    };
+    let Unfinished { file, name: beside } = unfinished;
+    let mut sink = Std::new(file);
+    let status = on_reading(rt, reading, input, &mut sink, errors);
+    if put_in_place(
+        rt,
+        status,
+        &sink.device,
+        beside.as_str(),
+        target.name.as_str(),
+    ) {
+        return status;
+    }
+    say(errors, &[name, " can't be written"], 1)
 }
 
 /// The program where the output is there: the database is loaded.
@@ -452,14 +535,17 @@ fn run<R: Files + AllocGlobal, S: ByteSource, W: Outlet, E: ByteSink, J: Job>(
     output: &mut W,
     errors: &mut E,
 ) -> u8
-    ensures { (end : Result ⊤ Failure) × AnswersInputs J.acts reading.entry.files.now job.old
+    ensures { (end : Result ⊤ Failure) × AnswersInputs
+        (ActsIn reading.entry.call.now.encoding J.acts) reading.entry.files.now job.old
         (seen (S.to_come input.old) (S.faults input.old) (W.taken output.old)
         (W.faults output.old) (W.unflushed output.old))
         (seen (S.to_come input.new) (S.faults input.new) (W.taken output.new)
         (W.faults output.new) (W.unflushed output.new))
         job.new end × (result ≡ status_of end) }
 {
-    let end = on_inputs(rt, reading.files, input, output, job);
+    let encoding = reading.call.encoding;
+    let mut job = Encoded { job, encoding };
+    let end = on_inputs(rt, reading.files, input, output, &mut job);
     output.end_progress();
     match end {
         Ok(()) => 0,
@@ -477,7 +563,8 @@ fn run_lines<R: Files + AllocGlobal, S: ByteSource, W: Outlet, E: ByteSink, T: L
     errors: &mut E,
 ) -> u8
     ensures { (end : Result ⊤ Failure) × (last : T) × AnswersInputs
-        (TakesLines T.begins T.gives) reading.entry.files.now taker.old
+        (ActsIn reading.entry.call.now.encoding (TakesLines T.begins T.gives))
+        reading.entry.files.now taker.old
         (seen (S.to_come input.old) (S.faults input.old) (W.taken output.old)
         (W.faults output.old) (W.unflushed output.old))
         (seen (S.to_come input.new) (S.faults input.new) (W.taken output.new)
@@ -610,8 +697,9 @@ fn run_table<R: Files + AllocGlobal, S: ByteSource, W: Outlet, E: ByteSink>(
     output: &mut W,
     errors: &mut E,
 ) -> u8
-    ensures { (end : Result ⊤ Failure) × AnswersInputs (Tables
-        job.old.engine.rules job.old.engine.database.now job.old.engine.hint job.old.asked)
+    ensures { (end : Result ⊤ Failure) × AnswersInputs
+        (ActsIn reading.entry.call.now.encoding (Tables
+        job.old.engine.rules job.old.engine.database.now job.old.engine.hint job.old.asked))
         reading.entry.files.now job.old.counts
         (seen (S.to_come input.old) (S.faults input.old) (W.taken output.old)
         (W.faults output.old) (W.unflushed output.old))

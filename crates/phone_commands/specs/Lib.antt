@@ -1,4 +1,5 @@
 pub mod Columns
+pub mod EncodedJobs
 pub mod FirstLines
 pub mod FoundLines
 pub mod Inputs

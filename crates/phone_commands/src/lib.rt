@@ -6,6 +6,7 @@
 mod columns;
 mod countries;
 mod customers;
+mod encoded;
 mod finder;
 mod inputs;
 mod jobs;
@@ -20,6 +21,7 @@ mod with_input;
 pub use columns::{Loaded, LoadedColumn, NoColumns};
 pub use countries::countries_in;
 pub use customers::Customers;
+pub use encoded::Encoded;
 pub use finder::{Finder, FoundForm};
 pub use inputs::{Failure, is_standard, on_inputs};
 pub use jobs::{ByLines, Job, JobError, Report};

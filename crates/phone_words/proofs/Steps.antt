@@ -1,10 +1,11 @@
 -- One more word, and one more value.
 use Rattle.std.proofs.Common.{◌≡◌, ◌<◌, ◌≤◌, ◌+◌, ◌∷◌, ◌∙◌, [], ℕ, List, Ok, Err, Some}
-use Rattle.std.proofs.Common.{None, ap, arith, drop, get_or, length, refl, subst, suc, sym, zero}
+use Rattle.std.proofs.Common.{None, Option, ap, arith, drop, get_or, length, refl, subst, suc, sym, zero}
 use Rattle.std.proofs.lemmas.List.{drop_all}
+use Rattle.phone_encodings.specs.declared.encoding.Encoding.{Encoding}
 use Rattle.phone_values.specs.declared.rules.Rules.{Rules}
-use Rattle.phone_words.specs.Calls.{delimiter_of, meaning_in, misfit, rules_of, skipped_of}
-use Rattle.phone_words.specs.Calls.{with_byte, with_count, with_rules}
+use Rattle.phone_words.specs.Calls.{delimiter_of, encoding_of, meaning_in, misfit, rules_of}
+use Rattle.phone_words.specs.Calls.{skipped_of, with_byte, with_count, with_encoding, with_rules}
 use Rattle.phone_words.specs.Parts.{Before, Fault, Kind, Said, and_then, before_next, either}
 use Rattle.phone_words.specs.Parts.{kind_after, parts_from, with_kind}
 use Rattle.phone_words.specs.Rows.{Lent, texts_of}
@@ -75,3 +76,12 @@ no_byte ps rules n f h d = h ∙ ap (λ x. and_then x (with_byte ps rules n)) d
 pub byte_is : (ps : List Said) (rules : Rules) (n b : ℕ) → meaning_in ps ≡ with_count ps rules n →
     delimiter_of ps ≡ Ok b → meaning_in ps ≡ with_byte ps rules n b
 byte_is ps rules n b h d = h ∙ ap (λ x. and_then x (with_byte ps rules n)) d
+
+pub no_encoding : (ps : List Said) (rules : Rules) (n b : ℕ) (f : Fault) →
+    meaning_in ps ≡ with_byte ps rules n b → encoding_of ps ≡ Err f → meaning_in ps ≡ Err f
+no_encoding ps rules n b f h e = h ∙ ap (λ x. and_then x (with_encoding ps rules n b)) e
+
+pub encoding_is : (ps : List Said) (rules : Rules) (n b : ℕ) (e : Option Encoding) →
+    meaning_in ps ≡ with_byte ps rules n b → encoding_of ps ≡ Ok e →
+    meaning_in ps ≡ with_encoding ps rules n b e
+encoding_is ps rules n b e h d = h ∙ ap (λ x. and_then x (with_encoding ps rules n b)) d

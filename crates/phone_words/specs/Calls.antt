@@ -5,12 +5,13 @@ use Rattle.std.specs.Prelude.{Result, Ok, Err}
 use Rattle.std.specs.List.{filter_map, find}
 use Rattle.std.specs.Option.{option_or}
 use Rattle.std.specs.Str.{bytes_eq}
+use Rattle.phone_encodings.specs.declared.encoding.Encoding.{Encoding}
 use Rattle.phone_values.specs.declared.rules.Rules.{Rules}
 use Rattle.phone_values.specs.declared.rules.Rules.TheVariants.{Crate, Library}
 use Rattle.phone_words.specs.Parts.{Fault, Said, either, fault, fault_at, operand, option, parts_in}
 use Rattle.phone_words.specs.Parts.{and_then}
 use Rattle.phone_words.specs.Rows.{Entry, Lent, is_empty, text_in, texts_of}
-use Rattle.phone_words.specs.Values.{count_named, delimiter_named, rules_named}
+use Rattle.phone_words.specs.Values.{count_named, delimiter_named, encoding_named, rules_named}
 use Rattle.phone_words.specs.declared.call.Call.{Call}
 use Rattle.phone_words.specs.declared.command.Command.{Command}
 use Rattle.phone_words.specs.declared.command.Command.TheVariants as command
@@ -124,6 +125,10 @@ abbrev pub delimiter_of : List Said → Result ℕ Fault
 delimiter_of ps = named_or why.Delimiter delimiter_named 44
     (if is_run ps then value ps (codes "--delimiter") else None)
 
+-- the encoding of the inputs, where that isn't UTF-8: it is, unless another one is named
+abbrev pub encoding_of : List Said → Result (Option Encoding) Fault
+encoding_of ps = named_or why.Encoding encoding_named None (value ps (codes "--encoding"))
+
 -- the operand that a part is
 abbrev pub operand_in : Said → Option (List ℕ)
 operand_in (option r v) = None
@@ -134,23 +139,31 @@ abbrev pub operands_in : List Said → List (List ℕ)
 operands_in ps = filter_map operand_in ps
 
 -- what a list of words means: what is asked for, by whose rules, how many lines were left out
--- before, the byte between fields, and the parts: options with their values, region and files
+-- before, the byte between fields, the encoding of the inputs, and the parts: options with their
+-- values, region and files
 pub record Meaning : Type 0 where
   pub command : Command
   pub rules : Rules
   pub skipped : ℕ
   pub delimiter : ℕ
+  pub encoding : Option Encoding
   pub parts : List Said
 
--- what parts mean with these rules, this count of lines and this byte
-abbrev pub with_byte : List Said → Rules → ℕ → ℕ → Result Meaning Fault
-with_byte ps rules skipped delimiter = Ok record {
+-- what parts mean with these rules, this count of lines, this byte and this encoding
+abbrev pub with_encoding : List Said → Rules → ℕ → ℕ → Option Encoding → Result Meaning Fault
+with_encoding ps rules skipped delimiter encoding = Ok record {
   command = command_of ps;
   rules = rules;
   skipped = skipped;
   delimiter = delimiter;
+  encoding = encoding;
   parts = ps;
 }
+
+-- what they mean with these rules, this count and this byte
+abbrev pub with_byte : List Said → Rules → ℕ → ℕ → Result Meaning Fault
+with_byte ps rules skipped delimiter =
+    and_then (encoding_of ps) (with_encoding ps rules skipped delimiter)
 
 -- what they mean with these rules and this count
 abbrev pub with_count : List Said → Rules → ℕ → Result Meaning Fault
@@ -208,6 +221,7 @@ pub record Says (m : Meaning) (c : Call) : Type 0 where
   pub rules : c.rules ≡ m.rules
   pub skipped : c.skipped ≡ m.skipped
   pub delimiter : c.table.delimiter ≡ m.delimiter
+  pub encoding : c.encoding ≡ m.encoding
   pub table : IsTable m.parts c.table
   pub database : text_in c.database ≡ value m.parts (codes "--database")
   pub short_database : text_in c.short_database ≡ value m.parts (codes "--short-database")

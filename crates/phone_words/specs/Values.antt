@@ -1,8 +1,11 @@
--- The values that words are: rules, counts of lines, bytes between fields.
+-- The values that words are: rules, encodings, counts of lines, bytes between fields.
 use Rattle.std.specs.Prelude.{ℕ, ◌&&◌, nat_lt, List, [], ◌∷◌, codes, if◌then◌else◌}
-use Rattle.std.specs.Prelude.{Option, Some, None}
-use Rattle.std.specs.Str.{bytes_eq}
+use Rattle.std.specs.Prelude.{Option, Some, None, option_map}
+use Rattle.std.specs.Str.{bytes_eq, str_eq_ignore_ascii_case}
 use Rattle.phone_csv.specs.Formats.{is_delimiter}
+use Rattle.phone_encodings.specs.declared.encoding.Encoding.{Encoding}
+use Rattle.phone_encodings.specs.declared.encoding.Encoding.TheVariants as encoding
+use Rattle.phone_encodings.specs.declared.encoding.Order.TheVariants.{LowFirst, HighFirst}
 use Rattle.phone_values.specs.Numbers.{number_in}
 use Rattle.phone_values.specs.declared.rules.Rules.{Rules}
 use Rattle.phone_values.specs.declared.rules.Rules.TheVariants as rules
@@ -12,6 +15,23 @@ abbrev pub rules_named : List ℕ → Option Rules
 rules_named name =
     if bytes_eq name (codes "library") then Some rules.Library else
     if bytes_eq name (codes "crate") then Some rules.Crate else None
+
+-- the encoding of this name, in capital or small letters, other than UTF-8
+abbrev pub other_named : List ℕ → Option Encoding
+other_named name =
+    if str_eq_ignore_ascii_case name (codes "utf-16") then Some encoding.Utf16 else
+    if str_eq_ignore_ascii_case name (codes "utf-16le")
+    then Some (encoding.Utf16In LowFirst) else
+    if str_eq_ignore_ascii_case name (codes "utf-16be")
+    then Some (encoding.Utf16In HighFirst) else
+    if str_eq_ignore_ascii_case name (codes "latin-1") then Some encoding.Latin1 else
+    if str_eq_ignore_ascii_case name (codes "windows-1252") then Some encoding.Windows1252 else None
+
+-- the encoding that a name names: of UTF-8 none
+abbrev pub encoding_named : List ℕ → Option (Option Encoding)
+encoding_named name =
+    if str_eq_ignore_ascii_case name (codes "utf-8") then Some None else
+    option_map Some (other_named name)
 
 -- the one ASCII character of a word, where it may stand between fields
 abbrev pub one_delimiter : List ℕ → Option ℕ

@@ -1,7 +1,7 @@
 //! Words as a call: what is asked for, with what it needs.
 ghost use Rattle.std.specs.Prelude.{◌≡◌, ◌⊎◌, IfErr, IfOk, Err};
-ghost use Rattle.phone_words.specs.Calls.{IsCall, IsCallIn, IsNoCall, delimiter_of, known};
-ghost use Rattle.phone_words.specs.Calls.{meaning_in, rules_of, skipped_of};
+ghost use Rattle.phone_words.specs.Calls.{IsCall, IsCallIn, IsNoCall, delimiter_of, encoding_of};
+ghost use Rattle.phone_words.specs.Calls.{known, meaning_in, rules_of, skipped_of};
 ghost use Rattle.phone_words.specs.Parts.{all_said, fault, told};
 ghost use Rattle.phone_words.specs.Rows.{texts_of};
 ghost use Rattle.phone_words.specs.declared.parts.Why.TheVariants as why;
@@ -10,7 +10,8 @@ use crate::command::{Command, command_of};
 use crate::options::{has, is_run, misfit, operands_in, value};
 use crate::parts::{Part, Why, WordError, error_at, parts_of};
 use crate::table::{Table, table_of};
-use crate::values::{count_named, delimiter_named, rules_named};
+use crate::values::{count_named, delimiter_named, encoding_named, rules_named};
+use phone_encodings::Encoding;
 use phone_values::Rules;
 use std::alloc::Global;
 
@@ -21,6 +22,8 @@ pub struct Call<'w> {
     pub command: Command,
     /// By whose rules numbers are read and described.
     pub rules: Rules,
+    /// The encoding of the inputs, where that isn't UTF-8.
+    pub encoding: Option<Encoding>,
     /// How many lines were left out before those that are read.
     pub skipped: u64,
     /// What is asked of a table.
@@ -77,10 +80,15 @@ fn call_in<'w>(alloc: Global, parts: &[Part<'w>]) -> Result<Call<'w>, WordError<
         Ok(byte) => byte,
         Err(error) => return Err(error),
     };
+    let encoding = match encoding_of(parts) {
+        Ok(encoding) => encoding,
+        Err(error) => return Err(error),
+    };
     let operands = operands_in(alloc, parts)?;
     Ok(Call {
         command: command_of(parts),
         rules,
+        encoding,
         skipped,
         table: table_of(parts, delimiter),
         database: value(parts, "--database"),
@@ -141,5 +149,18 @@ fn delimiter_of<'w>(parts: &[Part<'w>]) -> Result<u8, WordError<'w>>
     match delimiter_named(word) {
         Some(byte) => Ok(byte),
         None => Err(error_at(Why::Delimiter, word)),
+    }
+}
+
+/// The encoding of the inputs, where that isn't UTF-8: it is, unless another one is named.
+fn encoding_of<'w>(parts: &[Part<'w>]) -> Result<Option<Encoding>, WordError<'w>>
+    ensures { told result ≡ encoding_of (all_said parts.now) }
+{
+    let Some(word) = value(parts, "--encoding") else {
+        return Ok(None);
+    };
+    match encoding_named(word) {
+        Some(encoding) => Ok(encoding),
+        None => Err(error_at(Why::Encoding, word)),
     }
 }

@@ -35,6 +35,8 @@ pub enum Why {
     Skipped,
     /// There are no rules of the word's name.
     Rules,
+    /// There is no encoding of the word's name.
+    Encoding,
     /// The word's option knows libphonenumber's rules alone.
     LibraryAlone,
     /// There was no memory for the words.

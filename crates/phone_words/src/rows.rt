@@ -140,7 +140,11 @@ pub(crate) const ROWS: [Cells; 35] = rows! {
     "--short-database" "" "FILE" "" [] [] "
       that of short numbers"
     "--output" "-o" "FILE" "" [] [] "
-      what is written goes there"
+      what is written goes there, once all is and the run has ended with status 0; else what was
+      there stays"
+    "--encoding" "" "NAME" "" [] [] "
+      the encoding of the inputs, in place of utf-8: utf-16 (its mark tells the order of its bytes),
+      utf-16le, utf-16be, latin-1 or windows-1252. What is written is UTF-8"
     "--skipped" "" "N" "" [] [] "
       lines are counted as if N stood before them (of a table: after its header)"
     "--regions" "" "" "" [] [] "

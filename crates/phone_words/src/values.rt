@@ -1,8 +1,10 @@
-//! The values that words are: rules, counts of lines, bytes between fields.
+//! The values that words are: rules, encodings, counts of lines, bytes between fields.
 ghost use Rattle.std.specs.Prelude.{◌≡◌};
-ghost use Rattle.phone_words.specs.Values.{count_named, delimiter_named, rules_named};
+ghost use Rattle.phone_words.specs.Values.{count_named, delimiter_named, encoding_named};
+ghost use Rattle.phone_words.specs.Values.{other_named, rules_named};
 
 use phone_csv::is_delimiter;
+use phone_encodings::{Encoding, Order};
 use phone_values::Rules;
 
 /// The rules of this name: `library` those of libphonenumber, `crate` those of the crate
@@ -15,6 +17,41 @@ pub(crate) fn rules_named(name: &str) -> Option<Rules>
         "crate" => Some(Rules::Crate),
         _ => None,
     }
+}
+
+/// The encoding of this name, in capital or small letters, where there is one; of UTF-8 none.
+pub(crate) fn encoding_named(name: &str) -> Option<Option<Encoding>>
+    ensures { result ≡ encoding_named name.now }
+{
+    if name.eq_ignore_ascii_case("utf-8") {
+        return Some(None);
+    }
+    match other_named(name) {
+        Some(encoding) => Some(Some(encoding)),
+        None => None,
+    }
+}
+
+/// The encoding of this name other than UTF-8.
+fn other_named(name: &str) -> Option<Encoding>
+    ensures { result ≡ other_named name.now }
+{
+    if name.eq_ignore_ascii_case("utf-16") {
+        return Some(Encoding::Utf16);
+    }
+    if name.eq_ignore_ascii_case("utf-16le") {
+        return Some(Encoding::Utf16In(Order::LowFirst));
+    }
+    if name.eq_ignore_ascii_case("utf-16be") {
+        return Some(Encoding::Utf16In(Order::HighFirst));
+    }
+    if name.eq_ignore_ascii_case("latin-1") {
+        return Some(Encoding::Latin1);
+    }
+    if name.eq_ignore_ascii_case("windows-1252") {
+        return Some(Encoding::Windows1252);
+    }
+    None
 }
 
 /// The byte that a word names as one between fields: the word `tab`, or one ASCII character but a

@@ -1,5 +1,5 @@
 use Rattle.std.proofs.Common.{refl}
-use Rattle.phone_cli.specs.Answers.AnswersReading.{is_read, to_file, unwritten}
+use Rattle.phone_cli.specs.Answers.AnswersReading.{is_read, unwritten}
 use Rattle.phone_cli.proofs.tool.to_file.Goals as goal
 
 pub returns-then-is_read : goal.returns-then-is_read
@@ -9,17 +9,19 @@ returns-then-is_read g c = λ taken faults unflushed reads fits database out.
       said = c.say.ensures.told;
     })
 
-pub returns-in-Ok : goal.returns-in-Ok
-returns-in-Ok g c = λ taken faults unflushed reads fits database out.
-    let free = c.is_read.ensures c.if-is_read.false in
-    let does = rw (c.new.ensures.faults, c.new.ensures.unflushed) at
-    (c.on_reading.ensures reads fits) in
-    to_file _ _ _ _ _ fits database out free
-    (record { taken = refl; faults = refl; unflushed = refl }) does
+pub returns-in-Itself : goal.returns-in-Itself
+returns-in-Itself g c = λ taken faults unflushed reads fits database out.
+    c.to_file_itself.ensures taken faults unflushed reads fits database out
+    (c.is_read.ensures c.if-is_read.false)
 
-pub returns-in-Err : goal.returns-in-Err
-returns-in-Err g c = λ taken faults unflushed reads fits database out.
-    rw c.say-in-Err.ensures.status (unwritten _ out record {
+pub returns-in-Beside : goal.returns-in-Beside
+returns-in-Beside g c = λ taken faults unflushed reads fits database out.
+    c.to_file_beside.ensures taken faults unflushed reads fits database out
+    (c.is_read.ensures c.if-is_read.false)
+
+pub returns-in-Nowhere : goal.returns-in-Nowhere
+returns-in-Nowhere g c = λ taken faults unflushed reads fits database out.
+    rw c.say-in-Nowhere.ensures.status (unwritten _ out record {
       idle = refl;
-      said = c.say-in-Err.ensures.told;
+      said = c.say-in-Nowhere.ensures.told;
     })

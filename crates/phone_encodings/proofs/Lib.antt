@@ -1,0 +1,4 @@
+pub mod DecodedLemmas
+pub mod LeftOvers
+pub mod RoomLemmas
+pub mod UnitLemmas

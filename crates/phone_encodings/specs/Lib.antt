@@ -1,0 +1,4 @@
+pub mod Decodings
+pub mod Encodings
+pub mod FirstUnits
+pub mod Unfinished
