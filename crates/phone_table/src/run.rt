@@ -52,6 +52,40 @@ pub struct Asked<'a> {
     pub short: Option<&'a Plans>,
 }
 
+impl<'a> Asked<'a> {
+    /// What is asked of a table with commas whose numbers stand in the column of this name, and
+    /// nothing more.
+    pub fn of(number: &'a str) -> Asked<'a>
+        ensures asked { result ≡ record {
+          number = number.entry;
+          region = None;
+          delimiter = 44;
+          else_hint = false;
+          mark_bad = false;
+          is_unique = false;
+          tells_duplicates = false;
+          front = result.front;
+          extra = result.extra;
+          short = None;
+        } }
+        ensures front { result.front.now ≡ [] }
+        ensures extra { result.extra.now ≡ [] }
+    {
+        Asked {
+            number,
+            region: None,
+            delimiter: b',',
+            else_hint: false,
+            mark_bad: false,
+            is_unique: false,
+            tells_duplicates: false,
+            front: "",
+            extra: &[],
+            short: None,
+        }
+    }
+}
+
 /// Why a table was not answered whole.
 #[derive(Drop)]
 pub enum TableError {

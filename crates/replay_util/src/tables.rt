@@ -36,16 +36,11 @@ fn given(alloc: Global, row: &Row, engine: Engine<'_>) -> Result<String> {
 /// What a row asks for of its table, without further columns and short numbers.
 fn asked(row: &Row) -> Asked<'_> {
     Asked {
-        number: row.argument(1),
         region: region(row.argument(2)),
-        delimiter: b',',
-        else_hint: false,
         mark_bad: row.argument(4) == "mark",
         is_unique: row.argument(4) == "unique",
         tells_duplicates: row.argument(4) == "duplicates",
-        front: "",
-        extra: &[],
-        short: None,
+        ..Asked::of(row.argument(1))
     }
 }
 
