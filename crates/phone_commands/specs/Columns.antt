@@ -7,8 +7,8 @@ use Rattle.phone_maps.specs.declared.maps.Owner.TheVariants.{First, Today}
 use Rattle.phone_table.specs.declared.extra.Extra.{Extra}
 use Rattle.phone_table.specs.declared.extra.Told.{Told}
 use Rattle.phone_table.specs.declared.extra.Told.TheVariants.{Area, CallingCode, Carrier}
-use Rattle.phone_table.specs.declared.extra.Told.TheVariants.{Extension, NationalNumber, Prefix}
-use Rattle.phone_table.specs.declared.extra.Told.TheVariants.{TimeZones}
+use Rattle.phone_table.specs.declared.extra.Told.TheVariants.{Doubts, Extension, NationalNumber}
+use Rattle.phone_table.specs.declared.extra.Told.TheVariants.{Prefix, TimeZones}
 use Rattle.phone_words.specs.Rows.{Lent}
 use Rattle.phone_words.specs.declared.table.Further.{Further}
 
@@ -35,12 +35,13 @@ tables_for f =
     (column_if (codes "first_carrier") (Carrier First) f.first_carriers ++
     column_if (codes "area") Area f.areas)))
 
--- those of parts of the number
+-- those of parts of the number, and what is suspicious
 abbrev pub parts_for : Further → List Column
 parts_for f =
     part_if (codes "extension") Extension f.extension ++
     (part_if (codes "calling_code") CallingCode f.calling_code ++
-    part_if (codes "national_number") NationalNumber f.national_number)
+    (part_if (codes "national_number") NationalNumber f.national_number ++
+    part_if (codes "suspicion") Doubts f.suspicion))
 
 -- the columns that options ask for, in their order
 abbrev pub columns_for : Further → List Column

@@ -7,6 +7,7 @@ ghost use Rattle.phone_commands.specs.Pairs.{IsWithTab};
 ghost use Rattle.phone_lines.specs.LineReports.{IsReport};
 
 use crate::pairs::Tabs;
+use phone_countries::CountriesError;
 use phone_device::{ByteSource, MemorySink, Std};
 use phone_lines::{RunError, take_lines};
 use phone_prefixes::{Prefixes, PrefixesError};
@@ -82,7 +83,7 @@ fn push_tables<'w>(columns: &mut Vec<Wanted<'w>>, further: Further<'w>) -> Resul
 }
 
 /// Puts those of parts of the number at the end of others, in their order: `extension`,
-/// `calling_code`, `national_number`. Refused only for memory.
+/// `calling_code`, `national_number`; then `suspicion`. Refused only for memory.
 fn push_parts<'w>(columns: &mut Vec<Wanted<'w>>, further: Further<'w>) -> Result<(), AllocError>
     ensures { OnOk result (wanted columns.new.items ≡
         wanted columns.old.items ++ parts_for further.entry) }
@@ -95,7 +96,8 @@ fn push_parts<'w>(columns: &mut Vec<Wanted<'w>>, further: Further<'w>) -> Result
         further.calling_code,
     )?;
     let is_asked = further.national_number;
-    push_part(columns, "national_number", Told::NationalNumber, is_asked)
+    push_part(columns, "national_number", Told::NationalNumber, is_asked)?;
+    push_part(columns, "suspicion", Told::Doubts, further.suspicion)
 }
 
 /// The columns that are asked for. Refused only for memory.
@@ -108,13 +110,15 @@ fn columns_wanted<'w>(alloc: Global, further: Further<'w>) -> Result<Vec<Wanted<
     Ok(columns)
 }
 
-/// Why further columns are not there, and by which file.
+/// Why further columns, or the names of regions, are not there, and by which file.
 #[derive(Clone, Copy)]
 pub enum NoColumns<'w> {
     /// The file can't be read.
     Unopened(&'w str),
     /// What it holds is no table of prefixes.
     Refused(&'w str, PrefixesError),
+    /// What it holds is no table of the names of regions.
+    NoNames(&'w str, CountriesError),
     /// There was no memory.
     Memory,
 }

@@ -4,7 +4,7 @@ use Rattle.std.proofs.Common.{◌∷◌, ◌++◌}
 use Rattle.std.proofs.Common.{take, drop, length, Option, None, Some, refl, sym, ap, subst, ◌∙◌}
 use Rattle.std.proofs.Common.{arith}
 use Rattle.std.proofs.Math.Seq.{take-append_seam}
-use Rattle.std.proofs.lemmas.Bool.{cases_eq, cases_lt}
+use Rattle.std.proofs.lemmas.Bool.{cases_eq, cases_lt, or_parts}
 use Rattle.std.proofs.lemmas.List.{take-append-drop}
 use Rattle.std.proofs.lemmas.List.Elements.{Contains-append_left, Contains-append_cases}
 use Rattle.std.proofs.lemmas.List.Elements.{Contains-append_right, Contains-push}
@@ -21,13 +21,13 @@ use Rattle.phone_prefixes.specs.Tables.{AreEntries, Entry, IsLongest, IsTable, N
 use Rattle.phone_prefixes.specs.Tables.AreEntries.{none as no_entries, next as next_entry}
 use Rattle.phone_records.specs.declared.loader.Metadata.{Metadata}
 use Rattle.phone_table.specs.Answers.{IsAnswer, IsAnswerUnder, IsFieldAnswer, IsOfOtherWidth}
-use Rattle.phone_table.specs.Answers.{IsOwnAnswer, IsUnder, short_of}
-use Rattle.phone_table.specs.Extras.{AreTold, HaveOneText, IsFound, IsPartOrFound, IsTold, entries_in, looked_up, part_of}
+use Rattle.phone_table.specs.Answers.{IsOwnAnswer, IsUnder, countries_of, short_of}
+use Rattle.phone_table.specs.Extras.{AreTold, HaveOneText, IsFound, IsPartOrFound, IsTold, entries_in, looked_up, part_of, IsToldBy, IsToldIf, ask_doubts, tells_doubts}
 use Rattle.phone_table.specs.Extras.AreTold.{none as told_none, next as told_next}
 use Rattle.phone_table.specs.declared.extra.Extra.{Extra}
 use Rattle.phone_table.specs.declared.header.Columns.{Columns}
 use Rattle.phone_table.specs.declared.run.Asked.{Asked}
-use Rattle.phone_table.specs.Regions.{RecordNames, field_in, hint_under}
+use Rattle.phone_table.specs.Regions.{RegionText, field_in, hint_under, named_by}
 use Rattle.phone_table.specs.declared.region.Named.{Named}
 
 -- a prefix begins a text, or it doesn't
@@ -165,22 +165,28 @@ part_some (Some part) entries digits = (part, refl)
 part_some None entries digits = found_some entries digits
 
 module _ (rules : Rules) (db : List Metadata) where
-  told_some : (under : Option (Option Id)) (field : List ℕ) (column : Extra) (number : Option Reading) →
-      (text : List ℕ) × IsTold rules db under field number column text
-  told_some under field column None = ([], refl)
-  told_some under field column (Some n) = part_some (part_of column.told n) (entries_in column.table)
+  by_some : (under : Option (Option Id)) (field : List ℕ) (column : Extra) (number : Option Reading) →
+      (text : List ℕ) × IsToldBy rules db under field number (entries_in column.table) column.told text
+  by_some under field column None = ([], refl)
+  by_some under field column (Some n) = part_some (part_of column.told n) (entries_in column.table)
       (looked_up db column.told (kind_by rules db n) (region_by rules db n) n)
 
+  told_some : (under : Option (Option Id)) (field : List ℕ) (column : Extra) → tells_doubts column.told ≡ false → (number : Option Reading) →
+      (text : List ℕ) × IsTold rules db under field number column text
+  told_some under field column others number =
+      subst (λ b. (text : List ℕ) × IsToldIf b rules db under field number column text) (sym others) (by_some under field column number)
+
   -- what columns tell of a field
-  all_told : (under : Option (Option Id)) (field : List ℕ) (number : Option Reading) (columns : List Extra) →
+  all_told : (under : Option (Option Id)) (field : List ℕ) (number : Option Reading) (columns : List Extra) → ask_doubts columns ≡ false →
       (told : Record) × AreTold rules db under field number columns told
-  all_told under field number [] = ([], told_none)
-  all_told under field number (c ∷ cs) =
-      let t = told_some under field c number in
-      let ts = all_told under field number cs in
+  all_told under field number [] others = ([], told_none)
+  all_told under field number (c ∷ cs) others =
+      let parts = or_parts (tells_doubts c.told) (ask_doubts cs) others in
+      let t = told_some under field c parts.0 number in
+      let ts = all_told under field number cs parts.1 in
       (t.0 ∷ ts.0, told_next c cs t.0 ts.0 t.1 ts.1)
 
-  module _ (hint : Option Id) (columns : Columns) (asked : Asked) (fields : Record) where
+  module _ (hint : Option Id) (columns : Columns) (asked : Asked) (others : ask_doubts asked.extra.now ≡ false) (fields : Record) where
     -- under each hint the record's field has an answer
     abbrev pub HasAnswers : Type 0
     HasAnswers = (own : Option Id) → (number : Option Reading) × (answer : Record) ×
@@ -192,11 +198,11 @@ module _ (rules : Rules) (db : List Metadata) where
     under_some None has = (None, _, (refl, refl))
     under_some (Some own) has = has own
 
-    with_told : (under : Option (Option Id)) → IsUnder hint columns asked fields under → (n : Option Reading) (own : Record) →
+    with_told : (under : Option (Option Id)) → IsUnder db hint columns asked fields under → (n : Option Reading) (own : Record) →
         IsOwnAnswer rules db columns asked fields under n own →
         (answer : Record) × IsAnswer rules db hint columns asked fields answer
     with_told under by n own is =
-        let t = all_told under (field_in fields columns.number) n asked.extra.now in
+        let t = all_told under (field_in fields columns.number) n asked.extra.now others in
         (t.0 ++ own, (n, (under, t.0, own, by, is, t.1, refl)))
 
     -- a record of other width is marked, or isn't answered
@@ -207,12 +213,13 @@ module _ (rules : Rules) (db : List Metadata) where
     of_other_width other false e = inr (e, other)
 
     -- each record is answered, but for such
-    pub answer_some : (region : Named) → RecordNames columns.region fields region → HasAnswers →
+    pub answer_some : (text : Option (List ℕ)) → RegionText fields columns.region text → HasAnswers →
         ((answer : Record) × IsAnswer rules db hint columns asked fields answer) ⊎
         IsOfOtherWidth columns asked fields
-    answer_some region named has = ⊎_elim
-        (λ width. let under = hint_under asked.else_hint hint region in
+    answer_some text is has = ⊎_elim
+        (λ width. let region = named_by (countries_of asked) db text in
+        let under = hint_under asked.else_hint hint region in
         let a = under_some under has in
-        inl (with_told under (inl (width, region, named, refl)) a.0 a.1 (inl (width, a.2))))
+        inl (with_told under (inl (width, region, (text, is, refl), refl)) a.0 a.1 (inl (width, a.2))))
         (λ other. of_other_width other asked.mark_bad refl)
         (cases_eq (length fields) columns.width)

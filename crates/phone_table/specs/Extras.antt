@@ -2,8 +2,9 @@
 use Rattle.std.specs.Prelude.{◌≡◌, ◌⊎◌, ◌&&◌, ◌||◌, not, Bool, true, false, ℕ, List, [], ◌∷◌}
 use Rattle.std.specs.Prelude.{◌++◌, map, if◌then◌else◌, Option, None, Some, unwrap_or}
 use Rattle.std.specs.Borrow.{Bor}
-use Rattle.std.specs.List.{AllByRecursion, Contains}
+use Rattle.std.specs.List.{AllByRecursion, Contains, list_any}
 use Rattle.std.specs.Option.{option_map_or}
+use Rattle.std.specs.Str.{IsUtf8}
 use Rattle.phone_values.specs.Ids.{name}
 use Rattle.phone_values.specs.Numbers.{text_of}
 use Rattle.phone_values.specs.declared.country.Id.{Id}
@@ -15,14 +16,15 @@ use Rattle.phone_plans.specs.Records.{last_with}
 use Rattle.phone_records.specs.declared.loader.Metadata.{Metadata}
 use Rattle.phone_prefixes.specs.Tables.{Entry, IsLongest, NoneBegins}
 use Rattle.phone_maps.specs.Maps.{code_digits, digits_of, has_carrier, is_first, is_geographical}
+use Rattle.phone_doubts.specs.Doubts.{IsDoubted}
 use Rattle.phone_engine.specs.Facts.{kind_by, region_by}
 use Rattle.phone_values.specs.declared.rules.Rules.{Rules}
 use Rattle.phone_table.specs.Headers.{behind, names}
 use Rattle.phone_table.specs.declared.extra.Extra.{Extra}
 use Rattle.phone_table.specs.declared.extra.Told.{Told}
 use Rattle.phone_table.specs.declared.extra.Told.TheVariants.{Area, CallingCode, Carrier}
-use Rattle.phone_table.specs.declared.extra.Told.TheVariants.{Extension, NationalNumber, Prefix}
-use Rattle.phone_table.specs.declared.extra.Told.TheVariants.{TimeZones}
+use Rattle.phone_table.specs.declared.extra.Told.TheVariants.{Doubts, Extension, NationalNumber}
+use Rattle.phone_table.specs.declared.extra.Told.TheVariants.{Prefix, TimeZones}
 
 -- their names, in their order
 abbrev pub headings : List Extra → Record
@@ -91,11 +93,37 @@ IsToldBy rules db under field (Some n) entries told text =
     IsPartOrFound (part_of told n) entries
     (looked_up db told (kind_by rules db n) (region_by rules db n) n) text
 
+-- the words of what is suspicious about such a field; nothing where it wasn't read, or its bytes
+-- are no text
+abbrev pub IsSuspicion : Rules → List Metadata → (under : Option (Option Id)) →
+    (field : List ℕ) → Option Reading → List ℕ → Type 0
+IsSuspicion rules db None field number text = text ≡ []
+IsSuspicion rules db (Some hint) field number text =
+    (IsUtf8 field × IsDoubted rules db hint field number text) ⊎
+    (¬ (IsUtf8 field) × (text ≡ []))
+
+-- a column tells what is suspicious
+abbrev pub tells_doubts : Told → Bool
+tells_doubts Doubts = true
+tells_doubts told = false
+
+-- what a column tells of such a field: what is suspicious, or something of the number
+abbrev pub IsToldIf : Bool → Rules → List Metadata → (under : Option (Option Id)) →
+    (field : List ℕ) → Option Reading → Extra → List ℕ → Type 0
+IsToldIf true rules db under field number column text =
+    IsSuspicion rules db under field number text
+IsToldIf false rules db under field number column text =
+    IsToldBy rules db under field number (entries_in column.table) column.told text
+
 -- what a column tells of such a field
 abbrev pub IsTold : Rules → List Metadata → (under : Option (Option Id)) → (field : List ℕ) →
     Option Reading → Extra → List ℕ → Type 0
 IsTold rules db under field number column text =
-    IsToldBy rules db under field number (entries_in column.table) column.told text
+    IsToldIf (tells_doubts column.told) rules db under field number column text
+
+-- some column tells what is suspicious
+abbrev pub ask_doubts : List Extra → Bool
+ask_doubts extra = list_any (λ (column : Extra). tells_doubts column.told) extra
 
 -- what columns tell, in their order
 pub data AreTold (rules : Rules) (db : List Metadata) (under : Option (Option Id))

@@ -4,19 +4,22 @@ ghost use Rattle.std.specs.Prelude.{◌≡◌, ◌&&◌, ◌||◌, ◌++◌, ◌
 ghost use Rattle.std.specs.Prelude.{if◌then◌else◌, IfOk, None, OnOk, Some, string_bytes};
 ghost use Rattle.std.specs.Cow.{cow_str_bytes};
 ghost use Rattle.std.specs.Fmt.{decimal};
+ghost use Rattle.std.specs.Option.{option_copied};
 ghost use Rattle.csv.specs.Records.{fields_of, partial_of};
 ghost use Rattle.phone_csv.specs.Formats.{Record};
 ghost use Rattle.phone_maps.specs.Maps.{code_digits, digits_of, has_carrier, is_first};
 ghost use Rattle.phone_maps.specs.Maps.{is_geographical};
 ghost use Rattle.phone_values.specs.Numbers.{text_of as national_text};
-ghost use Rattle.phone_table.specs.Extras.{AreTold, IsFound, IsPartOrFound, IsTold, entries_in};
-ghost use Rattle.phone_table.specs.Extras.{is_portable, is_unknown, looked_up, part_of};
+ghost use Rattle.phone_table.specs.Extras.{AreTold, IsFound, IsPartOrFound, IsSuspicion, IsTold};
+ghost use Rattle.phone_table.specs.Extras.{IsToldBy, entries_in, is_portable, is_unknown};
+ghost use Rattle.phone_table.specs.Extras.{looked_up, part_of, tells_doubts};
 ghost use Rattle.phone_table.specs.Spelled.{IsKnownIn, number_in};
 
 use crate::answer::{Answer, Known};
 use crate::finds::extension_of;
 use csv::ByteRecord;
 use itoa::Buffer;
+use phone_doubts::doubts;
 use phone_engine::Engine;
 use phone_maps::{Owner, has_carrier, is_geographical};
 use phone_plans::Plans;
@@ -48,6 +51,9 @@ pub enum Told {
     Carrier(Owner),
     /// Its area; none where it belongs to no place in its country.
     Area,
+    /// The words of what is suspicious about the field, as `phone_doubts::doubts` has them; also
+    /// where no number was read.
+    Doubts,
 }
 
 /// A column that is asked for beside the answer's.
@@ -238,7 +244,55 @@ pub(crate) struct Subject<'a> {
     pub answer: &'a Answer,
 }
 
-/// What a column tells of a field: nothing where no number was read. Refused only for memory.
+/// Whether a column tells what is suspicious.
+fn tells_doubts(told: Told) -> bool
+    ensures { result ≡ tells_doubts told }
+{
+    matches!(told, Told::Doubts)
+}
+
+/// The number of an answer, where it has one.
+fn number_of(answer: &Answer) -> Option<&PhoneNumber>
+    ensures { option_copied result ≡ number_in answer.now }
+{
+    match answer {
+        Answer::Number(number, _) => Some(number),
+        Answer::Short(_, _) | Answer::Refused(_) => None,
+    }
+}
+
+/// The words of what is suspicious about a field that was read under the engine's hint; none where
+/// its bytes are no text. Refused only for memory.
+fn doubts_about(
+    engine: Engine<'_>,
+    field: &[u8],
+    number: Option<&PhoneNumber>,
+) -> Result<String, AllocError>
+    ensures { IfOk result (λ text. IsSuspicion engine.entry.rules engine.entry.database.now
+        (Some engine.entry.hint) field.now (option_copied number.entry) (string_bytes text)) }
+{
+    match std::str::from_utf8(field) {
+        Ok(text) => doubts(engine, text, number),
+        Err(_) => Ok(String::new(engine.database.allocator())),
+    }
+}
+
+/// The same of a field that was read under a hint, if it was; none where it wasn't.
+fn suspicion_of(engine: Engine<'_>, subject: Subject<'_>) -> Result<String, AllocError>
+    ensures { IfOk result (λ text. IsSuspicion engine.entry.rules engine.entry.database.now
+        subject.entry.under subject.entry.field.now (number_in subject.entry.answer.now)
+        (string_bytes text)) }
+{
+    match subject.under {
+        Some(hint) => {
+            let hinted = Engine { hint, ..engine };
+            doubts_about(hinted, subject.field, number_of(subject.answer))
+        }
+        None => Ok(String::new(engine.database.allocator())),
+    }
+}
+
+/// What a column tells of a field. Refused only for memory.
 fn told_by<'a>(
     engine: Engine<'_>,
     column: &Extra<'a>,
@@ -248,6 +302,25 @@ fn told_by<'a>(
     ensures { IfOk result (λ text. IsTold engine.entry.rules engine.entry.database.now
         subject.entry.under subject.entry.field.now (number_in subject.entry.answer.now) column.now
         (cow_str_bytes text)) }
+{
+    if tells_doubts(column.told) {
+        Ok(CowStr::Owned(suspicion_of(engine, subject)?))
+    } else {
+        told_of_number(engine, column, subject)
+    }
+}
+
+/// What a column tells of the number of a field: nothing where none was read. Refused only for
+/// memory.
+fn told_of_number<'a>(
+    engine: Engine<'_>,
+    column: &Extra<'a>,
+    subject: Subject<'a>,
+) -> Result<CowStr<'a>, AllocError>
+    requires { IsKnownIn engine.rules engine.database.now subject.answer.now }
+    ensures { IfOk result (λ text. IsToldBy engine.entry.rules engine.entry.database.now
+        subject.entry.under subject.entry.field.now (number_in subject.entry.answer.now)
+        (entries_in column.now.table) column.now.told (cow_str_bytes text)) }
 {
     match subject.answer {
         Answer::Number(number, known) => part_of(engine.database, column, number, known),

@@ -1,7 +1,7 @@
 //! What holds of answers. These functions do nothing, but for those that read a text to show that
 //! it has an answer; their contracts are the statements.
-ghost use Rattle.std.specs.Prelude.{◌≡◌, ◌⊎◌, ◌+◌, ℕ, List, None, Option, Some, chars, slice_get};
-ghost use Rattle.std.specs.Prelude.{true};
+ghost use Rattle.std.specs.Prelude.{◌≡◌, ◌⊎◌, ◌+◌, ℕ, List, None, Option, Some, chars, false};
+ghost use Rattle.std.specs.Prelude.{slice_get, true};
 ghost use Rattle.std.specs.List.{Contains};
 ghost use Rattle.std.specs.Str.{IsUtf8};
 ghost use Rattle.csv.specs.Records.{fields_of};
@@ -19,7 +19,7 @@ ghost use Rattle.phone_table.specs.Answered.{Answered};
 ghost use Rattle.phone_table.specs.Answers.{IsAnswer, IsAnswerOf, IsFieldAnswer, IsOfOtherWidth};
 ghost use Rattle.phone_table.specs.Answers.{IsOwnAnswer, IsUnder};
 ghost use Rattle.phone_table.specs.Duplicates.{NamesFirst, duplicate_of, shared_of};
-ghost use Rattle.phone_table.specs.Extras.{EachHasOneText, HaveOneText};
+ghost use Rattle.phone_table.specs.Extras.{EachHasOneText, HaveOneText, ask_doubts};
 ghost use Rattle.phone_table.specs.Objects.{IsObject, IsObjectLine};
 ghost use Rattle.phone_table.specs.Ends.{by};
 ghost use Rattle.phone_table.specs.Rows.{AreKept, IsHeldBy};
@@ -31,8 +31,9 @@ ghost use Rattle.phone_table.specs.declared.header.Columns as header;
 ghost use Rattle.phone_table.specs.declared.run.Asked as run;
 
 use crate::header::Columns;
+use crate::region::region_text;
 use crate::run::Asked;
-use crate::table::{field_in, region_of};
+use crate::table::field_in;
 use csv::ByteRecord;
 use phone_engine::laws::some_reading;
 
@@ -59,9 +60,9 @@ pub fn one_answer()
 /// fields, which are of one number or of none, and, where in the table of each column that is asked
 /// for a prefix has one text, what these columns tell.
 pub fn one_row()
-    ensures under { (hint : Option Id) (columns : header.Columns) (asked : run.Asked)
-        (fields : Record) (u v : Option (Option Id)) → IsUnder hint columns asked fields u →
-        IsUnder hint columns asked fields v → u ≡ v }
+    ensures under { (db : List loader.Metadata) (hint : Option Id) (columns : header.Columns)
+        (asked : run.Asked) (fields : Record) (u v : Option (Option Id)) →
+        IsUnder db hint columns asked fields u → IsUnder db hint columns asked fields v → u ≡ v }
     ensures own { (rules : Rules) (db : List loader.Metadata) (columns : header.Columns)
         (asked : run.Asked) (fields : Record) (under : Option (Option Id))
         (n k : Option Reading) (a b : Record) →
@@ -86,14 +87,15 @@ pub fn some_answer(field: &[u8])
 }
 
 /// By either rules each record has an answer, under each database and hint, but for one that has
-/// another count of fields than the table has columns, where such aren't marked.
+/// another count of fields than the table has columns, where such aren't marked. This is told of
+/// tables without a column of what is suspicious.
 pub fn some_row(columns: Columns, asked: Asked<'_>, fields: &ByteRecord)
     ensures { (rules : Rules) (db : List loader.Metadata) (hint : Option Id) →
-        ((answer : Record) ×
+        ask_doubts asked.entry.extra.now ≡ false → ((answer : Record) ×
         IsAnswer rules db hint columns asked.entry (fields_of fields.now) answer) ⊎
         IsOfOtherWidth columns asked.entry (fields_of fields.now) }
 {
-    let _named = region_of(columns, fields);
+    let _text = region_text(columns, fields);
     some_answer(field_in(fields, columns.number));
 }
 

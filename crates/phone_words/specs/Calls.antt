@@ -184,6 +184,7 @@ pub record IsFurther (ps : List Said) (f : Further) : Type 0 where
   pub extension : f.extension ≡ has ps (codes "--extension")
   pub calling_code : f.calling_code ≡ has ps (codes "--calling-code")
   pub national_number : f.national_number ≡ has ps (codes "--national-number")
+  pub suspicion : f.suspicion ≡ has ps (codes "--suspicion")
 
 -- the files by which further columns tell
 abbrev pub further_files : Further → List (Option Lent)
@@ -193,6 +194,7 @@ further_files f = f.prefixes ∷ f.time_zones ∷ f.carriers ∷ f.first_carrier
 pub record IsTable (ps : List Said) (t : Table) : Type 0 where
   pub column : t.column.now ≡ text ps (codes "--csv")
   pub region_column : text_in t.region_column ≡ value ps (codes "--region-column")
+  pub countries : text_in t.countries ≡ file_if ps (codes "--region-column") (codes "--countries")
   pub fallback_region : t.fallback_region ≡ has ps (codes "--fallback-region")
   pub is_unique : t.is_unique ≡ has ps (codes "--unique")
   pub duplicates : t.duplicates ≡ has ps (codes "--duplicates")

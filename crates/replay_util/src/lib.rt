@@ -1,6 +1,7 @@
 //! Rows of answers to what stands on phone numbers: whether a number is possible, what a database
 //! lists, whether two texts are one number, how a number is dialled from a region, which numbers
-//! stand in a text, what a field shows while a number is typed into it; tables of prefixes; and, of
+//! stand in a text, why a field is suspicious, what a field shows while a number is typed into it;
+//! tables of prefixes; and, of
 //! many lines, what a run reports, a line's JSON object, what a contact book keeps, and how
 //! programs end.
 #![tactic(auto)]
@@ -8,6 +9,7 @@
 pub mod books;
 mod by_rules;
 pub mod dialled;
+pub mod doubts;
 pub mod found;
 pub mod listed;
 pub mod objects;
@@ -49,6 +51,9 @@ pub fn answer(alloc: Global, row: &Row, db: &Database) -> Result<Option<String>>
         return Ok(Some(found));
     }
     if let Some(found) = found::answer(alloc, row, db)? {
+        return Ok(Some(found));
+    }
+    if let Some(found) = doubts::answer(alloc, row, db)? {
         return Ok(Some(found));
     }
     if let Some(found) = reports::answer(alloc, row, db)? {
