@@ -9,8 +9,8 @@ use Rattle.phone_values.specs.declared.error.ParseError.{ParseError}
 use Rattle.phone_values.specs.declared.reading.Reading.{Reading}
 
 -- what a line is answered, and what is kept then: nothing where it is no text, is read as no
--- number, or has one that was there; else its key, a tab and the line itself, and its number is kept;
--- each is counted
+-- number, or has one that was there; else its key, a tab and the line itself, and its number is
+-- kept; each is counted
 pub data IsFirstLine (kept : FirstLines) (line : List ℕ) : List ℕ → FirstLines → Type 0 where
   no_text : ¬ (IsUtf8 line) →
       IsFirstLine kept line [] (record kept { refused = after_one kept.refused })

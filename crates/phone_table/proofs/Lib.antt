@@ -6,6 +6,7 @@ pub mod HeldLemmas
 pub mod MarkedLemmas
 pub mod SharedLemmas
 pub mod DuplicateLaws
+pub mod NoneLost
 pub mod Numbers
 pub mod TableLemmas
 pub mod Writing

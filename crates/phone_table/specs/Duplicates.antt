@@ -52,8 +52,8 @@ abbrev pub marked_rows : List Answered → ℕ → List Answered → List Record
 marked_rows all number [] = []
 marked_rows all number (a ∷ more) = marked_row all number a ∷ marked_rows all (number + 1) more
 
--- the record at this place, counted from 0, names this one: an earlier one with its key, which names
--- no other
+-- the record at this place, counted from 0, names this one: an earlier one with its key, which
+-- names no other
 pub record NamesFirst (all : List Answered) (a : Answered) (place first : ℕ) : Type 0 where
   pub earlier : ℕ
   pub number : first ≡ earlier + 2

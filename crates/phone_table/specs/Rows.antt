@@ -1,7 +1,8 @@
 -- The rows of a table: each record with its answer; where each number is kept once, without those
 -- whose number an earlier record has; or with columns that tell these.
-use Rattle.std.specs.Prelude.{◌≡◌, ◌&&◌, ℕ, Bool, true, false, List, [], ◌∷◌, ◌++◌, Option}
-use Rattle.std.specs.List.{list_any}
+use Rattle.std.specs.Prelude.{◌≡◌, ◌⊎◌, ◌&&◌, ℕ, Bool, true, false, List, [], ◌∷◌, ◌++◌, Option}
+use Rattle.std.specs.Prelude.{Some}
+use Rattle.std.specs.List.{Contains, list_any}
 use Rattle.std.specs.Option.{option_map_or}
 use Rattle.phone_csv.specs.Formats.{Record}
 use Rattle.phone_csv.specs.RecordReports.{Writes, rows_text}
@@ -30,6 +31,12 @@ pub data AreKept (once : Bool) : List Answered → List Record → Counts → Ty
   left_out : (all : List Answered) (rows : List Record) (counts : Counts) (a : Answered) →
       AreKept once all rows counts → (once && is_taken all a.key) ≡ true →
       AreKept once (all ++ a ∷ []) rows (counts_without counts (row_of a))
+
+-- the row for a record is written, or that for another one with its key
+abbrev pub IsHeldBy : List Answered → List Record → Answered → Type 0
+IsHeldBy all rows a = Contains rows (row_of a) ⊎
+    ((other : Answered) × (key : List ℕ) × Contains all other × (a.key ≡ Some key) ×
+    (other.key ≡ Some key) × Contains rows (row_of other))
 
 -- with the columns of duplicates the rows of all are written, and each is counted
 abbrev pub AreMarked : List Answered → List Record → Counts → Type 0

@@ -2,6 +2,7 @@
 //! it has an answer; their contracts are the statements.
 ghost use Rattle.std.specs.Prelude.{◌≡◌, ◌⊎◌, ◌+◌, ℕ, List, None, Option, Some, chars, false};
 ghost use Rattle.std.specs.Prelude.{slice_get, true};
+ghost use Rattle.std.specs.List.{Contains};
 ghost use Rattle.std.specs.Str.{IsUtf8};
 ghost use Rattle.csv.specs.Records.{fields_of};
 ghost use Rattle.serde_json.specs.Data.{Data};
@@ -21,6 +22,7 @@ ghost use Rattle.phone_table.specs.Duplicates.{NamesFirst, duplicate_of, shared_
 ghost use Rattle.phone_table.specs.Extras.{EachHasOneText, HaveOneText, ask_doubts};
 ghost use Rattle.phone_table.specs.Objects.{IsObject, IsObjectLine};
 ghost use Rattle.phone_table.specs.Ends.{by};
+ghost use Rattle.phone_table.specs.Rows.{AreKept, IsHeldBy};
 ghost use Rattle.phone_table.specs.Runs.{WritesTable, names_in};
 ghost use Rattle.phone_table.specs.declared.counts.Counts.{Counts};
 ghost use Rattle.phone_table.specs.Shorts.{is_number_alone, short_answer};
@@ -149,4 +151,11 @@ pub fn one_first()
         slice_get all p ≡ Some a → slice_get all q ≡ Some b → a.key ≡ Some key →
         b.key ≡ Some key → duplicate_of (shared_of all a) (p + 2) ≡ None →
         duplicate_of (shared_of all b) (q + 2) ≡ None → p ≡ q }
+{}
+
+/// Where each number is kept once, no record is lost: its row is written, or that of another one
+/// with its key.
+pub fn none_lost()
+    ensures { (all : List Answered) (rows : List Record) (counts : Counts) →
+        AreKept true all rows counts → (a : Answered) → Contains all a → IsHeldBy all rows a }
 {}

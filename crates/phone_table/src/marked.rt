@@ -40,8 +40,8 @@ fn hold_all<S: ByteSource>(
     ensures no_fault { OnOk result (S.faults source.new ≡ S.faults source.old) }
     ensures read { IfSome rest (λ start. OnOk result (OfRead (S.to_come source.old)
         (S.to_come source.new) (λ bytes. (text : List ℕ) ×
-        IsReport (WritesRows holds (format_after delimiter (state_of start.place)) holder.old holder.new) delimiter
-        (state_of start.place) bytes text))) }
+        IsReport (WritesRows holds (format_after delimiter (state_of start.place)) holder.old
+        holder.new) delimiter (state_of start.place) bytes text))) }
     ensures broken_off { IfErr result (λ e. (before : Option (List ℕ)) (header added : Record)
         (has_mark : Bool) → OfRead before (S.to_come source.old) (λ bytes.
         IsHeader delimiter header rest has_mark bytes) → (unflushed : ℕ) ×
@@ -60,11 +60,10 @@ fn hold_all<S: ByteSource>(
     }
 }
 
-/// Writes a table whose header was read: that with these names behind its own, and all records, each
-/// with what the columns of duplicates tell of it.
-/// Nothing is written before all is read and answered, so nothing where that breaks off, by
-/// `Input`, `Record`, `Quote` or `Memory`; refused by `Output` where the sink fails: then a
-/// beginning is written.
+/// Writes a table whose header was read: that with these names behind its own, and all records,
+/// each with what the columns of duplicates tell of it. Nothing is written before all is read and
+/// answered, so nothing where that breaks off, by `Input`, `Record`, `Quote` or `Memory`; refused
+/// by `Output` where the sink fails: then a beginning is written.
 pub(crate) fn write_marked<S: ByteSource, W: ByteSink>(
     alloc: Global,
     table: Table<'_>,

@@ -116,8 +116,9 @@ fn first_names(alloc: Global, front: &str, tells_duplicates: bool) -> Result<Byt
     Ok(names)
 }
 
-/// The names that are put behind a header: those of the columns of duplicates, where these are told,
-/// of other columns, and of an answer's fields, each behind these letters. Refused only for memory.
+/// The names that are put behind a header: those of the columns of duplicates, where these are
+/// told, of other columns, and of an answer's fields, each behind these letters. Refused only for
+/// memory.
 pub(crate) fn added_names(
     alloc: Global,
     front: &str,

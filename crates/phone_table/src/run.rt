@@ -151,10 +151,11 @@ fn names_behind(
 /// with `tells_duplicates`, where all are. It gives how many records there were, how many of them
 /// were answered otherwise than by a valid number, and how many were left out.
 ///
-/// With `tells_duplicates` two columns stand before the others. `duplicate_of` has, where an earlier
-/// record has the number and its extension, the number of the first one that has, the header
-/// counted as 1; `duplicates` has, on that one, how many later ones there are. They are empty else.
-/// All is read and answered before anything is written, so nothing is where that breaks off.
+/// With `tells_duplicates` two columns stand before the others. `duplicate_of` has, where an
+/// earlier record has the number and its extension, the number of the first one that has, the
+/// header counted as 1; `duplicates` has, on that one, how many later ones there are. They are
+/// empty else. All is read and answered before anything is written, so nothing is where that breaks
+/// off.
 ///
 /// The answer to a number, which is read and described by the engine: what each column that is
 /// asked for tells of it, empty where its table has nothing; its texts in three modes, its kind,
