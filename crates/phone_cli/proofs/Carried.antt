@@ -88,8 +88,9 @@ module _ {A B : Type 0} (acts : A → Devices → Devices → A → Result ⊤ J
       ActsIn e parts (part a) before after (part b) end × (end ≡ Ok tt → holds b)
   encoded None a before after b end h act = step a before after b end h act
   encoded (Some e) a before after b end h act =
-      let s = step a (as_text e before) (record after { to_come = act.0 }) b end h act.1 in
-      ((act.0, s.0), s.1)
+      let s = step a (as_text e before)
+      (record after { to_come = act.0; source_faults = act.1 }) b end h act.2 in
+      ((act.0, act.1, s.0), s.1)
 
 -- the same of inputs in an encoding
 module _ {A B : Type 0} (acts : A → Devices → Devices → A → Result ⊤ JobError → Type 0)

@@ -5,4 +5,4 @@ pub returns-in-Some : goal.returns-in-Some
 returns-in-Some g c =
     let n = c.new-text.ensures in
     let act = rw (n.source, n.encoding, n.held, n.text) at c.answer.ensures in
-    rw c.in-Some.is ((_, act), refl)
+    rw c.in-Some.is ((_, _, act), refl)
