@@ -262,7 +262,7 @@ short_by files s before after last end =
 abbrev pub CustomersAct : Customers → Devices → Devices → Customers → Result ⊤ JobError → Type 0
 CustomersAct c before after c' result = AnswersTable c.engine.rules c.engine.database.now
     c.engine.hint c.asked before after c'.counts result ×
-    (c' ≡ record c { counts = c'.counts })
+    (c' ≡ record c { counts = c'.counts; unknown = c'.unknown })
 
 abbrev pub EngineAnswers : Engine → Asked → Counts → Devices → Devices → Counts →
     Result ⊤ JobError → Type 0

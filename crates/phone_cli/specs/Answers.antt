@@ -1,6 +1,6 @@
 -- What a call does.
 use Rattle.std.specs.Prelude.{◌≡◌, ℕ, ⊤, Bool, false, true, List, ◌++◌, codes}
-use Rattle.std.specs.Prelude.{IsSome, Option, None, Some, Result, option_map, slice_get}
+use Rattle.std.specs.Prelude.{IsSome, Option, None, Some, Result, is_some, option_map, slice_get}
 use Rattle.std.specs.List.{list_any}
 use Rattle.std.specs.Str.{bytes_eq}
 use Rattle.phone_commands.specs.Columns as columns
@@ -29,8 +29,8 @@ use Rattle.phone_cli.specs.Commands.{AnswersInputs, BeginsFound, Finding, Tables
 use Rattle.phone_cli.specs.Commands.{GivesFound, GivesObjects, GivesShorts, GivesTyped}
 use Rattle.phone_cli.specs.Commands.{GivesWithInput, Reports}
 use Rattle.phone_cli.specs.Commands.{found_form, no_first_lines}
-use Rattle.phone_cli.specs.Operands.{database_of, files_of, is_misfit, names_read, region_of}
-use Rattle.phone_cli.specs.Operands.{shorts_of}
+use Rattle.phone_cli.specs.Operands.{database_of, files_of, ignores_words, is_misfit, names_read}
+use Rattle.phone_cli.specs.Operands.{region_of, shorts_of}
 use Rattle.phone_cli.specs.Statuses.{status_of}
 use Rattle.phone_cli.specs.Streams.{IsSinkKept, Refuses, RefusesBySome, Streams, into_file}
 
@@ -44,6 +44,7 @@ IsLoaded (Some path) short = IsSome short
 pub record IsAsked (t : Table) (shorts : Option (List Metadata)) (a : Asked) : Type 0 where
   pub number : a.number ≡ t.column
   pub region : a.region ≡ t.region_column
+  pub countries : is_some a.countries ≡ is_some t.countries
   pub delimiter : a.delimiter ≡ t.delimiter
   pub else_hint : a.else_hint ≡ t.fallback_region
   pub mark_bad : a.mark_bad ≡ t.mark_bad
@@ -145,18 +146,20 @@ pub data AnswersReading (c : Call) (hint : Option Id) (files : List Name)
       (record after { devices = into_file after.devices faults unflushed }) status →
       AnswersReading c hint files before after status
 
--- what a call does, and its status: it tells of itself, or it reads numbers under the region and
--- from the files that it names
+-- what a call does, and its status: it tells of itself, unless words stand behind that it would
+-- ignore; or it reads numbers under the region and from the files that it names
 pub data Answers (c : Call) (before after : Streams) : ℕ → Type 0 where
   help : (status : ℕ) → c.command ≡ command.Help →
       Tells help_text before.devices after.devices status → Answers c before after status
   no_help : c.command ≡ command.Help → Refuses (codes "out of memory") before after →
       Answers c before after 1
+  ignored : ignores_words c ≡ true → RefusesBySome before after → Answers c before after 2
   version : (status : ℕ) → (version : Option (List ℕ)) → c.command ≡ command.Version →
+      ignores_words c ≡ false →
       (c.database ≡ None → version ≡ None) →
       Tells (version_text c.rules version) before.devices after.devices status →
       Answers c before after status
-  regions : (status : ℕ) → c.command ≡ command.Regions →
+  regions : (status : ℕ) → c.command ≡ command.Regions → ignores_words c ≡ false →
       Tells regions_text before.devices after.devices status → Answers c before after status
   reading : (status : ℕ) → reads c.command ≡ true →
       AnswersReading c (region_of c) (files_of c) before after status →

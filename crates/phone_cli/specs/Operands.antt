@@ -1,10 +1,10 @@
 -- The region and the files that a call names.
 use Rattle.std.specs.Prelude.{ℕ, Bool, false, true, List, [], ◌∷◌, ◌++◌, Option, None, Some, codes}
-use Rattle.std.specs.Prelude.{if◌then◌else◌, map}
+use Rattle.std.specs.Prelude.{◌&&◌, ◌==◌, if◌then◌else◌, length, map, not}
 use Rattle.std.specs.List.{filter_map}
 use Rattle.std.specs.Option.{option_map_or}
 use Rattle.std.specs.Str.{bytes_eq}
-use Rattle.phone_table.specs.Regions.{id_in}
+use Rattle.phone_countries.specs.Ids.{id_in}
 use Rattle.phone_values.specs.declared.country.Id.{Id}
 use Rattle.phone_values.specs.declared.rules.Rules.{Rules}
 use Rattle.phone_values.specs.declared.rules.Rules.TheVariants.{Library}
@@ -77,6 +77,16 @@ has_reader command.Unique = false
 has_reader command.Short = false
 has_reader other = true
 
+-- a command tells of the program or its table alone, whatever else is named
+abbrev pub tells_alone : Command → Bool
+tells_alone command.Version = true
+tells_alone command.Regions = true
+tells_alone other = false
+
+-- operands are named that a call has no use for
+abbrev pub ignores_words : Call → Bool
+ignores_words c = tells_alone c.command && not (length c.operands.items == 0)
+
 -- the name under which the system has standard input
 abbrev pub standard_input : List ℕ
 standard_input = codes "/dev/stdin"
@@ -94,9 +104,9 @@ input_names (file ∷ files) = map input_name (file ∷ files)
 abbrev pub named_files : List (Option Lent) → List (List ℕ)
 named_files files = filter_map text_in files
 
--- the names of the files that a call reads: inputs, the database, that of short numbers, tables of
--- prefixes
+-- the names of the files that a call reads: inputs, the database, that of short numbers, the table
+-- of the names of regions, tables of prefixes
 abbrev pub names_read : Call → (database : Lent) → (files : List Lent) → List (List ℕ)
 names_read c database files = input_names files ++
-    (named_files (Some database ∷ c.short_database ∷ []) ++
+    (named_files (Some database ∷ c.short_database ∷ c.table.countries ∷ []) ++
     named_files (further_files c.table.further))

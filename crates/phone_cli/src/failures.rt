@@ -7,6 +7,7 @@ ghost use Rattle.phone_engine.specs.Programs.{IsTold};
 use crate::say::{say, say_columns, say_taken};
 use itoa::Buffer;
 use phone_commands::{Failure, JobError, NoColumns, is_standard};
+use phone_countries::CountriesError;
 use phone_device::ByteSink;
 use phone_prefixes::{LineFault, PrefixesError};
 use phone_table::{Column, ColumnError, FirstError, RunError, TableError};
@@ -132,6 +133,28 @@ fn say_refused<E: ByteSink>(alloc: Global, name: &str, error: PrefixesError, err
     }
 }
 
+/// Tells why a file holds no table of the names of regions, and gives the status.
+fn say_no_names<E: ByteSink>(
+    alloc: Global,
+    name: &str,
+    error: CountriesError,
+    errors: &mut E,
+) -> u8
+    ensures { ((result ≡ 3) × (IsSomeTold (E.taken errors.old) (E.faults errors.old)
+        (E.taken errors.new) (E.faults errors.new))) ⊎
+        ((result ≡ 1) × IsTold (E.taken errors.old) (E.faults errors.old)
+        (line_of (codes "out of memory")) (E.taken errors.new) (E.faults errors.new)) }
+{
+    match error.to_string(alloc) {
+        Ok(words) => say(
+            errors,
+            &["the table ", name, " is refused: ", words.as_str()],
+            3,
+        ),
+        Err(_) => say(errors, &["out of memory"], 1),
+    }
+}
+
 /// Tells why further columns are not there, and gives the status.
 pub(crate) fn say_no_columns<E: ByteSink>(alloc: Global, why: NoColumns<'_>, errors: &mut E) -> u8
     ensures { ((result ≡ 3) × (IsSomeTold (E.taken errors.old) (E.faults errors.old)
@@ -142,6 +165,7 @@ pub(crate) fn say_no_columns<E: ByteSink>(alloc: Global, why: NoColumns<'_>, err
     match why {
         NoColumns::Unopened(name) => say(errors, &["the table ", name, " can't be read"], 3),
         NoColumns::Refused(name, error) => say_refused(alloc, name, error, errors),
+        NoColumns::NoNames(name, error) => say_no_names(alloc, name, error, errors),
         NoColumns::Memory => say(errors, &["out of memory"], 1),
     }
 }

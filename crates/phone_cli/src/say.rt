@@ -8,8 +8,11 @@ ghost use Rattle.phone_words.specs.declared.parts.Why.TheVariants.{Memory};
 use csv::ByteRecord;
 use itoa::Buffer;
 use phone_commands::{Customers, FirstLines};
+use phone_countries::Entry;
 use phone_device::{ByteSink, Fault, write_all};
+use phone_table::Countries;
 use phone_words::{Why, WordError, value_word};
+use std::alloc::Global;
 
 /// Writes a text. At `Err` the sink failed, and has taken a beginning of it.
 pub(crate) fn write_str<W: ByteSink>(sink: &mut W, text: &str) -> Result<(), Fault>
@@ -197,10 +200,74 @@ fn write_records<E: ByteSink>(job: &Customers<'_, '_>, errors: &mut E) -> Result
     write_str(errors, "\n")
 }
 
-/// Tells how many records a table has, and how many of them gave what, and gives the status.
-pub(crate) fn say_records<E: ByteSink>(job: &Customers<'_, '_>, errors: &mut E) -> u8
+/// Writes a name that is near, and its region.
+fn write_near<E: ByteSink>(errors: &mut E, at: usize, entry: &Entry) -> Result<(), Fault> {
+    write_str(errors, if at == 0 { ": nearest " } else { ", " })?;
+    write_str(errors, entry.name.as_str())?;
+    write_str(errors, " (")?;
+    write_str(errors, entry.id.as_str())?;
+    write_str(errors, ")")
+}
+
+/// Writes the names of a table that are nearest to a text; none where there is no table or memory.
+fn write_nearest<E: ByteSink>(
+    alloc: Global,
+    countries: Option<&Countries>,
+    text: &str,
+    errors: &mut E,
+) -> Result<(), Fault> {
+    let Some(countries) = countries else {
+        return Ok(());
+    };
+    let Ok(found) = countries.nearest(alloc, text) else {
+        return Ok(());
+    };
+    for (at, entry) in found.iter().enumerate() {
+        write_near(errors, at, *entry)?;
+    }
+    Ok(())
+}
+
+/// Writes a text that names no region, how many records have it, and the nearest names.
+fn write_unknown<E: ByteSink>(
+    alloc: Global,
+    countries: Option<&Countries>,
+    text: &str,
+    count: u64,
+    errors: &mut E,
+) -> Result<(), Fault> {
+    write_str(errors, "phone: unknown region \"")?;
+    write_str(errors, text)?;
+    write_count(errors, "\" (", count)?;
+    write_str(errors, if count == 1 { " record)" } else { " records)" })?;
+    write_nearest(alloc, countries, text, errors)?;
+    write_str(errors, "\n")
+}
+
+/// Writes each text of a table that names no region.
+fn write_all_unknown<E: ByteSink>(
+    alloc: Global,
+    job: &Customers<'_, '_>,
+    errors: &mut E,
+) -> Result<(), Fault> {
+    for at in 0..job.unknown.names.len() {
+        if let Some((text, count)) = job.unknown.names.get_index(at) {
+            write_unknown(alloc, job.asked.countries, text.as_str(), *count, errors)?;
+        }
+    }
+    Ok(())
+}
+
+/// Tells which texts of a table name no region, then how many records it has, and how many of them
+/// gave what, and gives the status.
+pub(crate) fn say_records<E: ByteSink>(
+    alloc: Global,
+    job: &Customers<'_, '_>,
+    errors: &mut E,
+) -> u8
     ensures { result ≡ 0 }
 {
+    let _told = write_all_unknown(alloc, job, errors);
     let _written = write_records(job, errors);
     0
 }

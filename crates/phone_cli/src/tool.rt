@@ -5,7 +5,7 @@ ghost use Rattle.phone_cli.specs.Abouts.{Tells};
 ghost use Rattle.phone_cli.specs.Answers.{Answers, AnswersReading, Does, IsAsked, IsLoaded, reads};
 ghost use Rattle.phone_cli.specs.Commands.{AnswersInputs, Tables, found_form};
 ghost use Rattle.phone_cli.specs.Operands.{database_of, files_of, has_reader, is_misfit, region_of};
-ghost use Rattle.phone_cli.specs.Operands.{shorts_of};
+ghost use Rattle.phone_cli.specs.Operands.{ignores_words, shorts_of, tells_alone};
 ghost use Rattle.phone_cli.specs.Programs.{Acts};
 ghost use Rattle.phone_cli.specs.Statuses.{status_of};
 ghost use Rattle.phone_cli.specs.Streams.{Refuses, streams};
@@ -26,12 +26,12 @@ use crate::say::{say, say_firsts, say_records, say_word_error};
 use crate::written::is_read;
 use phone_commands::{
     ByLines, Customers, Finder, FirstLines, FoundForm, Job, LineTaker, Loaded, Objects, Reader,
-    Report, Shorts, Typist, WithInput, on_inputs,
+    Report, Shorts, Typist, WithInput, countries_in, on_inputs,
 };
 use phone_device::{ByteSink, ByteSource, Fault, Std};
 use phone_engine::{Engine, Rules};
 use phone_plans::Plans;
-use phone_table::{Asked, Counts, Extra};
+use phone_table::{Asked, Counts, Countries, Extra, UnknownNames};
 use phone_words::{Call, Command, Table, call_of, help};
 use phonenumber::country::Id;
 use std::alloc::AllocGlobal;
@@ -87,6 +87,10 @@ fn on_call<R: Files + AllocGlobal, S: ByteSource, W: Outlet, E: ByteSink>(
         (E.faults errors.new))
         result }
 {
+    if ignores_words(call) {
+        let more = " goes with no region and no file";
+        return say(errors, &[name_alone(call.command), more], 2);
+    }
     match call.command {
         Command::Help => on_help(rt, output, errors),
         Command::Regions => {
@@ -98,6 +102,31 @@ fn on_call<R: Files + AllocGlobal, S: ByteSource, W: Outlet, E: ByteSink>(
             ended(end, output, errors)
         }
         _ => on_files(rt, call, input, output, errors),
+    }
+}
+
+/// Whether a command tells of the program or its table alone, whatever else is named.
+fn tells_alone(command: Command) -> bool
+    ensures { result ≡ tells_alone command }
+{
+    match command {
+        Command::Version | Command::Regions => true,
+        _ => false,
+    }
+}
+
+/// Whether operands are named that a call has no use for.
+fn ignores_words(call: &Call<'_>) -> bool
+    ensures { result ≡ ignores_words call.now }
+{
+    tells_alone(call.command) && !call.operands.is_empty()
+}
+
+/// The option of a command that goes alone.
+fn name_alone(command: Command) -> &'static str {
+    match command {
+        Command::Version => "--version",
+        _ => "--regions",
     }
 }
 
@@ -556,13 +585,18 @@ fn customers<R: Files + AllocGlobal, S: ByteSource, W: Outlet, E: ByteSink>(
         Ok(loaded) => loaded,
         Err(why) => return say_no_columns(rt.alloc(), why, errors),
     };
+    let countries = match countries_in(rt, table.countries) {
+        Ok(countries) => countries,
+        Err(why) => return say_no_columns(rt.alloc(), why, errors),
+    };
     let Ok(extra) = loaded.extra(rt.alloc()) else {
         return say(errors, &["out of memory"], 1);
     };
     let mut job = Customers {
         engine: reader.engine,
-        asked: asked(table, reader, extra.as_slice()),
+        asked: asked(table, reader, extra.as_slice(), countries.as_ref()),
         counts: Counts::new(),
+        unknown: UnknownNames::new(rt.alloc()),
     };
     run_table(rt, reading, &mut job, input, output, errors)
 }
@@ -586,19 +620,26 @@ fn run_table<R: Files + AllocGlobal, S: ByteSource, W: Outlet, E: ByteSink>(
         job.new.counts end × (result ≡ status_of end) }
 {
     match run(rt, reading, job, input, output, errors) {
-        0 => say_records(job, errors),
+        0 => say_records(rt.alloc(), job, errors),
         status => status,
     }
 }
 
-/// What is asked of a table that this reads, with these further columns.
-fn asked<'t>(table: Table<'t>, reader: Reader<'t>, extra: &'t [Extra<'t>]) -> Asked<'t>
+/// What is asked of a table that this reads, with these further columns and names of regions.
+fn asked<'t>(
+    table: Table<'t>,
+    reader: Reader<'t>,
+    extra: &'t [Extra<'t>],
+    countries: Option<&'t Countries>,
+) -> Asked<'t>
     ensures { columns.asked extra.entry.now ≡ columns.columns_for table.entry.further →
+        is_some countries.entry ≡ is_some table.entry.countries →
         IsAsked table.entry (option_map (λ d. d.now) reader.entry.short) result }
 {
     Asked {
         number: table.column,
         region: table.region_column,
+        countries,
         delimiter: table.delimiter,
         else_hint: table.fallback_region,
         mark_bad: table.mark_bad,

@@ -100,8 +100,13 @@ pub(crate) fn is_read<R: Files>(rt: &R, reading: Reading<'_, '_>, name: &str) ->
         name,
         place: place_of(rt, name),
     };
-    let databases = [Some(reading.path), reading.call.short_database];
+    let call = reading.call;
+    let tables = [
+        Some(reading.path),
+        call.short_database,
+        call.table.countries,
+    ];
     is_input(rt, written, reading.files)
-        || is_any_written(rt, written, &databases)
-        || is_of_columns(rt, written, reading.call.table.further)
+        || is_any_written(rt, written, &tables)
+        || is_of_columns(rt, written, call.table.further)
 }

@@ -7,6 +7,7 @@ ghost use Rattle.phone_commands.specs.Pairs.{IsWithTab};
 ghost use Rattle.phone_lines.specs.LineReports.{IsReport};
 
 use crate::pairs::Tabs;
+use phone_countries::CountriesError;
 use phone_device::{ByteSource, MemorySink, Std};
 use phone_lines::{RunError, take_lines};
 use phone_prefixes::{Prefixes, PrefixesError};
@@ -109,13 +110,15 @@ fn columns_wanted<'w>(alloc: Global, further: Further<'w>) -> Result<Vec<Wanted<
     Ok(columns)
 }
 
-/// Why further columns are not there, and by which file.
+/// Why further columns, or the names of regions, are not there, and by which file.
 #[derive(Clone, Copy)]
 pub enum NoColumns<'w> {
     /// The file can't be read.
     Unopened(&'w str),
     /// What it holds is no table of prefixes.
     Refused(&'w str, PrefixesError),
+    /// What it holds is no table of the names of regions.
+    NoNames(&'w str, CountriesError),
     /// There was no memory.
     Memory,
 }

@@ -7,7 +7,7 @@ use crate::jobs::{Job, JobError};
 use phone_csv::FirstError;
 use phone_device::{ByteSink, ByteSource};
 use phone_engine::Engine;
-use phone_table::{Asked, Counts, TableError, write_table};
+use phone_table::{Asked, Counts, TableError, UnknownNames, write_table};
 use std::alloc::Global;
 
 /// A table of customers.
@@ -19,6 +19,8 @@ pub struct Customers<'d, 'w> {
     pub asked: Asked<'w>,
     /// How many records there were, how many of them gave what, and how many were left out.
     pub counts: Counts,
+    /// The texts that name no region, of the last table.
+    pub unknown: UnknownNames,
 }
 
 /// Why a table was not answered whole, as a job's error.
@@ -49,9 +51,10 @@ impl<'d, 'w> Customers<'d, 'w> {
             (seen (S.to_come source.new) (S.faults source.new) (W.taken sink.new)
             (W.faults sink.new) (W.unflushed sink.new))
             self.new.counts result }
-        ensures kept { self.new ≡ record self.old { counts = self.new.counts } }
+        ensures kept { self.new ≡
+            record self.old { counts = self.new.counts; unknown = self.new.unknown } }
     {
-        match write_table(self.engine, self.asked, source, sink) {
+        match write_table(self.engine, self.asked, source, sink, &mut self.unknown) {
             Ok(counts) => {
                 self.counts = counts;
                 Ok(())
@@ -65,10 +68,10 @@ impl<'d, 'w> Job for Customers<'d, 'w> {
     ghost use Rattle.std.specs.Prelude.{◌≡◌};
     ghost use Rattle.phone_commands.specs.TableJobs.{AnswersTable};
 
-    // The answer to a table, whose counts alone are kept anew.
+    // The answer to a table, whose counts and texts that name no region are kept anew.
     ghost acts = { λ c before after c' result. AnswersTable c.engine.rules c.engine.database.now
         c.engine.hint c.asked before after c'.counts result ×
-        (c' ≡ record c { counts = c'.counts }) };
+        (c' ≡ record c { counts = c'.counts; unknown = c'.unknown }) };
 
     fn answer<S: ByteSource, W: ByteSink>(
         &mut self,

@@ -4,6 +4,7 @@
 #![tactic(auto)]
 
 mod columns;
+mod countries;
 mod customers;
 mod finder;
 mod inputs;
@@ -17,6 +18,7 @@ mod typist;
 mod with_input;
 
 pub use columns::{Loaded, LoadedColumn, NoColumns};
+pub use countries::countries_in;
 pub use customers::Customers;
 pub use finder::{Finder, FoundForm};
 pub use inputs::{Failure, is_standard, on_inputs};

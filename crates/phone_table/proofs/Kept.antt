@@ -93,7 +93,7 @@ module _ (first : Table) where
       keys = λ text u. ap (list_any (λ k. bytes_eq text k.items)) keys;
     },
   )
-  rows_kept counts keys records rows last (answered some before now fields answer after are (row_written number given is new k counted)) =
+  rows_kept counts keys records rows last (answered some before now fields answer after are (row_written number given is new k counted said)) =
       let (all, answers, s) = rows_kept counts keys some before now are in
       let a = answered_so fields answer number in (
         all ++ a ∷ [],
@@ -106,7 +106,7 @@ module _ (first : Table) where
           keys = keys_after all before now last a s k;
         },
       )
-  rows_kept counts keys records rows last (left_out some before now fields after are (row_left_out number answer is new k counted)) =
+  rows_kept counts keys records rows last (left_out some before now fields after are (row_left_out number answer is new k counted said)) =
       let (all, answers, s) = rows_kept counts keys some before now are in
       let a = answered_so fields answer number in (
         all ++ a ∷ [],

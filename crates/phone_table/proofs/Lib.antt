@@ -13,7 +13,6 @@ pub mod EndLemmas
 pub mod ExtraLemmas
 pub mod RunLemmas
 pub mod ObjectLemmas
-pub mod RegionLemmas
 pub mod KeyLemmas
 pub mod ShortLemmas
 pub mod OneAnswers

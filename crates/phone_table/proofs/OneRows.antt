@@ -6,17 +6,16 @@ use Rattle.std.proofs.Math.Seq.{take-append_seam}
 use Rattle.phone_values.specs.declared.country.Id.{Id}
 use Rattle.phone_values.specs.declared.reading.Reading.{Reading}
 use Rattle.phone_values.specs.declared.rules.Rules.{Rules}
+use Rattle.phone_countries.specs.declared.countries.Entry.{Entry as Name}
 use Rattle.phone_csv.specs.Formats.{Record}
 use Rattle.phone_engine.specs.Facts.{kind_by, region_by}
 use Rattle.phone_prefixes.specs.Tables.{Entry}
 use Rattle.phone_records.specs.declared.loader.Metadata.{Metadata}
-use Rattle.phone_table.specs.Answers.{IsAnswer, IsAnswerUnder, IsOwnAnswer, IsUnder, short_of}
+use Rattle.phone_table.specs.Answers.{IsAnswer, IsAnswerUnder, IsOwnAnswer, IsUnder, countries_of, short_of}
+use Rattle.phone_table.specs.Extras.{AreTold, EachHasOneText, HaveOneText, IsFound, IsPartOrFound, IsTold, entries_in, looked_up, part_of, IsSuspicion, IsToldBy, IsToldIf, tells_doubts}
 use Rattle.phone_doubts.proofs.Answered.{answer_same as words_same}
-use Rattle.phone_table.specs.Extras.{AreTold, EachHasOneText, HaveOneText, IsFound, IsPartOrFound, IsSuspicion, IsTold}
-use Rattle.phone_table.specs.Extras.{IsToldBy, IsToldIf, entries_in, looked_up, part_of, tells_doubts}
 use Rattle.phone_table.specs.Extras.AreTold.{none as told_none, next as told_next}
-use Rattle.phone_table.specs.Regions.{Names, RecordNames, field_in, hint_under}
-use Rattle.phone_table.specs.Regions.Names.{no_text, of_text}
+use Rattle.phone_table.specs.Regions.{RecordNames, RegionText, TextOf, field_in, hint_under, named_by}
 use Rattle.phone_table.specs.declared.extra.Extra.{Extra}
 use Rattle.phone_table.specs.declared.header.Columns.{Columns}
 use Rattle.phone_table.specs.declared.region.Named.{Named}
@@ -44,26 +43,29 @@ found_same entries one (Some digits) a b (inr (none, e)) (inl (q, m)) =
     absurd (none (record { prefix = q; text = b }) m.is m.begins)
 found_same entries one (Some digits) a b (inr (none, e)) (inr (other, f)) = e ∙ sym f
 
--- a field names one region, or none
-names_same : (field : List ℕ) (r s : Named) → Names field r → Names field s → r ≡ s
-names_same field _ _ (of_text u) (of_text v) = refl
-names_same field _ _ (of_text u) (no_text x) = absurd (x u)
-names_same field _ _ (no_text x) (of_text u) = absurd (x u)
-names_same field _ _ (no_text x) (no_text y) = refl
+-- a record names one region, or none
+text_of_same : (field : List ℕ) (r s : Option (List ℕ)) → TextOf field r → TextOf field s → r ≡ s
+text_of_same field None None h g = refl
+text_of_same field None (Some t) h g = absurd (h g.0)
+text_of_same field (Some t) None h g = absurd (g h.0)
+text_of_same field (Some t) (Some u) h g = ap Some (h.1 ∙ sym g.1)
 
-region_same : (fields : Record) (o : Option ℕ) (r s : Named) → RecordNames o fields r → RecordNames o fields s →
-    r ≡ s
-region_same fields None r s h g = h ∙ sym g
-region_same fields (Some column) r s h g = names_same (field_in fields column) r s h g
+text_same : (fields : Record) (o : Option ℕ) (r s : Option (List ℕ)) → RegionText fields o r → RegionText fields o s → r ≡ s
+text_same fields None r s h g = h ∙ sym g
+text_same fields (Some column) r s h g = text_of_same (field_in fields column) r s h g
+
+region_same : (names : Option (List Name)) (db : List Metadata) (fields : Record) (o : Option ℕ) (r s : Named) → RecordNames names db o fields r →
+    RecordNames names db o fields s → r ≡ s
+region_same names db fields o r s (t, is, e) (u, is', f) = e ∙ ap (named_by names db) (text_same fields o t u is is') ∙ sym f
 
 -- a record is read under one hint, if it is
-pub hint_same : (hint : Option Id) (columns : Columns) (asked : Asked) (fields : Record) (u v : Option (Option Id)) → IsUnder hint columns asked fields u →
-    IsUnder hint columns asked fields v → u ≡ v
-hint_same hint columns asked fields u v (inl (w, r, named, e)) (inl (x, s, named', f)) =
-    e ∙ ap (hint_under asked.else_hint hint) (region_same fields columns.region r s named named') ∙ sym f
-hint_same hint columns asked fields u v (inl (w, r, named, e)) (inr (other, f)) = absurd (other w)
-hint_same hint columns asked fields u v (inr (other, e)) (inl (w, r, named, f)) = absurd (other w)
-hint_same hint columns asked fields u v (inr (other, e)) (inr (more, f)) = e ∙ sym f
+pub hint_same : (db : List Metadata) (hint : Option Id) (columns : Columns) (asked : Asked) (fields : Record) (u v : Option (Option Id)) → IsUnder db hint columns asked fields u →
+    IsUnder db hint columns asked fields v → u ≡ v
+hint_same db hint columns asked fields u v (inl (w, r, named, e)) (inl (x, s, named', f)) =
+    e ∙ ap (hint_under asked.else_hint hint) (region_same (countries_of asked) db fields columns.region r s named named') ∙ sym f
+hint_same db hint columns asked fields u v (inl (w, r, named, e)) (inr (other, f)) = absurd (other w)
+hint_same db hint columns asked fields u v (inr (other, e)) (inl (w, r, named, f)) = absurd (other w)
+hint_same db hint columns asked fields u v (inr (other, e)) (inr (more, f)) = e ∙ sym f
 
 -- a part is one text, and so is what is found
 part_same : (entries : List Entry) → HaveOneText entries → (part digits : Option (List ℕ)) (a b : List ℕ) →
@@ -132,7 +134,7 @@ module _ (rules : Rules) (db : List Metadata) where
         IsAnswer rules db hint columns asked fields b → a ≡ b
     answer_same hint a b one (n, (u, told, own, by, is, are, e)) (k, (v, told', own', by', is', are', f)) =
         let read = field_in fields columns.number in
-        let under = hint_same hint columns asked fields u v by by' in
+        let under = hint_same db hint columns asked fields u v by by' in
         let same = own_same v n k own own' (subst (λ x. IsOwnAnswer rules db columns asked fields x n own) under is) is' in
         e ∙ ap₂ (λ x y. x ++ y) (all_told_same v read k asked.extra.now told told' one
         (subst (λ x. AreTold rules db v read x asked.extra.now told) same.0 (subst (λ x. AreTold rules db x read n asked.extra.now told) under are)) are') same.1 ∙ sym f

@@ -21,13 +21,13 @@ use Rattle.phone_prefixes.specs.Tables.{AreEntries, Entry, IsLongest, IsTable, N
 use Rattle.phone_prefixes.specs.Tables.AreEntries.{none as no_entries, next as next_entry}
 use Rattle.phone_records.specs.declared.loader.Metadata.{Metadata}
 use Rattle.phone_table.specs.Answers.{IsAnswer, IsAnswerUnder, IsFieldAnswer, IsOfOtherWidth}
-use Rattle.phone_table.specs.Answers.{IsOwnAnswer, IsUnder, short_of}
-use Rattle.phone_table.specs.Extras.{AreTold, HaveOneText, IsFound, IsPartOrFound, IsTold, IsToldBy, IsToldIf, ask_doubts, entries_in, looked_up, part_of, tells_doubts}
+use Rattle.phone_table.specs.Answers.{IsOwnAnswer, IsUnder, countries_of, short_of}
+use Rattle.phone_table.specs.Extras.{AreTold, HaveOneText, IsFound, IsPartOrFound, IsTold, entries_in, looked_up, part_of, IsToldBy, IsToldIf, ask_doubts, tells_doubts}
 use Rattle.phone_table.specs.Extras.AreTold.{none as told_none, next as told_next}
 use Rattle.phone_table.specs.declared.extra.Extra.{Extra}
 use Rattle.phone_table.specs.declared.header.Columns.{Columns}
 use Rattle.phone_table.specs.declared.run.Asked.{Asked}
-use Rattle.phone_table.specs.Regions.{RecordNames, field_in, hint_under}
+use Rattle.phone_table.specs.Regions.{RegionText, field_in, hint_under, named_by}
 use Rattle.phone_table.specs.declared.region.Named.{Named}
 
 -- a prefix begins a text, or it doesn't
@@ -198,7 +198,7 @@ module _ (rules : Rules) (db : List Metadata) where
     under_some None has = (None, _, (refl, refl))
     under_some (Some own) has = has own
 
-    with_told : (under : Option (Option Id)) → IsUnder hint columns asked fields under → (n : Option Reading) (own : Record) →
+    with_told : (under : Option (Option Id)) → IsUnder db hint columns asked fields under → (n : Option Reading) (own : Record) →
         IsOwnAnswer rules db columns asked fields under n own →
         (answer : Record) × IsAnswer rules db hint columns asked fields answer
     with_told under by n own is =
@@ -213,12 +213,13 @@ module _ (rules : Rules) (db : List Metadata) where
     of_other_width other false e = inr (e, other)
 
     -- each record is answered, but for such
-    pub answer_some : (region : Named) → RecordNames columns.region fields region → HasAnswers →
+    pub answer_some : (text : Option (List ℕ)) → RegionText fields columns.region text → HasAnswers →
         ((answer : Record) × IsAnswer rules db hint columns asked fields answer) ⊎
         IsOfOtherWidth columns asked fields
-    answer_some region named has = ⊎_elim
-        (λ width. let under = hint_under asked.else_hint hint region in
+    answer_some text is has = ⊎_elim
+        (λ width. let region = named_by (countries_of asked) db text in
+        let under = hint_under asked.else_hint hint region in
         let a = under_some under has in
-        inl (with_told under (inl (width, region, named, refl)) a.0 a.1 (inl (width, a.2))))
+        inl (with_told under (inl (width, region, (text, is, refl), refl)) a.0 a.1 (inl (width, a.2))))
         (λ other. of_other_width other asked.mark_bad refl)
         (cases_eq (length fields) columns.width)

@@ -9,6 +9,7 @@ use Rattle.phone_values.specs.declared.country.Id.{Id}
 use Rattle.phone_values.specs.declared.error.ParseError.{ParseError}
 use Rattle.phone_values.specs.declared.mode.Mode.TheVariants.{E164, International, National}
 use Rattle.phone_values.specs.declared.reading.Reading.{Reading}
+use Rattle.phone_countries.specs.declared.countries.Entry.{Entry}
 use Rattle.phone_csv.specs.Formats.{Record}
 use Rattle.phone_plans.specs.CodeLookUps.{first_of, territories}
 use Rattle.phone_records.specs.declared.loader.Metadata.{Metadata}
@@ -95,15 +96,21 @@ IsAnswerUnder rules db short (Some hint) field number answer =
 abbrev pub short_of : Asked → Option (List Metadata)
 short_of asked = option_map (λ d. d.now) asked.short
 
+-- the table of names of regions that is asked for
+abbrev pub countries_of : Asked → Option (List Entry)
+countries_of asked = option_map (λ c. c.now) asked.countries
+
 -- a record has as many fields as the header
 abbrev pub IsOfWidth : Columns → Record → Type 0
 IsOfWidth columns fields = length fields ≡ columns.width
 
 -- the hint under which a record's number is read, by the region that the record names; none where
 -- it isn't read: the record names no region that there is, or has another count of fields
-abbrev pub IsUnder : Option Id → Columns → Asked → Record → Option (Option Id) → Type 0
-IsUnder hint columns asked fields under =
-    (IsOfWidth columns fields × (region : Named) × RecordNames columns.region fields region ×
+abbrev pub IsUnder : List Metadata → Option Id → Columns → Asked → Record → Option (Option Id) →
+    Type 0
+IsUnder db hint columns asked fields under =
+    (IsOfWidth columns fields × (region : Named) ×
+    RecordNames (countries_of asked) db columns.region fields region ×
     (under ≡ hint_under asked.else_hint hint region)) ⊎
     (¬ (IsOfWidth columns fields) × (under ≡ None))
 
@@ -126,7 +133,7 @@ abbrev pub IsAnswerOf : Rules → List Metadata → Option Id → Columns → As
     Option Reading → Record → Type 0
 IsAnswerOf rules db hint columns asked fields number answer = (under : Option (Option Id)) ×
     (told : Record) × (own : Record) ×
-    IsUnder hint columns asked fields under ×
+    IsUnder db hint columns asked fields under ×
     IsOwnAnswer rules db columns asked fields under number own ×
     AreTold rules db under (field_in fields columns.number) number asked.extra.now told ×
     (answer ≡ told ++ own)

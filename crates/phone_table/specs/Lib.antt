@@ -15,4 +15,5 @@ pub mod Shorts
 pub mod Spelled
 pub mod Tables
 pub mod Taking
+pub mod Unknowns
 pub mod Unwritten

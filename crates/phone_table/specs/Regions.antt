@@ -1,13 +1,13 @@
 -- The region under which a record is read.
-use Rattle.std.specs.Prelude.{◌≡◌, ℕ, ◌==◌, Bool, List, [], length, map, unwrap_or}
+use Rattle.std.specs.Prelude.{◌≡◌, ℕ, ◌==◌, Bool, List, [], length, unwrap_or}
 use Rattle.std.specs.Prelude.{if◌then◌else◌, Option, Some, None}
-use Rattle.std.specs.Char.{to_ascii_lowercase}
-use Rattle.std.specs.List.{find}
-use Rattle.std.specs.Str.{IsUtf8, bytes_eq, trim}
+use Rattle.std.specs.Str.{IsUtf8, trim}
 use Rattle.csv.specs.Records.{field_at}
-use Rattle.phone_values.specs.Ids.{name}
+use Rattle.phone_countries.specs.Ids.{id_in}
+use Rattle.phone_countries.specs.Names.{region_named}
+use Rattle.phone_countries.specs.declared.countries.Entry.{Entry}
+use Rattle.phone_records.specs.declared.loader.Metadata.{Metadata}
 use Rattle.phone_values.specs.declared.country.Id.{Id}
-use Rattle.phone_values.specs.declared.country.TheConstants.{ALL}
 use Rattle.phone_csv.specs.Formats.{Record}
 use Rattle.phone_table.specs.declared.region.Named.{Named}
 use Rattle.phone_table.specs.declared.region.Named.TheVariants.{Nothing, Region, Unknown}
@@ -16,32 +16,36 @@ use Rattle.phone_table.specs.declared.region.Named.TheVariants.{Nothing, Region,
 abbrev pub field_in : Record → ℕ → List ℕ
 field_in fields column = unwrap_or (field_at fields column) []
 
--- a text is this id, its letters capital or small
-abbrev pub is_id : List ℕ → Id → Bool
-is_id text id = bytes_eq (map to_ascii_lowercase (name id)) (map to_ascii_lowercase text)
-
--- the id that a text is
-unfoldable pub id_in : List ℕ → Option Id
-id_in text = find (is_id text) ALL
+-- the region that a text names: by its id alone, where there is no table of names
+abbrev pub region_meant : Option (List Entry) → List Metadata → List ℕ → Option Id
+region_meant None db text = id_in text
+region_meant (Some names) db text = region_named names db text
 
 -- an id is named, or none that there is
 abbrev pub region_or_none : Option Id → Named
 region_or_none (Some id) = Region id
 region_or_none None = Unknown
 
--- what a text names as a region
-abbrev pub named_by : List ℕ → Named
-named_by text = if length text == 0 then Nothing else region_or_none (id_in text)
+-- what a text names as a region: an empty one nothing, and what is no text none that there is
+abbrev pub named_by : Option (List Entry) → List Metadata → Option (List ℕ) → Named
+named_by names db None = Unknown
+named_by names db (Some text) =
+    if length text == 0 then Nothing else region_or_none (region_meant names db text)
 
--- what a field names as a region, white space around it passed over
-pub data Names (field : List ℕ) : Named → Type 0 where
-  of_text : IsUtf8 field → Names field (named_by (trim field))
-  no_text : ¬ (IsUtf8 field) → Names field Unknown
+-- the text of a field, white space around it passed over; none where its bytes aren't UTF-8
+abbrev pub TextOf : List ℕ → Option (List ℕ) → Type 0
+TextOf field None = ¬ (IsUtf8 field)
+TextOf field (Some text) = IsUtf8 field × (text ≡ trim field)
 
--- what a record names as its region: nothing, where there is no column of regions
-abbrev pub RecordNames : Option ℕ → Record → Named → Type 0
-RecordNames None fields region = region ≡ Nothing
-RecordNames (Some column) fields region = Names (field_in fields column) region
+-- the text by which a record names its region: an empty one where there is no column of regions
+abbrev pub RegionText : Record → Option ℕ → Option (List ℕ) → Type 0
+RegionText fields None text = text ≡ Some []
+RegionText fields (Some column) text = TextOf (field_in fields column) text
+
+-- what a record names as its region, by a table of names where there is one
+abbrev pub RecordNames : Option (List Entry) → List Metadata → Option ℕ → Record → Named → Type 0
+RecordNames names db column fields region = (text : Option (List ℕ)) ×
+    RegionText fields column text × (region ≡ named_by names db text)
 
 -- the hint under which a record is read that names this region: its own, else that of the table;
 -- none where it names no region that there is, unless that takes the table's hint too

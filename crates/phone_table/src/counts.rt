@@ -77,7 +77,7 @@ impl Counts {
 }
 
 /// A count, and one more where this holds; 2^64 - 1 at most.
-fn counted_if(holds: bool, count: u64) -> u64
+pub(crate) fn counted_if(holds: bool, count: u64) -> u64
     ensures { result ≡ counted_if holds count }
 {
     if holds {
@@ -95,7 +95,7 @@ fn tells(row: &ByteRecord, place: usize, word: &str) -> bool
 }
 
 /// Whether a row is refused with these words.
-fn has_refusal(row: &ByteRecord, words: &str) -> bool
+pub(crate) fn has_refusal(row: &ByteRecord, words: &str) -> bool
     ensures { result ≡ has_refusal words.now (fields_of row.now) }
 {
     tells(row, 1, words)

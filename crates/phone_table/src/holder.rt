@@ -59,7 +59,9 @@ impl<'d> Answers for Holder<'d> {
     /// the table has columns isn't answered, unless such are marked.
     fn answer(&mut self, alloc: Global, fields: &mut ByteRecord) -> Result<bool, Refusal> {
         let width = fields.len();
-        let under = self.table.hint_of(fields);
+        let Ok(under) = self.table.hint_of(fields) else {
+            return Err(Refusal::Memory);
+        };
         let answer = match self.table.answer_or_refusal(under, fields) {
             Ok(answer) => answer,
             Err(refusal) => return Err(refusal),

@@ -29,8 +29,9 @@ ghost use Rattle.phone_table.specs.declared.header.Columns as header;
 ghost use Rattle.phone_table.specs.declared.run.Asked as run;
 
 use crate::header::Columns;
+use crate::region::region_text;
 use crate::run::Asked;
-use crate::table::{field_in, region_of};
+use crate::table::field_in;
 use csv::ByteRecord;
 use phone_engine::laws::some_reading;
 
@@ -57,9 +58,9 @@ pub fn one_answer()
 /// fields, which are of one number or of none, and, where in the table of each column that is asked
 /// for a prefix has one text, what these columns tell.
 pub fn one_row()
-    ensures under { (hint : Option Id) (columns : header.Columns) (asked : run.Asked)
-        (fields : Record) (u v : Option (Option Id)) → IsUnder hint columns asked fields u →
-        IsUnder hint columns asked fields v → u ≡ v }
+    ensures under { (db : List loader.Metadata) (hint : Option Id) (columns : header.Columns)
+        (asked : run.Asked) (fields : Record) (u v : Option (Option Id)) →
+        IsUnder db hint columns asked fields u → IsUnder db hint columns asked fields v → u ≡ v }
     ensures own { (rules : Rules) (db : List loader.Metadata) (columns : header.Columns)
         (asked : run.Asked) (fields : Record) (under : Option (Option Id))
         (n k : Option Reading) (a b : Record) →
@@ -92,7 +93,7 @@ pub fn some_row(columns: Columns, asked: Asked<'_>, fields: &ByteRecord)
         IsAnswer rules db hint columns asked.entry (fields_of fields.now) answer) ⊎
         IsOfOtherWidth columns asked.entry (fields_of fields.now) }
 {
-    let _named = region_of(columns, fields);
+    let _text = region_text(columns, fields);
     some_answer(field_in(fields, columns.number));
 }
 

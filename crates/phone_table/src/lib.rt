@@ -18,6 +18,7 @@ mod region;
 mod rows;
 mod run;
 mod table;
+mod unknown;
 mod words;
 
 pub use answer::{Answer, Known, answer_to};
@@ -25,8 +26,9 @@ pub use counts::Counts;
 pub use extra::{Extra, Told};
 pub use header::{Column, ColumnError, Columns, column_of, columns_of};
 pub use key::{ANSWER_WIDTH, e164_of};
+pub use phone_countries::{Countries, id_in};
 pub use phone_csv::{ByteSink, ByteSource, FirstError, RunError};
 pub use phone_maps::Owner;
-pub use region::id_in;
 pub use run::{Asked, TableError, write_table};
 pub use table::Table;
+pub use unknown::{MOST_UNKNOWN, UnknownNames};

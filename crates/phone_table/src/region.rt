@@ -1,9 +1,15 @@
-//! The region that a field names, and the hint under which its record is read.
-ghost use Rattle.std.specs.Prelude.{◌≡◌};
-ghost use Rattle.std.specs.List.{find};
-ghost use Rattle.phone_table.specs.Regions.{Names, hint_under, id_in, is_id, named_by};
+//! The region that a record names, and the hint under which it is read.
+ghost use Rattle.std.specs.Prelude.{◌≡◌, IfOk, option_map};
+ghost use Rattle.csv.specs.Records.{fields_of};
+ghost use Rattle.phone_table.specs.Regions.{RegionText, TextOf, hint_under, named_by, region_meant};
 
-use phone_values::country::{ALL, Id};
+use crate::header::Columns;
+use crate::table::field_in;
+use csv::ByteRecord;
+use phone_countries::{Countries, id_in, region_named};
+use phone_plans::Plans;
+use phone_values::country::Id;
+use std::alloc::AllocError;
 
 /// What the field of a region names.
 #[derive(Clone, Copy, PartialEq, Eq, Debug)]
@@ -16,47 +22,62 @@ pub enum Named {
     Unknown,
 }
 
-/// Whether a text is this id, its letters capital or small.
-fn is_id(id: Id, text: &str) -> bool
-    ensures { result ≡ is_id text.now id }
-{
-    id.as_str().eq_ignore_ascii_case(text)
-}
-
-/// The first of the ids that a text is.
-fn find_id(ids: &[Id], text: &str) -> Option<Id>
-    ensures { result ≡ find (is_id text.now) ids.now }
-{
-    ids.iter().copied().find(|id| is_id(*id, text))
-}
-
-/// The id that a text is, its letters capital or small.
-pub fn id_in(text: &str) -> Option<Id>
-    ensures { result ≡ id_in text.now }
-{
-    find_id(&ALL, text)
-}
-
-/// What a text names as a region.
-fn named_by(text: &str) -> Named
-    ensures { result ≡ named_by text.now }
-{
-    if text.is_empty() {
-        return Named::Nothing;
-    }
-    match id_in(text) {
-        Some(id) => Named::Region(id),
-        None => Named::Unknown,
-    }
-}
-
-/// What a field names as a region, white space around it passed over.
-pub(crate) fn region_named(field: &[u8]) -> Named
-    ensures { Names field.now result }
+/// The text of a field without white space around it; none where the field is no UTF-8.
+fn text_in(field: &[u8]) -> Option<&str>
+    ensures { TextOf field.now (option_map (λ t. t.now) result) }
 {
     match std::str::from_utf8(field) {
-        Ok(text) => named_by(text.trim()),
-        Err(_) => Named::Unknown,
+        Ok(text) => Some(text.trim()),
+        Err(_) => None,
+    }
+}
+
+/// The text by which a record names its region, white space around it passed over: empty where
+/// there is no column of regions; none where the field is no text.
+pub(crate) fn region_text(columns: Columns, fields: &ByteRecord) -> Option<&str>
+    ensures { RegionText (fields_of fields.now) columns.region
+        (option_map (λ t. t.now) result) }
+{
+    match columns.region {
+        Some(column) => text_in(field_in(fields, column)),
+        None => Some(""),
+    }
+}
+
+/// The region that a text names: by its id alone, where there is no table of names. Refused only
+/// for memory.
+fn region_meant(
+    countries: Option<&Countries>,
+    plans: &Plans,
+    text: &str,
+) -> Result<Option<Id>, AllocError>
+    ensures { IfOk result (λ found. found ≡
+        region_meant (option_map (λ c. c.now) countries.entry) plans.now text.now) }
+{
+    match countries {
+        Some(countries) => region_named(countries, plans, text),
+        None => Ok(id_in(text)),
+    }
+}
+
+/// What a text names as a region; `Unknown` where there is no text. Refused only for memory.
+pub(crate) fn named_by(
+    countries: Option<&Countries>,
+    plans: &Plans,
+    text: Option<&str>,
+) -> Result<Named, AllocError>
+    ensures { IfOk result (λ named. named ≡ named_by (option_map (λ c. c.now) countries.entry)
+        plans.now (option_map (λ t. t.now) text.entry)) }
+{
+    let Some(text) = text else {
+        return Ok(Named::Unknown);
+    };
+    if text.is_empty() {
+        return Ok(Named::Nothing);
+    }
+    match region_meant(countries, plans, text)? {
+        Some(id) => Ok(Named::Region(id)),
+        None => Ok(Named::Unknown),
     }
 }
 

@@ -18,7 +18,9 @@ use crate::marked::write_marked;
 use crate::names::{added_names, first_taken};
 use crate::rows::write_rows;
 use crate::table::Table;
+use crate::unknown::UnknownNames;
 use csv::ByteRecord;
+use phone_countries::Countries;
 use phone_csv::{First, FirstError, RunError, first_record, is_delimiter};
 use phone_device::{ByteSink, ByteSource};
 use phone_engine::Engine;
@@ -34,6 +36,8 @@ pub struct Asked<'a> {
     pub region: Option<&'a str>,
     /// The byte between fields: any but a quote and a line end.
     pub delimiter: u8,
+    /// The table of the names of regions, where regions are named otherwise than by their ids too.
+    pub countries: Option<&'a Countries>,
     /// Whether a record is read under the engine's hint where it names no region that there is.
     pub else_hint: bool,
     /// Whether a record with another count of fields than the header is given back with a refusal,
@@ -60,6 +64,7 @@ impl<'a> Asked<'a> {
           number = number.entry;
           region = None;
           delimiter = 44;
+          countries = None;
           else_hint = false;
           mark_bad = false;
           is_unique = false;
@@ -75,6 +80,7 @@ impl<'a> Asked<'a> {
             number,
             region: None,
             delimiter: b',',
+            countries: None,
             else_hint: false,
             mark_bad: false,
             is_unique: false,
@@ -161,8 +167,11 @@ fn names_behind(
 ///
 /// A record is read under the region whose id stands in its column of regions, in capital or small
 /// letters, with or without white space around; under the engine's hint where that field is empty.
-/// Where the field holds anything else, the number is refused with the words `unknown region`, and
-/// the run goes on; with `else_hint` the number is read under the engine's hint.
+/// Where there is a table of the names of regions, what else the field may hold is a name of the
+/// table, however it is written, or a calling code. Where the field holds anything else, the number
+/// is refused with the words `unknown region`, and the run goes on; with `else_hint` the number is
+/// read under the engine's hint. Where the table was answered whole, `unknown` is then the texts
+/// that were refused so, with their counts.
 ///
 /// Errors: `Delimiter`, before anything is read; `Header` where there is no header, `NoColumn`
 /// where the header has no column of a name that is asked for, or more than one, and `Taken` where
@@ -178,6 +187,7 @@ pub fn write_table<S: ByteSource, W: ByteSink>(
     asked: Asked<'_>,
     source: &mut S,
     sink: &mut W,
+    unknown: &mut UnknownNames,
 ) -> Result<Counts, TableError>
     ensures ends { RunEnds engine.entry.rules engine.entry.database.now engine.entry.hint
         asked.entry
@@ -204,7 +214,7 @@ pub fn write_table<S: ByteSource, W: ByteSink>(
         Err(error) => return Err(error),
     };
     let table = Table::new(engine, asked, columns);
-    match write_records(alloc, table, first, &added, source, sink) {
+    match write_records(alloc, table, first, &added, source, sink, unknown) {
         Ok(counts) => Ok(counts),
         Err(error) => Err(TableError::Rows(error)),
     }
@@ -218,6 +228,7 @@ fn write_records<S: ByteSource, W: ByteSink>(
     added: &ByteRecord,
     source: &mut S,
     sink: &mut W,
+    unknown: &mut UnknownNames,
 ) -> Result<Counts, RunError>
     requires partial { partial_of first.fields ≡ [] }
     requires end { IsNone first.rest → IsAtEnd (S.to_come source.old) }
@@ -237,7 +248,7 @@ fn write_records<S: ByteSource, W: ByteSink>(
     if table.asked.tells_duplicates {
         write_marked(alloc, table, first, added, source, sink)
     } else {
-        write_plain(alloc, table, first, added, source, sink)
+        write_plain(alloc, table, first, added, source, sink, unknown)
     }
 }
 
@@ -249,6 +260,7 @@ fn write_plain<S: ByteSource, W: ByteSink>(
     added: &ByteRecord,
     source: &mut S,
     sink: &mut W,
+    unknown: &mut UnknownNames,
 ) -> Result<Counts, RunError>
     requires partial { partial_of first.fields ≡ [] }
     requires end { IsNone first.rest → IsAtEnd (S.to_come source.old) }
@@ -269,7 +281,10 @@ fn write_plain<S: ByteSource, W: ByteSink>(
     let mut table = table;
     let delimiter = table.asked.delimiter;
     match write_rows(alloc, &mut table, delimiter, first, added, source, sink) {
-        Ok(()) => Ok(table.counts),
+        Ok(()) => {
+            *unknown = table.unknown;
+            Ok(table.counts)
+        }
         Err(error) => Err(error),
     }
 }

@@ -7,9 +7,10 @@ ghost use Rattle.csv.specs.Records.{fields_of, partial_of};
 ghost use Rattle.phone_csv.specs.Formats.{Record};
 ghost use Rattle.phone_table.specs.Answered.{key_in};
 ghost use Rattle.phone_table.specs.Answers.{IsAnswerUnder, IsOfOtherWidth, IsOwnAnswer};
-ghost use Rattle.phone_table.specs.Answers.{IsUnder, refused_answer, short_of};
+ghost use Rattle.phone_table.specs.Answers.{IsUnder, countries_of, refused_answer, short_of};
 ghost use Rattle.phone_table.specs.Extras.{AreTold};
-ghost use Rattle.phone_table.specs.Regions.{RecordNames, field_in};
+ghost use Rattle.phone_table.specs.Regions.{RecordNames, field_in, hint_under};
+ghost use Rattle.phone_table.specs.declared.region.Named.{Named};
 ghost use Rattle.phone_table.specs.Counts.{no_counts};
 ghost use Rattle.phone_table.specs.Taking.{Keeps, is_known};
 ghost use Rattle.phone_table.specs.Spelled.{IsKnownIn, number_in, spelled};
@@ -18,8 +19,9 @@ use crate::answer::{Answer, answer_to, push_answer};
 use crate::counts::Counts;
 use crate::extra::{Subject, push_told};
 use crate::header::Columns;
-use crate::region::{Named, hint_under, region_named};
+use crate::region::{hint_under, named_by, region_text};
 use crate::run::Asked;
+use crate::unknown::{UnknownNames, note_unknown};
 use csv::ByteRecord;
 use phone_book::key_text;
 use phone_csv::{Answers, Refusal};
@@ -42,6 +44,8 @@ pub struct Table<'d> {
     pub counts: Counts,
     /// The keys of the numbers that were read, where each number is kept once.
     pub keys: HashSet<Vec<u8>>,
+    /// The texts that name no region.
+    pub unknown: UnknownNames,
 }
 
 impl<'d> Table<'d> {
@@ -52,28 +56,44 @@ impl<'d> Table<'d> {
         ensures columns { result.columns ≡ columns }
         ensures counts { result.counts ≡ no_counts }
         ensures keys { result.keys.keys ≡ [] }
+        ensures unknown { result.unknown.names.entries ≡ [] }
     {
+        let alloc = engine.database.allocator();
         Table {
             engine,
             asked,
             columns,
             counts: Counts::new(),
-            keys: HashSet::new(engine.database.allocator()),
+            keys: HashSet::new(alloc),
+            unknown: UnknownNames::new(alloc),
         }
+    }
+
+    /// The hint by the region that a record names; none where it names none that there is. Refused
+    /// only for memory.
+    fn hint_named(&self, fields: &ByteRecord) -> Result<Option<Option<Id>>, AllocError>
+        ensures { IfOk result (λ under. (region : Named) ×
+            RecordNames (countries_of self.now.asked) self.now.engine.database.now
+            self.now.columns.region (fields_of fields.now) region ×
+            (under ≡ hint_under self.now.asked.else_hint self.now.engine.hint region)) }
+    {
+        let text = region_text(self.columns, fields);
+        let named = named_by(self.asked.countries, self.engine.database, text)?;
+        Ok(hint_under(self.asked.else_hint, self.engine.hint, named))
     }
 
     /// The hint under which a record's number is read, by the region that the record names; none
     /// where it isn't read: the record names no region that there is, or has another count of
-    /// fields.
-    pub(crate) fn hint_of(&self, fields: &ByteRecord) -> Option<Option<Id>>
-        ensures { IsUnder self.now.engine.hint self.now.columns self.now.asked
-            (fields_of fields.now) result }
+    /// fields. Refused only for memory.
+    pub(crate) fn hint_of(&self, fields: &ByteRecord) -> Result<Option<Option<Id>>, AllocError>
+        ensures { IfOk result (IsUnder self.now.engine.database.now self.now.engine.hint
+            self.now.columns self.now.asked (fields_of fields.now)) }
     {
+        let under = self.hint_named(fields)?;
         if fields.len() == self.columns.width {
-            let named = region_of(self.columns, fields);
-            return hint_under(self.asked.else_hint, self.engine.hint, named);
+            return Ok(under);
         }
-        None
+        Ok(None)
     }
 
     /// The answer to a record's number under this hint. Refused only for memory.
@@ -171,16 +191,6 @@ impl<'d> Table<'d> {
     }
 }
 
-/// What a record of a table with these columns names as its region.
-pub(crate) fn region_of(columns: Columns, fields: &ByteRecord) -> Named
-    ensures { RecordNames columns.region (fields_of fields.now) result }
-{
-    match columns.region {
-        Some(column) => region_named(field_in(fields, column)),
-        None => Named::Nothing,
-    }
-}
-
 /// The field of a record in a column; empty where it has none.
 pub(crate) fn field_in(fields: &ByteRecord, column: usize) -> &[u8]
     ensures { result.now ≡ field_in (fields_of fields.now) column }
@@ -210,6 +220,7 @@ impl<'d> Table<'d> {
             is_known self.old (key_in (number_in answer.now))) ≡ not is_new) }
         ensures keeps { OnOk result (Keeps self.old (key_in (number_in answer.now)) self.new) }
         ensures counts { self.new.counts ≡ self.old.counts }
+        ensures unknown { self.new.unknown ≡ self.old.unknown }
     {
         if !self.asked.is_unique {
             return Ok(true);
@@ -247,7 +258,9 @@ impl<'d> Answers for Table<'d> {
     /// those of a record, and counts it. A record with another count of fields than the table has
     /// columns isn't answered, unless such are marked.
     fn answer(&mut self, _alloc: Global, fields: &mut ByteRecord) -> Result<bool, Refusal> {
-        let under = self.hint_of(fields);
+        let Ok(under) = self.hint_of(fields) else {
+            return Err(Refusal::Memory);
+        };
         let answer = match self.answer_or_refusal(under, fields) {
             Ok(answer) => answer,
             Err(refusal) => return Err(refusal),
@@ -256,6 +269,10 @@ impl<'d> Answers for Table<'d> {
             return Err(Refusal::Memory);
         };
         let Ok(is_new) = self.is_new(&answer) else {
+            return Err(Refusal::Memory);
+        };
+        let alloc = self.engine.database.allocator();
+        let Ok(()) = note_unknown(alloc, self.columns, fields, &mut self.unknown) else {
             return Err(Refusal::Memory);
         };
         self.counts.count(fields, is_new);

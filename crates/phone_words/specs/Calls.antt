@@ -194,6 +194,7 @@ further_files f = f.prefixes ∷ f.time_zones ∷ f.carriers ∷ f.first_carrier
 pub record IsTable (ps : List Said) (t : Table) : Type 0 where
   pub column : t.column.now ≡ text ps (codes "--csv")
   pub region_column : text_in t.region_column ≡ value ps (codes "--region-column")
+  pub countries : text_in t.countries ≡ file_if ps (codes "--region-column") (codes "--countries")
   pub fallback_region : t.fallback_region ≡ has ps (codes "--fallback-region")
   pub is_unique : t.is_unique ≡ has ps (codes "--unique")
   pub duplicates : t.duplicates ≡ has ps (codes "--duplicates")

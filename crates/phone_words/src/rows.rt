@@ -79,8 +79,11 @@ pub(crate) const ROWS: [Cells; 35] = rows! {
       only some carriers connect it; whether it is an emergency number; whether it reaches emergency
       services"
     "--region-column" "" "COLUMN" "" ["--csv"] [] "
-      a record is read under the region whose id stands in this column, or under REGION where
-      nothing does; where anything else does, its number is refused as of an unknown region"
+      a record is read under the region that stands in this column, or under REGION where nothing
+      does: by its id, its three letters of ISO, a name in one of many languages, or its calling
+      code, as DE, deu, Germany, Deutschland, +49; case, accents, punctuation and spaces don't
+      count. Where anything else does, its number is refused as of an unknown region; such texts are
+      told on standard error, each once, with the nearest names"
     "--fallback-region" "" "" "" ["--csv" "--region-column"] [] "
       where anything else does, it is read under REGION too"
     "--delimiter" "-d" "D" "" ["--csv"] [] "
@@ -127,6 +130,8 @@ pub(crate) const ROWS: [Cells; 35] = rows! {
       the table of time zones, in place of the one that comes with the program"
     "--carriers" "" "FILE" "" [] [] "
       that of carriers, so too"
+    "--countries" "" "FILE" "" [] [] "
+      that of the names of regions, so too: lines of a folded name, a tab and an id"
     "--rules" "" "RULES" "" [] [] "
       library (the default): numbers are read and described as libphonenumber does; crate: as the
       Rust crate phonenumber does, but not with --typed and --short"

@@ -14,6 +14,8 @@ pub struct Table<'w> {
     pub column: &'w str,
     /// The name of the column of the regions, where there is one.
     pub region_column: Option<&'w str>,
+    /// The file of the names of regions, where there is that column and such a file.
+    pub countries: Option<&'w str>,
     /// Whether a record that names no region that there is is read under the region given.
     pub fallback_region: bool,
     /// The byte between fields.
@@ -107,6 +109,7 @@ pub(crate) fn table_of<'w>(parts: &[Part<'w>], delimiter: u8) -> Table<'w>
     Table {
         column: text(parts, "--csv"),
         region_column: value(parts, "--region-column"),
+        countries: file_if(parts, "--region-column", "--countries"),
         fallback_region: has(parts, "--fallback-region"),
         delimiter,
         is_unique: has(parts, "--unique"),

@@ -5,7 +5,7 @@ use phone_csv::RunError;
 use phone_device::{Limit, MemorySource, Then};
 use phone_engine::Engine;
 use phone_meta::Database;
-use phone_table::{Asked, Counts, TableError, write_table};
+use phone_table::{Asked, Counts, TableError, UnknownNames, write_table};
 use replay_base::marks::{around, begin};
 use replay_base::table::Row;
 use std::alloc::{AllocError, Global};
@@ -29,11 +29,12 @@ fn given(alloc: Global, row: &Row, engine: Engine<'_>) -> Result<String> {
     let mut source = MemorySource::new(row.argument_bytes(5));
     let mut sink = Limit::new(alloc, ROOM, Then::Fail)?;
     let begun = begin(alloc);
-    let end = write_table(engine, asked(row), &mut source, &mut sink);
+    let mut unknown = UnknownNames::new(alloc);
+    let end = write_table(engine, asked(row), &mut source, &mut sink, &mut unknown);
     end_words(alloc, around(alloc, begun, end), sink.bytes())
 }
 
-/// What a row asks for of its table, without further columns and short numbers.
+/// What a row asks for of its table, without further columns, names of regions and short numbers.
 fn asked(row: &Row) -> Asked<'_> {
     Asked {
         region: region(row.argument(2)),

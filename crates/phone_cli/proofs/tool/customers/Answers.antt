@@ -1,4 +1,4 @@
-use Rattle.std.proofs.Common.{ap, inl, inr, refl, ◌∙◌}
+use Rattle.std.proofs.Common.{ap, inl, inr, refl, rules, ◌∙◌}
 use Rattle.phone_commands.specs.Columns.{asked}
 use Rattle.phone_commands.specs.declared.customers.Customers.{Customers}
 use Rattle.phone_cli.specs.Answers.Does.{no_memory, ran, refused}
@@ -7,6 +7,12 @@ use Rattle.phone_cli.proofs.tool.customers.Goals as goal
 
 pub returns-in-Err : goal.returns-in-Err
 returns-in-Err g c = λ is rules under loaded. elim c.say_no_columns.ensures [
+  | inl r ↦ rw r.0 (refused (r.1.0, record { idle = refl; said = r.1.1 }))
+  | inr m ↦ rw m.0 (no_memory is record { idle = refl; said = m.1 })
+]
+
+pub returns-in-Err-countries_in : goal.returns-in-Err-countries_in
+returns-in-Err-countries_in g c = λ is rules under loaded. elim c.say_no_columns-in-Err-countries_in.ensures [
   | inl r ↦ rw r.0 (refused (r.1.0, record { idle = refl; said = r.1.1 }))
   | inr m ↦ rw m.0 (no_memory is record { idle = refl; said = m.1 })
 ]
@@ -22,5 +28,6 @@ returns g c = λ is rules under loaded.
       engine = c.args.reader.engine;
       asked = c.asked.result;
       counts = c.new-2.result;
+      unknown = c.new-3.result;
     } in rw c.run_table.ensures.2 (ran c.run_table.ensures.0 (table_runs _ _ _ job _ _ _ _ _ is
-    loaded (c.asked.ensures further) rules under c.new-2.ensures c.run_table.ensures.1))
+    loaded (c.asked.ensures further (search rules)) rules under c.new-2.ensures c.run_table.ensures.1))

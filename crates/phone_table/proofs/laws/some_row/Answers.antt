@@ -7,5 +7,5 @@ pub returns : goal.returns
 returns c rules db hint others =
     let asked = c.args.asked in
     answer_some rules db hint c.args.columns asked others
-    (fields_of c.args.fields.now) c.region_of-named.result c.region_of-named.ensures
+    (fields_of c.args.fields.now) _ c.region_text-text.ensures
     (λ own. rw c.field_in.ensures at (c.some_answer.ensures rules db (short_of asked) own))

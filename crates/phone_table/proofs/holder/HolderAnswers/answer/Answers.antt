@@ -11,10 +11,10 @@ pub returns-in-Ok-hold-clause-left_out : goal.returns-in-Ok-hold-clause-left_out
 returns-in-Ok-hold-clause-left_out c e =
     let fields = fields_of c.args.fields.now in
     let table = c.args.self.now.table in
-    let number = number_in c.in-Ok.answer in
-    let own = spelled c.in-Ok.answer in
+    let number = number_in c.in-Ok-answer_or_refusal.answer in
+    let own = spelled c.in-Ok-answer_or_refusal.answer in
     let (told, are, is) = c.in-Ok-push_row.ensures in
-    held number (told ++ own) (c.hint_of-under.result, told, own, c.hint_of-under.ensures, c.in-Ok.ensures.answer, are, refl)
+    held number (told ++ own) (c.in-Ok.under, told, own, c.in-Ok.ensures, c.in-Ok-answer_or_refusal.ensures.answer, are, refl)
     (c.in-Ok-hold.ensures.table ∙ ap (λ n. record table { counts = n }) (rw is at (c.count.ensures.written refl)))
     (c.in-Ok-hold.ensures.held ∙ ap (λ a. answered c.args.self.now.held.items ++ a ∷ [])
     (row_parts (fields_of c.replace-row.result) fields (told ++ own) c.len-width.result (key_in number) (ap fields_of c.replace-row.ensures.value ∙ is) c.len-width.ensures))

@@ -10,13 +10,14 @@ pub returns-clause-answered : goal.returns-clause-answered
 returns-clause-answered c e =
     let fields = fields_of c.args.fields.now in
     let (told, are, is) = c.in-Ok-push_row.ensures in
-    let own = spelled c.in-Ok.answer in
+    let own = spelled c.in-Ok-answer_or_refusal.answer in
     let new = same_ok _ _ e in
     let k = c.in-Ok-is_new.ensures.keeps in (
       told ++ own,
-      written (number_in c.in-Ok.answer) (told ++ own) (c.hint_of-under.result, told, own, c.hint_of-under.ensures, c.in-Ok.ensures.answer, are, refl) (c.in-Ok-is_new.ensures.new ∙ ap not new)
+      written (number_in c.in-Ok-answer_or_refusal.answer) (told ++ own) (c.in-Ok.under, told, own, c.in-Ok.ensures, c.in-Ok-answer_or_refusal.ensures.answer, are, refl) (c.in-Ok-is_new.ensures.new ∙ ap not new)
           (record { engine = k.engine; asked = k.asked; columns = k.columns; keys = k.keys })
-          (rw is at (c.count.ensures.written new) ∙ ap (λ n. counts_after n (fields ++ (told ++ own))) c.in-Ok-is_new.ensures.counts),
+          (rw is at (c.count.ensures.written new) ∙ ap (λ n. counts_after n (fields ++ (told ++ own))) c.in-Ok-is_new.ensures.counts)
+          (rw (is, c.in-Ok-is_new.ensures.unknown, k.columns) at c.in-Ok-note_unknown.ensures),
       is,
     )
 
@@ -24,9 +25,10 @@ pub returns-clause-left_out : goal.returns-clause-left_out
 returns-clause-left_out c e =
     let fields = fields_of c.args.fields.now in
     let (told, are, is) = c.in-Ok-push_row.ensures in
-    let own = spelled c.in-Ok.answer in
+    let own = spelled c.in-Ok-answer_or_refusal.answer in
     let known = same_ok _ _ e in
     let k = c.in-Ok-is_new.ensures.keeps in
-    left_out (number_in c.in-Ok.answer) (told ++ own) (c.hint_of-under.result, told, own, c.hint_of-under.ensures, c.in-Ok.ensures.answer, are, refl) (c.in-Ok-is_new.ensures.new ∙ ap not known)
+    left_out (number_in c.in-Ok-answer_or_refusal.answer) (told ++ own) (c.in-Ok.under, told, own, c.in-Ok.ensures, c.in-Ok-answer_or_refusal.ensures.answer, are, refl) (c.in-Ok-is_new.ensures.new ∙ ap not known)
     (record { engine = k.engine; asked = k.asked; columns = k.columns; keys = k.keys })
     (rw is at (c.count.ensures.left_out known) ∙ ap (λ n. counts_without n (fields ++ (told ++ own))) c.in-Ok-is_new.ensures.counts)
+    (rw (is, c.in-Ok-is_new.ensures.unknown, k.columns) at c.in-Ok-note_unknown.ensures)

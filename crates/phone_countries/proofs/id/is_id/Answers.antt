@@ -2,8 +2,8 @@ use Rattle.std.proofs.Common.{map}
 use Rattle.std.specs.Char.{to_ascii_lowercase}
 use Rattle.std.proofs.lemmas.Slice.Eq.{bytes_eq-Decides}
 use Rattle.phone_values.specs.Ids.{name}
-use Rattle.phone_table.proofs.RegionLemmas.{same_test}
-use Rattle.phone_table.proofs.region.is_id.Goals as goal
+use Rattle.phone_countries.proofs.IdLemmas.{same_test}
+use Rattle.phone_countries.proofs.id.is_id.Goals as goal
 
 pub returns : goal.returns
 returns c =

@@ -1,0 +1,3 @@
+pub mod IdLemmas
+pub mod Loading
+pub mod Rising
