@@ -134,12 +134,7 @@ fn say_refused<E: ByteSink>(alloc: Global, name: &str, error: PrefixesError, err
 }
 
 /// Tells why a file holds no table of the names of regions, and gives the status.
-fn say_no_names<E: ByteSink>(
-    alloc: Global,
-    name: &str,
-    error: CountriesError,
-    errors: &mut E,
-) -> u8
+fn say_no_names<E: ByteSink>(alloc: Global, name: &str, error: CountriesError, errors: &mut E) -> u8
     ensures { ((result ≡ 3) × (IsSomeTold (E.taken errors.old) (E.faults errors.old)
         (E.taken errors.new) (E.faults errors.new))) ⊎
         ((result ≡ 1) × IsTold (E.taken errors.old) (E.faults errors.old)

@@ -277,11 +277,7 @@ fn write_all_unknown<E: ByteSink>(
 
 /// Tells which texts of a table name no region, then how many records it has, and how many of them
 /// gave what, and gives the status.
-pub(crate) fn say_records<E: ByteSink>(
-    alloc: Global,
-    job: &Customers<'_, '_>,
-    errors: &mut E,
-) -> u8
+pub(crate) fn say_records<E: ByteSink>(alloc: Global, job: &Customers<'_, '_>, errors: &mut E) -> u8
     ensures { result ≡ 0 }
 {
     let _told = write_all_unknown(alloc, job, errors);

@@ -36,7 +36,7 @@ use phone_commands::{
 use phone_device::{ByteSink, ByteSource, Fault, Std};
 use phone_engine::{Engine, Rules};
 use phone_plans::Plans;
-use phone_table::{Asked, Counts, Countries, Extra, UnknownNames};
+use phone_table::{Asked, Countries, Counts, Extra, UnknownNames};
 use phone_words::{Call, Command, Table, call_of, help};
 use phonenumber::country::Id;
 use std::alloc::AllocGlobal;

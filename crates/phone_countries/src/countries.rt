@@ -91,12 +91,7 @@ fn next_parts<'t>(entries: &[Entry], line: &'t str) -> Result<(&'t str, Id), Lin
 }
 
 /// Puts an entry at the end of others. Refused only for memory.
-fn push_entry(
-    alloc: Global,
-    entries: &mut Vec<Entry>,
-    name: &str,
-    id: Id,
-) -> Result<(), AllocError>
+fn push_entry(alloc: Global, entries: &mut Vec<Entry>, name: &str, id: Id) -> Result<(), AllocError>
     ensures { OnOk result ((e : Entry) × (name_of e ≡ name.now) × (e.id ≡ id) ×
         (entries.new.items ≡ entries.old.items ++ e ∷ [])) }
 {
