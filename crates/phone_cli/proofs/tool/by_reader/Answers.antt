@@ -9,20 +9,20 @@ use Rattle.phone_cli.proofs.tool.by_reader.Goals as goal
 pub returns-in-ReportWithInput : goal.returns-in-ReportWithInput
 returns-in-ReportWithInput g c = λ reads loaded.
     let made = c.reader_of-reader.ensures in
-    rw c.run_lines-in-ReportWithInput.ensures.3 (ran c.run_lines-in-ReportWithInput.ensures.0 (with_input_runs _ _ _
-    (record { engine = c.reader_of-reader.result.engine }) _ _ c.run_lines-in-ReportWithInput.ensures.1 _
-    c.in-ReportWithInput.is made.rules made.hint c.run_lines-in-ReportWithInput.ensures.2))
+    rw c.run_lines.ensures.3 (ran c.run_lines.ensures.0 (with_input_runs _ _ _
+    (record { engine = c.reader_of-reader.result.engine }) _ _ c.run_lines.ensures.1 _
+    c.in-ReportWithInput.is made.rules made.hint c.run_lines.ensures.2))
 
 pub returns-in-Objects : goal.returns-in-Objects
 returns-in-Objects g c = λ reads loaded.
     let made = c.objects_of-taker.ensures.reader in
-    rw c.run_lines.ensures.3 (ran c.run_lines.ensures.0 (objects_runs _ _ _
-    c.objects_of-taker.result _ _ _ c.run_lines.ensures.1 _ c.in-Objects.is loaded
+    rw c.run_lines-in-Objects.ensures.3 (ran c.run_lines-in-Objects.ensures.0 (objects_runs _ _ _
+    c.objects_of-taker.result _ _ _ c.run_lines-in-Objects.ensures.1 _ c.in-Objects.is loaded
     (ap (λ (r : Reader). r.engine.rules) made ∙ c.reader_of-reader.ensures.rules)
     (ap (λ (r : Reader). r.engine.hint) made ∙ c.reader_of-reader.ensures.hint)
     (ap (λ (r : Reader). option_map (λ d. d.now) r.short) made ∙
     ap (option_map (λ d. d.now)) c.reader_of-reader.ensures.short)
-    c.objects_of-taker.ensures.place c.run_lines.ensures.2))
+    c.objects_of-taker.ensures.place c.run_lines-in-Objects.ensures.2))
 
 pub returns-in-Find : goal.returns-in-Find
 returns-in-Find g c = λ reads loaded.
