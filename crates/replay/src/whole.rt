@@ -8,7 +8,7 @@ use std::alloc::AllocGlobal;
 use std::fs::{self, Files};
 
 /// The tables, by their files.
-const TABLES: [&str; 26] = [
+const TABLES: [&str; 27] = [
     "calls.tsv",
     "report.tsv",
     "json.tsv",
@@ -35,6 +35,7 @@ const TABLES: [&str; 26] = [
     "typed.tsv",
     "prefixes.tsv",
     "report-lines.tsv",
+    "questions.tsv",
 ];
 
 /// Prints each line whose answer is another one here, then the counts, then what the examples of
