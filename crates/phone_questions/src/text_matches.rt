@@ -40,10 +40,10 @@ pub fn match_text(
     }
 }
 
-/// How like two texts are. Both are read without a hint, and the first one that tells a calling code
-/// is matched with the other as [`match_text`] has it; where neither tells one, they are matched as
-/// they stand. `NotANumber` where a text is refused for another reason, or refused again. Refused
-/// only for memory.
+/// How like two texts are. Both are read without a hint, and the first one that tells a calling
+/// code is matched with the other as [`match_text`] has it; where neither tells one, they are
+/// matched as they stand. `NotANumber` where a text is refused for another reason, or refused
+/// again. Refused only for memory.
 pub fn match_texts(database: &Plans, a: &str, b: &str) -> Result<NumberMatch, AllocError>
     ensures { IfOk result (λ m. AreTextsMatch database.now (chars a.now) (chars b.now) m) }
 {
