@@ -43,6 +43,9 @@ fn on_database(
     if let Some(found) = replay_numbers::of_number(alloc, row, db, layouts)? {
         return Ok(Some(found));
     }
+    if let Some(found) = replay_questions::answer(alloc, row, db)? {
+        return Ok(Some(found));
+    }
     replay_util::answer(alloc, row, db)
 }
 

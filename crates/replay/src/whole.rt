@@ -8,7 +8,7 @@ use std::alloc::AllocGlobal;
 use std::fs::{self, Files};
 
 /// The tables, by their files.
-const TABLES: [&str; 27] = [
+const TABLES: [&str; 28] = [
     "calls.tsv",
     "report.tsv",
     "json.tsv",
@@ -36,6 +36,7 @@ const TABLES: [&str; 27] = [
     "prefixes.tsv",
     "report-lines.tsv",
     "doubts.tsv",
+    "questions.tsv",
 ];
 
 /// Prints each line whose answer is another one here, then the counts, then what the examples of

@@ -1,0 +1,10 @@
+pub mod Belonging
+pub mod Carriers
+pub mod Groups
+pub mod Kinds
+pub mod Letters
+pub mod Matches
+pub mod Possible
+pub mod Regions
+pub mod TextMatches
+pub mod Truncation

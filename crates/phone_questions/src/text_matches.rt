@@ -1,0 +1,189 @@
+//! How like a number and a text are.
+ghost use Rattle.std.specs.Prelude.{◌≡◌, ◌⊎◌, Err, IfOk, None, Ok, OnOk, Result, chars};
+ghost use Rattle.phone_library.specs.Readings.{ReadsByLibrary};
+ghost use Rattle.phone_values.specs.declared.error.ParseError.{ParseError as Refusal};
+ghost use Rattle.phone_values.specs.declared.reading.Reading.{Reading};
+ghost use Rattle.phone_questions.specs.Matches.{match_of};
+ghost use Rattle.phone_questions.specs.TextMatches.{AreBareMatch, AreTextsMatch, IsBare};
+ghost use Rattle.phone_questions.specs.TextMatches.{IsBeside, IsTextMatch, bare_number};
+ghost use Rattle.phone_questions.specs.TextMatches.{match_read, unsure};
+
+use crate::matches::{NumberMatch, match_of};
+use phone_library::{national_number, parse};
+use phone_library_text::{WrittenNumber, read_written};
+use phone_plans::Plans;
+use phone_values::ParseError;
+use phone_values::country::{Code, Source};
+use phonenumber::PhoneNumber;
+use std::alloc::{AllocError, Global};
+
+/// How like a number and a text are. The text is read without a hint; where it tells no calling
+/// code, under the main region of the number's code, and as it stands where that isn't listed: then
+/// no match is exact. `NotANumber` where the text is refused for another reason, or refused again.
+/// Refused only for memory.
+pub fn match_text(
+    database: &Plans,
+    number: &PhoneNumber,
+    text: &str,
+) -> Result<NumberMatch, AllocError>
+    ensures { IfOk result (λ m. IsTextMatch database.now number.now (chars text.now) m) }
+{
+    match parse(database, None, text) {
+        Ok(read) => match_of(database.allocator(), number, &read),
+        Err(error) => {
+            if error == ParseError::InvalidCountryCode {
+                match_beside(database, number, text)
+            } else {
+                not_a_number(error)
+            }
+        }
+    }
+}
+
+/// How like two texts are. Both are read without a hint, and the first one that tells a calling
+/// code is matched with the other as [`match_text`] has it; where neither tells one, they are
+/// matched as they stand. `NotANumber` where a text is refused for another reason, or refused
+/// again. Refused only for memory.
+pub fn match_texts(database: &Plans, a: &str, b: &str) -> Result<NumberMatch, AllocError>
+    ensures { IfOk result (λ m. AreTextsMatch database.now (chars a.now) (chars b.now) m) }
+{
+    match parse(database, None, a) {
+        Ok(number) => match_text(database, &number, b),
+        Err(error) => {
+            if error == ParseError::InvalidCountryCode {
+                match_uncoded(database, a, b)
+            } else {
+                not_a_number(error)
+            }
+        }
+    }
+}
+
+/// How like two texts are of which the first tells no calling code.
+fn match_uncoded(database: &Plans, a: &str, b: &str) -> Result<NumberMatch, AllocError>
+    ensures { IfOk result (λ m.
+        ReadsByLibrary database.now None (chars a.now) (Err ParseError.InvalidCountryCode) →
+        AreTextsMatch database.now (chars a.now) (chars b.now) m) }
+{
+    match parse(database, None, b) {
+        Ok(number) => match_text(database, &number, a),
+        Err(error) => {
+            if error == ParseError::InvalidCountryCode {
+                match_bare(database, a, b)
+            } else {
+                not_a_number(error)
+            }
+        }
+    }
+}
+
+/// How like two texts without a calling code are.
+fn match_bare(database: &Plans, a: &str, b: &str) -> Result<NumberMatch, AllocError>
+    ensures { IfOk result (λ m. AreBareMatch (chars a.now) (chars b.now) m) }
+{
+    match read_bare(database, a) {
+        Ok(number) => match_second(database, &number, b),
+        Err(error) => not_a_number(error),
+    }
+}
+
+/// How like a number without a calling code and such a text are.
+fn match_second(
+    database: &Plans,
+    number: &PhoneNumber,
+    text: &str,
+) -> Result<NumberMatch, AllocError>
+    ensures { IfOk result (λ m. (r : Result Reading Refusal) × IsBare (chars text.now) r ×
+        (m ≡ match_read number.now r)) }
+{
+    match read_bare(database, text) {
+        Ok(read) => match_of(database.allocator(), number, &read),
+        Err(error) => not_a_number(error),
+    }
+}
+
+/// The answer to a text that is refused for another reason than its calling code.
+fn not_a_number(error: ParseError) -> Result<NumberMatch, AllocError>
+    ensures number { IfOk result (λ m. m ≡ NumberMatch.NotANumber) }
+    ensures memory { OnOk result (¬ (error ≡ ParseError.Memory)) }
+{
+    match error {
+        ParseError::Memory => Err(AllocError),
+        _ => Ok(NumberMatch::NotANumber),
+    }
+}
+
+/// How like a number and a text without a calling code are.
+fn match_beside(
+    database: &Plans,
+    number: &PhoneNumber,
+    text: &str,
+) -> Result<NumberMatch, AllocError>
+    ensures { IfOk result (λ m. (r : Result Reading Refusal) ×
+        IsBeside database.now number.now.code.value (chars text.now) r ×
+        (m ≡ unsure (match_read number.now r))) }
+{
+    match read_beside(database, number.code().value(), text) {
+        Ok(read) => unsure_match(database.allocator(), number, &read),
+        Err(error) => not_a_number(error),
+    }
+}
+
+/// How like two numbers are, where the calling code of one was guessed. Refused only for memory.
+fn unsure_match(alloc: Global, a: &PhoneNumber, b: &PhoneNumber) -> Result<NumberMatch, AllocError>
+    ensures { IfOk result (λ m. m ≡ unsure (match_of a.now b.now)) }
+{
+    Ok(unsure(match_of(alloc, a, b)?))
+}
+
+/// No match is exact where a calling code was guessed.
+fn unsure(found: NumberMatch) -> NumberMatch
+    ensures { result ≡ unsure found }
+{
+    match found {
+        NumberMatch::ExactMatch => NumberMatch::NsnMatch,
+        _ => found,
+    }
+}
+
+/// What a text without a code is beside a number of this code.
+fn read_beside(database: &Plans, code: u16, text: &str) -> Result<PhoneNumber, ParseError>
+    ensures { (result ≡ Err ParseError.Memory) ⊎
+        IsBeside database.now code (chars text.now) result }
+{
+    match database.first_by_code(&code) {
+        Some(territory) => parse(database, territory.region(), text),
+        None => read_bare(database, text),
+    }
+}
+
+/// What a text is without a calling code.
+fn read_bare(database: &Plans, text: &str) -> Result<PhoneNumber, ParseError>
+    ensures { (result ≡ Err ParseError.Memory) ⊎ IsBare (chars text.now) result }
+{
+    match read_written(database.allocator(), text) {
+        Ok(number) => bare_number(number),
+        Err(error) => Err(error),
+    }
+}
+
+/// The number of written digits, where no calling code is told.
+fn bare_number(number: WrittenNumber) -> Result<PhoneNumber, ParseError>
+    ensures { result ≡ bare_number (Ok number) }
+{
+    let WrittenNumber {
+        has_plus,
+        digits,
+        extension,
+    } = number;
+    if has_plus {
+        return Err(ParseError::InvalidCountryCode);
+    }
+    match national_number(digits.as_str()) {
+        Ok(national) => {
+            let code = Code::new(0, Source::Default);
+            Ok(PhoneNumber::from_parts(code, national, extension, None))
+        }
+        Err(error) => Err(error),
+    }
+}
