@@ -1,0 +1,7 @@
+use Rattle.std.proofs.Common.{refl}
+use Rattle.std.specs.Str.{chars}
+use Rattle.phone_matches_text.proofs.extension.words.Goals as goal
+
+pub returns : goal.returns
+unfolding chars
+returns c = refl

@@ -1,0 +1,8 @@
+use Rattle.std.proofs.Common.{rules, ◌≡◌, ℕ, suc, ◌+◌, false, true, None, [], ◌∷◌, ◌++◌, chars, encode_utf8, append_assoc, append-nil, ap, sym, subst, ◌∙◌, refl, arith}
+use Rattle.std.proofs.lemmas.Str.{chars-nil}
+use Rattle.phone_matches_text.proofs.Ends.{before_end_front, end_if, end_of_end}
+use Rattle.phone_matches_text.specs.Sets.{is_in}
+use Rattle.phone_matches_text.proofs.pieces.without_two.Goals as goal
+
+pub returns-clause-end : goal.returns-clause-end
+returns-clause-end c = end_of_end _ _ _ c.without_first-rest.ensures.end c.without_first.ensures.end

@@ -1,0 +1,10 @@
+pub mod Brackets
+pub mod Candidates
+pub mod Dates
+pub mod Extensions
+pub mod Lent
+pub mod Neighbours
+pub mod Pieces
+pub mod Sets
+pub mod Shapes
+pub mod Told
