@@ -1,5 +1,6 @@
 -- What a call over a column is given, and what it writes.
-use Rattle.std.specs.Prelude.{◌≡◌, ◌⊎◌, ◌<◌, ◌-◌, ◌==◌, ◌&&◌, ◌||◌, ℕ, Bool, if◌then◌else◌, List, []}
+use Rattle.std.specs.Prelude.{◌≡◌, ◌⊎◌, ◌<◌, ◌-◌, ◌==◌, ◌&&◌, ◌||◌, ℕ, Bool, if◌then◌else◌, List}
+use Rattle.std.specs.Prelude.{[]}
 use Rattle.std.specs.Prelude.{None, get_or, length, unwrap_or}
 use Rattle.std.specs.List.{flat_map}
 use Rattle.phone_arrow.specs.Buffers.{padded}
@@ -53,7 +54,8 @@ are_given texts hints = is_laid_out texts && are_hints hints (length texts.offse
 -- the bytes of the hint at a place
 abbrev pub hint_in : Seen → ℕ → List ℕ
 hint_in hints place = if length hints.offsets == 0 then hints.bytes
-    else unwrap_or (get_or (texts_in hints.offsets hints.bytes hints.bits hints.first) place None) []
+    else unwrap_or (get_or
+    (texts_in hints.offsets hints.bytes hints.bits hints.first) place None) []
 
 -- the rows of texts and their hints
 abbrev pub rows_of : (texts hints : Seen) → List Row

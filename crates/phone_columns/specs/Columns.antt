@@ -1,5 +1,6 @@
 -- Columns by their numbers, and the buffers of each.
-use Rattle.std.specs.Prelude.{ℕ, ◌∷◌, ◌==◌, if◌then◌else◌, nat_lt, List, [], map, Option, None, Some, Bool, true, false}
+use Rattle.std.specs.Prelude.{ℕ, ◌∷◌, ◌==◌, if◌then◌else◌, nat_lt, List, [], map, Option, None}
+use Rattle.std.specs.Prelude.{Some, Bool, true, false}
 use Rattle.std.specs.Option.{option_to_list}
 use Rattle.std.specs.List.{flat_map}
 use Rattle.phone_arrow.specs.Bits.{bitmap_of}

@@ -20,7 +20,7 @@ use Rattle.phone_columns.specs.declared.given.Hints.TheVariants.{Each, One}
 abbrev pub Row : Type 0
 Row = Option (List ℕ) × List ℕ
 
--- the bytes of the hint at a place: the one of all, or the place's own; no byte where it isn't there
+-- the bytes of the hint at a place: the one of all, or the place's own; no byte where there is none
 abbrev pub hint_at : Hints → ℕ → List ℕ
 hint_at (One hint) place = hint.now
 hint_at (Each hints) place = unwrap_or (get_or hints place None) []

@@ -13,11 +13,11 @@ use crate::answers::answer_rows;
 use crate::body::{Body, lay_out};
 use crate::column::{columns_of, has_no_column};
 use crate::given::{Given, Layout, Narrow, read_layouts};
+use crate::shim::{BAD_LAYOUT, NO_COLUMN};
 use phone_arrow::wide;
 use phone_c_base::buffer::give;
 use phone_c_base::found::Place;
 use phone_c_base::status::{MEMORY, OK, TOO_SMALL};
-use crate::shim::{BAD_LAYOUT, NO_COLUMN};
 use phone_engine::Engine;
 use std::alloc::AllocError;
 

@@ -1,4 +1,4 @@
-//! Stands in.
+//! What `phone_c_base` has for itself: it stands in until that is public.
 ghost use Rattle.std.specs.Prelude.{◌≡◌, Some, None, Err, IfOk, string_bytes};
 ghost use Rattle.phonenumber.specs.Printed.{printed};
 ghost use Rattle.phone_engine.specs.Facts.{printed_as};
@@ -8,10 +8,13 @@ use phone_engine::{Engine, Rules};
 use phone_plans::Plans;
 use phonenumber::{FormatError, Mode, PhoneNumber, Type, format_with};
 
+/// No column has the number.
 pub const NO_COLUMN: u32 = 36;
 
+/// The texts or hints of a column aren't laid out as they should.
 pub const BAD_LAYOUT: u32 = 37;
 
+/// A kind by its number.
 pub(crate) fn kind_number(kind: Type) -> u32
     ensures { result ≡ kind_number kind }
 {
@@ -36,6 +39,7 @@ pub(crate) fn kind_number(kind: Type) -> u32
     }
 }
 
+/// The text of a number in a mode.
 fn text_in(database: &Plans, number: &PhoneNumber, mode: Mode) -> Result<String, FormatError>
     ensures text { IfOk result (λ t.
         printed database.now mode None number.now ≡ Some (string_bytes t)) }
@@ -47,6 +51,7 @@ fn text_in(database: &Plans, number: &PhoneNumber, mode: Mode) -> Result<String,
         .to_text(database.allocator())
 }
 
+/// The text of a number in a mode, as an engine's rules print it.
 pub(crate) fn text_by(
     engine: Engine<'_>,
     number: &PhoneNumber,
@@ -64,6 +69,7 @@ pub(crate) fn text_by(
     }
 }
 
+/// The same of a number without its carrier.
 fn text_without_carrier(
     database: &Plans,
     number: &PhoneNumber,
