@@ -535,13 +535,13 @@ fn run<R: Files + AllocGlobal, S: ByteSource, W: Outlet, E: ByteSink, J: Job>(
     output: &mut W,
     errors: &mut E,
 ) -> u8
-    ensures { (end : Result ⊤ Failure) × AnswersInputs
+    ensures { (end : Result ⊤ Failure) × (last : J) × AnswersInputs
         (ActsIn reading.entry.call.now.encoding J.acts) reading.entry.files.now job.old
         (seen (S.to_come input.old) (S.faults input.old) (W.taken output.old)
         (W.faults output.old) (W.unflushed output.old))
         (seen (S.to_come input.new) (S.faults input.new) (W.taken output.new)
         (W.faults output.new) (W.unflushed output.new))
-        job.new end × (result ≡ status_of end) }
+        last end × (result ≡ status_of end) }
 {
     let encoding = reading.call.encoding;
     let mut job = Encoded { job, encoding };
@@ -697,7 +697,7 @@ fn run_table<R: Files + AllocGlobal, S: ByteSource, W: Outlet, E: ByteSink>(
     output: &mut W,
     errors: &mut E,
 ) -> u8
-    ensures { (end : Result ⊤ Failure) × AnswersInputs
+    ensures { (end : Result ⊤ Failure) × (last : Counts) × AnswersInputs
         (ActsIn reading.entry.call.now.encoding (Tables
         job.old.engine.rules job.old.engine.database.now job.old.engine.hint job.old.asked))
         reading.entry.files.now job.old.counts
@@ -705,7 +705,7 @@ fn run_table<R: Files + AllocGlobal, S: ByteSource, W: Outlet, E: ByteSink>(
         (W.faults output.old) (W.unflushed output.old))
         (seen (S.to_come input.new) (S.faults input.new) (W.taken output.new)
         (W.faults output.new) (W.unflushed output.new))
-        job.new.counts end × (result ≡ status_of end) }
+        last end × (result ≡ status_of end) }
 {
     match run(rt, reading, job, input, output, errors) {
         0 => say_records(rt.alloc(), job, errors),

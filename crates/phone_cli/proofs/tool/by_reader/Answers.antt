@@ -45,8 +45,8 @@ pub returns-in_default : goal.returns-in_default
 returns-in_default g c = λ reads loaded.
     let other = c.in_default in
     let made = c.reader_of-reader.ensures in
-    rw c.run.ensures.2 (ran c.run.ensures.0 (report_runs _ _ _
-    (record { reader = c.reader_of-reader.result }) _ _ c.run.new.job _
+    rw c.run.ensures.3 (ran c.run.ensures.0 (report_runs _ _ _
+    (record { reader = c.reader_of-reader.result }) _ _ c.run.ensures.1 _
     (is_report _ reads other.not-Objects other.not-Find other.not-FoundObjects
     other.not-FoundRecords other.not-Typed other.not-Table other.not-ReportWithInput) made.rules made.hint
-    c.run.ensures.1))
+    c.run.ensures.2))

@@ -29,5 +29,5 @@ returns g c = λ is rules under loaded.
       asked = c.asked.result;
       counts = c.new-2.result;
       unknown = c.new-3.result;
-    } in rw c.run_table.ensures.2 (ran c.run_table.ensures.0 (table_runs _ _ _ job _ _ _ _ _ is
-    loaded (c.asked.ensures further (search rules)) rules under c.new-2.ensures c.run_table.ensures.1))
+    } in rw c.run_table.ensures.3 (ran c.run_table.ensures.0 (table_runs _ _ _ job _ _ _ _ _ is
+    loaded (c.asked.ensures further (c.as_ref.ensures.variant ∙ c.in-Ok-countries_in.ensures)) rules under c.new-2.ensures c.run_table.ensures.2))

@@ -14,6 +14,7 @@ returns-in-Ok g c =
       c.end_progress.ensures.unflushed,
     ) (
       c.on_inputs-end.result,
+      c.on_inputs-end.new.job.job.now,
       answers_by _ (ActsIn e g.J.Job.acts) (λ j. j.job.now) (λ j. j.encoding ≡ e)
           (λ a before after b end h act. (
             subst (λ x. ActsIn x g.J.Job.acts a.job.now before after b.job.now end) h act.0,
@@ -33,6 +34,7 @@ returns-in-Err g c =
       c.end_progress.ensures.unflushed,
     ) (
       c.on_inputs-end.result,
+      c.on_inputs-end.new.job.job.now,
       answers_by _ (ActsIn e g.J.Job.acts) (λ j. j.job.now) (λ j. j.encoding ≡ e)
           (λ a before after b end h act. (
             subst (λ x. ActsIn x g.J.Job.acts a.job.now before after b.job.now end) h act.0,

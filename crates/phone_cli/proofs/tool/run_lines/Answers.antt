@@ -6,8 +6,8 @@ use Rattle.phone_cli.proofs.tool.run_lines.Goals as goal
 pub returns : goal.returns
 returns g c = (
   c.run.ensures.0,
-  c.run.new.job.taker.now,
+  c.run.ensures.1.taker.now,
   answers_in _ (TakesLines g.T.LineTaker.begins g.T.LineTaker.gives) (λ j. j.taker.now)
-      (λ _. ⊤) (λ a before after b end h act. (act, λ _. tt)) _ _ _ _ _ _ _ tt c.run.ensures.1,
-  c.run.ensures.2,
+      (λ _. ⊤) (λ a before after b end h act. (act, λ _. tt)) _ _ _ _ _ _ _ tt c.run.ensures.2,
+  c.run.ensures.3,
 )

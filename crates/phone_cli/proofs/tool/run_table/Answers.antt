@@ -5,13 +5,15 @@ use Rattle.phone_cli.proofs.tool.run_table.Goals as goal
 pub returns-in-0 : goal.returns-in-0
 returns-in-0 g c = (
   c.run.ensures.0,
-  table_by _ _ c.args.job.now _ _ c.run.new.job _ c.run.ensures.1,
-  c.say_records.ensures ∙ sym c.in-0.is ∙ c.run.ensures.2,
+  c.run.ensures.1.counts,
+  table_by _ _ c.args.job.now _ _ c.run.ensures.1 _ c.run.ensures.2,
+  c.say_records.ensures ∙ sym c.in-0.is ∙ c.run.ensures.3,
 )
 
 pub returns-in_default : goal.returns-in_default
 returns-in_default g c = (
   c.run.ensures.0,
-  table_by _ _ c.args.job.now _ _ c.run.new.job _ c.run.ensures.1,
-  c.run.ensures.2,
+  c.run.ensures.1.counts,
+  table_by _ _ c.args.job.now _ _ c.run.ensures.1 _ c.run.ensures.2,
+  c.run.ensures.3,
 )
