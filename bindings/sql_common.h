@@ -86,20 +86,20 @@ static phone_status sql_parse(phone_handle *world, const sql_call *call, phone_n
     return status;
 }
 
-/* Prints a number in a mode, to the bytes of the answer. */
-static phone_status sql_print(phone_handle *world, const phone_number *number, sql_bytes *texts,
-                              uint32_t mode, sql_answer *answer) {
+/* Prints a number, whose texts stand in these bytes, in a mode to the bytes of the answer. */
+static phone_status sql_print(phone_handle *world, const phone_number *number, const uint8_t *texts,
+                              size_t texts_len, uint32_t mode, sql_answer *answer) {
     sql_bytes *out = &answer->bytes;
     phone_status status;
-    do status = phone_format(world, number, sql_at(texts), texts->len, mode, sql_at(out), out->room,
-                             &out->len);
+    do status = phone_format(world, number, texts, texts_len, mode, sql_at(out), out->room, &out->len);
     while (sql_again(out, &status));
     return status;
 }
 
-/* Answers what is asked of a number that was read. */
+/* Answers what is asked of a number, whose texts stand in these bytes. */
 static phone_status sql_describe(phone_handle *world, const sql_call *call, const phone_number *number,
-                                 sql_bytes *texts, uint32_t mode, sql_answer *answer) {
+                                 const uint8_t *texts, size_t texts_len, uint32_t mode,
+                                 sql_answer *answer) {
     sql_bytes *out = &answer->bytes;
     uint8_t truth = 0;
     uint32_t kind = PHONE_KIND_UNKNOWN;
@@ -111,7 +111,7 @@ static phone_status sql_describe(phone_handle *world, const sql_call *call, cons
         while (sql_again(out, &status));
         break;
     case SQL_FORMAT:
-        status = sql_print(world, number, texts, mode, answer);
+        status = sql_print(world, number, texts, texts_len, mode, answer);
         break;
     case SQL_TYPE:
         status = phone_kind(world, number, &kind);
@@ -128,7 +128,7 @@ static phone_status sql_describe(phone_handle *world, const sql_call *call, cons
         answer->truth = truth != 0;
         break;
     case SQL_REFUSAL:
-        if (call->mode.at) status = sql_print(world, number, texts, mode, answer);
+        if (call->mode.at) status = sql_print(world, number, texts, texts_len, mode, answer);
         answer->kind = SQL_NOTHING;
         break;
     }
@@ -136,18 +136,16 @@ static phone_status sql_describe(phone_handle *world, const sql_call *call, cons
     return status;
 }
 
-/* Answers a call under an open table. sql_end gives back what the answer holds. */
-static void sql_ask(phone_handle *world, const sql_call *call, sql_answer *answer) {
-    phone_number number;
-    sql_bytes texts, *out = &answer->bytes;
+/* Answers what is asked of a number that is there, unless `status` says why it isn't. sql_end gives back
+ * what the answer holds. */
+static void sql_tell(phone_handle *world, const sql_call *call, phone_status status,
+                     const phone_number *number, const uint8_t *texts, size_t texts_len,
+                     sql_answer *answer) {
+    sql_bytes *out = &answer->bytes;
     uint32_t mode = PHONE_MODE_E164;
-    phone_status status;
-    memset(&number, 0, sizeof number);
-    sql_begin(&texts);
     sql_begin(out);
-    status = sql_parse(world, call, &number, &texts);
     if (status == PHONE_OK && call->mode.at && !sql_mode(call->mode, &mode)) status = PHONE_NO_MODE;
-    if (status == PHONE_OK) status = sql_describe(world, call, &number, &texts, mode, answer);
+    if (status == PHONE_OK) status = sql_describe(world, call, number, texts, texts_len, mode, answer);
     if (status == PHONE_MEMORY) answer->kind = SQL_NO_MEMORY;
     else if (status != PHONE_OK) {
         int has_words = call->question == SQL_REFUSAL &&
@@ -155,9 +153,44 @@ static void sql_ask(phone_handle *world, const sql_call *call, sql_answer *answe
         answer->kind = has_words ? SQL_TEXT : SQL_NOTHING;
         answer->text = (sql_text){(const char *)sql_at(out), out->len};
     }
+}
+
+/* Answers a call under an open table. sql_end gives back what the answer holds. */
+static void sql_ask(phone_handle *world, const sql_call *call, sql_answer *answer) {
+    phone_number number;
+    sql_bytes texts;
+    phone_status status;
+    memset(&number, 0, sizeof number);
+    sql_begin(&texts);
+    status = sql_parse(world, call, &number, &texts);
+    sql_tell(world, call, status, &number, sql_at(&texts), texts.len, answer);
     sql_forget(texts.many);
 }
 static void sql_end(sql_answer *answer) { sql_forget(answer->bytes.many); }
+
+/* The columns of phone_parts, in their order, but for the last, the refusal. */
+static const struct { const char *name; sql_question question; const char *mode; } SQL_PARTS[] = {
+    {"e164", SQL_E164, NULL},
+    {"international", SQL_FORMAT, "international"},
+    {"national", SQL_FORMAT, "national"},
+    {"rfc3966", SQL_FORMAT, "rfc3966"},
+    {"type", SQL_TYPE, NULL},
+    {"number_region", SQL_REGION, NULL},
+    {"is_valid", SQL_IS_VALID, NULL}};
+enum { SQL_PARTS_COUNT = sizeof SQL_PARTS / sizeof *SQL_PARTS };
+
+/* What one of these columns tells of a number, or the refusal that `status` is, behind them. sql_end
+ * gives back what the answer holds. */
+static void sql_part(phone_handle *world, int part, phone_status status, const phone_number *number,
+                     const uint8_t *texts, size_t texts_len, sql_answer *answer) {
+    sql_call call = {SQL_REFUSAL, {0}, {0}, {0}};
+    if (part < SQL_PARTS_COUNT) {
+        const char *mode = SQL_PARTS[part].mode;
+        call.question = SQL_PARTS[part].question;
+        if (mode) call.mode = (sql_text){mode, strlen(mode)};
+    }
+    sql_tell(world, &call, status, number, texts, texts_len, answer);
+}
 
 /* The bytes of a file; NULL, and why in `why`, where it can't be read. */
 static uint8_t *sql_read(const char *path, size_t *len, char *why, size_t why_len) {
