@@ -55,23 +55,27 @@ static void make_key(void) {
     has_key = !pthread_atfork(take_lock, give_lock, give_lock) && !pthread_key_create(&key, leave);
 }
 
-/* The handle of this thread; NULL, and an error as the result, where there is none. */
-static phone_handle *world_of_thread(sqlite3_context *context) {
-    char why[1024] = "";
+/* The handle of this thread; NULL where there is none, and why stands in `why`, or nothing for memory. */
+static phone_handle *world_or_why(char *why, size_t why_len) {
     phone_handle *mine;
     pthread_once(&once, make_key);
     mine = has_key ? pthread_getspecific(key) : NULL;
     if (mine) return mine;
     mine = has_key ? malloc(sizeof *mine) : NULL;
-    if (!mine) return sqlite3_result_error_nomem(context), NULL;
+    if (!mine) return NULL;
     *mine = phone_closed();
-    if (!enter(mine, why, sizeof why)) {
-        free(mine);
-        return *why ? sqlite3_result_error(context, why, -1) : sqlite3_result_error_nomem(context), NULL;
-    }
+    if (!enter(mine, why, why_len)) return free(mine), NULL;
     if (!pthread_setspecific(key, mine)) return mine;
-    leave(mine);
-    return sqlite3_result_error_nomem(context), NULL;
+    return leave(mine), NULL;
+}
+
+/* The same; where there is none, the result is an error. */
+static phone_handle *world_of_thread(sqlite3_context *context) {
+    char why[1024] = "";
+    phone_handle *mine = world_or_why(why, sizeof why);
+    if (!mine && *why) sqlite3_result_error(context, why, -1);
+    else if (!mine) sqlite3_result_error_nomem(context);
+    return mine;
 }
 
 /* The text of an argument. `at` is NULL where there was no memory for it. */
@@ -91,45 +95,176 @@ static void give(sqlite3_context *context, const sql_answer *answer) {
     }
 }
 
+/* Takes the arguments of a function: text, region, mode. A region that is NULL or left out is none. 0: the
+ * answer is NULL, or an error, where memory was refused. */
+static int take(sqlite3_context *context, int count, sqlite3_value **values, sql_call *call) {
+    sql_text *const parts[] = {&call->text, &call->region, &call->mode};
+    call->region = (sql_text){"", 0};
+    for (int i = 0; i < count; i++) {
+        int is_null = sqlite3_value_type(values[i]) == SQLITE_NULL;
+        if (is_null && i != 1) return 0;
+        if (!is_null) *parts[i] = text_of(values[i]);
+        if (!parts[i]->at) return sqlite3_result_error_nomem(context), 0;
+    }
+    return 1;
+}
+
 /* The body of each function: its question is the function's own datum. */
 static void ask(sqlite3_context *context, int count, sqlite3_value **values) {
     sql_call call = {*(const sql_question *)sqlite3_user_data(context), {0}, {0}, {0}};
-    sql_text *const parts[] = {&call.text, &call.region, &call.mode};
     sql_answer answer;
     phone_handle *mine;
-    for (int i = 0; i < count; i++)
-        if (sqlite3_value_type(values[i]) == SQLITE_NULL) return;
-    for (int i = 0; i < count; i++) {
-        *parts[i] = text_of(values[i]);
-        if (!parts[i]->at) {
-            sqlite3_result_error_nomem(context);
-            return;
-        }
-    }
-    if (!(mine = world_of_thread(context))) return;
+    if (!take(context, count, values, &call) || !(mine = world_of_thread(context))) return;
     sql_ask(mine, &call, &answer);
     give(context, &answer);
     sql_end(&answer);
 }
 
+/* The version of the table in the library, or the file of the one that PHONE_TABLE names. */
+static void table_version(sqlite3_context *context, int count, sqlite3_value **values) {
+    const char *path = getenv("PHONE_TABLE");
+    uint8_t version[128] = {0};
+    size_t len = 0;
+    (void)count, (void)values;
+    if (path && *path) {
+        sqlite3_result_text(context, path, -1, SQLITE_TRANSIENT);
+        return;
+    }
+    phone_table_version(version, sizeof version, &len);
+    sqlite3_result_text(context, (const char *)version, (int)len, SQLITE_TRANSIENT);
+}
+
+/* phone_parts(text, region) as a table of one row, or of none where the text is NULL. */
+typedef struct {
+    sqlite3_vtab_cursor base;
+    int is_there;
+    phone_status status;
+    phone_number number;
+    sql_bytes texts;
+} parts_cursor;
+enum { REFUSAL_COLUMN = SQL_PARTS_COUNT, TEXT_COLUMN, REGION_COLUMN };
+
+static int parts_connect(sqlite3 *db, void *data, int count, const char *const *words, sqlite3_vtab **table,
+                         char **error) {
+    (void)data, (void)count, (void)words, (void)error;
+    int status = sqlite3_declare_vtab(db, "create table parts(e164, international, national, rfc3966, type, "
+                                          "number_region, is_valid, refusal, number hidden, region hidden)");
+    if (status != SQLITE_OK) return status;
+    if (!(*table = zeroed(sizeof **table))) return SQLITE_NOMEM;
+    return sqlite3_vtab_config(db, SQLITE_VTAB_INNOCUOUS);
+}
+
+static int parts_disconnect(sqlite3_vtab *table) { return sqlite3_free(table), SQLITE_OK; }
+
+/* The text is given, and the region perhaps; both as equalities that are the table's own business. */
+static int parts_best(sqlite3_vtab *table, sqlite3_index_info *info) {
+    int text = -1, region = -1;
+    (void)table;
+    for (int i = 0; i < info->nConstraint; i++) {
+        const struct sqlite3_index_constraint *it = &info->aConstraint[i];
+        if (it->op != SQLITE_INDEX_CONSTRAINT_EQ || it->iColumn < TEXT_COLUMN) continue;
+        if (!it->usable) return SQLITE_CONSTRAINT;
+        *(it->iColumn == TEXT_COLUMN ? &text : &region) = i;
+    }
+    if (text < 0) return SQLITE_CONSTRAINT;
+    info->aConstraintUsage[text].argvIndex = 1;
+    info->aConstraintUsage[text].omit = 1;
+    if (region >= 0) {
+        info->aConstraintUsage[region].argvIndex = 2;
+        info->aConstraintUsage[region].omit = 1;
+    }
+    info->estimatedCost = 1;
+    info->estimatedRows = 1;
+    return SQLITE_OK;
+}
+
+static int parts_open(sqlite3_vtab *table, sqlite3_vtab_cursor **cursor) {
+    parts_cursor *mine = zeroed(sizeof *mine);
+    (void)table;
+    if (!mine) return SQLITE_NOMEM;
+    sql_begin(&mine->texts);
+    *cursor = &mine->base;
+    return SQLITE_OK;
+}
+
+static int parts_close(sqlite3_vtab_cursor *cursor) {
+    sql_forget(((parts_cursor *)cursor)->texts.many);
+    return sqlite3_free(cursor), SQLITE_OK;
+}
+
+static int parts_filter(sqlite3_vtab_cursor *cursor, int plan, const char *name, int count, sqlite3_value **values) {
+    parts_cursor *mine = (parts_cursor *)cursor;
+    sql_call call = {SQL_E164, {0}, {"", 0}, {0}};
+    char why[1024] = "";
+    phone_handle *world;
+    (void)plan, (void)name;
+    mine->is_there = sqlite3_value_type(values[0]) != SQLITE_NULL;
+    if (!mine->is_there) return SQLITE_OK;
+    call.text = text_of(values[0]);
+    if (count > 1 && sqlite3_value_type(values[1]) != SQLITE_NULL) call.region = text_of(values[1]);
+    if (!call.text.at || !call.region.at) return SQLITE_NOMEM;
+    if (!(world = world_or_why(why, sizeof why))) {
+        if (!*why) return SQLITE_NOMEM;
+        cursor->pVtab->zErrMsg = sqlite3_mprintf("%s", why);
+        return SQLITE_ERROR;
+    }
+    sql_forget(mine->texts.many);
+    sql_begin(&mine->texts);
+    mine->status = sql_parse(world, &call, &mine->number, &mine->texts);
+    return mine->status == PHONE_MEMORY ? SQLITE_NOMEM : SQLITE_OK;
+}
+
+static int parts_next(sqlite3_vtab_cursor *cursor) { return ((parts_cursor *)cursor)->is_there = 0, SQLITE_OK; }
+static int parts_eof(sqlite3_vtab_cursor *cursor) { return !((parts_cursor *)cursor)->is_there; }
+static int parts_row(sqlite3_vtab_cursor *cursor, sqlite3_int64 *row) { return (void)cursor, *row = 1, SQLITE_OK; }
+
+static int parts_column(sqlite3_vtab_cursor *cursor, sqlite3_context *context, int column) {
+    parts_cursor *mine = (parts_cursor *)cursor;
+    sql_answer answer;
+    phone_handle *world;
+    if (column > REFUSAL_COLUMN || !(world = world_of_thread(context))) return SQLITE_OK;
+    sql_part(world, column, mine->status, &mine->number, sql_at(&mine->texts), mine->texts.len, &answer);
+    give(context, &answer);
+    sql_end(&answer);
+    return SQLITE_OK;
+}
+
+static const sqlite3_module PARTS = {
+    .xConnect = parts_connect, .xDisconnect = parts_disconnect, .xBestIndex = parts_best, .xOpen = parts_open,
+    .xClose = parts_close, .xFilter = parts_filter, .xNext = parts_next, .xEof = parts_eof, .xColumn = parts_column,
+    .xRowid = parts_row};
+
+#define OF_TEXT (SQLITE_UTF8 | SQLITE_DETERMINISTIC | SQLITE_INNOCUOUS)
+typedef struct {
+    const char *name;
+    int count, flags;
+    void (*body)(sqlite3_context *, int, sqlite3_value **);
+    sql_question question;
+} sql_function;
+static const sql_function FUNCTIONS[] = {
+    {"phone_e164", 1, OF_TEXT, ask, SQL_E164},         {"phone_e164", 2, OF_TEXT, ask, SQL_E164},
+    {"phone_format", 3, OF_TEXT, ask, SQL_FORMAT},     {"phone_type", 1, OF_TEXT, ask, SQL_TYPE},
+    {"phone_type", 2, OF_TEXT, ask, SQL_TYPE},         {"phone_region", 1, OF_TEXT, ask, SQL_REGION},
+    {"phone_region", 2, OF_TEXT, ask, SQL_REGION},     {"phone_is_valid", 1, OF_TEXT, ask, SQL_IS_VALID},
+    {"phone_is_valid", 2, OF_TEXT, ask, SQL_IS_VALID}, {"phone_refusal", 1, OF_TEXT, ask, SQL_REFUSAL},
+    {"phone_refusal", 2, OF_TEXT, ask, SQL_REFUSAL},   {"phone_refusal", 3, OF_TEXT, ask, SQL_REFUSAL},
+    {"phone_table_version", 0, SQLITE_UTF8 | SQLITE_INNOCUOUS, table_version, SQL_REFUSAL}};
+
 #ifdef __GNUC__
 __attribute__((visibility("default")))
 #endif
 int sqlite3_phonenumber_init(sqlite3 *db, char **error, const sqlite3_api_routines *api) {
-    static const struct { const char *name; int count; sql_question question; } FUNCTIONS[] = {
-        {"phone_e164", 2, SQL_E164},       {"phone_format", 3, SQL_FORMAT},
-        {"phone_type", 2, SQL_TYPE},       {"phone_region", 2, SQL_REGION},
-        {"phone_is_valid", 2, SQL_IS_VALID}, {"phone_refusal", 2, SQL_REFUSAL},
-        {"phone_refusal", 3, SQL_REFUSAL}};
+    int status = SQLITE_OK;
     SQLITE_EXTENSION_INIT2(api);
-    for (size_t i = 0; i < sizeof FUNCTIONS / sizeof *FUNCTIONS; i++) {
-        int status = sqlite3_create_function_v2(
-            db, FUNCTIONS[i].name, FUNCTIONS[i].count, SQLITE_UTF8 | SQLITE_DETERMINISTIC | SQLITE_INNOCUOUS,
-            (void *)&FUNCTIONS[i].question, ask, NULL, NULL, NULL);
-        if (status != SQLITE_OK) {
-            *error = sqlite3_mprintf("%s: %s", FUNCTIONS[i].name, sqlite3_errmsg(db));
-            return status;
-        }
+    for (size_t i = 0; status == SQLITE_OK && i < sizeof FUNCTIONS / sizeof *FUNCTIONS; i++) {
+        const sql_function *it = &FUNCTIONS[i];
+        status = sqlite3_create_function_v2(db, it->name, it->count, it->flags, (void *)&it->question, it->body, NULL,
+                                            NULL, NULL);
+    }
+    if (status == SQLITE_OK) status = sqlite3_create_module_v2(db, "phone_parts", &PARTS, NULL, NULL);
+    if (status != SQLITE_OK) {
+        *error = sqlite3_mprintf("phonenumber: %s", sqlite3_errmsg(db));
+        return status;
     }
     /* The library stays, since threads that end close their handles by it. */
     return SQLITE_OK_LOAD_PERMANENTLY;
