@@ -2,17 +2,23 @@
 pyproject.toml, and needs Python alone.
 
 usage: pip wheel --no-deps bindings/python        or pip install bindings/python
-       bindings/python/make_wheel.py FOLDER
+       bindings/python/make_wheel.py [--source] FOLDER
 
-PHONE_LIBRARY names the shared library, else bindings/c/out/libphone.so is taken; PHONE_LICENCES a file of the licences of all that
-is linked, else the repository's own. The same files give the same bytes: the time of each is SOURCE_DATE_EPOCH, else 1980.
+PHONE_LIBRARY names the shared library; else it is bindings/c/out/libphone.so, or the installed one that `pkg-config phonenumber-proved`
+tells. PHONE_LICENCES is a file of the licences of all that is linked, else the repository's own. A source distribution has the package, the
+tables and this file, and makes a wheel of the installed library. The same files give the same bytes: the time of each is
+SOURCE_DATE_EPOCH, else 1980.
 """
 import base64
+import gzip
 import hashlib
+import io
 import os
 import re
 import struct
+import subprocess
 import sys
+import tarfile
 import time
 import zipfile
 from pathlib import Path
@@ -20,7 +26,18 @@ from pathlib import Path
 HERE = Path(__file__).resolve().parent
 TOP = HERE.parents[1]
 NAME = "phonenumber_proved"
+# Where the tables and the licence are: in the repository, or in a source distribution.
+DATA = HERE / "data" if (HERE / "data").is_dir() else TOP / "data"
+OWN_LICENCE = HERE / "LICENSE" if (HERE / "LICENSE").is_file() else TOP / "LICENSE"
 TABLES = ["world.json", "world.compact", "short.json", "timezones.tsv", "carriers.tsv", "VERSION"]
+CLASSIFIERS = """Development Status :: 4 - Beta
+Intended Audience :: Developers
+License :: OSI Approved :: Apache Software License
+Operating System :: POSIX :: Linux
+Programming Language :: Python :: 3
+Topic :: Communications :: Telephony
+Topic :: Software Development :: Libraries :: Python Modules
+Typing :: Typed"""
 MACHINES = {62: "x86_64", 183: "aarch64"}
 
 
@@ -49,35 +66,56 @@ def platform(library):
     return f"manylinux_2_{max([17, *versions])}_{machine}" if needed <= {b"libc.so.6"} else f"linux_{machine}"
 
 
-def metadata(tag):
-    """The files of a wheel that tell of it, by their names."""
-    about = f"""Metadata-Version: 2.1
+def about():
+    """What is told of the package."""
+    classifiers = "\n".join(f"Classifier: {it}" for it in CLASSIFIERS.splitlines())
+    return f"""Metadata-Version: 2.1
 Name: phonenumber-proved
 Version: {version()}
 Summary: Phone numbers, read and printed by a proved library
 License: Apache-2.0
+Keywords: phone,telephone,phonenumbers,libphonenumber,E.164
+{classifiers}
 Requires-Python: >=3.8
 Description-Content-Type: text/markdown
 
 {(HERE / "README.md").read_text(encoding="utf-8")}"""
+
+
+def library_file():
+    """The shared library."""
+    named = os.environ.get("PHONE_LIBRARY")
+    path = Path(named or TOP / "bindings" / "c" / "out" / "libphone.so")
+    if not named and not path.exists():
+        words = ["pkg-config", "--variable=libdir", "phonenumber-proved"]
+        try:
+            told = subprocess.run(words, stdout=subprocess.PIPE, stderr=subprocess.DEVNULL, text=True, check=False).stdout.strip()
+        except OSError:
+            told = ""
+        path = Path(told, "libphonenumber-proved.so.3") if told else path
+    if not path.exists():
+        sys.exit(f"make_wheel: {path} is not there: install the library, whose pkg-config name is phonenumber-proved, or let "
+                 "PHONE_LIBRARY name it; in the repository tools/bindings builds it")
+    return path
+
+
+def metadata(tag):
+    """The files of a wheel that tell of it, by their names."""
     wheel = f"Wheel-Version: 1.0\nGenerator: make_wheel\nRoot-Is-Purelib: false\nTag: {tag}\n"
-    licences = Path(os.environ.get("PHONE_LICENCES") or TOP / "LICENSE")
+    licences = Path(os.environ.get("PHONE_LICENCES") or OWN_LICENCE)
     return {
-        "METADATA": about.encode(), "WHEEL": wheel.encode(), "LICENSE": (TOP / "LICENSE").read_bytes(),
-        "LICENSES": licences.read_bytes(), "TABLE_LICENSE": (TOP / "data" / "LICENSE").read_bytes(),
+        "METADATA": about().encode(), "WHEEL": wheel.encode(), "LICENSE": OWN_LICENCE.read_bytes(),
+        "LICENSES": licences.read_bytes(), "TABLE_LICENSE": (DATA / "LICENSE").read_bytes(),
     }
 
 
 def files():
     """The files of the package, by their names in the wheel, and the tag that fits them."""
-    found = {f"{NAME}/{it.name}": it.read_bytes() for it in sorted((HERE / NAME).glob("*.py"))}
+    found = {str(it.relative_to(HERE)): it.read_bytes() for it in sorted((HERE / NAME).rglob("*.py"))}
     found[f"{NAME}/py.typed"] = b""
-    path = Path(os.environ.get("PHONE_LIBRARY") or TOP / "bindings" / "c" / "out" / "libphone.so")
-    if not path.exists():
-        sys.exit(f"make_wheel: {path} is not there: tools/bindings builds it, or PHONE_LIBRARY names another")
-    found[f"{NAME}/libphone.so"] = path.read_bytes()
+    found[f"{NAME}/libphone.so"] = library_file().read_bytes()
     for it in TABLES:
-        found[f"{NAME}/data/{it}"] = (TOP / "data" / it).read_bytes()
+        found[f"{NAME}/data/{it}"] = (DATA / it).read_bytes()
     tag = "py3-none-" + platform(found[f"{NAME}/libphone.so"])
     info = f"{NAME}-{version()}.dist-info"
     found.update((f"{info}/{name}", data) for name, data in metadata(tag).items())
@@ -105,10 +143,29 @@ def build_wheel(wheel_directory, config_settings=None, metadata_directory=None):
 
 
 def build_sdist(sdist_directory, config_settings=None):
-    sys.exit("make_wheel: there is no source distribution: the package is made in the repository, which has the library")
+    """Writes the source distribution into a folder; its name."""
+    top = f"{NAME}-{version()}"
+    found = {str(it.relative_to(HERE)): it.read_bytes() for it in sorted((HERE / NAME).rglob("*.py"))}
+    found[f"{NAME}/py.typed"] = b""
+    found.update((it, (HERE / it).read_bytes()) for it in ("README.md", "make_wheel.py", "pyproject.toml"))
+    found.update((f"data/{it}", (DATA / it).read_bytes()) for it in [*TABLES, "LICENSE"])
+    found.update({"LICENSE": OWN_LICENCE.read_bytes(), "PKG-INFO": about().encode()})
+    stamp = int(os.environ.get("SOURCE_DATE_EPOCH") or 315532800)
+    packed = io.BytesIO()
+    with tarfile.open(fileobj=packed, mode="w", format=tarfile.PAX_FORMAT) as tar:
+        for path in sorted(found):
+            info = tarfile.TarInfo(f"{top}/{path}")
+            info.size, info.mtime, info.mode = len(found[path]), stamp, 0o644
+            tar.addfile(info, io.BytesIO(found[path]))
+    with open(Path(sdist_directory) / f"{top}.tar.gz", "wb") as file:
+        file.write(gzip.compress(packed.getvalue(), mtime=stamp))
+    return f"{top}.tar.gz"
 
 
 if __name__ == "__main__":
-    if len(sys.argv) != 2 or sys.argv[1].startswith("-"):
+    words = sys.argv[1:]
+    build = build_sdist if words[:1] == ["--source"] else build_wheel
+    words = words[build is build_sdist:]
+    if len(words) != 1 or words[0].startswith("-"):
         sys.exit(__doc__)
-    print(build_wheel(sys.argv[1]))
+    print(build(words[0]))

@@ -9,6 +9,7 @@ import doctest
 import io
 import pickle
 import re
+import subprocess
 import sys
 from pathlib import Path
 
@@ -175,6 +176,82 @@ def numbers_are_data():
             pass
 
 
+class Customer(PhoneNumber):
+    """A number with a field of its own, as other packages make of this class."""
+
+    def __init__(self, owner, **fields):
+        super().__init__(**fields)
+        self.owner = owner
+
+
+def numbers_have_classes_made_of_them():
+    number, customer = PhoneNumber(64, 33316005), Customer("Mere", country_code=64, national_number=33316005)
+    check("equal", (customer == number, number == customer, customer == Customer("Hone", country_code=64, national_number=33316005)), (True,) * 3)
+    number.merge_from(Customer("Mere", extension="12"))
+    customer.merge_from(number)
+    check("merged", (number.extension, hasattr(number, "owner"), customer.extension, customer.owner), ("12", False, "12", "Mere"))
+    customer.clear()
+    check("cleared", (customer.country_code, customer.owner, customer == PhoneNumber()), (None, "Mere", True))
+    check("set in another order", eval_fields(extension="1", national_number=2, country_code=3) == PhoneNumber(3, 2, "1"), True)
+    check("shown", str(Customer("Mere", country_code=1, national_number=2)), "Country Code: 1 National Number: 2")
+    bare = names.parse("0401234567", None, _check_region=False)
+    check("without a code", (bare.country_code, bare.national_number, bare.italian_leading_zero), (0, 401234567, True))
+
+
+def eval_fields(**fields):
+    """A number whose fields are set one after the other."""
+    it = PhoneNumber()
+    for name, value in fields.items():
+        delattr(it, name)
+        setattr(it, name, value)
+    return it
+
+
+INSTALLED = """
+import sys
+from phonenumber_proved import phonenumbers as ours
+ours.install()
+ours.install()
+import phonenumbers
+from phonenumbers.phonenumberutil import NumberParseException, region_code_for_number
+from phonenumbers.phonenumber import PhoneNumber
+import phonenumbers.shortnumberinfo, phonenumbers.phonenumbermatcher, phonenumbers.asyoutypeformatter, phonenumbers.phonemetadata
+assert phonenumbers is ours and PhoneNumber is ours.PhoneNumber and phonenumbers.phonenumber.PhoneNumber is PhoneNumber
+assert not ours._regions.records.cache_info().currsize
+from phonenumbers.phonenumberutil import SUPPORTED_REGIONS
+assert len(SUPPORTED_REGIONS) == 245 and SUPPORTED_REGIONS is phonenumbers.SUPPORTED_REGIONS
+assert ours._regions.records.cache_info().currsize
+assert phonenumbers.phonenumberutil.COUNTRY_CODE_TO_REGION_CODE[64] == ("NZ",)
+from phonenumbers import *
+assert NumberParseException is phonenumbers.NumberParseException and parse("+6433316005") == PhoneNumber(64, 33316005)
+"""
+TOO_LATE = """
+import sys, types
+sys.modules["phonenumbers"] = types.ModuleType("phonenumbers")
+from phonenumber_proved import phonenumbers as ours
+try: ours.install()
+except RuntimeError: sys.exit(0)
+sys.exit(1)
+"""
+
+
+def package_is_installed():
+    for program in (INSTALLED, TOO_LATE):
+        check(program, subprocess.run([sys.executable, "-c", program], check=False).returncode, 0)
+    check("keywords", (names.is_valid_short_number_for_region(short_numobj=PhoneNumber(64, 111), region_dialing_from="NZ"),
+                       names.is_possible_short_number_for_region(short_numobj=PhoneNumber(64, 111), region_dialing_from="NZ")), (True, True))
+
+
+def records_are_told():
+    record = names.PhoneMetadata.metadata_for_region("NZ")
+    check("record", (record.id, record.country_code, record.national_prefix, record.international_prefix), ("NZ", 64, "0", "0(?:0|161)"))
+    check("kinds", (record.mobile.possible_length, record.pager is None, record.fixed_line.example_number), ((8, 9, 10), True, "32345678"))
+    check("layouts", (record.number_format[0].format[:2], len(record.intl_number_format) > 0), ("\\1", True))
+    check("others", (names.PhoneMetadata.metadata_for_region("XX"), names.PhoneMetadata.metadata_for_nongeo_region(800).id,
+                     names.PhoneMetadata.metadata_for_region_or_calling_code(800, "001").country_code), (None, "001", 800))
+    check("same", record == names.PhoneMetadata.metadata_for_region("NZ"), True)
+
+
 def readme():
     """The examples of README.md print what stands behind their lines."""
     text = Path(__file__).with_name("README.md").read_text(encoding="utf-8")
@@ -187,7 +264,7 @@ def readme():
 
 def main():
     for case in (numbers_are_read, numbers_are_told, numbers_are_compared_and_found, regions_are_told, short_numbers_are_told,
-                 numbers_are_data, readme):
+                 numbers_are_data, numbers_have_classes_made_of_them, package_is_installed, records_are_told, readme):
         case()
     missing = [name for name in names.__all__ if not hasattr(names, name)]
     check("names", missing, [])

@@ -36,6 +36,7 @@ from .number import Kind, Mode, PhoneNumber, Possibility, Rules, Source
 from .prefixes import Prefixes
 from .short import Cost, ShortFacts, ShortNumbers
 from .tables import CARRIERS_TABLE, SHORT_TABLE, TABLE, TABLE_VERSION, TIME_ZONES_TABLE
+from .warming import warm
 
 __version__ = "0.2.0"
 
@@ -69,6 +70,7 @@ __all__ = [
     "UnknownRegion",
     "__version__",
     "is_viable",
+    "warm",
 ]
 
 # The place of a public name is this package, whatever file it stands in.

@@ -2,30 +2,47 @@
 
 from __future__ import annotations
 
-from typing import Optional, Set, Tuple
+from typing import Any, Callable, Dict, Optional, Set, Tuple
 
 from . import _regions
 
 REGION_CODE_FOR_NON_GEO_ENTITY, UNKNOWN_REGION = _regions.NO_REGION, _regions.UNKNOWN
 
-#: The regions of each calling code, the main one first.
-COUNTRY_CODE_TO_REGION_CODE = _regions.regions_by_code()
+#: What the table has of regions and codes; each is made of it when it is asked for first.
+_CONSTANTS: Dict[str, Callable[[], Any]] = {
+    # The regions of each calling code, the main one first.
+    "COUNTRY_CODE_TO_REGION_CODE": _regions.regions_by_code,
+    # The calling codes that are no region's.
+    "COUNTRY_CODES_FOR_NON_GEO_REGIONS": lambda: frozenset(
+        code for code, regions in _regions.regions_by_code().items() if regions == (_regions.NO_REGION,)
+    ),
+    # The regions that the table has, and those that have short numbers.
+    "SUPPORTED_REGIONS": lambda: frozenset(_regions.code_by_region()),
+    "SUPPORTED_SHORT_REGIONS": lambda: sorted(_regions.short_regions()),
+}
 
-#: The calling codes that are no region's.
-COUNTRY_CODES_FOR_NON_GEO_REGIONS = frozenset(
-    code
-    for code, regions in COUNTRY_CODE_TO_REGION_CODE.items()
-    if regions == (REGION_CODE_FOR_NON_GEO_ENTITY,)
-)
 
-#: The regions that the table has, and those that have short numbers.
-SUPPORTED_REGIONS = frozenset(_regions.code_by_region())
-SUPPORTED_SHORT_REGIONS = sorted(_regions.short_regions())
+def constant(name: str) -> Any:
+    """A constant of that package which is made of the table; the same object each time."""
+    if name not in _CONSTANTS:
+        raise AttributeError(f"module 'phonenumbers' has no attribute {name!r}")
+    if name not in globals():
+        globals()[name] = _CONSTANTS[name]()
+    return globals()[name]
+
+
+def __getattr__(name: str) -> Any:
+    return constant(name)
+
+
+def is_supported(region_code: Optional[str]) -> bool:
+    """Whether the table has a region."""
+    return (region_code or "") in _regions.code_by_region()
 
 
 def region_codes_for_country_code(country_code: int) -> Tuple[str, ...]:
     """The regions of a calling code, the main one first."""
-    return COUNTRY_CODE_TO_REGION_CODE.get(country_code, ())
+    return _regions.regions_by_code().get(country_code, ())
 
 
 def region_code_for_country_code(country_code: int) -> str:
@@ -48,7 +65,7 @@ def country_code_for_valid_region(region_code: str) -> int:
 
 def supported_calling_codes() -> Set[int]:
     """The calling codes of the table."""
-    return set(COUNTRY_CODE_TO_REGION_CODE)
+    return set(_regions.regions_by_code())
 
 
 def is_nanpa_country(region_code: Optional[str]) -> bool:

@@ -120,6 +120,14 @@ _FIELDS = {
 }
 
 
+#: The fields of a number, in the order of its arguments.
+_NAMES = (
+    "country_code", "national_number", "extension", "italian_leading_zero",
+    "number_of_leading_zeros", "raw_input", "country_code_source",
+    "preferred_domestic_carrier_code",
+)
+
+
 class PhoneNumber:
     """A phone number: fields that a program sets at will. A field that isn't set is `None`.
 
@@ -152,16 +160,17 @@ class PhoneNumber:
         PhoneNumber.__init__(self)
 
     def merge_from(self, other: "PhoneNumber") -> None:
-        """Takes over the fields that the other has."""
-        unset = vars(PhoneNumber())
-        for name, value in vars(other).items():
-            if value != unset[name]:
+        """Takes over the fields that the other has; those of a class made of this one aren't its."""
+        unset = PhoneNumber()
+        for name in _NAMES:
+            value = getattr(other, name)
+            if value != getattr(unset, name):
                 setattr(self, name, value)
 
     def _key(self) -> Tuple[Any, ...]:
-        """What is compared: an absent truth is a false one."""
-        fields = dict(vars(self), italian_leading_zero=bool(self.italian_leading_zero))
-        return tuple(fields.values())
+        """What is compared, the eight fields: an absent truth is a false one."""
+        zero = "italian_leading_zero"
+        return tuple(bool(self.italian_leading_zero) if it == zero else getattr(self, it) for it in _NAMES)
 
     def __eq__(self, other: object) -> bool:
         return isinstance(other, PhoneNumber) and self._key() == other._key()
@@ -169,7 +178,7 @@ class PhoneNumber:
     __hash__ = None  # type: ignore[assignment]
 
     def __str__(self) -> str:
-        unset, told = vars(PhoneNumber()), vars(self)
+        unset, told = vars(PhoneNumber()), {it: getattr(self, it) for it in _NAMES}
         always = ("country_code", "national_number")
         return " ".join(
             f"{words}: {told[name]}"
@@ -178,8 +187,8 @@ class PhoneNumber:
         )
 
     def __repr__(self) -> str:
-        told = vars(self)
-        fields = ", ".join(f"{name}={it!r}" for name, it in told.items() if name != "raw_input")
+        told = {it: getattr(self, it) for it in _NAMES if it != "raw_input"}
+        fields = ", ".join(f"{name}={it!r}" for name, it in told.items())
         return f"{type(self).__name__}({fields})"
 
 

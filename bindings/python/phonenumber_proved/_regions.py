@@ -81,3 +81,14 @@ def alone(code: int, region: str) -> Optional[Database]:
         return None
     opened = _once((code, region), lambda: Database(json.dumps([record])))
     return opened  # type: ignore[no-any-return]
+
+
+#: The region under which `codeless` reads.
+CODELESS = "AC"
+
+
+def codeless() -> Database:
+    """A database of one region without prefixes, whose numbers are digits of any count."""
+    general = {"national_number": "(?:\\d{2,17})$", "possible_length": list(range(2, 18))}
+    record = {"id": CODELESS, "country_code": 999, "general": general}
+    return _once("codeless", lambda: Database(json.dumps([record])))  # type: ignore[no-any-return]

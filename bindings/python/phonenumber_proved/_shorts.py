@@ -23,21 +23,21 @@ def _short(number: Union[PhoneNumber, str], region: Optional[str]) -> Optional[S
         return None
 
 
-def is_possible_short_number_for_region(numobj: PhoneNumber, region_dialing_from: str) -> bool:
+def is_possible_short_number_for_region(short_numobj: PhoneNumber, region_dialing_from: str) -> bool:
     """Whether the count of a short number's digits is possible in a region."""
-    facts = _short(numobj, region_dialing_from)
+    facts = _short(short_numobj, region_dialing_from)
     return facts is not None and facts.is_possible
 
 
-def is_valid_short_number_for_region(numobj: PhoneNumber, region_dialing_from: str) -> bool:
+def is_valid_short_number_for_region(short_numobj: PhoneNumber, region_dialing_from: str) -> bool:
     """Whether a number is a short number of a region."""
-    facts = _short(numobj, region_dialing_from)
+    facts = _short(short_numobj, region_dialing_from)
     return facts is not None and facts.is_valid
 
 
-def expected_cost_for_region(numobj: PhoneNumber, region_dialing_from: str) -> int:
+def expected_cost_for_region(short_numobj: PhoneNumber, region_dialing_from: str) -> int:
     """What a call of a short number costs in a region, of `ShortNumberCost`."""
-    facts = _short(numobj, region_dialing_from)
+    facts = _short(short_numobj, region_dialing_from)
     return ShortNumberCost.UNKNOWN_COST if facts is None else int(facts.cost)
 
 

@@ -1,6 +1,7 @@
 """The names of the Python package `phonenumbers`, for the calls that the library has.
 
-A program that uses no others changes its import alone:
+A program that uses no others changes its import alone; for other packages that import `phonenumbers`
+there is `install()`:
 
     >>> from phonenumber_proved import phonenumbers
     >>> number = phonenumbers.parse("020 8366 1177", "GB")
@@ -25,50 +26,61 @@ the number is whole. `PhoneNumberMatcher` finds what `Database.find` does, which
 
 from __future__ import annotations
 
-from typing import Optional, Union
+import sys
+from typing import Any, Dict, FrozenSet, List, Optional, Tuple, Union
 
-from . import _regions
-from ._matches import Leniency, PhoneNumberMatch, PhoneNumberMatcher
-from ._of_regions import (
-    COUNTRY_CODE_TO_REGION_CODE, COUNTRY_CODES_FOR_NON_GEO_REGIONS, REGION_CODE_FOR_NON_GEO_ENTITY,
-    SUPPORTED_REGIONS, SUPPORTED_SHORT_REGIONS, UNKNOWN_REGION, country_code_for_region,
+from .. import _of_regions, _regions
+from .._matches import Leniency, PhoneNumberMatch, PhoneNumberMatcher
+from .._metadata import NumberFormat, PhoneMetadata, PhoneNumberDesc
+from .._of_regions import (
+    REGION_CODE_FOR_NON_GEO_ENTITY, UNKNOWN_REGION, country_code_for_region,
     country_code_for_valid_region, is_mobile_number_portable_region, is_nanpa_country,
-    ndd_prefix_for_region, normalize_digits_only, region_code_for_country_code,
+    is_supported, ndd_prefix_for_region, normalize_digits_only, region_code_for_country_code,
     region_codes_for_country_code, supported_calling_codes,
 )
-from ._plain import (
+from .._plain import (
     CountryCodeSource, FrozenPhoneNumber, MatchType, NumberParseException, PhoneNumber,
     PhoneNumberFormat, PhoneNumberType, ShortNumberCost, ValidationResult, leading_zeros,
     national_significant_number, plain_number,
 )
-from ._shorts import (
+from .._shorts import (
     connects_to_emergency_number, expected_cost, expected_cost_for_region, is_carrier_specific,
     is_carrier_specific_for_region, is_emergency_number, is_possible_short_number,
     is_possible_short_number_for_region, is_valid_short_number, is_valid_short_number_for_region,
 )
-from .database import Sameness
-from .errors import NoNumber, UnknownCode
-from .number import Kind, Mode, Possibility, Rules, Source, _again
-from .number import PhoneNumber as _Read
+from ..database import Sameness
+from ..errors import NoNumber, UnknownCode
+from ..number import Kind, Mode, Possibility, Rules, Source, _again
+from ..number import PhoneNumber as _Read
 
 __all__ = [
     "AsYouTypeFormatter", "COUNTRY_CODES_FOR_NON_GEO_REGIONS", "COUNTRY_CODE_TO_REGION_CODE",
-    "CountryCodeSource", "FrozenPhoneNumber", "Leniency", "MatchType", "NumberParseException",
-    "PhoneNumber", "PhoneNumberFormat", "PhoneNumberMatch", "PhoneNumberMatcher",
-    "PhoneNumberType", "REGION_CODE_FOR_NON_GEO_ENTITY", "SUPPORTED_REGIONS",
-    "SUPPORTED_SHORT_REGIONS", "ShortNumberCost", "UNKNOWN_REGION", "ValidationResult",
-    "connects_to_emergency_number", "country_code_for_region", "country_code_for_valid_region",
-    "example_number", "example_number_for_type", "expected_cost", "expected_cost_for_region",
-    "format_number", "format_out_of_country_calling_number", "is_carrier_specific",
-    "is_carrier_specific_for_region", "is_emergency_number", "is_mobile_number_portable_region",
-    "is_nanpa_country", "is_number_match", "is_possible_number", "is_possible_number_string",
-    "is_possible_number_with_reason", "is_possible_short_number",
+    "CountryCodeSource", "FrozenPhoneNumber", "Leniency", "MatchType", "NumberFormat",
+    "NumberParseException", "PhoneMetadata", "PhoneNumber", "PhoneNumberDesc", "PhoneNumberFormat",
+    "PhoneNumberMatch", "PhoneNumberMatcher", "PhoneNumberType", "REGION_CODE_FOR_NON_GEO_ENTITY",
+    "SUPPORTED_REGIONS", "SUPPORTED_SHORT_REGIONS", "ShortNumberCost", "UNKNOWN_REGION",
+    "ValidationResult", "connects_to_emergency_number", "country_code_for_region",
+    "country_code_for_valid_region", "example_number", "example_number_for_type", "expected_cost",
+    "expected_cost_for_region", "format_number", "format_out_of_country_calling_number",
+    "is_carrier_specific", "is_carrier_specific_for_region", "is_emergency_number",
+    "is_mobile_number_portable_region", "is_nanpa_country", "is_number_match", "is_possible_number",
+    "is_possible_number_string", "is_possible_number_with_reason", "is_possible_short_number",
     "is_possible_short_number_for_region", "is_valid_number", "is_valid_number_for_region",
     "is_valid_short_number", "is_valid_short_number_for_region", "national_significant_number",
     "ndd_prefix_for_region", "normalize_digits_only", "number_type", "parse",
     "region_code_for_country_code", "region_code_for_number", "region_codes_for_country_code",
     "supported_calling_codes",
 ]
+
+COUNTRY_CODE_TO_REGION_CODE: Dict[int, Tuple[str, ...]]
+COUNTRY_CODES_FOR_NON_GEO_REGIONS: FrozenSet[int]
+SUPPORTED_REGIONS: FrozenSet[str]
+SUPPORTED_SHORT_REGIONS: List[str]
+
+
+def __getattr__(name: str) -> Any:
+    return _of_regions.constant(name)
+
 
 _SOURCES = {
     Source.PLUS: CountryCodeSource.FROM_NUMBER_WITH_PLUS_SIGN,
@@ -95,24 +107,41 @@ _REFUSALS = {
 
 def parse(
     number: str, region: Optional[str] = None, keep_raw_input: bool = False,
-    numobj: Optional[PhoneNumber] = None,
+    numobj: Optional[PhoneNumber] = None, _check_region: bool = True,
 ) -> PhoneNumber:
     """The number that a text is; `NumberParseException` where it is none.
 
     `keep_raw_input` sets the text, how the calling code was found, and a carrier that was dialled.
+    Where `_check_region` is false, digits without a calling code or a region are a number of code 0.
     """
     refused = NumberParseException
     if number is None:
         raise refused(refused.NOT_A_NUMBER, "The phone number supplied was None.")
-    hint = region if region in SUPPORTED_REGIONS else None
+    hint = region if is_supported(region) else None
     try:
         read = _regions.world().parse(number, hint)
     except NoNumber as error:
-        raise refused(_REFUSALS.get(error.status, refused.NOT_A_NUMBER), error.words) from None
+        type_of_error = _REFUSALS.get(error.status, refused.NOT_A_NUMBER)
+        if _check_region or region is not None or type_of_error != refused.INVALID_COUNTRY_CODE:
+            raise refused(type_of_error, error.words) from None
+        return _without_code(number, keep_raw_input, numobj)
     it = plain_number(read, numobj)
     if keep_raw_input:
         it.raw_input, it.country_code_source = number, _SOURCES[read.source]
         it.preferred_domestic_carrier_code = read.carrier or it.preferred_domestic_carrier_code
+    return it
+
+
+def _without_code(number: str, keep_raw_input: bool, numobj: Optional[PhoneNumber]) -> PhoneNumber:
+    """The number that a text is without a calling code, which is then 0."""
+    refused = NumberParseException
+    try:
+        it = plain_number(_regions.codeless().parse(number, _regions.CODELESS), numobj)
+    except NoNumber as error:
+        raise refused(_REFUSALS.get(error.status, refused.NOT_A_NUMBER), error.words) from None
+    it.country_code = 0
+    if keep_raw_input:
+        it.raw_input, it.country_code_source = number, CountryCodeSource.UNSPECIFIED
     return it
 
 
@@ -150,7 +179,7 @@ def format_out_of_country_calling_number(
     numobj: PhoneNumber, region_calling_from: Optional[str]
 ) -> str:
     """How a number is dialled from a region; international text where there is no such region."""
-    if region_calling_from not in SUPPORTED_REGIONS:
+    if not is_supported(region_calling_from):
         return format_number(numobj, PhoneNumberFormat.INTERNATIONAL)
     if numobj.country_code == 1 and is_nanpa_country(region_calling_from):
         return "1 " + format_number(numobj, PhoneNumberFormat.NATIONAL)
@@ -207,7 +236,7 @@ def is_possible_number_with_reason(numobj: PhoneNumber) -> int:
     read = _asked(numobj)
     if read is not None:
         return _RESULTS[read.possibility]
-    is_known = numobj.country_code in COUNTRY_CODE_TO_REGION_CODE
+    is_known = bool(region_codes_for_country_code(numobj.country_code or 0))
     return ValidationResult.TOO_LONG if is_known else ValidationResult.INVALID_COUNTRY_CODE
 
 
@@ -291,10 +320,11 @@ def is_number_match(num1: Union[PhoneNumber, str], num2: Union[PhoneNumber, str]
 
 def example_number_for_type(region_code: Optional[str], num_type: int) -> Optional[PhoneNumber]:
     """An example of the numbers of a kind in a region, or in any where that is `None`."""
-    regions = sorted(SUPPORTED_REGIONS) if region_code is None else [region_code]
+    supported = _of_regions.constant("SUPPORTED_REGIONS")
+    regions = sorted(supported) if region_code is None else [region_code]
     kinds = [kind for kind, it in _TYPES.items() if it == num_type and kind != Kind.UNKNOWN]
     for kind in kinds:
-        for it in SUPPORTED_REGIONS.intersection(regions):
+        for it in supported.intersection(regions):
             read = _regions.world().example(it, kind)
             if read is not None:
                 return plain_number(read)
@@ -315,7 +345,7 @@ class AsYouTypeFormatter:
     """
 
     def __init__(self, region_code: str) -> None:
-        self._hint = region_code if region_code in SUPPORTED_REGIONS else None
+        self._hint = region_code if is_supported(region_code) else None
         self.clear()
 
     def clear(self) -> None:
@@ -344,3 +374,28 @@ class AsYouTypeFormatter:
         if self._is_shown_as_typed or not self._remembered:
             return self._remembered
         return _regions.world().caret(self._typed, self._remembered, self._hint)
+
+
+from . import (  # noqa: E402
+    asyoutypeformatter, phonemetadata, phonenumber, phonenumbermatcher, phonenumberutil,
+    shortnumberinfo,
+)
+
+#: The modules of that package that are here.
+_MODULES = (
+    asyoutypeformatter, phonemetadata, phonenumber, phonenumbermatcher, phonenumberutil,
+    shortnumberinfo,
+)
+
+
+def install() -> None:
+    """Makes `import phonenumbers`, here and in other packages, give this one, from now on.
+
+    `RuntimeError` where that package is imported already: what imported it would keep it.
+    """
+    there, own = sys.modules.get("phonenumbers"), sys.modules[__name__]
+    if there not in (None, own):
+        raise RuntimeError("phonenumbers is imported already: call install() before")
+    sys.modules["phonenumbers"] = own
+    for it in _MODULES:
+        sys.modules["phonenumbers." + it.__name__.rpartition(".")[2]] = it
