@@ -17,6 +17,11 @@ impl Code {
         Code { value: number.code(), source: number.source() }
     }
 
+    /// A calling code that was found so.
+    pub fn new(value: u16, source: Source) -> Code {
+        Code { value, source }
+    }
+
     /// The calling code, as 64 for New Zealand.
     pub fn value(&self) -> u16 {
         self.value
@@ -54,6 +59,21 @@ macro_rules! ids {
 
         /// All of them.
         const IDS: &[Id] = &[$(Id::$id,)*];
+
+        #[cfg(feature = "serde")]
+        impl Id {
+            pub(super) fn all() -> &'static [Id] {
+                IDS
+            }
+
+            pub(super) fn names() -> &'static [&'static str] {
+                &[$(stringify!($id),)*]
+            }
+
+            pub(super) fn name(self) -> &'static str {
+                Id::names()[self as usize]
+            }
+        }
 
         impl AsRef<str> for Id {
             fn as_ref(&self) -> &str {

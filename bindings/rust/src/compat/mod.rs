@@ -25,6 +25,8 @@ pub use crate::{Error as ParseError, Mode, Type, is_viable};
 use metadata::Database;
 
 pub mod country;
+#[cfg(feature = "serde")]
+mod with_serde;
 
 /// The table.
 pub mod metadata {
@@ -100,6 +102,26 @@ impl PhoneNumber {
             carrier: read.carrier().map(Carrier::from),
             read,
         }
+    }
+
+    /// The number of these parts.
+    ///
+    /// ```
+    /// use phonenumber_proved::compat::{NationalNumber, PhoneNumber, country, country::Source, parse};
+    /// let code = country::Code::new(64, Source::Plus);
+    /// let number = PhoneNumber::new(code, NationalNumber::new(33316005, 0)?, Some("12".into()), None);
+    /// assert_eq!(number, parse(None, "+64 3 331 6005 ext. 12")?);
+    /// # Ok::<(), phonenumber_proved::Error>(())
+    /// ```
+    pub fn new(
+        code: country::Code,
+        national: NationalNumber,
+        extension: Option<Extension>,
+        carrier: Option<Carrier>,
+    ) -> PhoneNumber {
+        let read = Read::from_parts(code.value(), national.value, national.zeros).expect("the value is below 2^56");
+        let read = read.with_extension(extension.as_deref()).with_carrier(carrier.as_deref());
+        PhoneNumber { read: read.with_source(code.source()), code, national, extension, carrier }
     }
 
     /// The number's country.
@@ -244,6 +266,11 @@ pub struct NationalNumber {
 }
 
 impl NationalNumber {
+    /// The number of this value behind so many zeros; `TooLong` where the value is 2^56 or more.
+    pub fn new(value: u64, zeros: u8) -> Result<NationalNumber, ParseError> {
+        if value < 1 << 56 { Ok(NationalNumber { value, zeros }) } else { Err(ParseError::TooLong) }
+    }
+
     /// The number without its leading zeros.
     pub fn value(&self) -> u64 {
         self.value
@@ -252,6 +279,25 @@ impl NationalNumber {
     /// How many zeros stand before it.
     pub fn zeros(&self) -> u8 {
         self.zeros
+    }
+}
+
+impl FromStr for NationalNumber {
+    type Err = ParseError;
+
+    /// The number that digits are; its zeros are all that stand before the value, of which one is asked.
+    fn from_str(text: &str) -> Result<NationalNumber, ParseError> {
+        let value = text.trim_start_matches('0');
+        let zeros = text.len() - value.len();
+        let value = value.parse().map_err(|_| ParseError::MalformedInteger)?;
+        NationalNumber::new(value, zeros as u8)
+    }
+}
+
+/// The value, and the count of zeros in the eight bits above its 56.
+impl From<NationalNumber> for u64 {
+    fn from(number: NationalNumber) -> u64 {
+        u64::from(number.zeros) << 56 | number.value
     }
 }
 
