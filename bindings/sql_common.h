@@ -1,19 +1,10 @@
-/* What the SQL functions of SQLite and PostgreSQL share: how a table is opened, and how a question
- * about a text is answered. A text is read and a number described by libphonenumber's rules.
- *
- * The file that includes this one defines first
- *   sql_memory(size)   memory of so many bytes, all of them zero, or NULL
- *   sql_forget(at)     gives memory back; nothing where `at` is NULL
- */
+/* What the SQL functions of SQLite and PostgreSQL share: how a question about a text is answered. A text
+ * is read and a number described by libphonenumber's rules. The file that includes this one defines first
+ * what sql_table.h asks for. */
 #ifndef SQL_COMMON_H
 #define SQL_COMMON_H
-#include "phone.h"
-#include <errno.h>
-#include <stdio.h>
+#include "sql_table.h"
 #include <string.h>
-
-/* A text that somebody else owns, in bytes. */
-typedef struct { const char *at; size_t len; } sql_text;
 
 /* What is asked of a text. SQL_REFUSAL has words where any other has nothing, for a refusal, and
  * nothing where it is a number; a number without a region has nothing as its region. */
@@ -57,21 +48,6 @@ static int sql_again(sql_bytes *bytes, phone_status *status) {
     bytes->room = bytes->many ? bytes->len : sizeof bytes->few;
     if (!bytes->many) *status = PHONE_MEMORY;
     return bytes->many != NULL;
-}
-
-/* The mode of a name, in capital or small letters. 0: there is none. */
-static int sql_mode(sql_text name, uint32_t *mode) {
-    static const char *const NAMES[] = {"e164", "international", "national", "rfc3966"};
-    for (uint32_t each = 0; each < 4; each++) {
-        size_t same = 0, len = strlen(NAMES[each]);
-        while (same < len && same < name.len) {
-            char c = name.at[same];
-            if ((c >= 'A' && c <= 'Z' ? (char)(c + 32) : c) != NAMES[each][same]) break;
-            same++;
-        }
-        if (same == len && len == name.len) return *mode = each, 1;
-    }
-    return 0;
 }
 
 /* Reads the text of a call as a number, whose own texts go to `texts`. */
@@ -190,39 +166,5 @@ static void sql_part(phone_handle *world, int part, phone_status status, const p
         if (mode) call.mode = (sql_text){mode, strlen(mode)};
     }
     sql_tell(world, &call, status, number, texts, texts_len, answer);
-}
-
-/* The bytes of a file; NULL, and why in `why`, where it can't be read. */
-static uint8_t *sql_read(const char *path, size_t *len, char *why, size_t why_len) {
-    FILE *file = fopen(path, "rb");
-    long end = file && !fseek(file, 0, SEEK_END) ? ftell(file) : -1;
-    uint8_t *text = NULL;
-    if (end >= 0 && end < 1 << 30 && !fseek(file, 0, SEEK_SET) && (text = sql_memory((size_t)end + 1)))
-        *len = fread(text, 1, (size_t)end, file);
-    if (!text || ferror(file)) {
-        snprintf(why, why_len, "the table of phone numbers %s can't be read: %s", path,
-                 errno ? strerror(errno) : "it is no file of a table");
-        sql_forget(text);
-        text = NULL;
-    }
-    if (file) fclose(file);
-    return text;
-}
-
-/* Opens the table at a path, or the one in the library where the path is empty, under a handle. 0: the
- * handle is closed, and why stands in `why`. */
-static int sql_open(const char *path, phone_handle *world, char *why, size_t why_len) {
-    uint8_t *text = NULL, words[128];
-    size_t len = 0, words_len = 0;
-    phone_status status;
-    errno = 0;
-    if (*path && !(text = sql_read(path, &len, why, why_len))) return phone_close(world), 0;
-    status = *path ? phone_open(text, len, PHONE_LIBRARY, world) : phone_open_world(world, PHONE_LIBRARY);
-    sql_forget(text);
-    if (status != PHONE_OK) {
-        phone_status_words(status, words, sizeof words, &words_len);
-        snprintf(why, why_len, "the table of phone numbers %s is refused: %.*s", path, (int)words_len, (const char *)words);
-    }
-    return status == PHONE_OK;
 }
 #endif
