@@ -1,0 +1,4 @@
+pub mod Atlases
+pub mod Locales
+pub mod NameTables
+pub mod Told

@@ -1,0 +1,4 @@
+pub mod Chosen
+pub mod Described
+pub mod Soles
+pub mod Tokens

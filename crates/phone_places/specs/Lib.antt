@@ -1,0 +1,5 @@
+pub mod Areas
+pub mod Carriers
+pub mod Countries
+pub mod Descriptions
+pub mod Zones
