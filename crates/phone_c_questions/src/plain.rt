@@ -1,0 +1,66 @@
+//! Answers as plain numbers: flags, and kinds by their numbers in a buffer.
+ghost use Rattle.std.specs.Prelude.{◌≡◌, IfOk, map};
+ghost use Rattle.phone_c_base.specs.Answers.{kind_number};
+ghost use Rattle.phone_c_base.specs.Buffers.{IsTooLong, IsWritten};
+ghost use Rattle.phone_c_base.specs.ShortNumbers.{flag};
+
+use phone_c_base::buffer::give;
+use phone_c_base::status::{MEMORY, OK, TOO_SMALL};
+use phone_values::Type;
+use std::alloc::{AllocError, Global};
+
+/// 1 where it is so, else 0.
+pub(crate) fn flag(is_so: bool) -> u8
+    ensures { result ≡ flag is_so }
+{
+    if is_so { 1 } else { 0 }
+}
+
+/// A kind by its number.
+fn kind_number(kind: Type) -> u32
+    ensures { result ≡ kind_number kind }
+{
+    match kind {
+        Type::FixedLine => 0,
+        Type::Mobile => 1,
+        Type::FixedLineOrMobile => 2,
+        Type::TollFree => 3,
+        Type::PremiumRate => 4,
+        Type::SharedCost => 5,
+        Type::PersonalNumber => 6,
+        Type::Voip => 7,
+        Type::Pager => 8,
+        Type::Uan => 9,
+        Type::Emergency => 10,
+        Type::Voicemail => 11,
+        Type::ShortCode => 12,
+        Type::StandardRate => 13,
+        Type::Carrier => 14,
+        Type::NoInternational => 15,
+        Type::Unknown => 16,
+    }
+}
+
+/// The numbers of kinds. Refused only for memory.
+fn kind_numbers(alloc: Global, kinds: &[Type]) -> Result<Vec<u32>, AllocError>
+    ensures { IfOk result (λ v. v.items ≡ map kind_number kinds.now) }
+{
+    kinds.iter().map(|kind| kind_number(*kind)).collect(alloc)
+}
+
+/// The numbers of kinds, in a buffer.
+pub(crate) fn give_kinds(alloc: Global, kinds: &[Type], out: &mut [u32], wrote: &mut usize) -> u32
+    ensures written { result ≡ OK →
+        IsWritten (map kind_number kinds.now) out.old out.new wrote.new }
+    ensures too_small { result ≡ TOO_SMALL →
+        IsTooLong (map kind_number kinds.now) out.old out.new wrote.new }
+    ensures other { ¬ (result ≡ OK) → ¬ (result ≡ TOO_SMALL) → result ≡ MEMORY }
+    ensures untouched { ¬ (result ≡ OK) → out.new ≡ out.old }
+    ensures no_length { ¬ (result ≡ OK) → ¬ (result ≡ TOO_SMALL) → wrote.new ≡ 0 }
+{
+    *wrote = 0;
+    match kind_numbers(alloc, kinds) {
+        Ok(numbers) => give(numbers.as_slice(), out, wrote),
+        Err(_) => MEMORY,
+    }
+}
