@@ -68,15 +68,20 @@ types_in s = put (codes "types") (tally_object s.kinds) no_members
 abbrev regions_in : Summary → Members
 regions_in s = put (codes "regions") (tally_object s.regions) (types_in s)
 
-pub no_float : (s : Summary) → has_float (summary_object s) ≡ false
-no_float s = no_float-put (codes "refusals") (tally_object s.refusals) (regions_in s) (tally_is_plain s.refusals)
-    (no_float-put (codes "regions") (tally_object s.regions) (types_in s) (tally_is_plain s.regions)
-    (no_float-put (codes "types") (tally_object s.kinds) no_members (tally_is_plain s.kinds) refl))
+abbrev refusals_in : Summary → Members
+refusals_in s = put (codes "refusals") (tally_object s.refusals) (regions_in s)
 
-nests : (s : Summary) → members_depth (put (codes "refusals") (tally_object s.refusals) (regions_in s)) ≤ 1
-nests s = depth-put (codes "refusals") (tally_object s.refusals) (regions_in s) 1 (tally_nests s.refusals)
+pub no_float : (s : Summary) → has_float (summary_object s) ≡ false
+no_float s = no_float-put (codes "suspicions") (tally_object s.suspicions) (refusals_in s) (tally_is_plain s.suspicions)
+    (no_float-put (codes "refusals") (tally_object s.refusals) (regions_in s) (tally_is_plain s.refusals)
+    (no_float-put (codes "regions") (tally_object s.regions) (types_in s) (tally_is_plain s.regions)
+    (no_float-put (codes "types") (tally_object s.kinds) no_members (tally_is_plain s.kinds) refl)))
+
+nests : (s : Summary) → members_depth (put (codes "suspicions") (tally_object s.suspicions) (refusals_in s)) ≤ 1
+nests s = depth-put (codes "suspicions") (tally_object s.suspicions) (refusals_in s) 1 (tally_nests s.suspicions)
+    (depth-put (codes "refusals") (tally_object s.refusals) (regions_in s) 1 (tally_nests s.refusals)
     (depth-put (codes "regions") (tally_object s.regions) (types_in s) 1 (tally_nests s.regions)
-    (depth-put (codes "types") (tally_object s.kinds) no_members 1 (tally_nests s.kinds) (omega arith)))
+    (depth-put (codes "types") (tally_object s.kinds) no_members 1 (tally_nests s.kinds) (omega arith))))
 
 pub shallow : (s : Summary) → depth (summary_object s) ≤ max_depth
 shallow s = omega (arith, nests s)

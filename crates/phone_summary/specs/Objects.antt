@@ -20,6 +20,7 @@ tally_object tally = object (members_of tally.entries)
 -- a summary, as an object of objects
 abbrev pub summary_object : Summary → Data
 summary_object s = object (
+    put (codes "suspicions") (tally_object s.suspicions) (
     put (codes "refusals") (tally_object s.refusals) (
     put (codes "regions") (tally_object s.regions) (
-    put (codes "types") (tally_object s.kinds) no_members)))
+    put (codes "types") (tally_object s.kinds) no_members))))

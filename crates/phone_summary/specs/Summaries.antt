@@ -1,19 +1,42 @@
 -- What the rows of a table were answered, counted.
-use Rattle.std.specs.Prelude.{◌≡◌, ℕ, ◌-◌, ◌^◌, Bool, false, List, [], ◌∷◌, count_by, min}
-use Rattle.std.specs.Str.{bytes_eq}
-use Rattle.phone_summary.specs.Tallies.{Counted, CountsOnce, times}
+use Rattle.std.specs.Prelude.{◌≡◌, ◌==◌, ℕ, List, [], ◌∷◌, ◌++◌, flat_map, map}
+use Rattle.std.specs.Borrow.{Bor}
+use Rattle.std.specs.List.{slice_split}
+use Rattle.phone_summary.specs.Tallies.{Counted, IsTally, times}
 use Rattle.phone_summary.specs.declared.summary.Answered.{Answered}
 use Rattle.phone_summary.specs.declared.summary.Summary.{Summary}
 
--- a text was counted once more, unless it is empty
-abbrev pub Counts : Counted → List ℕ → Counted → Type 0
-Counts before [] after = after ≡ before
-Counts before (c ∷ cs) after = CountsOnce before (c ∷ cs) after
+-- texts that are lent
+abbrev pub texts_in : List (Bor (List ℕ)) → List (List ℕ)
+texts_in texts = map (λ (t : Bor (List ℕ)). t.now) texts
 
--- a text is this one, and not empty
-abbrev pub is_text : List ℕ → List ℕ → Bool
-is_text [] other = false
-is_text (c ∷ cs) other = bytes_eq (c ∷ cs) other
+-- the words of a text, parted by spaces
+abbrev pub words : List ℕ → List (List ℕ)
+words text = slice_split (λ c. c == 32) text
+
+-- what a row was answered, as far as a summary tells it: the type of the number, its region, the
+-- words of the refusal, and those of what is suspicious
+pub record Row : Type 0 where
+  pub kind : List ℕ
+  pub region : List ℕ
+  pub refusal : List ℕ
+  pub suspicion : List ℕ
+
+-- the same, of texts that are lent
+abbrev pub row_of : Answered → Row
+row_of a = record {
+  kind = a.kind.now;
+  region = a.region.now;
+  refusal = a.refusal.now;
+  suspicion = a.suspicion.now;
+}
+
+-- each text is counted as often as rows have it, and each word of what is suspicious
+pub record IsSummary (rows : List Row) (s : Summary) : Type 0 where
+  pub kinds : IsTally (map (λ (r : Row). r.kind) rows) s.kinds
+  pub regions : IsTally (map (λ (r : Row). r.region) rows) s.regions
+  pub refusals : IsTally (map (λ (r : Row). r.refusal) rows) s.refusals
+  pub suspicions : IsTally (flat_map (λ (r : Row). words r.suspicion) rows) s.suspicions
 
 -- no text was counted yet
 abbrev pub IsNew : Counted → Type 0
@@ -24,15 +47,9 @@ pub record IsEmpty (s : Summary) : Type 0 where
   pub kinds : IsNew s.kinds
   pub regions : IsNew s.regions
   pub refusals : IsNew s.refusals
+  pub suspicions : IsNew s.suspicions
 
--- how many of some rows have a text that isn't empty, 2^64 - 1 at most
-abbrev pub rows_with : (Answered → List ℕ) → List Answered → List ℕ → ℕ
-rows_with told rows text =
-    min (count_by (λ r. is_text text (told r)) rows) (2 ^ 64 - 1)
-
--- each text is counted as often as rows have it
-pub record IsSummary (rows : List Answered) (s : Summary) : Type 0 where
-  pub kinds : (text : List ℕ) → times s.kinds text ≡ rows_with (λ r. r.kind.now) rows text
-  pub regions : (text : List ℕ) → times s.regions text ≡ rows_with (λ r. r.region.now) rows text
-  pub refusals : (text : List ℕ) →
-      times s.refusals text ≡ rows_with (λ r. r.refusal.now) rows text
+-- a summary of some rows becomes one of these and this row
+abbrev pub CountsRow : Summary → Row → Summary → Type 0
+CountsRow before row after =
+    (rows : List Row) → IsSummary rows before → IsSummary (rows ++ row ∷ []) after

@@ -44,8 +44,8 @@ fn put_tally(
 }
 
 impl Summary {
-    /// The object of the summary, whose members `types`, `regions` and `refusals` have each text
-    /// with its count. Refused only for memory.
+    /// The object of the summary, whose members `types`, `regions`, `refusals` and `suspicions` have
+    /// each text with its count. Refused only for memory.
     fn object(&self, alloc: Global) -> Result<Value, AllocError>
         ensures { IfOk result (λ v. view v ≡ summary_object self.now) }
     {
@@ -53,11 +53,13 @@ impl Summary {
         put_tally(&mut members, alloc, "types", &self.kinds)?;
         put_tally(&mut members, alloc, "regions", &self.regions)?;
         put_tally(&mut members, alloc, "refusals", &self.refusals)?;
+        put_tally(&mut members, alloc, "suspicions", &self.suspicions)?;
         Ok(Value::Object(members))
     }
 
-    /// The JSON text of the summary, on one line without its end: an object whose members `types`,
-    /// `regions` and `refusals` are objects of each text with its count. Refused only for memory.
+    /// The JSON text of the summary, on one line without its end: an object whose members
+    /// `refusals`, `regions`, `suspicions` and `types` are objects of each text with its count.
+    /// Refused only for memory.
     pub fn to_json(&self, alloc: Global) -> Result<String, AllocError>
         ensures text { IfOk result
             (λ s. string_bytes s ≡ compact_text (summary_object self.now)) }

@@ -1,23 +1,28 @@
 //! What the rows of a table were answered, counted.
-ghost use Rattle.std.specs.Prelude.{◌≡◌, ℕ, List, IfOk, OnOk};
-ghost use Rattle.phone_summary.specs.Summaries.{Counts, IsEmpty, IsSummary};
+ghost use Rattle.std.specs.Prelude.{◌≡◌, ◌∷◌, [], OnOk};
+ghost use Rattle.phone_summary.specs.Summaries.{CountsRow, IsEmpty, row_of, words};
+ghost use Rattle.phone_summary.specs.Tallies.{CountsMore};
 
-use crate::tally::{Tally, add};
+use crate::tally::{Tally, add_bytes, add_words};
 use std::alloc::{AllocError, Global};
 use std::collections::BTreeMap;
 
-/// What a row was answered, as far as a summary tells it: texts that are empty where there is none.
+/// What a row was answered, as far as a summary tells it: UTF-8 texts that are empty where there is
+/// none.
 #[derive(Clone, Copy)]
 pub struct Answered<'a> {
     /// The type of the number.
-    pub kind: &'a str,
+    pub kind: &'a [u8],
     /// Its region.
-    pub region: &'a str,
+    pub region: &'a [u8],
     /// The words of the refusal.
-    pub refusal: &'a str,
+    pub refusal: &'a [u8],
+    /// The words of what is suspicious, parted by spaces.
+    pub suspicion: &'a [u8],
 }
 
-/// How often each type, region and refusal was answered; what is empty isn't counted.
+/// How often each type, region, refusal and word of what is suspicious was answered; what is empty
+/// isn't counted.
 #[derive(Drop)]
 pub struct Summary {
     /// The types.
@@ -26,16 +31,8 @@ pub struct Summary {
     pub regions: Tally,
     /// The words of refusals.
     pub refusals: Tally,
-}
-
-/// Counts a text that isn't empty. Refused only for memory.
-fn add_if_any(tally: &mut Tally, alloc: Global, text: &str) -> Result<(), AllocError>
-    ensures { OnOk result (Counts tally.old text.now tally.new) }
-{
-    if text.is_empty() {
-        return Ok(());
-    }
-    add(tally, alloc, text)
+    /// Each word of what is suspicious.
+    pub suspicions: Tally,
 }
 
 impl Summary {
@@ -47,30 +44,32 @@ impl Summary {
             kinds: BTreeMap::new(alloc),
             regions: BTreeMap::new(alloc),
             refusals: BTreeMap::new(alloc),
+            suspicions: BTreeMap::new(alloc),
         }
+    }
+
+    /// Counts the texts of a row. Refused only for memory.
+    fn count(&mut self, alloc: Global, row: Answered<'_>) -> Result<(), AllocError>
+        ensures kinds { OnOk result
+            (CountsMore self.old.kinds (row.entry.kind.now ∷ []) self.new.kinds) }
+        ensures regions { OnOk result
+            (CountsMore self.old.regions (row.entry.region.now ∷ []) self.new.regions) }
+        ensures refusals { OnOk result
+            (CountsMore self.old.refusals (row.entry.refusal.now ∷ []) self.new.refusals) }
+        ensures suspicions { OnOk result
+            (CountsMore self.old.suspicions (words row.entry.suspicion.now) self.new.suspicions) }
+    {
+        add_bytes(&mut self.kinds, alloc, row.kind)?;
+        add_bytes(&mut self.regions, alloc, row.region)?;
+        add_bytes(&mut self.refusals, alloc, row.refusal)?;
+        add_words(&mut self.suspicions, alloc, row.suspicion)
     }
 
     /// Counts one more row. Refused only for memory.
     pub fn add(&mut self, alloc: Global, row: Answered<'_>) -> Result<(), AllocError>
-        ensures kinds { OnOk result (Counts self.old.kinds row.entry.kind.now self.new.kinds) }
-        ensures regions { OnOk result
-            (Counts self.old.regions row.entry.region.now self.new.regions) }
-        ensures refusals { OnOk result
-            (Counts self.old.refusals row.entry.refusal.now self.new.refusals) }
+        ensures { OnOk result (CountsRow self.old (row_of row.entry) self.new) }
     {
-        add_if_any(&mut self.kinds, alloc, row.kind)?;
-        add_if_any(&mut self.regions, alloc, row.region)?;
-        add_if_any(&mut self.refusals, alloc, row.refusal)
+        self.count(alloc, row)?;
+        Ok(())
     }
-}
-
-/// The summary of rows: each text is counted as often as rows have it. Refused only for memory.
-pub fn summary_of(alloc: Global, rows: &[Answered<'_>]) -> Result<Summary, AllocError>
-    ensures { IfOk result (IsSummary rows.now) }
-{
-    let mut summary = Summary::new(alloc);
-    for row in rows {
-        summary.add(alloc, *row)?;
-    }
-    Ok(summary)
 }

@@ -19,7 +19,7 @@ use Rattle.phone_table.proofs.Kept.{gives}
 -- the records so far are kept with their answers, and counted, and no row was written
 pub record HeldSo (first : Holder) (records rows : List Record) (now : Holder) : Type 0 where
   pub unwritten : rows ≡ []
-  pub table : now.table ≡ record first.table { counts = now.table.counts }
+  pub table : now.table ≡ record first.table { counts = now.table.counts; unknown = now.table.unknown }
   pub answers : AreAnswered (gives first.table) records (held.answered now.held.items)
   pub plain : List Record
   pub counts : AreKept false (held.answered now.held.items) plain now.table.counts
@@ -34,14 +34,14 @@ module _ (first : Holder) (fresh : held.answered first.held.items ≡ []) (count
     counts = rw (fresh, counts) none_kept;
   }
   all_held records rows last (answered some before now fields answer after are given) = elim given [ ]
-  all_held records rows last (left_out some before now fields after are (one_held number answer is table more)) =
+  all_held records rows last (left_out some before now fields after are (one_held number answer is table said more)) =
       let s = all_held some before now are in
       let a : Answered = record { own = fields; answer = answer; key = key_in number } in
       let engine = ap (λ t. t.engine) s.table in
       let asked = ap (λ t. t.asked) s.table in
       let columns = ap (λ t. t.columns) s.table in
       let counted = ap (λ t. t.counts) table in
-      let put : Counts → Table → Table = λ n t. record t { counts = n } in
+      let put : Counts → Table → Table = λ n t. record t { counts = n; unknown = last.table.unknown } in
       record {
         unwritten = s.unwritten;
         table = table ∙ ap (put (counts_after now.table.counts (fields ++ answer))) s.table ∙ ap (λ n. put n first.table) (sym counted);

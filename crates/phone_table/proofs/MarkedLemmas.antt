@@ -131,7 +131,7 @@ module _ (first : Holder) (fresh : held.answered first.held.items ≡ []) (count
       (held.answered last.held.items, s.answers, is ∙ ap (rows_text format) s.unwritten)
 
   pub same_table : (format : Format) (last : Holder) (records : List Record) (text : List ℕ) → WritesRows holds format first last records text →
-      last.table ≡ record first.table { counts = last.table.counts }
+      last.table ≡ record first.table { counts = last.table.counts; unknown = last.table.unknown }
   same_table format last records text (rows, are, is) = (all_held first fresh counts records rows last are).table
 
   -- a run that writes nowhere broke off

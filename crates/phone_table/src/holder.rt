@@ -8,6 +8,7 @@ ghost use Rattle.phone_table.specs.Spelled.{number_in};
 use crate::answer::Answer;
 use crate::duplicates::Held;
 use crate::table::{Table, key_in};
+use crate::unknown::note_unknown;
 use csv::ByteRecord;
 use phone_csv::{Answers, Refusal};
 use phone_device::{ByteSink, Count, Fault};
@@ -55,8 +56,9 @@ impl<'d> Answers for Holder<'d> {
 
     ghost refuses = { λ h fields. IsOfOtherWidth h.table.columns h.table.asked fields };
 
-    /// Keeps a record with its answer, and counts it. A record with another count of fields than
-    /// the table has columns isn't answered, unless such are marked.
+    /// Keeps a record with its answer, counts it, and notes the text that names no region. A record
+    /// with another count of fields than the table has columns isn't answered, unless such are
+    /// marked.
     fn answer(&mut self, alloc: Global, fields: &mut ByteRecord) -> Result<bool, Refusal> {
         let width = fields.len();
         let Ok(under) = self.table.hint_of(fields) else {
@@ -67,6 +69,9 @@ impl<'d> Answers for Holder<'d> {
             Err(refusal) => return Err(refusal),
         };
         let Ok(()) = self.table.push_row(fields, under, &answer) else {
+            return Err(Refusal::Memory);
+        };
+        let Ok(()) = note_unknown(alloc, self.table.columns, fields, &mut self.table.unknown) else {
             return Err(Refusal::Memory);
         };
         self.table.counts.count(fields, true);

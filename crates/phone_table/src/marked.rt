@@ -19,6 +19,7 @@ use crate::duplicates::marked_text;
 use crate::holder::{Holder, Nowhere};
 use crate::names::header_text;
 use crate::table::Table;
+use crate::unknown::UnknownNames;
 use csv::ByteRecord;
 use phone_csv::{First, RunError, Start, answer_records, format_after};
 use phone_device::{ByteSink, ByteSource, write_out};
@@ -63,7 +64,8 @@ fn hold_all<S: ByteSource>(
 /// Writes a table whose header was read: that with these names behind its own, and all records,
 /// each with what the columns of duplicates tell of it. Nothing is written before all is read and
 /// answered, so nothing where that breaks off, by `Input`, `Record`, `Quote` or `Memory`; refused
-/// by `Output` where the sink fails: then a beginning is written.
+/// by `Output` where the sink fails: then a beginning is written. Where all is written, `unknown`
+/// is then the texts that name no region.
 pub(crate) fn write_marked<S: ByteSource, W: ByteSink>(
     alloc: Global,
     table: Table<'_>,
@@ -71,6 +73,7 @@ pub(crate) fn write_marked<S: ByteSource, W: ByteSink>(
     added: &ByteRecord,
     source: &mut S,
     sink: &mut W,
+    unknown: &mut UnknownNames,
 ) -> Result<Counts, RunError>
     requires partial { partial_of first.fields ≡ [] }
     requires end { IsNone first.rest → IsAtEnd (S.to_come source.old) }
@@ -109,7 +112,10 @@ pub(crate) fn write_marked<S: ByteSource, W: ByteSink>(
         return Err(RunError::Memory);
     };
     match write_out(sink, text.as_slice()) {
-        Ok(()) => Ok(holder.table.counts),
+        Ok(()) => {
+            *unknown = holder.table.unknown;
+            Ok(holder.table.counts)
+        }
         Err(_) => Err(RunError::Output),
     }
 }

@@ -247,7 +247,7 @@ fn write_records<S: ByteSource, W: ByteSink>(
         result }
 {
     if table.asked.tells_duplicates {
-        write_marked(alloc, table, first, added, source, sink)
+        write_marked(alloc, table, first, added, source, sink, unknown)
     } else {
         write_plain(alloc, table, first, added, source, sink, unknown)
     }

@@ -60,8 +60,8 @@ returns-in-Ok-write_out g c =
           e.end (subst (λ t. Takes (g.W.ByteSink.taken c.args.sink.now) t (g.W.ByteSink.taken c.write_out.new.sink)) text w.all) e.no_fault w.no_fault w.handed_on;
     }
 
-pub returns : goal.returns
-returns g c =
+pub returns-in-Err-write_out : goal.returns-in-Err-write_out
+returns-in-Err-write_out g c =
     let e = c.in-Ok-hold_all.ensures in
     let w = c.in-Err-write_out.ensures in
     let first : Holder = record { table = c.args.table; held = c.new.result } in
