@@ -1,4 +1,5 @@
 pub mod Decodings
 pub mod Encodings
 pub mod FirstUnits
+pub mod Marks
 pub mod Unfinished
