@@ -5,80 +5,21 @@ and compares what stands in the field, and where the caret is. FOLDER gets pictu
 last line is `form: ok`.
 """
 
-import base64
-import json
-import shutil
-import subprocess
 import sys
 import threading
 import time
-import urllib.request
 from pathlib import Path
 from random import Random
 
-sys.path.insert(0, str(Path(__file__).resolve().parents[1]))
+sys.path[:0] = [str(Path(__file__).resolve().parents[1]), str(Path(__file__).resolve().parents[2])]
 
+from chromium import Browser  # noqa: E402
 from form.backend import Backend  # noqa: E402
 from form.server import FormServer  # noqa: E402
 
 LEFT, DELETE, BACK, CONTROL = "\ue012", "\ue017", "\ue003", "\ue009"
 SHORT = "the number is too short, or no such number is given out"
 failed = []
-
-
-class Browser:
-    """A session of chromedriver."""
-
-    def __init__(self, language):
-        self.driver = subprocess.Popen(
-            ["chromedriver", "--port=0"], stdout=subprocess.PIPE, stderr=subprocess.DEVNULL, text=True
-        )
-        port = next(line for line in self.driver.stdout if "successfully" in line).split()[-1].rstrip(".")
-        self.at = f"http://127.0.0.1:{port}/session"
-        arguments = ["--headless=new", "--no-sandbox", "--disable-gpu", "--window-size=560,760", f"--lang={language}"]
-        options = {"args": arguments, "prefs": {"intl.accept_languages": language}, "binary": shutil.which("chromium")}
-        wanted = {"browserName": "chrome", "goog:chromeOptions": options, "goog:loggingPrefs": {"browser": "ALL"}}
-        told = self._ask("POST", "", {"capabilities": {"alwaysMatch": wanted}})
-        self.at += "/" + told["sessionId"]
-
-    def _ask(self, method, path, body=None):
-        data = None if body is None else json.dumps(body).encode()
-        request = urllib.request.Request(self.at + path, data, {"Content-Type": "application/json"}, method=method)
-        with urllib.request.urlopen(request, timeout=60) as answer:
-            return json.load(answer)["value"]
-
-    def go(self, address):
-        self._ask("POST", "/url", {"url": address})
-
-    def run(self, script, *args):
-        return self._ask("POST", "/execute/sync", {"script": script, "args": list(args)})
-
-    def find(self, css):
-        return "/element/" + list(self._ask("POST", "/element", {"using": "css selector", "value": css}).values())[0]
-
-    def keys(self, text):
-        self._ask("POST", self.find("#number") + "/value", {"text": text})
-
-    def send(self):
-        """Presses the button, and waits for the page that comes."""
-        self.run("window.isOld = true")
-        self._ask("POST", self.find("button") + "/click", {})
-        while self.run("return window.isOld === true || document.readyState !== 'complete'"):
-            time.sleep(0.01)
-
-    def command(self, name, **parameters):
-        return self._ask("POST", "/goog/cdp/execute", {"cmd": name, "params": parameters})
-
-    def log(self):
-        return [it["message"] for it in self._ask("POST", "/se/log", {"type": "browser"})]
-
-    def picture(self, path):
-        path.write_bytes(base64.b64decode(self._ask("GET", "/screenshot")))
-
-    def close(self):
-        self._ask("DELETE", "")
-        self.driver.terminate()
-        self.driver.wait(20)
 
 
 def check(case, told, wanted):

@@ -1,0 +1,161 @@
+"""Tries the page in Chromium, from a folder that has the package alone, by file://.
+
+usage: python3 bindings/js/browser.py PACKAGE [--pictures FOLDER] [LINES REPORT]
+
+Types into the field, edits, pastes, sends the form, cleans a table of 100,000 rows, and asks the report of LINES, each a region, `-`
+for none, a tab and a text. FOLDER gets pictures. Needs chromium and chromedriver. The last line is `page: ok`.
+"""
+
+import shutil
+import sys
+import tempfile
+import time
+from pathlib import Path
+
+sys.path.insert(0, str(Path(__file__).resolve().parents[1]))
+
+from chromium import Browser  # noqa: E402
+
+LEFT, BACK = "\ue012", "\ue003"
+FIELD = "const it = document.querySelector('phone-input'), field = it.shadowRoot.querySelector('input');"
+failed = []
+
+
+def check(case, told, wanted):
+    print(f"{'  ' if told == wanted else 'NO'} {case}: {told!r}" + ("" if told == wanted else f", not {wanted!r}"))
+    if told != wanted:
+        failed.append(case)
+
+
+def state(browser):
+    """What stands in the field, with `|` where the caret is; the words beside it; the region."""
+    value, place, words, region = browser.run(FIELD + " return [field.value, field.selectionStart, it.shadowRoot.querySelector('p').textContent, it.region]")
+    return value[:place] + "|" + value[place:], words, region
+
+
+def keys(browser, text):
+    browser.run(FIELD + " field.focus()")
+    browser.keys(text, "phone-input")
+
+
+def clear(browser, region="NZ"):
+    browser.run(FIELD + " it.value = ''; it.region = arguments[0]; field.focus()", region)
+
+
+def field(browser):
+    check("the browser's region", state(browser), ("|", "", "NZ"))
+    example = browser.run(FIELD + " return field.placeholder")
+    check("an example", example.startswith("0"), True)
+    keys(browser, "033316005")
+    check("typed", state(browser), ("03 331 6005|", "+64 3 331 6005", "NZ"))
+    keys(browser, LEFT * 5 + BACK)
+    check("a key in the middle is taken away", state(browser)[0].replace("|", ""), "03 336 005")
+    keys(browser, "1")
+    check("and typed again", state(browser), ("03 331| 6005", "+64 3 331 6005", "NZ"))
+    clear(browser)
+    keys(browser, "+16502530000")
+    check("another country", state(browser), ("+1 650-253-0000|", "+1 650-253-0000", "US"))
+    clear(browser)
+    keys(browser, "0333")
+    check("no words while it is typed", state(browser)[1], "")
+    browser.run("document.activeElement.blur(); document.querySelector('phone-input').shadowRoot.activeElement?.blur()")
+    check("words once it is left", state(browser)[1], "The number is too short.")
+    check("not sent", browser.run("return [document.querySelector('form').checkValidity(), document.querySelector('phone-input').validationMessage]"),
+          [False, "The number is too short."])
+    clear(browser)
+    check("wanted", browser.run("return document.querySelector('form').checkValidity()"), False)
+    keys(browser, "call me 03-331 6005")
+    check("letters stay as they are typed", state(browser)[0], "call me 03-331 6005|")
+    clear(browser)
+    browser.run(FIELD + " field.value = '(03) 331 6005 ext. 12'; field.dispatchEvent(new InputEvent('input', { inputType: 'insertFromPaste' }))")
+    check("pasted", state(browser)[1], "+64 3 331 6005 ext. 12")
+    clear(browser)
+    keys(browser, "033316005")
+    browser.click("button")
+    check("sent", browser.run("return document.getElementById('sent').textContent"), "phone=+6433316005")
+    roles = browser.run(FIELD + " const hint = it.shadowRoot.querySelector('p'); return [field.getAttribute('aria-label'), field.type, hint.getAttribute('aria-live'), "
+                        "it.shadowRoot.querySelector('select').getAttribute('aria-label'), it.form.id, it.shadowRoot.querySelectorAll('option').length]")
+    check("for a screen reader", roles, ["Phone number", "tel", "polite", "Country", "form", 246])
+
+
+def table(browser, folder, rows):
+    """A table is cleaned in a worker; the page answers meanwhile."""
+    texts = ("03-331 6005", "+1 650 253 0000", "call me", "030 123456", "")
+    path = folder / "customers.csv"
+    lines = "".join(f'{i},"{texts[i % 5]}",{("NZ", "US", "NZ", "DE", "NZ")[i % 5]}\n' for i in range(rows))
+    path.write_text("name,phone,country\n" + lines, encoding="utf-8")
+    browser.keys(str(path), "#file")
+    began, slowest = time.monotonic(), 0.0
+    while not browser.run("return document.querySelector('#result a')") and time.monotonic() - began < 120:
+        asked = time.monotonic()
+        browser.run("return 1")
+        slowest = max(slowest, time.monotonic() - asked)
+        time.sleep(0.05)
+    told = browser.run("return [...document.querySelectorAll('#result tr')].map((it) => [...it.cells].map((cell) => cell.textContent))")
+    fifth = str(rows // 5)
+    check("counts", dict(told), {"records": str(rows), "valid": str(3 * rows // 5), "invalid": "0", "no number": str(2 * rows // 5),
+                                 "valid fixed line": str(2 * rows // 5), "valid fixed line or mobile": fifth})
+    text = browser.run_async("const done = arguments[0]; fetch(document.querySelector('#result a').href).then((it) => it.text()).then(done)")
+    check("rows", text.splitlines()[:2] + text.splitlines()[3:4], [
+        "name,phone,country,e164,type,country,validity,refusal", "0,03-331 6005,NZ,+6433316005,FIXED_LINE,NZ,valid,", "2,call me,NZ,,,,,NOT_A_NUMBER"])
+    print(f"   {rows} rows: {browser.run('return document.getElementById(`result`).firstChild.textContent')}; the page answers within {slowest:.2f} s")
+
+
+def lines(browser, given, answers, rules):
+    """The report of lines, which differs nowhere."""
+    script = """const [lines, answers, rules, done] = arguments;
+        phonenumberProved().load({ rules }).then((phones) => {
+            const began = performance.now();
+            const differ = lines.filter((line, i) => {
+                const at = line.indexOf("\\t"), region = line.slice(0, at);
+                return phones.report(line.slice(at + 1), region === "-" ? "" : region) !== answers[i];
+            });
+            done([differ.length, (performance.now() - began) / lines.length * 1000]);
+        });"""
+    read = [Path(it).read_text(encoding="utf-8").split("\n")[:-1] for it in (given, answers)]
+    differ, each = browser.run_async(script, *read, rules)
+    check(f"{len(read[0])} lines, {rules}", differ, 0)
+    print(f"   {each:.1f} us a line")
+
+
+def main():
+    words, pictures = sys.argv[1:], None
+    if "--pictures" in words:
+        at = words.index("--pictures")
+        pictures = Path(words[at + 1])
+        pictures.mkdir(parents=True, exist_ok=True)
+        del words[at : at + 2]
+    if len(words) not in (1, 3, 5) or words[0].startswith("-"):
+        sys.exit(__doc__)
+    with tempfile.TemporaryDirectory() as name:
+        folder = Path(name)
+        for it in ("demo.html", "demo.js", "phonenumber-proved.global.js"):
+            shutil.copy(Path(words[0]) / it, folder)
+        browser = Browser("en-NZ", "480,900")
+        try:
+            browser.go(f"file://{folder}/demo.html")
+            for _ in range(400):
+                if browser.run("return document.body.dataset.ready"):
+                    break
+                time.sleep(0.05)
+            field(browser)
+            if pictures:
+                browser.picture(pictures / "form.png")
+            table(browser, folder, 100000)
+            if pictures:
+                browser.picture(pictures / "table.png")
+                browser.command("Emulation.setEmulatedMedia", features=[{"name": "prefers-color-scheme", "value": "dark"}])
+                browser.command("Emulation.setDeviceMetricsOverride", width=360, height=740, deviceScaleFactor=2, mobile=True)
+                browser.picture(pictures / "phone-dark.png")
+            for rules, given in zip(("library", "crate"), (words[1:3], words[3:5])):
+                if given:
+                    lines(browser, *given, rules)
+            check("the console", [it for it in browser.log() if "favicon" not in it], [])
+        finally:
+            browser.close()
+    print(f"page: {len(failed)} failed" if failed else "page: ok")
+    return 1 if failed else 0
+
+
+if __name__ == "__main__":
+    sys.exit(main())

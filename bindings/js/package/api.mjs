@@ -1,0 +1,194 @@
+// The names that users of libphonenumber-js know, over an engine.
+import { MODES, PhoneError, SOURCES, STATUS } from "./engine.mjs";
+
+/** Why a text is no number: the words of `message` that parsePhoneNumberWithError throws. */
+export class ParseError extends Error {
+  constructor(message, status) {
+    super(message);
+    this.name = "ParseError";
+    /** The number of the refusal, as in phone.h. */
+    this.status = status;
+  }
+}
+
+const REASONS = { [STATUS.NO_NUMBER]: "NOT_A_NUMBER", [STATUS.INVALID_CODE]: "INVALID_COUNTRY", [STATUS.TOO_SHORT_AFTER_IDD]: "TOO_SHORT",
+  [STATUS.TOO_SHORT]: "TOO_SHORT", [STATUS.TOO_LONG]: "TOO_LONG", [STATUS.MALFORMED]: "NOT_A_NUMBER", [STATUS.NO_REGION]: "INVALID_COUNTRY" };
+// The kinds in the order of their numbers in phone.h; those that other libraries have no name for are left out.
+const KINDS = ["FIXED_LINE", "MOBILE", "FIXED_LINE_OR_MOBILE", "TOLL_FREE", "PREMIUM_RATE", "SHARED_COST", "PERSONAL_NUMBER", "VOIP", "PAGER",
+  "UAN", undefined, "VOICEMAIL"];
+const LENGTHS = [undefined, undefined, "TOO_SHORT", "TOO_LONG", "INVALID_LENGTH", "INVALID_COUNTRY"];
+const MATCHES = ["exact", "number", "national", "end", "different"];
+const FORMATS = { "E.164": MODES.E164, E164: MODES.E164, INTERNATIONAL: MODES.INTERNATIONAL, International: MODES.INTERNATIONAL,
+  NATIONAL: MODES.NATIONAL, National: MODES.NATIONAL, RFC3966: MODES.RFC3966 };
+
+/** The region that a call's second argument names: an id, or an object with `defaultCountry`; or a calling code. */
+function regionOf(options) {
+  if (typeof options === "string") return options;
+  return options?.defaultCountry ?? "";
+}
+
+/** All names over an engine. */
+export function bind(engine) {
+  const textOf = (value) => {
+    if (typeof value !== "string") throw new TypeError("a phone number is read of a string");
+    return value;
+  };
+  const known = new Set(engine.regions());
+  const codes = new Map();
+
+  /** A phone number. */
+  class PhoneNumber {
+    #number;
+    constructor(number) {
+      this.#number = number;
+      /** Its calling code, as "64". */
+      this.countryCallingCode = String(number.code);
+      /** Its national number, with its leading zeros. */
+      this.nationalNumber = "0".repeat(number.zeros) + number.value;
+      /** Its E.164 text. */
+      this.number = engine.key(number);
+      /** The id of its region, where it has one. */
+      this.country = engine.region(number) || undefined;
+      if (number.extension) this.ext = number.extension;
+      if (number.carrier) this.carrierCode = number.carrier;
+      /** How the calling code was found: "plus", "idd", "number" or "default". */
+      this.source = SOURCES[number.source];
+    }
+    format(format) {
+      if (format === "IDD") throw new PhoneError(0, "formatFrom(region) tells how a number is dialled from a region");
+      if (!(format in FORMATS)) throw new TypeError(`no format: ${format}`);
+      try {
+        return engine.format(this.#number, FORMATS[format]);
+      } catch (error) {
+        if (error.status !== STATUS.UNKNOWN_CODE) throw error;
+        return this.number;
+      }
+    }
+    formatNational() { return this.format("NATIONAL"); }
+    formatInternational() { return this.format("INTERNATIONAL"); }
+    getURI() { return this.format("RFC3966"); }
+    /** How it is dialled from a region. */
+    formatFrom(region) { return engine.dialledFrom(this.#number, region); }
+    getType() { return KINDS[engine.kind(this.#number)]; }
+    isValid() { return engine.isValid(this.#number); }
+    isPossible() { return engine.possibility(this.#number) <= 1; }
+    /** Why the count of its digits isn't possible; undefined where it is. */
+    validateLength() { return LENGTHS[engine.possibility(this.#number)]; }
+    isNonGeographic() { return this.country === undefined && this.isValid(); }
+    isEqual(other) { return this.number === other.number && this.ext === other.ext; }
+    setExt(ext) {
+      this.#number = { ...this.#number, extension: ext || undefined };
+      this.ext = ext || undefined;
+    }
+    toString() { return this.number; }
+    toJSON() { return { ...this }; }
+  }
+
+  const read = (text, region) => engine.parse(textOf(text), region);
+
+  /** The number that a text is; throws ParseError where it is none. */
+  function parsePhoneNumberWithError(text, options) {
+    const number = read(text, regionOf(options));
+    if (typeof number !== "number") return new PhoneNumber(number);
+    if (number === STATUS.MEMORY) throw engine.error(number);
+    throw new ParseError(REASONS[number] ?? "NOT_A_NUMBER", number);
+  }
+  /** The number that a text is; undefined where it is none. */
+  function parsePhoneNumber(text, options) {
+    try {
+      return parsePhoneNumberWithError(text, options);
+    } catch (error) {
+      if (error instanceof ParseError) return undefined;
+      throw error;
+    }
+  }
+  const isValidPhoneNumber = (text, options) => parsePhoneNumber(text, options)?.isValid() ?? false;
+  const isPossiblePhoneNumber = (text, options) => parsePhoneNumber(text, options)?.isPossible() ?? false;
+  /** Why a text isn't possible as a number: undefined where it is. */
+  function validatePhoneNumberLength(text, options) {
+    const number = read(text, regionOf(options));
+    if (typeof number !== "number") return LENGTHS[engine.possibility(number)];
+    if (number === STATUS.MEMORY) throw engine.error(number);
+    return REASONS[number] ?? "NOT_A_NUMBER";
+  }
+
+  /** The numbers in a text: each with its place, in characters of JavaScript. */
+  function findPhoneNumbersInText(text, options) {
+    const region = regionOf(options), leniency = options?.leniency === "POSSIBLE" ? 0 : 1;
+    return engine.find(textOf(text), region, leniency).map(([startsAt, endsAt]) => ({ startsAt, endsAt,
+      number: new PhoneNumber(engine.parse(text.slice(startsAt, endsAt), region)) }));
+  }
+  function* searchPhoneNumbersInText(text, options) { yield* findPhoneNumbersInText(text, options); }
+
+  /** A number as it is typed. */
+  class AsYouType {
+    #region;
+    #typed = "";
+    constructor(options) { this.#region = regionOf(options); }
+    /** Types characters, and gives what is shown. */
+    input(characters) {
+      this.#typed += textOf(characters);
+      return this.shown;
+    }
+    reset() { this.#typed = ""; }
+    get shown() { return engine.typed(this.#typed, this.#region); }
+    /** After how many characters of what is shown the n-th key stands. */
+    caret(n) { return engine.caret(this.#typed, this.#region, n); }
+    getChars() { return this.#typed.replace(/[^\d+\uff0b]/gu, ""); }
+    getNumber() { return parsePhoneNumber(this.#typed, this.#region); }
+    getNumberValue() { return this.getNumber()?.number; }
+    getCountry() { return this.getNumber()?.country; }
+    getCallingCode() { return this.getNumber()?.countryCallingCode; }
+    isInternational() { return /^\s*[+\uff0b]/u.test(this.#typed); }
+    isPossible() { return this.getNumber()?.isPossible() ?? false; }
+    isValid() { return this.getNumber()?.isValid() ?? false; }
+  }
+
+  const getCountries = () => [...known];
+  const isSupportedCountry = (region) => known.has(region);
+  /** The calling code of a region; throws where there is no such region. */
+  function getCountryCallingCode(region) {
+    if (!known.has(region)) throw new Error(`Unknown country: ${region}`);
+    for (let kind = 0; !codes.has(region) && kind < 12; kind++) {
+      const example = engine.example(region, kind);
+      if (example) codes.set(region, String(example.code));
+    }
+    return codes.get(region);
+  }
+  /** An example number of a region, of a kind as getType tells it: of mobile numbers where there are any. */
+  function getExampleNumber(region, type) {
+    for (const kind of type ? [KINDS.indexOf(type)] : [1, 0, 2]) {
+      const example = kind < 0 ? undefined : engine.example(region, kind);
+      if (example) return new PhoneNumber(example);
+    }
+    return undefined;
+  }
+  /** How like the numbers of two texts are: "exact", "number", "national", "end" or "different". */
+  const compareTexts = (one, two) => MATCHES[engine.compare(textOf(one), textOf(two))];
+  /** The report line of a line: its fields parted by tabs. */
+  const report = (line, region = "") => engine.report(textOf(line), region);
+  /** What is told of each of many texts, as arrays by the names of columns. `regions` is one for all, or an array. */
+  function columns(texts, { regions = "", columns: names = ["e164", "type", "country", "valid", "refusal"], progress } = {}) {
+    const told = Object.fromEntries(names.map((name) => [name, new Array(texts.length)]));
+    const of = { e164: (it) => it.number, international: (it) => it.formatInternational(), national: (it) => it.formatNational(),
+      rfc3966: (it) => it.getURI(), type: (it) => it.getType(), country: (it) => it.country, valid: (it) => it.isValid(),
+      callingCode: (it) => it.countryCallingCode, nationalNumber: (it) => it.nationalNumber, extension: (it) => it.ext, refusal: () => undefined };
+    for (const name of names) if (!(name in of)) throw new TypeError(`no column: ${name}`);
+    for (let row = 0; row < texts.length; row++) {
+      const number = texts[row] == null ? null : engine.parse(textOf(texts[row]), Array.isArray(regions) ? regions[row] ?? "" : regions);
+      if (number === STATUS.MEMORY) throw engine.error(number);
+      const it = number && typeof number !== "number" ? new PhoneNumber(number) : undefined;
+      for (const name of names) {
+        const refusal = typeof number === "number" && name === "refusal" ? REASONS[number] ?? "NOT_A_NUMBER" : undefined;
+        told[name][row] = it ? of[name](it) : refusal;
+      }
+      if (progress && row % 1000 === 999) progress(row + 1, texts.length);
+    }
+    return told;
+  }
+  const tableVersion = () => engine.tableVersion();
+
+  return { PhoneNumber, ParseError, parsePhoneNumber, parsePhoneNumberFromString: parsePhoneNumber, parsePhoneNumberWithError,
+    isValidPhoneNumber, isPossiblePhoneNumber, validatePhoneNumberLength, findPhoneNumbersInText, searchPhoneNumbersInText, AsYouType,
+    getCountries, isSupportedCountry, getCountryCallingCode, getExampleNumber, compareTexts, report, columns, tableVersion };
+}

@@ -1,0 +1,1 @@
+export { isSupported, load, type LoadOptions, type Phones } from "./index.js";

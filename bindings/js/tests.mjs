@@ -1,0 +1,133 @@
+// What users of the package count on, in Node: node --experimental-wasm-memory64 tests.mjs PACKAGE ROWS [LINES REPORT [LINES REPORT_BY_CRATE]]
+// ROWS is bindings/sql_rows.tsv; LINES has a region, `-` for none, a tab and a text on each line, REPORT the report line of each. The last
+// line is `js: ok`; the first difference ends it with status 1.
+import { readFileSync } from "node:fs";
+import { pathToFileURL } from "node:url";
+
+const [folder, rows, ...pairs] = process.argv.slice(2);
+const phones = await import(pathToFileURL(`${folder}/index.mjs`));
+const { load } = await import(pathToFileURL(`${folder}/load.mjs`));
+const { Engine } = await import(pathToFileURL(`${folder}/engine.mjs`));
+const { parsePhoneNumber, AsYouType } = phones;
+
+function must(told, wanted, what) {
+  const [a, b] = [JSON.stringify(told) ?? "undefined", JSON.stringify(wanted) ?? "undefined"];
+  if (a === b) return;
+  console.error(`js: ${what}: ${a}, and not ${b}`);
+  process.exit(1);
+}
+function thrown(call) {
+  try {
+    call();
+  } catch (error) {
+    return [error.name, error.message];
+  }
+  return undefined;
+}
+
+// The rows that all bindings share.
+const KINDS = { FixedLine: "FIXED_LINE", Mobile: "MOBILE", FixedLineOrMobile: "FIXED_LINE_OR_MOBILE", TollFree: "TOLL_FREE", PremiumRate: "PREMIUM_RATE",
+  SharedCost: "SHARED_COST", PersonalNumber: "PERSONAL_NUMBER", Voip: "VOIP", Pager: "PAGER", Uan: "UAN", Voicemail: "VOICEMAIL" };
+let count = 0;
+for (const line of readFileSync(rows, "utf8").split("\n").slice(1, -1)) {
+  const [text, region, e164, international, national, rfc3966, type, country, valid, refusal] = line.split("\t").map((it) => (it === "-" ? undefined : it));
+  const it = parsePhoneNumber(text, region);
+  const told = it && [it.number, it.formatInternational(), it.formatNational(), it.getURI(), it.getType(), it.country, it.isValid() ? "1" : "0"];
+  must(told, refusal ? undefined : [e164, international, national, rfc3966, KINDS[type], country, valid], line);
+  count++;
+}
+console.log(`rows: ${count}`);
+
+// What no row says.
+const number = parsePhoneNumber("03-331 6005 ext. 12", "NZ");
+must([number.countryCallingCode, number.nationalNumber, number.ext, number.source], ["64", "33316005", "12", "default"], "parts");
+must(parsePhoneNumber("06 698", { defaultCountry: "IT" }).nationalNumber, "06698", "a leading zero");
+must(number.format("E.164"), "+6433316005", "E.164");
+must(thrown(() => number.format("x")), ["TypeError", "no format: x"], "no format");
+must(thrown(() => phones.parsePhoneNumberWithError("call me", "NZ")), ["ParseError", "NOT_A_NUMBER"], "a refusal");
+must(thrown(() => phones.parsePhoneNumberWithError("03-331 6005")), ["ParseError", "INVALID_COUNTRY"], "no region");
+must(thrown(() => parsePhoneNumber(3, "NZ")), ["TypeError", "a phone number is read of a string"], "no text");
+must(parsePhoneNumber("03-331 6005", "nz"), undefined, "a region that is none");
+must([phones.isValidPhoneNumber("03-331 6005", "NZ"), phones.isPossiblePhoneNumber("03-33", "NZ")], [true, false], "questions");
+must([phones.validatePhoneNumberLength("03-33", "NZ"), phones.validatePhoneNumberLength("03-331 6005", "NZ"), phones.validatePhoneNumberLength("x")],
+  ["TOO_SHORT", undefined, "NOT_A_NUMBER"], "lengths");
+must(number.isEqual(parsePhoneNumber("+6433316005;ext=12")), true, "equal");
+number.setExt("7");
+must(number.formatNational(), "03 331 6005 ext. 7", "another extension");
+must(parsePhoneNumber("+64 3 331 6005").formatFrom("US"), "011 64 3 331 6005", "from abroad");
+const found = phones.findPhoneNumbersInText("\u{1F4DE} 03-331 6005, \u00fcber 09 887 6986", "NZ");
+must(found.map((it) => [it.startsAt, it.endsAt, it.number.number]), [[3, 14, "+6433316005"], [21, 32, "+6498876986"]], "found");
+must([...phones.searchPhoneNumbersInText("none", "NZ")], [], "none found");
+const typing = new AsYouType("NZ");
+must([..."033316005"].map((key) => typing.input(key)).pop(), "03 331 6005", "typed");
+must([typing.getNumberValue(), typing.getChars(), typing.caret(3), typing.isValid()], ["+6433316005", "033316005", 4, true], "typing");
+typing.reset();
+must(typing.input("+643"), "+64 3", "typed anew");
+must([phones.getCountries().length, phones.isSupportedCountry("NZ"), phones.isSupportedCountry("XX")], [245, true, false], "countries");
+must(phones.getCountries().map((it) => phones.getCountryCallingCode(it)).filter((it) => !/^\d{1,3}$/.test(it)), [], "calling codes");
+must([phones.getCountryCallingCode("NZ"), thrown(() => phones.getCountryCallingCode("XX"))], ["64", ["Error", "Unknown country: XX"]], "codes");
+for (const region of phones.getCountries()) must(phones.getExampleNumber(region).isValid(), true, `example of ${region}`);
+must(phones.getExampleNumber("NZ", "TOLL_FREE").getType(), "TOLL_FREE", "example");
+must(phones.compareTexts("+64 3 331 6005", "03 331 6005"), "national", "compared");
+must(phones.report("03-331 6005", "NZ").split("\t")[1], "+6433316005", "report");
+must(phones.columns(["03-331 6005", null, "x"], { regions: "NZ", columns: ["e164", "refusal", "valid"] }),
+  { e164: ["+6433316005", undefined, undefined], refusal: [undefined, undefined, "NOT_A_NUMBER"], valid: [true, undefined, undefined] }, "columns");
+must(phones.columns(["0171 1234567", "03-331 6005"], { regions: ["DE", "NZ"] }).country, ["DE", "NZ"], "columns by region");
+must(phones.tableVersion().startsWith("libphonenumber "), true, "version");
+must(parsePhoneNumber("0".repeat(1000000), "NZ"), undefined, "a long text");
+must(parsePhoneNumber("\ud800 03-331 6005", "NZ")?.number, "+6433316005", "a lone surrogate");
+
+// Memory: what is held after many calls is what was held after some; and each request refused in turn leaves all as it was.
+const module = await WebAssembly.compile(await unpacked("phone.wasm.gz"));
+const table = await unpacked("world.compact.gz");
+async function unpacked(name) {
+  const stream = new Blob([readFileSync(`${folder}/${name}`)]).stream().pipeThrough(new DecompressionStream("gzip"));
+  return new Uint8Array(await new Response(stream).arrayBuffer());
+}
+const instance = await WebAssembly.instantiate(module, {});
+let start = performance.now();
+const engine = new Engine(instance, table);
+console.log(`open: ${(performance.now() - start).toFixed(0)} ms, ${(engine.memory / 2 ** 20).toFixed(1)} MB`);
+const ask = (i) => engine.report(`03-331 ${6000 + (i % 1000)} ext. ${i}`, "NZ");
+for (let i = 0; i < 2000; i++) ask(i);
+const held = instance.exports.heap_taken();
+for (let i = 0; i < 20000; i++) ask(i);
+must(String(instance.exports.heap_taken()), String(held), "memory");
+let refused = 0;
+// The heap is filled but for some blocks, and gets no more memory, so that each request of a call is refused in turn.
+instance.exports.phone_memory_most(0n);
+const kept = [];
+for (let size = 1n << 24n; size >= 16n; size >>= 1n) {
+  for (let at; (at = instance.exports.phone_memory(size)) !== 0n; ) kept.push(at);
+}
+for (let isTold = false; !isTold && kept.length; ) {
+  try {
+    must(ask(1).split("\t")[1], "+6433316001", "with little memory");
+    isTold = true;
+  } catch (error) {
+    must([error.name, error.status], ["PhoneError", 7], "refused memory");
+    refused++;
+    instance.exports.phone_memory_back(kept.pop());
+  }
+}
+for (const at of kept) instance.exports.phone_memory_back(at);
+instance.exports.phone_memory_most((1n << 64n) - 1n);
+must(ask(2).split("\t")[1], "+6433316002", "after refused memory");
+must(refused > 0, true, "memory is refused");
+console.log(`memory: refused ${refused} times`);
+
+// Lines, by both rules.
+for (let i = 0; i + 1 < pairs.length; i += 2) {
+  const by = await load({ rules: i ? "crate" : "library" });
+  const [lines, answers] = pairs.slice(i, i + 2).map((name) => readFileSync(name, "utf8").split("\n").slice(0, -1));
+  start = performance.now();
+  let differ = 0;
+  lines.forEach((line, at) => {
+    const cut = line.indexOf("\t"), region = line.slice(0, cut);
+    const told = by.report(line.slice(cut + 1), region === "-" ? "" : region);
+    if (told !== answers[at] && differ++ < 5) console.error(`js: line ${at + 1}: ${told}, and not ${answers[at]}`);
+  });
+  must(differ, 0, "lines that differ");
+  console.log(`lines: ${lines.length}, ${((performance.now() - start) / lines.length * 1000).toFixed(1)} us each`);
+}
+console.log("js: ok");
