@@ -1,0 +1,17 @@
+use Rattle.std.proofs.Common.{◌≡◌, ℕ, Some, None, string_bytes, rules, ap, sym, ◌∙◌}
+use Rattle.std.specs.Option.{option_copied}
+use Rattle.phone_plans.specs.CodeLookUps.{first_of, territories}
+use Rattle.phone_dialling.specs.Original
+use Rattle.phone_dialling.specs.Original.{IsOriginal}
+use Rattle.phone_dialling.proofs.Answered.{told_so}
+use Rattle.phone_dialling.proofs.original.as_written.Goals as goal
+
+pub returns-in-None : goal.returns-in-None
+returns-in-None c =
+    let db = c.args.database.now in
+    let n = c.args.number.now in
+    let same : c.value.result ≡ n.code.value = search rules in
+    let first : first_of (territories n.code.value db) ≡ None =
+    ap (λ (k : ℕ). first_of (territories k db)) (sym same) ∙ sym c.first_by_code.ensures ∙ ap option_copied c.in-None.is in
+    told_so string_bytes (IsOriginal db c.args.from n (Some c.args.raw.now)) c.args.raw.now c.from_str.result
+    (Original.unlisted c.args.raw.now first) c.from_str.ensures.ok
