@@ -1,5 +1,5 @@
-/* The report on lines with their hints: lines TABLE [ROUNDS] <LINES. A line is a region, `-` for none, a tab, and the text.
- * ROUNDS times over the lines are timed after the report is written: ns a line on standard error. */
+/* The report on lines with their hints: lines TABLE [ROUNDS [RULES]] <LINES. A line is a region, `-` for none, a tab, and the text.
+ * ROUNDS times over the lines are timed after the report is written: ns a line on standard error. RULES are `crate`, or `library`. */
 #define _POSIX_C_SOURCE 199309L
 #include "phone.h"
 #include <stdio.h>
@@ -23,9 +23,10 @@ int main(int argc, char **argv) {
     size_t len, all, wrote, lines = 0;
     long rounds = argc > 2 ? atol(argv[2]) : 0;
     uint8_t *table = read_all(argc > 1 ? fopen(argv[1], "rb") : NULL, &len), *text = read_all(stdin, &all);
+    uint32_t rules = argc > 3 && !strcmp(argv[3], "library") ? PHONE_LIBRARY : PHONE_CRATE;
     phone_handle world = PHONE_CLOSED;
     double start = now();
-    if (!table || !text || phone_open(table, len, PHONE_CRATE, &world) != PHONE_OK) return 1;
+    if (!table || !text || phone_open(table, len, rules, &world) != PHONE_OK) return 1;
     double loaded = now();
     for (long round = 0; round <= rounds; round++) {
         if (round == 1) start = now();
