@@ -22,11 +22,12 @@ PYTHON = BINDINGS / "python" / "phonenumber_proved" / "_calls.py"
 STRUCTS = {
     "Handle": "handle", "PrefixTable": "prefixes", "Prefixes": "prefixes", "PrefixesHandle": "prefixes", "Part": "part", "Number": "number",
     "PlainFacts": "short_facts", "ShortFacts": "short_facts", "Facts": "short_facts", "Place": "place",
+    "RegionFacts": "region_facts", "NumberFacts": "number_facts",
 }
 # What the names of a set's values begin with in phone.h.
 FRONTS = {
     "Mode": "MODE_", "Source": "SOURCE_", "Kind": "KIND_", "Type": "KIND_", "Cost": "COST_", "Possibility": "LENGTH_",
-    "Sameness": "MATCH_", "Leniency": "IF_",
+    "Sameness": "MATCH_", "Leniency": "IF_", "Form": "FORM_",
 }
 C_TYPES = {"uint8_t": "u8", "uint16_t": "u16", "uint32_t": "u32", "phone_status": "u32", "uint64_t": "u64", "size_t": "usize", "void": "u8"}
 differences = []
@@ -166,10 +167,11 @@ def rust_numbers():
     text = RUST.read_text()
     numbers = {name: int(it) for name, it in re.findall(r"const (\w+): u32 = (\d+);", text)}
     for file, name in (("number", "Mode"), ("number", "Source"), ("number", "Type"), ("database", "Rules"), ("short", "Cost"),
-                       ("possible", "Possibility"), ("possible", "Sameness"), ("found", "Leniency")):
+                       ("possible", "Possibility"), ("possible", "Sameness"), ("found", "Leniency"), ("questions", "NumberMatch"),
+                       ("questions", "Form")):
         body = re.search(r"pub enum " + name + r" \{(.*?)\n\}", (BINDINGS / "rust" / "src" / f"{file}.rs").read_text(), re.DOTALL)[1]
         for place, variant in enumerate(re.findall(r"^ +([A-Z]\w*),$", body, re.MULTILINE)):
-            snake = re.sub(r"(?<=[a-z])(?=[A-Z])", "_", variant).upper()
+            snake = re.sub(r"(?<=[a-z])(?=[A-Z])|(?<=[A-Z])(?=[A-Z][a-z])", "_", variant).upper()
             numbers[FRONTS.get(name, "") + snake] = place
     return numbers
 

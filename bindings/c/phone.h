@@ -63,7 +63,7 @@ enum {
     PHONE_NO_REGION = 19,            /* the hint is no region's id */
     PHONE_UNKNOWN_CODE = 20,         /* no territory of the database has the number's calling code */
     PHONE_BAD_NUMBER = 21,           /* the plain numbers and bytes are no phone number */
-    PHONE_NO_MODE = 22,              /* the mode is none of the four */
+    PHONE_NO_MODE = 22,              /* the mode is none of the four, the form none of the three */
     PHONE_NO_RULES = 24,             /* phone_open: the rules are neither of the two */
     PHONE_LINE_EMPTY = 25,           /* phone_prefixes_open: the line is empty */
     PHONE_LINE_NO_TAB = 26,          /* phone_prefixes_open: no tab stands in the line */
@@ -147,6 +147,37 @@ enum {
     PHONE_MATCH_NATIONAL = 2, /* one has no calling code, and the national numbers are one */
     PHONE_MATCH_END = 3,      /* one's national number is an end of the other's, of 7 digits at least */
     PHONE_MATCH_DIFFERENT = 4 /* none of these */
+};
+
+/* How like two numbers are by libphonenumber's rules, told by phone_match_numbers and its like. */
+enum {
+    PHONE_NOT_A_NUMBER = 0,    /* a text is no number */
+    PHONE_NO_MATCH = 1,        /* two numbers */
+    PHONE_SHORT_NSN_MATCH = 2, /* one's national number is an end of the other's, or one has an extension */
+    PHONE_NSN_MATCH = 3,       /* one national number; the calling code of one isn't known, or was guessed */
+    PHONE_EXACT_MATCH = 4      /* one calling code, national number, and extension or none */
+};
+
+/* What is known of a region. */
+typedef struct {
+    uint16_t code;       /* its calling code, as 64 for New Zealand */
+    uint8_t is_nanpa;    /* 1 where that is 1, of the North American Numbering Plan, else 0 */
+    uint8_t is_portable; /* 1 where a mobile number is kept when the carrier is changed, else 0 */
+} phone_region_facts;
+
+/* What is known of a number, its digits being those of the national number with its leading zeros. */
+typedef struct {
+    size_t area_length;             /* how many of its digits are its area's code; 0 where it has none */
+    size_t destination_length;      /* how many are its national destination code; 0 where it has none */
+    uint8_t is_geographical;        /* 1 where it is of a place, else 0 */
+    uint8_t is_dialled_from_abroad; /* 1 unless its region says that it is dialled at home alone, else 0 */
+} phone_number_facts;
+
+/* What is made of a text by phone_normalize. */
+enum {
+    PHONE_FORM_KEYS = 0,     /* each letter is turned to the digit of its key; all else stays */
+    PHONE_FORM_DIGITS = 1,   /* the values of its digits of any script, as 0 to 9; nothing else stays */
+    PHONE_FORM_DIALLABLE = 2 /* its digits from 0 to 9, plus signs, stars and number signs; nothing else */
 };
 
 /* What is found in a text: what is read as a possible number, or as a valid one. */
@@ -320,6 +351,112 @@ phone_status phone_typing_caret(phone_handle *handle, const uint8_t *hint, size_
  * `facts` is as it was. */
 phone_status phone_short(phone_handle *handle, const uint8_t *region, size_t region_len,
                          const uint8_t *text, size_t text_len, phone_short_facts *facts);
+
+/* The calls from here to phone_has_letters answer libphonenumber's further questions by its rules, whatever
+ * the rules of the handle.
+ *
+ * Tells what is known of a region, whose id is as "NZ". PHONE_IS_CLOSED exactly where nothing is open, else
+ * PHONE_NO_REGION exactly where the region is no id, else PHONE_NO_TERRITORY exactly where the table has no
+ * territory of it. It takes no memory. For each but PHONE_OK `facts` is as it was. */
+phone_status phone_about_region(phone_handle *handle, const uint8_t *region, size_t region_len,
+                                phone_region_facts *facts);
+
+/* Writes the national prefix of a region, dialled there before a national number, or no byte where it has
+ * none. A tilde in it means to wait for a tone; where `only_digits` isn't 0, tildes are left out.
+ * PHONE_IS_CLOSED, PHONE_NO_REGION exactly where so, in this order; PHONE_TOO_SMALL, PHONE_MEMORY. */
+phone_status phone_national_prefix(phone_handle *handle, const uint8_t *region, size_t region_len,
+                                   uint8_t only_digits, uint8_t *out, size_t out_len, size_t *wrote);
+
+/* Writes the kinds of number that a region has, PHONE_KIND_FIXED_LINE .., in libphonenumber's order: fixed
+ * line, mobile, toll free, premium rate, shared cost, over the internet, personal, pager, company's,
+ * voicemail; none where the table has no territory of it. `out_len` and `wrote` count kinds. Its statuses
+ * are those of phone_national_prefix. */
+phone_status phone_region_kinds(phone_handle *handle, const uint8_t *region, size_t region_len,
+                                uint32_t *out, size_t out_len, size_t *wrote);
+
+/* Writes the id of a calling code's main region, as "GB", or "001" for a code that serves no region.
+ * PHONE_IS_CLOSED exactly where nothing is open, else PHONE_UNKNOWN_CODE exactly where no territory has the
+ * code; PHONE_TOO_SMALL. It takes no memory. */
+phone_status phone_main_region(phone_handle *handle, uint16_t code, uint8_t *out, size_t out_len,
+                               size_t *wrote);
+
+/* Writes the kinds of number of a calling code that serves no region, as phone_region_kinds writes those of
+ * a region; none for other codes. PHONE_IS_CLOSED exactly where nothing is open; PHONE_TOO_SMALL,
+ * PHONE_MEMORY. */
+phone_status phone_code_kinds(phone_handle *handle, uint16_t code, uint32_t *out, size_t out_len,
+                              size_t *wrote);
+
+/* Writes what stands before the area code of a mobile number of a calling code: "9" for 54, no byte for
+ * others. It needs no database and takes no memory. PHONE_OK, or PHONE_TOO_SMALL as phone_report has it. */
+phone_status phone_mobile_token(uint16_t code, uint8_t *out, size_t out_len, size_t *wrote);
+
+/* Tells what is known of a number, whose texts are not looked at, also of one that isn't valid. Its statuses
+ * are those of phone_kind. For each but PHONE_OK `facts` is as it was. */
+phone_status phone_about_number(phone_handle *handle, const phone_number *number,
+                                phone_number_facts *facts);
+
+/* Tells whether a number is valid for the territory of its calling code that has this id, as "NZ", or "001"
+ * of a code that serves no region: 1, else 0. Its texts are not looked at. PHONE_IS_CLOSED exactly where
+ * nothing is open, else PHONE_NOT_UTF8 exactly where the id isn't UTF-8, else PHONE_BAD_NUMBER as phone_kind
+ * has it; PHONE_MEMORY. For each but PHONE_OK `told` is as it was. */
+phone_status phone_is_valid_for(phone_handle *handle, const uint8_t *id, size_t id_len,
+                                const phone_number *number, uint8_t *told);
+
+/* Tells what the count of a number's digits says of it as a number of a kind, PHONE_LENGTH_POSSIBLE ..;
+ * PHONE_KIND_UNKNOWN is any kind. PHONE_LENGTH_WRONG_LENGTH also where the main territory of its calling code
+ * has no number of the kind. PHONE_IS_CLOSED exactly where nothing is open, else PHONE_NO_KIND exactly where
+ * the kind is above 16, else PHONE_BAD_NUMBER as phone_kind has it; PHONE_MEMORY. For each but PHONE_OK
+ * `told` is as it was. */
+phone_status phone_possibility_as(phone_handle *handle, uint32_t kind, const phone_number *number,
+                                  uint32_t *told);
+
+/* Tells whether numbers of a kind are of a place under a calling code: 1, else 0. It needs no database and
+ * takes no memory. PHONE_NO_KIND exactly where the kind is above 16; `told` is then as it was. */
+phone_status phone_is_geographical(uint32_t kind, uint16_t code, uint8_t *told);
+
+/* Cuts digits off the end of a number until it is valid, and tells whether it is: 1, and `number` is what is
+ * left; else 0, and it is as it was. A valid number stays whole. Its texts stay at their places, and are not
+ * looked at. Its statuses are those of phone_kind. For each but PHONE_OK `number` and `told` are as they
+ * were. */
+phone_status phone_truncate(phone_handle *handle, phone_number *number, uint8_t *told);
+
+/* Tells how like two numbers are, PHONE_NO_MATCH .., given as phone_format takes them; one whose calling code
+ * is 0 is one whose code isn't known. It needs no database. PHONE_BAD_NUMBER exactly where one of them is no
+ * number; PHONE_MEMORY. For each but PHONE_OK `told` is as it was. */
+phone_status phone_match_numbers(const phone_number *first, const uint8_t *first_bytes,
+                                 size_t first_bytes_len, const phone_number *second,
+                                 const uint8_t *second_bytes, size_t second_bytes_len, uint32_t *told);
+
+/* The same of a number and a text, perhaps without its calling code, which is then read in the main region of
+ * the number's. PHONE_IS_CLOSED exactly where nothing is open, else PHONE_NOT_UTF8 exactly where the text
+ * isn't UTF-8, else PHONE_BAD_NUMBER exactly where `number` and `bytes` are no number; PHONE_MEMORY. */
+phone_status phone_match_text(phone_handle *handle, const phone_number *number, const uint8_t *bytes,
+                              size_t bytes_len, const uint8_t *text, size_t text_len, uint32_t *told);
+
+/* The same of two texts. phone_compare tells of them by other rules, which take fewer numbers for ends of
+ * others. PHONE_IS_CLOSED exactly where nothing is open, else PHONE_NOT_UTF8 exactly where one of the texts
+ * isn't UTF-8; PHONE_MEMORY. */
+phone_status phone_match_texts(phone_handle *handle, const uint8_t *first, size_t first_len,
+                               const uint8_t *second, size_t second_len, uint32_t *told);
+
+/* Writes the national text of a number as it is dialled with the selection code of a carrier; where
+ * `prefers_own` isn't 0, with the number's own, if it has one. `number` and `bytes` are as phone_format takes
+ * them. No byte is no carrier. A number whose calling code the table lacks is written as its digits.
+ * PHONE_IS_CLOSED exactly where nothing is open, else PHONE_NOT_UTF8 exactly where the carrier isn't UTF-8,
+ * else PHONE_BAD_NUMBER as phone_format has it; PHONE_TOO_SMALL, PHONE_MEMORY. */
+phone_status phone_national_with(phone_handle *handle, const phone_number *number, const uint8_t *bytes,
+                                 size_t bytes_len, const uint8_t *carrier, size_t carrier_len,
+                                 uint8_t prefers_own, uint8_t *out, size_t out_len, size_t *wrote);
+
+/* Writes a text in a form, PHONE_FORM_KEYS .. It needs no database. PHONE_NO_MODE exactly where the form is
+ * above 2, else PHONE_NOT_UTF8 exactly where the text isn't UTF-8; PHONE_TOO_SMALL, PHONE_MEMORY. */
+phone_status phone_normalize(uint32_t form, const uint8_t *text, size_t text_len, uint8_t *out,
+                             size_t out_len, size_t *wrote);
+
+/* Tells whether a text is a number that is written with letters, three at least, as "1-800-FLOWERS": 1, else
+ * 0. It needs no database and takes no memory. PHONE_NOT_UTF8 exactly where the text isn't UTF-8; `told` is
+ * then as it was. */
+phone_status phone_has_letters(const uint8_t *text, size_t text_len, uint8_t *told);
 
 /* Opens the table of prefixes that a text is: each line a prefix of 1 to 15 digits, a tab, and a text
  * in UTF-8; a carriage return at a line's end is dropped. What was open there is closed first.

@@ -76,6 +76,27 @@ class Facts(ctypes.Structure):
     ]
 
 
+class RegionFacts(ctypes.Structure):
+    """What is known of a region."""
+
+    _fields_ = [
+        ("code", ctypes.c_uint16),
+        ("is_nanpa", ctypes.c_uint8),
+        ("is_portable", ctypes.c_uint8),
+    ]
+
+
+class NumberFacts(ctypes.Structure):
+    """What is known of a number."""
+
+    _fields_ = [
+        ("area_length", ctypes.c_size_t),
+        ("destination_length", ctypes.c_size_t),
+        ("is_geographical", ctypes.c_uint8),
+        ("is_dialled_from_abroad", ctypes.c_uint8),
+    ]
+
+
 class Place(ctypes.Structure):
     """Where a number stands in a text, in bytes."""
 
@@ -88,6 +109,7 @@ def _declare(lib: Library) -> None:
     u8, u16, u32, u64 = ctypes.c_uint8, ctypes.c_uint16, ctypes.c_uint32, ctypes.c_uint64
     handle, prefixes, number = pointer(Handle), pointer(PrefixesHandle), pointer(Number)
     short_facts, place = pointer(Facts), pointer(Place)
+    region_facts, number_facts = pointer(RegionFacts), pointer(NumberFacts)
     # Made by `bindings/declarations.py --write` of `phone.h`: edit that.
     calls: dict[str, list[Any]] = {
         "open": [u32, text, size, u32, handle],
@@ -113,6 +135,23 @@ def _declare(lib: Library) -> None:
         "typing_shown": [u32, handle, text, size, text, size, text, size, pointer(size)],
         "typing_caret": [u32, handle, text, size, text, size, size, pointer(size)],
         "short": [u32, handle, text, size, text, size, short_facts],
+        "about_region": [u32, handle, text, size, region_facts],
+        "national_prefix": [u32, handle, text, size, u8, text, size, pointer(size)],
+        "region_kinds": [u32, handle, text, size, pointer(u32), size, pointer(size)],
+        "main_region": [u32, handle, u16, text, size, pointer(size)],
+        "code_kinds": [u32, handle, u16, pointer(u32), size, pointer(size)],
+        "mobile_token": [u32, u16, text, size, pointer(size)],
+        "about_number": [u32, handle, number, number_facts],
+        "is_valid_for": [u32, handle, text, size, number, pointer(u8)],
+        "possibility_as": [u32, handle, u32, number, pointer(u32)],
+        "is_geographical": [u32, u32, u16, pointer(u8)],
+        "truncate": [u32, handle, number, pointer(u8)],
+        "match_numbers": [u32, number, text, size, number, text, size, pointer(u32)],
+        "match_text": [u32, handle, number, text, size, text, size, pointer(u32)],
+        "match_texts": [u32, handle, text, size, text, size, pointer(u32)],
+        "national_with": [u32, handle, number, text, size, text, size, u8, text, size, pointer(size)],
+        "normalize": [u32, u32, text, size, text, size, pointer(size)],
+        "has_letters": [u32, text, size, pointer(u8)],
         "prefixes_open": [u32, text, size, prefixes, pointer(size)],
         "prefixes_share": [u32, prefixes, prefixes],
         "prefixes_close": [None, prefixes],

@@ -16,6 +16,8 @@ ghost use Rattle.phone_c_base.specs.Hints.{UnderHint, hint_of};
 ghost use Rattle.phone_c_base.specs.Openings.{HasForm, IsRefusalOf};
 ghost use Rattle.phone_c_base.specs.Words.{status_words, word_of};
 
+mod about;
+mod alike;
 mod calls;
 mod find;
 mod listed;

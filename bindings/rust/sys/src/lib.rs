@@ -49,6 +49,25 @@ pub struct ShortFacts {
     pub reaches_emergency: u8,
 }
 
+/// What is known of a region: each but the code is 1, else 0.
+#[repr(C)]
+#[derive(Clone, Copy, Default)]
+pub struct RegionFacts {
+    pub code: u16,
+    pub is_nanpa: u8,
+    pub is_portable: u8,
+}
+
+/// What is known of a number: counts of digits, and what is 1, else 0.
+#[repr(C)]
+#[derive(Clone, Copy, Default)]
+pub struct NumberFacts {
+    pub area_length: usize,
+    pub destination_length: usize,
+    pub is_geographical: u8,
+    pub is_dialled_from_abroad: u8,
+}
+
 /// Where a number stands in a text, in bytes.
 #[repr(C)]
 #[derive(Clone, Copy, Default)]
@@ -194,6 +213,90 @@ unsafe extern "C" {
         text_len: usize,
         facts: *mut ShortFacts,
     ) -> u32;
+    pub fn phone_about_region(
+        handle: *mut Handle,
+        region: *const u8,
+        region_len: usize,
+        facts: *mut RegionFacts,
+    ) -> u32;
+    pub fn phone_national_prefix(
+        handle: *mut Handle,
+        region: *const u8,
+        region_len: usize,
+        only_digits: u8,
+        out: *mut u8,
+        out_len: usize,
+        wrote: *mut usize,
+    ) -> u32;
+    pub fn phone_region_kinds(
+        handle: *mut Handle,
+        region: *const u8,
+        region_len: usize,
+        out: *mut u32,
+        out_len: usize,
+        wrote: *mut usize,
+    ) -> u32;
+    pub fn phone_main_region(handle: *mut Handle, code: u16, out: *mut u8, out_len: usize, wrote: *mut usize) -> u32;
+    pub fn phone_code_kinds(handle: *mut Handle, code: u16, out: *mut u32, out_len: usize, wrote: *mut usize) -> u32;
+    pub fn phone_mobile_token(code: u16, out: *mut u8, out_len: usize, wrote: *mut usize) -> u32;
+    pub fn phone_about_number(handle: *mut Handle, number: *const Number, facts: *mut NumberFacts) -> u32;
+    pub fn phone_is_valid_for(
+        handle: *mut Handle,
+        id: *const u8,
+        id_len: usize,
+        number: *const Number,
+        told: *mut u8,
+    ) -> u32;
+    pub fn phone_possibility_as(handle: *mut Handle, kind: u32, number: *const Number, told: *mut u32) -> u32;
+    pub fn phone_is_geographical(kind: u32, code: u16, told: *mut u8) -> u32;
+    pub fn phone_truncate(handle: *mut Handle, number: *mut Number, told: *mut u8) -> u32;
+    pub fn phone_match_numbers(
+        first: *const Number,
+        first_bytes: *const u8,
+        first_bytes_len: usize,
+        second: *const Number,
+        second_bytes: *const u8,
+        second_bytes_len: usize,
+        told: *mut u32,
+    ) -> u32;
+    pub fn phone_match_text(
+        handle: *mut Handle,
+        number: *const Number,
+        bytes: *const u8,
+        bytes_len: usize,
+        text: *const u8,
+        text_len: usize,
+        told: *mut u32,
+    ) -> u32;
+    pub fn phone_match_texts(
+        handle: *mut Handle,
+        first: *const u8,
+        first_len: usize,
+        second: *const u8,
+        second_len: usize,
+        told: *mut u32,
+    ) -> u32;
+    pub fn phone_national_with(
+        handle: *mut Handle,
+        number: *const Number,
+        bytes: *const u8,
+        bytes_len: usize,
+        carrier: *const u8,
+        carrier_len: usize,
+        prefers_own: u8,
+        out: *mut u8,
+        out_len: usize,
+        wrote: *mut usize,
+    ) -> u32;
+    pub fn phone_normalize(
+        form: u32,
+        text: *const u8,
+        text_len: usize,
+        out: *mut u8,
+        out_len: usize,
+        wrote: *mut usize,
+    ) -> u32;
+    pub fn phone_has_letters(text: *const u8, text_len: usize, told: *mut u8) -> u32;
     pub fn phone_prefixes_open(text: *const u8, text_len: usize, prefixes: *mut Prefixes, line: *mut usize) -> u32;
     pub fn phone_prefixes_share(prefixes: *mut Prefixes, mine: *mut Prefixes) -> u32;
     pub fn phone_prefixes_close(prefixes: *mut Prefixes);
