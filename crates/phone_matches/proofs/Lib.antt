@@ -1,0 +1,5 @@
+pub mod Accepted
+pub mod Announced
+pub mod Same
+pub mod Sufficing
+pub mod Told

@@ -1,0 +1,4 @@
+pub mod Leniencies
+pub mod Marks
+pub mod Numbers
+pub mod Prefixes

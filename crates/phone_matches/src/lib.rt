@@ -1,0 +1,13 @@
+//! The numbers of a running text as libphonenumber finds them: candidates and pieces of them that
+//! are read as possible or valid numbers.
+#![tactic(auto)]
+
+pub mod laws;
+mod leniency;
+mod marks;
+mod numbers;
+mod prefixes;
+
+pub use leniency::Leniency;
+pub use numbers::{find_matches, find_matches_within};
+pub use phone_matches_search::Match;
