@@ -17,6 +17,7 @@ ghost use Rattle.phone_c_base.specs.Openings.{HasForm, IsRefusalOf};
 ghost use Rattle.phone_c_base.specs.Words.{status_words, word_of};
 
 mod calls;
+mod columns;
 mod find;
 mod listed;
 mod prefixes;

@@ -118,6 +118,8 @@ status_rows =
     (33, codes "no value has the number") ∷
     (34, codes "the table has no territory of the region") ∷
     (35, codes "unknown leniency") ∷
+    (36, codes "unknown column") ∷
+    (37, codes "the texts or hints are laid out as no column") ∷
     []
 
 -- the word of a value of a set: of kinds, 0; of the ways in which a calling code was found, 1; of

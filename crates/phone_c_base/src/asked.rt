@@ -18,7 +18,7 @@ use phonenumber::{PhoneNumber, Type};
 use std::alloc::{AllocError, Global};
 
 /// A kind by its number.
-fn kind_number(kind: Type) -> u32
+pub fn kind_number(kind: Type) -> u32
     ensures { result ≡ kind_number kind }
 {
     match kind {

@@ -42,7 +42,7 @@ fn text_in(database: &Plans, number: &PhoneNumber, mode: Mode) -> Result<String,
 }
 
 /// The text of a number in a mode, as an engine's rules print it.
-fn text_by(engine: Engine<'_>, number: &PhoneNumber, mode: Mode) -> Result<String, FormatError>
+pub fn text_by(engine: Engine<'_>, number: &PhoneNumber, mode: Mode) -> Result<String, FormatError>
     ensures text { IfOk result (λ t. printed engine.entry.database.now mode None
         (printed_as engine.entry.rules number.now) ≡ Some (string_bytes t)) }
     ensures unknown { result ≡ Err FormatError.UnknownCode →

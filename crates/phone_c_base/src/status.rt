@@ -63,3 +63,9 @@ pub const NO_TERRITORY: u32 = 34;
 
 /// The leniency is neither of the two.
 pub const NO_LENIENCY: u32 = 35;
+
+/// No column has one of the numbers.
+pub const NO_COLUMN: u32 = 36;
+
+/// Texts or hints are laid out as no column.
+pub const BAD_LAYOUT: u32 = 37;

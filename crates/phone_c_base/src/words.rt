@@ -62,7 +62,7 @@ const COST_WORDS: [(u32, &str); 4] = [
 
 /// The words of the statuses: those from 1 to 6 are the words of the refusals of a text, and those
 /// from 8 to 12 say why bytes are no database.
-const STATUS_WORDS: [(u32, &str); 32] = [
+const STATUS_WORDS: [(u32, &str); 34] = [
     (0, "done"),
     (1, "not a number"),
     (2, "invalid country code"),
@@ -95,6 +95,8 @@ const STATUS_WORDS: [(u32, &str); 32] = [
     (33, "no value has the number"),
     (34, "the table has no territory of the region"),
     (35, "unknown leniency"),
+    (36, "unknown column"),
+    (37, "the texts or hints are laid out as no column"),
 ];
 
 /// The first row of a table that has this number.

@@ -13,11 +13,10 @@ use crate::answers::answer_rows;
 use crate::body::{Body, lay_out};
 use crate::column::{columns_of, has_no_column};
 use crate::given::{Given, Layout, Narrow, read_layouts};
-use crate::shim::{BAD_LAYOUT, NO_COLUMN};
 use phone_arrow::wide;
 use phone_c_base::buffer::give;
 use phone_c_base::found::Place;
-use phone_c_base::status::{MEMORY, OK, TOO_SMALL};
+use phone_c_base::status::{BAD_LAYOUT, MEMORY, NO_COLUMN, OK, TOO_SMALL};
 use phone_engine::Engine;
 use std::alloc::AllocError;
 
@@ -146,9 +145,13 @@ pub fn narrow_columns(
         engine.entry.database.now numbers.now
         (rows_of (seen_narrow texts.entry) (seen_narrow hints.entry))
         places.old out.old wrote.new }
-    ensures bad_layout { result ≡ BAD_LAYOUT →
+    ensures bad_layout { ¬ (are_given (seen_narrow texts.entry) (seen_narrow hints.entry) ≡ true) →
+        (result ≡ BAD_LAYOUT) ⊎ (result ≡ MEMORY) }
+    ensures only_bad { result ≡ BAD_LAYOUT →
         ¬ (are_given (seen_narrow texts.entry) (seen_narrow hints.entry) ≡ true) }
-    ensures no_column { result ≡ NO_COLUMN → list_any is_no_column numbers.now ≡ true }
+    ensures no_column { are_given (seen_narrow texts.entry) (seen_narrow hints.entry) ≡ true →
+        list_any is_no_column numbers.now ≡ true → (result ≡ NO_COLUMN) ⊎ (result ≡ MEMORY) }
+    ensures only_none { result ≡ NO_COLUMN → list_any is_no_column numbers.now ≡ true }
     ensures other { ¬ (result ≡ OK) → ¬ (result ≡ TOO_SMALL) → ¬ (result ≡ BAD_LAYOUT) →
         ¬ (result ≡ NO_COLUMN) → result ≡ MEMORY }
     ensures untouched { ¬ (result ≡ OK) → (places.new ≡ places.old) × (out.new ≡ out.old) }

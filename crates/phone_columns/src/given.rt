@@ -9,6 +9,7 @@ use phone_arrow::Texts;
 /// A column in Arrow's layout, as a call is given it: its texts stand side by side in the bytes,
 /// each between two neighbours of the offsets; the bitmap, which may have no byte, says which are
 /// there, the first text's flag being at place `first`.
+#[repr(C)]
 #[derive(Clone, Copy)]
 pub struct Layout<'a> {
     /// The offsets, one more than there are texts.
@@ -22,6 +23,7 @@ pub struct Layout<'a> {
 }
 
 /// The same with offsets of 32 bits.
+#[repr(C)]
 #[derive(Clone, Copy)]
 pub struct Narrow<'a> {
     /// The offsets, one more than there are texts.

@@ -11,7 +11,7 @@ ghost use Rattle.phone_columns.specs.Known.{AreKnown};
 
 use crate::answers::Answer;
 use crate::column::{Column, Fact};
-use crate::shim::kind_number;
+use phone_c_base::asked::kind_number;
 use phone_engine::Engine;
 use phone_values::country::Id;
 use phonenumber::{PhoneNumber, Type};

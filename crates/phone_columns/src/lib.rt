@@ -11,7 +11,6 @@ mod given;
 mod known;
 pub mod laws;
 mod printed;
-mod shim;
 
 pub use answers::{Answer, answer_rows};
 pub use body::{Body, lay_out};

@@ -8,7 +8,7 @@ ghost use Rattle.phone_columns.specs.Cells.{text_of_row};
 ghost use Rattle.phone_columns.specs.Columns.{offsets_by};
 
 use crate::answers::Answer;
-use crate::shim::text_by;
+use phone_c_base::print::text_by;
 use phone_engine::Engine;
 use phonenumber::{FormatError, Mode, PhoneNumber};
 use std::alloc::{AllocError, Global};
