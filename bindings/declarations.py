@@ -12,6 +12,7 @@ import enum
 import os
 import re
 import sys
+import textwrap
 from pathlib import Path
 
 BINDINGS = Path(__file__).resolve().parent
@@ -23,11 +24,12 @@ STRUCTS = {
     "Handle": "handle", "PrefixTable": "prefixes", "Prefixes": "prefixes", "PrefixesHandle": "prefixes", "Part": "part", "Number": "number",
     "PlainFacts": "short_facts", "ShortFacts": "short_facts", "Facts": "short_facts", "Place": "place",
     "RegionFacts": "region_facts", "NumberFacts": "number_facts",
+    "Layout": "texts", "Texts": "texts", "Narrow": "narrow_texts", "NarrowTexts": "narrow_texts",
 }
 # What the names of a set's values begin with in phone.h.
 FRONTS = {
     "Mode": "MODE_", "Source": "SOURCE_", "Kind": "KIND_", "Type": "KIND_", "Cost": "COST_", "Possibility": "LENGTH_",
-    "Sameness": "MATCH_", "Leniency": "IF_", "Form": "FORM_",
+    "Sameness": "MATCH_", "Leniency": "IF_", "Form": "FORM_", "Column": "COLUMN_",
 }
 C_TYPES = {"uint8_t": "u8", "uint16_t": "u16", "uint32_t": "u32", "phone_status": "u32", "uint64_t": "u64", "size_t": "usize", "void": "u8"}
 differences = []
@@ -84,7 +86,12 @@ def python_call(name, args, answer):
     given = re.sub(r"(\w+): (const )?u8\*(?=, \1_len:)", "text", given)  # bytes whose length comes next
     given = re.sub(r"\w+: (const )?", "", given)
     given = re.sub(r"(u\d+|usize)\*", r"pointer(\1)", given).replace("usize", "size").replace("*", "")
-    return f'        "{name}": [{"address" if "*" in answer else answer or "None"}{given}],\n'
+    kinds = ("address" if "*" in answer else answer or "None") + given
+    line = f'        "{name}": [{kinds}],\n'
+    if len(line) <= 101:
+        return line
+    rows = textwrap.indent(textwrap.fill(kinds + ",", 88), 12 * " ")
+    return f'        "{name}": [\n{rows}\n        ],\n'
 
 
 def make(calls, write):
@@ -100,7 +107,7 @@ def make(calls, write):
 
 def of_rust(text):
     """Types of Rust or Rattle: a slice is a pointer and a length."""
-    text = text.strip()
+    text = re.sub(r"'\w+ |<'_>", "", text.strip())
     if slice := re.fullmatch(r"&(mut )?\[(\w+)\]", text):
         return [("" if slice[1] else "const ") + named(slice[2]) + "*", "usize"]
     sign, name = re.fullmatch(r"(&mut |&|\*mut |\*const )?(\w+)", text).groups()
@@ -118,9 +125,10 @@ def rust_calls(text):
 
 def rust_structs(text):
     structs = {}
-    for name, fields in re.findall(r"#\[repr\(C\)\](?:\s*#\[[^\n]*\])*\s*pub(?:\(crate\))? struct (\w+) \{(.*?)\n\}", text, re.DOTALL):
+    struct = r"#\[repr\(C\)\](?:\s*#\[[^\n]*\])*\s*pub(?:\(crate\))? struct (\w+)(?:<'a>)? \{(.*?)\n\}"
+    for name, fields in re.findall(struct, text, re.DOTALL):
         found = re.findall(r"^ *pub(?:\(crate\))? (\w+): ([^,\n]+),$", fields, re.MULTILINE)
-        structs[named(name)] = [(field, *of_rust(kind)) for field, kind in found]
+        structs[named(name)] = [it for field, kind in found for it in zip((field, field + "_len"), of_rust(kind))]
     return structs
 
 
@@ -151,6 +159,7 @@ def python():
     from phonenumber_proved import _calls
 
     kinds = {ctypes.c_uint8: "u8", ctypes.c_uint16: "u16", ctypes.c_uint32: "u32", ctypes.c_uint64: "u64", ctypes.c_void_p: "u8*"}
+    kinds.update({ctypes.POINTER(it): kinds[it] + "*" for it in (ctypes.c_uint32, ctypes.c_uint64)})
     structs = [it for it in vars(_calls).values() if isinstance(it, type) and issubclass(it, ctypes.Structure)]
     kinds.update({it: named(it.__name__) for it in structs})
     fields = {named(it.__name__): [(name, kinds[kind]) for name, kind in it._fields_] for it in structs}
@@ -194,7 +203,8 @@ def main(write):
     compare("sys/src/lib.rs", "struct", rust_structs(RUST.read_text()), structs, whole=True)
     compare("Rust", "number", rust_numbers(), numbers)
     python_structs, python_numbers = python()
-    wide = {name: [(field, kind.replace("usize", "u64")) for field, kind in fields] for name, fields in structs.items()}
+    # What ctypes says of a pointer is not whether it is only read by.
+    wide = {name: [(field, kind.replace("usize", "u64").removeprefix("const ")) for field, kind in fields] for name, fields in structs.items()}
     compare("_calls.py", "struct", python_structs, wide, whole=True)
     compare("Python", "number", python_numbers, numbers)
     for it in differences:

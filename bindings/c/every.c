@@ -100,6 +100,21 @@ static void of_more(phone_handle *world) {
     text("phone_word", phone_word(PHONE_KIND_WORDS, PHONE_KIND_FIXED_LINE_OR_MOBILE, out, sizeof out, &wrote));
 }
 
+/* The calls of a column of texts: a number, and what is none. */
+static void of_columns(phone_handle *world) {
+    static const uint64_t wide[] = {0, 11, 18};
+    static const uint32_t narrow[] = {0, 11, 18}, columns[] = {PHONE_COLUMN_E164, PHONE_COLUMN_REFUSAL};
+    static const char both[] = "03-331 6005call me";
+    phone_texts texts = phone_texts_of(wide, 2, both, NULL, 0), hint = phone_one_hint("NZ", 2);
+    phone_narrow_texts same = phone_narrow_texts_of(narrow, 2, both, NULL, 0), its = phone_narrow_one_hint("NZ", 2);
+    phone_place places[3] = {{0, 0}, {0, 0}, {0, 0}};
+    VALUE("phone_columns", phone_columns(world, &texts, &hint, columns, 2, places, 3, out, sizeof out, &wrote), wrote);
+    printf("%.*s, %u, %u\n", (int)(places[1].end - places[1].start), (const char *)out + places[1].start, out[places[2].start],
+           out[places[2].start + 1]);
+    VALUE("phone_narrow_columns", phone_narrow_columns(world, &same, &its, columns, 2, places, 3, out, 0, &wrote), 0);
+    VALUE("phone_narrow_columns", phone_narrow_columns(world, &same, &its, columns, 2, places, 3, out, sizeof out, &wrote), wrote);
+}
+
 /* The calls of tables of their own. */
 static void of_tables(void) {
     phone_handle numbers = PHONE_CLOSED;
@@ -136,6 +151,7 @@ int main(void) {
     phone_close(&world);
     VALUE("phone_share, closed", phone_share(&world, &second), 0);
     of_more(&mine);
+    of_columns(&mine);
     phone_close(&mine);
     of_tables();
     return 0;

@@ -61,10 +61,32 @@ static phone_status shown(phone_handle *h, const char *hint, const void *keys, s
 static phone_status caret(phone_handle *h, const char *keys, size_t n, size_t *told) {
     return phone_typing_caret(h, phone_text("", 0), 0, phone_text(keys, strlen(keys)), strlen(keys), n, told);
 }
+/* All columns of four rows: a number, none, what is no number, what is no UTF-8. Where they aren't written, places are as they were. */
+static const uint32_t COLUMNS[] = {0, 1, 2, 3, 4, 5, 6, 7, 8, 9, 10, 11, 12};
+static const uint32_t ENDS[] = {0, 22, 22, 29, 30};
+static const uint64_t WIDE[] = {0, 22, 22, 29, 30};
+static const char FOUR[] = "+64 3 331 6005 ext. 12call me\xff";
+static const uint8_t BITS[] = {0x0D};
+enum { PLACES = 17 };
+static phone_place places[PLACES];
+static phone_status written(phone_status status) {
+    for (size_t i = 0; status && i < sizeof places; i++) if (((uint8_t *)places)[i] != 0xAA) return 97;
+    return status;
+}
+static phone_status columns(phone_handle *h, size_t room) {
+    phone_texts texts = phone_texts_of(WIDE, 4, FOUR, BITS, 0), hint = phone_one_hint("NZ", 2);
+    memset(places, 0xAA, sizeof places);
+    return written(phone_columns(h, &texts, &hint, COLUMNS, 13, places, PLACES, out, room, &wrote));
+}
+static phone_status narrow_columns(phone_handle *h, size_t room) {
+    phone_narrow_texts texts = phone_narrow_texts_of(ENDS, 4, FOUR, BITS, 0), hint = phone_narrow_one_hint("NZ", 2);
+    memset(places, 0xAA, sizeof places);
+    return written(phone_narrow_columns(h, &texts, &hint, COLUMNS, 13, places, PLACES, out, room, &wrote));
+}
 /* The calls, by a number, each on the same text; those up to ROOMS write to a buffer. Some are asked by the rules of
  * libphonenumber, behind a second handle on the table. */
 static phone_handle second = PHONE_CLOSED;
-enum { ROOMS = 16, CALLS = 24 };
+enum { ROOMS = 18, CALLS = 26 };
 static phone_status call(int which, phone_handle *h, const phone_number *n, const uint8_t *bytes, size_t len, size_t room) {
     const char *text = "+64 3 331 6005 ext. 12";
     phone_status status, kind = 99;
@@ -91,15 +113,17 @@ static phone_status call(int which, phone_handle *h, const phone_number *n, cons
         status = phone_find(&second, B("NZ"), PHONE_IF_VALID, B("or 03-331 6005, or +1 650 253 0000"),
                                (phone_place *)out, room / sizeof(phone_place), &wrote);
         return wrote *= sizeof(phone_place), status;
-    case 16: return status = phone_kind(h, n, &kind), kind == (status ? 99 : PHONE_KIND_FIXED_LINE) ? status : 98;
-    case 17: return status = phone_kind(&second, n, &kind), kind == (status ? 99 : PHONE_KIND_FIXED_LINE) ? status : 98;
-    case 18: return status = phone_is_valid(&second, n, &flag), flag == (status ? 99 : 1) ? status : 98;
-    case 19: return status = caret(h, "+6433316005", 4, &place), place == (status ? 99 : 5) ? status : 98;
-    case 20: return status = phone_possibility(&second, n, &kind), kind == (status ? 99 : PHONE_LENGTH_POSSIBLE) ? status : 98;
-    case 21:
+    case 16: return columns(h, room);
+    case 17: return narrow_columns(&second, room);
+    case 18: return status = phone_kind(h, n, &kind), kind == (status ? 99 : PHONE_KIND_FIXED_LINE) ? status : 98;
+    case 19: return status = phone_kind(&second, n, &kind), kind == (status ? 99 : PHONE_KIND_FIXED_LINE) ? status : 98;
+    case 20: return status = phone_is_valid(&second, n, &flag), flag == (status ? 99 : 1) ? status : 98;
+    case 21: return status = caret(h, "+6433316005", 4, &place), place == (status ? 99 : 5) ? status : 98;
+    case 22: return status = phone_possibility(&second, n, &kind), kind == (status ? 99 : PHONE_LENGTH_POSSIBLE) ? status : 98;
+    case 23:
         status = phone_text_possibility(h, B("NZ"), B("03-33"), &kind);
         return kind == (status ? 99 : PHONE_LENGTH_TOO_SHORT) ? status : 98;
-    case 22:
+    case 24:
         status = phone_compare(&second, B("331 6005"), (const uint8_t *)text, strlen(text), &kind);
         return kind == (status ? 99 : PHONE_MATCH_END) ? status : 98;
     default: return status = phone_is_valid(h, n, &flag), flag == (status ? 99 : 1) ? status : 98;
@@ -365,7 +389,7 @@ static phone_status word(uint32_t set, uint32_t value, size_t room) {
 }
 /* Each value of each set has a word, and each status too; no other has. */
 static int words(void) {
-    static const uint32_t COUNTS[] = {17, 4, 6, 5, 4, 0, 36};
+    static const uint32_t COUNTS[] = {17, 4, 6, 5, 4, 0, 38};
     requests = 0, refuse_at = 0;
     for (uint32_t set = 0; set < 7; set++) /* the last stands for the statuses */
         for (uint32_t value = 0; value < 64; value++) {
@@ -379,6 +403,37 @@ static int words(void) {
         }
     CHECK(1052, phone_word(UINT32_MAX, 0, out, 9, &wrote) == PHONE_NO_WORD && requests == 0);
     refuse_at = -1;
+    return 0;
+}
+/* What is laid out as no column, and what is no column's number: nothing is written. */
+static phone_status laid(phone_handle *h, phone_texts texts, phone_texts hints) {
+    fill();
+    memset(places, 0xAA, sizeof places);
+    phone_status status = written(phone_columns(h, &texts, &hints, COLUMNS, 13, places, PLACES, out, sizeof out, &wrote));
+    return status && (wrote || !is_untouched(0)) ? 96 : status;
+}
+static int layouts(void) {
+    static const uint64_t DOWN[] = {0, 22, 21, 29, 30}, FAR[] = {0, 22, 22, 29, UINT64_MAX};
+    static const uint32_t NONE[] = {0, 13, 1};
+    phone_handle h = PHONE_CLOSED;
+    phone_texts four = phone_texts_of(WIDE, 4, FOUR, BITS, 0), three = phone_texts_of(WIDE, 3, FOUR, BITS, 0);
+    phone_texts hint = phone_one_hint("", 0), it = four;
+    CHECK(1100, laid(&h, four, hint) == PHONE_IS_CLOSED && laid(&h, four, three) == PHONE_IS_CLOSED);
+    CHECK(1101, phone_open(B(SMALL), PHONE_CRATE, &h) == PHONE_OK && laid(&h, four, hint) == PHONE_OK);
+    CHECK(1102, laid(&h, four, four) == PHONE_OK && laid(&h, four, three) == PHONE_BAD_LAYOUT && laid(&h, three, four) == PHONE_BAD_LAYOUT);
+    CHECK(1103, (it.offsets = DOWN, laid(&h, it, hint)) == PHONE_BAD_LAYOUT && laid(&h, four, it) == PHONE_BAD_LAYOUT);
+    CHECK(1104, (it.offsets = FAR, laid(&h, it, hint)) == PHONE_BAD_LAYOUT && laid(&h, four, it) == PHONE_BAD_LAYOUT);
+    CHECK(1105, (it = four, it.bytes_len = 29, laid(&h, it, hint)) == PHONE_BAD_LAYOUT);
+    CHECK(1106, (it = four, it.first = 4, laid(&h, it, hint)) == PHONE_OK && (it.first = 5, laid(&h, it, hint)) == PHONE_BAD_LAYOUT);
+    CHECK(1107, (it.first = SIZE_MAX - 3, laid(&h, it, hint)) == PHONE_BAD_LAYOUT && (it.first = SIZE_MAX, laid(&h, it, hint)) == PHONE_BAD_LAYOUT);
+    CHECK(1108, (it = four, it.offsets_len = 0, laid(&h, it, hint)) == PHONE_OK && wrote == 32);
+    CHECK(1109, laid(&h, phone_texts_of(NULL, 0, NULL, NULL, 9), hint) == PHONE_OK && wrote == 32);
+    fill();
+    CHECK(1110, phone_columns(&h, &four, &hint, NONE, 3, places, PLACES, out, 9, &wrote) == PHONE_NO_COLUMN && !wrote && is_untouched(0));
+    CHECK(1111, phone_columns(&h, &four, &hint, NONE, 0, places, 0, out, 0, &wrote) == PHONE_OK && wrote == 0 && is_untouched(0));
+    CHECK(1112, phone_columns(&h, &four, &hint, NONE, 1, places, 1, out, sizeof out, &wrote) == PHONE_TOO_SMALL && is_untouched(0));
+    phone_close(&h);
+    CHECK(1113, blocks == 0);
     return 0;
 }
 /* The table in the library, with requests refused at ever later places; and the calls that take no memory. */
@@ -452,7 +507,7 @@ int main(int argc, char **argv) {
     long rounds = argc > 2 ? atol(argv[2]) : 100, most = 0;
     int wrong;
     if ((wrong = small()) || (wrong = by_rules()) || (wrong = typing()) || (wrong = shorts()) || (wrong = prefixes())
-        || (wrong = possible()) || (wrong = listed()) || (wrong = words()) || (wrong = world_in_library())
+        || (wrong = possible()) || (wrong = listed()) || (wrong = words()) || (wrong = layouts()) || (wrong = world_in_library())
         || (wrong = shared())) return wrong;
     CHECK(100, phone_version() == PHONE_VERSION);
     fill();

@@ -75,7 +75,9 @@ enum {
     PHONE_NO_EXAMPLE = 32,           /* the table has no example of the region and kind */
     PHONE_NO_WORD = 33,              /* phone_word: no value of the set has the number; no status has it */
     PHONE_NO_TERRITORY = 34,         /* the table has no territory of the region */
-    PHONE_NO_LENIENCY = 35           /* the leniency is neither of the two */
+    PHONE_NO_LENIENCY = 35,          /* the leniency is neither of the two */
+    PHONE_NO_COLUMN = 36,            /* phone_columns: no column has one of the numbers */
+    PHONE_BAD_LAYOUT = 37            /* phone_columns: texts or hints are laid out as no column */
 };
 
 /* By whose rules a text is read and a number printed and described: those of libphonenumber, or those of
@@ -186,6 +188,50 @@ enum { PHONE_IF_POSSIBLE = 0, PHONE_IF_VALID = 1 };
 /* Where a number stands in a text, in bytes: from `start` to before `end`. */
 typedef struct { size_t start; size_t end; } phone_place;
 
+/* A column of texts as Arrow lays it out: the i-th stands in `bytes` from offsets[i] to before
+ * offsets[i + 1], and there is one offset more than texts; without an offset there is no text. The bitmap
+ * says which texts are there: eight flags a byte, the first of a byte its lowest bit, the first text's at
+ * place `first`; it may have no byte, where each is there. Of hints without an offset `bytes` is the one
+ * of all texts. Arrow's offsets, which have a sign and are never negative, are the same in memory. */
+typedef struct {
+    const uint64_t *offsets;
+    size_t offsets_len;
+    const uint8_t *bytes;
+    size_t bytes_len;
+    const uint8_t *bits;
+    size_t bits_len;
+    size_t first;
+} phone_texts;
+
+/* The same with offsets of 32 bits. */
+typedef struct {
+    const uint32_t *offsets;
+    size_t offsets_len;
+    const uint8_t *bytes;
+    size_t bytes_len;
+    const uint8_t *bits;
+    size_t bits_len;
+    size_t first;
+} phone_narrow_texts;
+
+/* The columns that phone_columns writes: each is one buffer with a value a row, but for texts and the last.
+ * A row has no number where its text isn't there or is refused: then its value is 0, its text empty. */
+enum {
+    PHONE_COLUMN_E164 = 0,           /* texts, as two buffers: offsets of 64 bits, one more than rows; bytes */
+    PHONE_COLUMN_INTERNATIONAL = 1,
+    PHONE_COLUMN_NATIONAL = 2,
+    PHONE_COLUMN_RFC3966 = 3,
+    PHONE_COLUMN_CODE = 4,           /* 16 bits: the calling code */
+    PHONE_COLUMN_VALUE = 5,          /* 64 bits: the national number without its leading zeros */
+    PHONE_COLUMN_ZEROS = 6,          /* a byte: how many zeros stand before it */
+    PHONE_COLUMN_KIND = 7,           /* a byte: PHONE_KIND_FIXED_LINE .. */
+    PHONE_COLUMN_REGION = 8,         /* two bytes: the region's letters; 0 and 0 where it has none */
+    PHONE_COLUMN_VALIDITY = 9,       /* a byte: 1 where the number is valid */
+    PHONE_COLUMN_SOURCE = 10,        /* a byte: PHONE_SOURCE_PLUS .. */
+    PHONE_COLUMN_REFUSAL = 11,       /* a byte: what phone_parse answers of it, PHONE_OK where it isn't there */
+    PHONE_COLUMN_IS_NUMBER = 12      /* a bitmap: which rows have a number, so which values of others count */
+};
+
 /* The sets of values that have words, for phone_word. */
 enum {
     PHONE_KIND_WORDS = 0, PHONE_SOURCE_WORDS, PHONE_POSSIBILITY_WORDS, PHONE_SAMENESS_WORDS,
@@ -195,6 +241,50 @@ enum {
 /* A text of length 0 may be null for the caller, but not for a call. */
 static inline const uint8_t *phone_text(const void *text, size_t len) {
     return len ? (const uint8_t *)text : (const uint8_t *)"";
+}
+
+/* A column of so many texts; each of the pointers is null where it has nothing. `bits` is as long as need be. */
+static inline phone_texts phone_texts_of(const uint64_t *offsets, size_t count, const void *bytes,
+                                         const uint8_t *bits, size_t first) {
+    static const uint64_t none = 0;
+    phone_texts texts;
+    texts.offsets = offsets ? offsets : &none;
+    texts.offsets_len = count + 1;
+    texts.bytes_len = (size_t)texts.offsets[count];
+    texts.bytes = phone_text(bytes, texts.bytes_len);
+    texts.bits_len = bits ? (first + count + 7) / 8 : 0;
+    texts.bits = phone_text(bits, texts.bits_len);
+    texts.first = first;
+    return texts;
+}
+static inline phone_narrow_texts phone_narrow_texts_of(const uint32_t *offsets, size_t count, const void *bytes,
+                                                       const uint8_t *bits, size_t first) {
+    static const uint32_t none = 0;
+    phone_narrow_texts texts;
+    texts.offsets = offsets ? offsets : &none;
+    texts.offsets_len = count + 1;
+    texts.bytes_len = texts.offsets[count];
+    texts.bytes = phone_text(bytes, texts.bytes_len);
+    texts.bits_len = bits ? (first + count + 7) / 8 : 0;
+    texts.bits = phone_text(bits, texts.bits_len);
+    texts.first = first;
+    return texts;
+}
+
+/* One hint for all texts, as "NZ"; of length 0, none. */
+static inline phone_texts phone_one_hint(const void *hint, size_t hint_len) {
+    phone_texts hints = phone_texts_of(0, 0, hint, 0, 0);
+    hints.offsets_len = 0;
+    hints.bytes = phone_text(hint, hint_len);
+    hints.bytes_len = hint_len;
+    return hints;
+}
+static inline phone_narrow_texts phone_narrow_one_hint(const void *hint, size_t hint_len) {
+    phone_narrow_texts hints = phone_narrow_texts_of(0, 0, hint, 0, 0);
+    hints.offsets_len = 0;
+    hints.bytes = phone_text(hint, hint_len);
+    hints.bytes_len = hint_len;
+    return hints;
 }
 
 /* Opens the database that bytes are: a JSON text, as data/world.json, or the compact form of its
@@ -324,6 +414,30 @@ phone_status phone_codes(phone_handle *handle, uint16_t *out, size_t out_len, si
 phone_status phone_find(phone_handle *handle, const uint8_t *hint, size_t hint_len,
                         uint32_t leniency, const uint8_t *text, size_t text_len, phone_place *out,
                         size_t out_len, size_t *wrote);
+
+/* Reads each text of a column by itself, under the hint at its place or the one of all, as phone_parse does,
+ * and writes what columns, PHONE_COLUMN_E164 .., tell of it. Their buffers go to the front of `out`, in the
+ * order of `columns`, each at a multiple of eight bytes with zeros between; where each begins and ends goes
+ * to the front of `places`, two for a column of texts, else one; the length of all goes to `wrote`. Row i of
+ * a column is what phone_parse and the calls over its number tell of text i alone, so a column may be cut
+ * into pieces, and each given to a thread with a handle of its own. A hint that is no region's id refuses
+ * its row by PHONE_NO_REGION, a text that isn't UTF-8 by PHONE_NOT_UTF8; a hint that isn't there is none.
+ * PHONE_IS_CLOSED exactly where nothing is open, else PHONE_BAD_LAYOUT exactly where an offset of the texts
+ * is below the one before it or past the bytes, or the bitmap lacks a flag, or the hints, if there are
+ * offsets, are so or not as many as the texts; else PHONE_NO_COLUMN exactly where no column has one of the
+ * numbers. PHONE_TOO_SMALL only where `out` or `places` is too short: `wrote` is then the length that `out`
+ * needs; PHONE_MEMORY. For each but PHONE_OK `out` and `places` are as they were, and for each but PHONE_OK
+ * and PHONE_TOO_SMALL `wrote` is 0. While it works it takes some 100 bytes a row, and a few times what it
+ * writes. */
+phone_status phone_columns(phone_handle *handle, const phone_texts *texts, const phone_texts *hints,
+                           const uint32_t *columns, size_t columns_len, phone_place *places,
+                           size_t places_len, uint8_t *out, size_t out_len, size_t *wrote);
+
+/* The same of offsets of 32 bits, for whose copies of 64 bits memory is taken before all else. */
+phone_status phone_narrow_columns(phone_handle *handle, const phone_narrow_texts *texts,
+                                  const phone_narrow_texts *hints, const uint32_t *columns,
+                                  size_t columns_len, phone_place *places, size_t places_len,
+                                  uint8_t *out, size_t out_len, size_t *wrote);
 
 /* Writes what is shown of a number while it is typed, by libphonenumber's layouts, to the front of
  * `out`, and its length to `wrote`: of the keys of all that was typed so far. `keys` is a text in

@@ -23,10 +23,13 @@ is `str` or UTF-8 in `bytes`; a lone surrogate, or bytes that aren't UTF-8, are 
 PHONE_LIBRARY names the shared library, else `libphone.so` beside these files is taken, and else the
 one that `make` leaves in bindings/c/out. The table of the world is a file beside these, or else the
 one in the library; PHONE_TABLE names another file.
+`Database.columns` reads a column of texts at once, with any number of threads; the module
+`phonenumber_proved.pandas` has it as the accessor `phone` of pandas' `Series`.
 The module `phonenumber_proved.phonenumbers` has the names of the package `phonenumbers`.
 """
 
 from ._calls import is_viable
+from .columns import Column, Told
 from .database import Database, Found, Leniency, Sameness
 from .errors import (
     BadDatabase, BadPrefixes, Closed, Error, NoNumber, UnknownCode, UnknownRegion,
@@ -45,6 +48,7 @@ __all__ = [
     "BadPrefixes",
     "CARRIERS_TABLE",
     "Closed",
+    "Column",
     "Cost",
     "Database",
     "Error",
@@ -65,6 +69,7 @@ __all__ = [
     "TABLE",
     "TABLE_VERSION",
     "TIME_ZONES_TABLE",
+    "Told",
     "Typing",
     "UnknownCode",
     "UnknownRegion",

@@ -103,6 +103,26 @@ class Place(ctypes.Structure):
     _fields_ = [("start", ctypes.c_size_t), ("end", ctypes.c_size_t)]
 
 
+class Texts(ctypes.Structure):
+    """A column of texts as Arrow lays it out; or one hint for all texts, without an offset."""
+
+    _fields_ = [
+        ("offsets", ctypes.POINTER(ctypes.c_uint64)),
+        ("offsets_len", ctypes.c_size_t),
+        ("bytes", ctypes.c_void_p),
+        ("bytes_len", ctypes.c_size_t),
+        ("bits", ctypes.c_void_p),
+        ("bits_len", ctypes.c_size_t),
+        ("first", ctypes.c_size_t),
+    ]
+
+
+class NarrowTexts(ctypes.Structure):
+    """The same with offsets of 32 bits."""
+
+    _fields_ = [("offsets", ctypes.POINTER(ctypes.c_uint32)), *Texts._fields_[1:]]
+
+
 def _declare(lib: Library) -> None:
     """Gives each call its types: that of its answer, and those of its arguments."""
     text, address, size, pointer = ctypes.c_char_p, ctypes.c_void_p, ctypes.c_size_t, ctypes.POINTER
@@ -110,6 +130,7 @@ def _declare(lib: Library) -> None:
     handle, prefixes, number = pointer(Handle), pointer(PrefixesHandle), pointer(Number)
     short_facts, place = pointer(Facts), pointer(Place)
     region_facts, number_facts = pointer(RegionFacts), pointer(NumberFacts)
+    texts, narrow_texts = pointer(Texts), pointer(NarrowTexts)
     # Made by `bindings/declarations.py --write` of `phone.h`: edit that.
     calls: dict[str, list[Any]] = {
         "open": [u32, text, size, u32, handle],
@@ -132,6 +153,13 @@ def _declare(lib: Library) -> None:
         "regions": [u32, handle, text, size, pointer(size)],
         "codes": [u32, handle, pointer(u16), size, pointer(size)],
         "find": [u32, handle, text, size, u32, text, size, place, size, pointer(size)],
+        "columns": [
+            u32, handle, texts, texts, pointer(u32), size, place, size, text, size, pointer(size),
+        ],
+        "narrow_columns": [
+            u32, handle, narrow_texts, narrow_texts, pointer(u32), size, place, size, text, size,
+            pointer(size),
+        ],
         "typing_shown": [u32, handle, text, size, text, size, text, size, pointer(size)],
         "typing_caret": [u32, handle, text, size, text, size, size, pointer(size)],
         "short": [u32, handle, text, size, text, size, short_facts],

@@ -4,12 +4,13 @@ from __future__ import annotations
 
 import ctypes
 import enum
-from typing import Any, Callable, List, NamedTuple, Optional
+from typing import Any, Callable, List, NamedTuple, Optional, Sequence, Union
 
 from ._calls import (
     MEMORY, NO_EXAMPLE, OK, Number, Place, Text, bytes_of, hint_of, items, lib, long_lib, refuse,
     words_of, written,
 )
+from .columns import COLUMNS, Column, Progress, columns_named, read_columns, shaped
 from .errors import BadDatabase
 from .field import Typing
 from .held import Held, PathText
@@ -231,6 +232,34 @@ class Database(Records):
                 start, end = it.start, it.end
             found.append(Found(start, end, self.parse(piece, hint, by)))
         return found
+
+    def columns(
+        self, texts: Any, hints: Any = None, columns: Sequence[Union[Column, str]] = COLUMNS,
+        threads: Optional[int] = None, rules: Rules = Rules.LIBRARY,
+        progress: Optional[Progress] = None,
+    ) -> Any:
+        """What these columns tell of a column of texts, each row by itself as `parse` reads it.
+
+        Texts are a list, an array of NumPy, a `Series` of pandas, or what speaks Arrow's protocol
+        of capsules, whose texts aren't copied where they are strings or large strings. Hints are
+        one for all, or such a column of as many. Where a text is none, all is none; what is no
+        number is told by the column `refusal`. What is told comes as the texts do: as a dictionary
+        of lists or of arrays, a data frame over the same index, or a `Told`, which speaks Arrow's
+        protocol.
+
+        Threads are as many as there are processors where none are named; each has its pieces of the
+        texts. After each piece `progress` is called, with how many rows are done and how many there
+        are. `UnknownRegion` where the one hint of all is none; a row's own hint refuses the row.
+
+        >>> from phonenumber_proved import Database
+        >>> with Database.load() as world:
+        ...     world.columns(["03-331 6005", "call me", None], "NZ", ["e164", "refusal"])
+        {'e164': ['+6433316005', None, None], 'refusal': [None, 'not a number', None]}
+        """
+        asked, by = columns_named(columns), Rules(rules)
+        if isinstance(hints, (str, bytes)):
+            self.typed("", hints)  # the hint alone is looked at
+        return shaped(read_columns(self, texts, hints, asked, threads, by, progress), texts)
 
     def example(
         self, region: str, kind: Kind, rules: Rules = Rules.LIBRARY

@@ -19,6 +19,7 @@ ghost use Rattle.phone_c_base.specs.Words.{status_words, word_of};
 mod about;
 mod alike;
 mod calls;
+mod columns;
 mod find;
 mod listed;
 mod prefixes;

@@ -76,6 +76,32 @@ pub struct Place {
     pub end: usize,
 }
 
+/// A column of texts as Arrow lays it out, or one hint for all texts where there is no offset.
+#[repr(C)]
+#[derive(Clone, Copy)]
+pub struct Texts {
+    pub offsets: *const u64,
+    pub offsets_len: usize,
+    pub bytes: *const u8,
+    pub bytes_len: usize,
+    pub bits: *const u8,
+    pub bits_len: usize,
+    pub first: usize,
+}
+
+/// The same with offsets of 32 bits.
+#[repr(C)]
+#[derive(Clone, Copy)]
+pub struct NarrowTexts {
+    pub offsets: *const u32,
+    pub offsets_len: usize,
+    pub bytes: *const u8,
+    pub bytes_len: usize,
+    pub bits: *const u8,
+    pub bits_len: usize,
+    pub first: usize,
+}
+
 pub const OK: u32 = 0;
 pub const MEMORY: u32 = 7;
 pub const TOO_SMALL: u32 = 17;
@@ -183,6 +209,30 @@ unsafe extern "C" {
         text: *const u8,
         text_len: usize,
         out: *mut Place,
+        out_len: usize,
+        wrote: *mut usize,
+    ) -> u32;
+    pub fn phone_columns(
+        handle: *mut Handle,
+        texts: *const Texts,
+        hints: *const Texts,
+        columns: *const u32,
+        columns_len: usize,
+        places: *mut Place,
+        places_len: usize,
+        out: *mut u8,
+        out_len: usize,
+        wrote: *mut usize,
+    ) -> u32;
+    pub fn phone_narrow_columns(
+        handle: *mut Handle,
+        texts: *const NarrowTexts,
+        hints: *const NarrowTexts,
+        columns: *const u32,
+        columns_len: usize,
+        places: *mut Place,
+        places_len: usize,
+        out: *mut u8,
         out_len: usize,
         wrote: *mut usize,
     ) -> u32;
