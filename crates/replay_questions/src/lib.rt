@@ -4,10 +4,13 @@
 //! empty text, else `yes` or `no`, words, a count, a number's parts.
 #![tactic(auto)]
 
+mod dialling;
 mod examples;
 mod given;
+mod layouts;
 mod numbers;
 mod regions;
+pub mod short;
 mod texts;
 
 use anyhow::Result;
@@ -27,6 +30,9 @@ pub fn answer(alloc: Global, row: &Row, db: &Database) -> Result<Option<String>>
         return Ok(Some(found));
     }
     if let Some(found) = texts::answer(alloc, row)? {
+        return Ok(Some(found));
+    }
+    if let Some(found) = dialling::answer(alloc, row, db)? {
         return Ok(Some(found));
     }
     numbers::answer(alloc, row, db)

@@ -1,0 +1,53 @@
+//! Questions on how numbers are written so that they can be dialled.
+use crate::given::{number, region, shown};
+use crate::layouts::layouts;
+use anyhow::Result;
+use phone_dialling::{dialled_text, mobile_text, original_text, text_by_layouts, text_in};
+use phone_meta::Database;
+use phonenumber::PhoneNumber;
+use replay_base::table::Row;
+use replay_base::words::mode;
+use std::alloc::Global;
+
+/// The answer to a line; none for any other question.
+pub fn answer(alloc: Global, row: &Row, db: &Database) -> Result<Option<String>> {
+    if !is_asked(row.argument(1)) {
+        return Ok(None);
+    }
+    let n = number(alloc, row, db, 2)?;
+    let (raw, word) = (raw(row), row.argument(4));
+    let text = match row.argument(1) {
+        "print" => text_in(db, mode(word)?, raw, &n)?,
+        "mobile" => mobile_text(db, word, row.argument(5) == "yes", raw, &n)?,
+        "dialled" => dialled_text(db, region(word), raw, &n)?,
+        "by-layouts" => by_layouts(alloc, row, db, &n)?,
+        _ => original_text(db, region(word), raw, &n)?,
+    };
+    Ok(Some(shown(alloc, Some(text.as_str()))?))
+}
+
+/// Whether this question is one of these.
+fn is_asked(question: &str) -> bool {
+    matches!(
+        question,
+        "print" | "mobile" | "dialled" | "by-layouts" | "original"
+    )
+}
+
+/// The text that a line's number was read from; none where the line gives its parts.
+fn raw(row: &Row) -> Option<&str> {
+    match row.argument(2) {
+        "=" => None,
+        _ => Some(row.argument(3)),
+    }
+}
+
+/// The text of a number by the layouts of a line.
+fn by_layouts(alloc: Global, row: &Row, db: &Database, n: &PhoneNumber) -> Result<String> {
+    let own = layouts(alloc, row, 5)?;
+    let formats = match own.by_id("001") {
+        Some(territory) => territory.formats(),
+        None => &[],
+    };
+    Ok(text_by_layouts(db, mode(row.argument(4))?, formats, n)?)
+}
