@@ -1,5 +1,5 @@
 -- What the `x` of a text announce, one step at a time.
-use Rattle.std.proofs.Common.{◌≡◌, ℕ, Bool, true, false, cond, if◌then◌else◌, List, [], ◌∷◌, chars, refl, ap, sym, subst, ◌∙◌}
+use Rattle.std.proofs.Common.{◌≡◌, ℕ, Bool, true, false, if◌then◌else◌, List, [], ◌∷◌, chars, refl, sym, subst}
 use Rattle.std.specs.List.{AllByRecursion}
 use Rattle.phone_matches.specs.Marks.{HasGoodMarks, IsGood, announced, is_x}
 use Rattle.phone_records.specs.declared.loader.Metadata.{Metadata}

@@ -1,5 +1,5 @@
 -- A text is the same number or isn't, since it has one reading.
-use Rattle.std.proofs.Common.{◌≡◌, ◌⊎◌, ◌↔◌, ℕ, Bool, true, false, IsTrue, List, Option, None, Some, Result, Ok, Err, IfOk, ap, sym, subst, ◌∙◌, true≢false}
+use Rattle.std.proofs.Common.{◌≡◌, ◌⊎◌, ◌↔◌, ℕ, Bool, false, IsTrue, List, Option, None, Some, Result, Ok, Err, IfOk, ap, sym, subst, ◌∙◌, true≢false}
 use Rattle.phone_library.specs.Readings.{ReadsByLibrary}
 use Rattle.phone_matches.specs.Marks.{IsSameNumber, main_region}
 use Rattle.phone_matches.proofs.Told.{OneReading, not_read, read_error, same_number}

@@ -1,5 +1,5 @@
 -- What a text is read as decides whether it is a number that suffices, since it has one reading.
-use Rattle.std.proofs.Common.{◌≡◌, ◌⊎◌, inl, inr, ◌&&◌, ℕ, Bool, true, false, List, [], Option, None, Some, Result, Ok, Err, IfOk, IfSome, MatchOption, chars, refl, ap, sym, subst, ◌∙◌, true≢false}
+use Rattle.std.proofs.Common.{◌≡◌, ◌⊎◌, inl, inr, ℕ, Bool, true, false, List, [], Option, None, Some, Result, Ok, Err, IfOk, IfSome, MatchOption, chars, refl, ap, sym, subst, ◌∙◌, true≢false}
 use Rattle.std.proofs.lemmas.Str.{chars-nil}
 use Rattle.phone_library.specs.Readings.{ReadsByLibrary}
 use Rattle.phone_matches.specs.Leniencies.{Suffices}

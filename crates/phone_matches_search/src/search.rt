@@ -1,5 +1,6 @@
 //! The search for the places of a text that match.
-ghost use Rattle.std.specs.Prelude.{◌≡◌, ◌++◌, ◌<◌, ℕ, List, [], IfOk, IfSome, MatchOption, OnOk, chars};
+ghost use Rattle.std.specs.Prelude.{◌≡◌, ◌++◌, ◌<◌, ℕ, List, [], IfOk, IfSome, MatchOption};
+ghost use Rattle.std.specs.Prelude.{OnOk, chars};
 ghost use Rattle.std.specs.Prelude.{length, map};
 ghost use Rattle.std.specs.Option.{option_to_list};
 ghost use Rattle.phone_chars.specs.Cuts.{IsEnd};

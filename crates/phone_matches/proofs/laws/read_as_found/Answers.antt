@@ -1,4 +1,4 @@
-use Rattle.std.proofs.Common.{ℕ, List, Ok}
+use Rattle.std.proofs.Common.{Ok}
 use Rattle.phone_library.specs.Readings.{ReadsByLibrary}
 use Rattle.phone_matches.proofs.Accepted.{all_accepted, all_weaker}
 use Rattle.phone_matches.specs.Numbers.{IsNumber}

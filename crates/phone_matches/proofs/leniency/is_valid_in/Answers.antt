@@ -1,4 +1,4 @@
-use Rattle.std.proofs.Common.{◌≡◌, chars, sym, ◌∙◌, true≢false}
+use Rattle.std.proofs.Common.{chars, sym, ◌∙◌, true≢false}
 use Rattle.phone_matches.proofs.Sufficing.{bad_marks, if_valid}
 use Rattle.phone_matches.proofs.leniency.is_valid_in.Goals as goal
 

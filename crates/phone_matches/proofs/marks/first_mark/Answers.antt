@@ -1,4 +1,4 @@
-use Rattle.std.proofs.Common.{◌≡◌, chars, ap, ◌∙◌}
+use Rattle.std.proofs.Common.{chars, ap, ◌∙◌}
 use Rattle.std.proofs.lemmas.Str.{chars-nil}
 use Rattle.phone_matches.specs.Marks.{announced}
 use Rattle.phone_matches.proofs.marks.first_mark.Goals as goal

@@ -1,4 +1,4 @@
-use Rattle.std.proofs.Common.{◌≡◌, rules, chars, refl, sym, ◌∙◌, true≢false}
+use Rattle.std.proofs.Common.{rules, chars, refl, sym, ◌∙◌, true≢false}
 use Rattle.phone_matches.proofs.Announced.{good_both, good_first, good_none}
 use Rattle.phone_matches.proofs.Same.{not_true}
 use Rattle.phone_matches.specs.Marks.{HasGoodMarks}

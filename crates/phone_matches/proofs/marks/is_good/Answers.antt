@@ -1,4 +1,4 @@
-use Rattle.std.proofs.Common.{◌≡◌, ◌↔◌, Bool, IsTrue, IfOk, chars, sym, subst}
+use Rattle.std.proofs.Common.{◌↔◌, Bool, IsTrue, IfOk, chars, sym, subst}
 use Rattle.phone_matches.specs.Marks.{IsGood}
 use Rattle.phone_matches.proofs.marks.is_good.Goals as goal
 

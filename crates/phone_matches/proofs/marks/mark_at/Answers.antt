@@ -1,4 +1,4 @@
-use Rattle.std.proofs.Common.{◌≡◌, chars, ap, sym, ◌∙◌}
+use Rattle.std.proofs.Common.{chars, ap, sym, ◌∙◌}
 use Rattle.std.proofs.lemmas.Str.{chars-nil}
 use Rattle.phone_matches.proofs.Announced.{announced_last, announced_mark, announced_other}
 use Rattle.phone_matches.proofs.marks.mark_at.Goals as goal
