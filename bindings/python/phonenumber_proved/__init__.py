@@ -34,6 +34,10 @@ from .errors import (
 from .field import Typing
 from .number import Kind, Mode, PhoneNumber, Possibility, Rules, Source
 from .prefixes import Prefixes
+from .questions import (
+    Form, NumberFacts, NumberMatch, RegionFacts, has_letters, is_geographical, mobile_token,
+    normalize,
+)
 from .short import Cost, ShortFacts, ShortNumbers
 from .tables import CARRIERS_TABLE, SHORT_TABLE, TABLE, TABLE_VERSION, TIME_ZONES_TABLE
 
@@ -47,14 +51,18 @@ __all__ = [
     "Cost",
     "Database",
     "Error",
+    "Form",
     "Found",
     "Kind",
     "Leniency",
     "Mode",
     "NoNumber",
+    "NumberFacts",
+    "NumberMatch",
     "PhoneNumber",
     "Possibility",
     "Prefixes",
+    "RegionFacts",
     "Rules",
     "SHORT_TABLE",
     "Sameness",
@@ -68,7 +76,11 @@ __all__ = [
     "UnknownCode",
     "UnknownRegion",
     "__version__",
+    "has_letters",
+    "is_geographical",
     "is_viable",
+    "mobile_token",
+    "normalize",
 ]
 
 # The place of a public name is this package, whatever file it stands in.
