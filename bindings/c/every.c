@@ -115,6 +115,37 @@ static void of_columns(phone_handle *world) {
     VALUE("phone_narrow_columns", phone_narrow_columns(world, &same, &its, columns, 2, places, 3, out, sizeof out, &wrote), wrote);
 }
 
+/* libphonenumber's further questions. */
+static void of_questions(phone_handle *world) {
+    uint8_t texts[64], flag = 9;
+    size_t len = 0, count = 0;
+    uint32_t told = 99, kinds[16] = {0};
+    phone_region_facts region = {0, 9, 9};
+    phone_number_facts facts = {99, 99, 9, 9};
+    phone_number left, number = number_of(world, "phone_parse", "03-331 60059", texts, &len);
+    VALUE("phone_about_region", phone_about_region(world, TEXT("GB"), &region), region.code);
+    printf("%u%u\n", region.is_nanpa, region.is_portable);
+    text("phone_national_prefix", phone_national_prefix(world, TEXT("NZ"), 0, out, sizeof out, &wrote));
+    VALUE("phone_region_kinds", phone_region_kinds(world, TEXT("AC"), kinds, 16, &count), count);
+    for (size_t i = 0; i < count; i++) printf("%lu\n", (unsigned long)kinds[i]);
+    text("phone_main_region", phone_main_region(world, 44, out, sizeof out, &wrote));
+    VALUE("phone_code_kinds", phone_code_kinds(world, 800, kinds, 16, &count), kinds[0]);
+    text("phone_mobile_token", phone_mobile_token(54, out, sizeof out, &wrote));
+    left = number;
+    VALUE("phone_truncate", phone_truncate(world, &left, &flag), flag);
+    VALUE("phone_about_number", phone_about_number(world, &left, &facts), facts.area_length);
+    printf("%u%u%u\n", (unsigned)facts.destination_length, facts.is_geographical, facts.is_dialled_from_abroad);
+    VALUE("phone_is_valid_for", phone_is_valid_for(world, TEXT("NZ"), &left, &flag), flag);
+    VALUE("phone_possibility_as", phone_possibility_as(world, PHONE_KIND_FIXED_LINE, &number, &told), told);
+    VALUE("phone_is_geographical", phone_is_geographical(PHONE_KIND_MOBILE, 54, &flag), flag);
+    VALUE("phone_match_numbers", phone_match_numbers(&number, texts, len, &left, texts, len, &told), told);
+    VALUE("phone_match_text", phone_match_text(world, &left, texts, len, TEXT("03 331 6005"), &told), told);
+    VALUE("phone_match_texts", phone_match_texts(world, TEXT("+64 3 331 6005"), TEXT("331 6005"), &told), told);
+    text("phone_national_with", phone_national_with(world, &left, texts, len, TEXT("15"), 0, out, sizeof out, &wrote));
+    text("phone_normalize", phone_normalize(PHONE_FORM_KEYS, TEXT("1-800-FLOWERS"), out, sizeof out, &wrote));
+    VALUE("phone_has_letters", phone_has_letters(TEXT("1-800-FLOWERS"), &flag), flag);
+}
+
 /* The calls of tables of their own. */
 static void of_tables(void) {
     phone_handle numbers = PHONE_CLOSED;
@@ -152,6 +183,7 @@ int main(void) {
     VALUE("phone_share, closed", phone_share(&world, &second), 0);
     of_more(&mine);
     of_columns(&mine);
+    of_questions(&mine);
     phone_close(&mine);
     of_tables();
     return 0;

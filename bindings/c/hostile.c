@@ -86,12 +86,15 @@ static phone_status narrow_columns(phone_handle *h, size_t room) {
 /* The calls, by a number, each on the same text; those up to ROOMS write to a buffer. Some are asked by the rules of
  * libphonenumber, behind a second handle on the table. */
 static phone_handle second = PHONE_CLOSED;
-enum { ROOMS = 18, CALLS = 26 };
+enum { ROOMS = 25, CALLS = 43 };
 static phone_status call(int which, phone_handle *h, const phone_number *n, const uint8_t *bytes, size_t len, size_t room) {
     const char *text = "+64 3 331 6005 ext. 12";
     phone_status status, kind = 99;
     uint8_t flag = 99;
     size_t place = 99;
+    phone_number longer = *n;
+    phone_region_facts region = {99, 99, 99};
+    phone_number_facts facts = {99, 99, 99, 99};
     fill();
     switch (which) {
     case 0: return report(h, "NZ", text, strlen(text), room);
@@ -115,17 +118,47 @@ static phone_status call(int which, phone_handle *h, const phone_number *n, cons
         return wrote *= sizeof(phone_place), status;
     case 16: return columns(h, room);
     case 17: return narrow_columns(&second, room);
-    case 18: return status = phone_kind(h, n, &kind), kind == (status ? 99 : PHONE_KIND_FIXED_LINE) ? status : 98;
-    case 19: return status = phone_kind(&second, n, &kind), kind == (status ? 99 : PHONE_KIND_FIXED_LINE) ? status : 98;
-    case 20: return status = phone_is_valid(&second, n, &flag), flag == (status ? 99 : 1) ? status : 98;
-    case 21: return status = caret(h, "+6433316005", 4, &place), place == (status ? 99 : 5) ? status : 98;
-    case 22: return status = phone_possibility(&second, n, &kind), kind == (status ? 99 : PHONE_LENGTH_POSSIBLE) ? status : 98;
-    case 23:
+    case 18: return phone_national_prefix(h, B("NZ"), 1, out, room, &wrote);
+    case 19: return status = phone_region_kinds(h, B("NZ"), (uint32_t *)out, room / 4, &wrote), wrote *= 4, status;
+    case 20: return phone_main_region(h, 64, out, room, &wrote);
+    case 21: return status = phone_code_kinds(h, 870, (uint32_t *)out, room / 4, &wrote), wrote *= 4, status;
+    case 22: return phone_mobile_token(54, out, room, &wrote);
+    case 23: return phone_national_with(h, n, bytes, len, B("15"), 0, out, room, &wrote);
+    case 24: return phone_normalize(PHONE_FORM_KEYS, B("1-800-FLOWERS"), out, room, &wrote);
+    case 25: return status = phone_kind(h, n, &kind), kind == (status ? 99 : PHONE_KIND_FIXED_LINE) ? status : 98;
+    case 26: return status = phone_kind(&second, n, &kind), kind == (status ? 99 : PHONE_KIND_FIXED_LINE) ? status : 98;
+    case 27: return status = phone_is_valid(&second, n, &flag), flag == (status ? 99 : 1) ? status : 98;
+    case 28: return status = caret(h, "+6433316005", 4, &place), place == (status ? 99 : 5) ? status : 98;
+    case 29: return status = phone_possibility(&second, n, &kind), kind == (status ? 99 : PHONE_LENGTH_POSSIBLE) ? status : 98;
+    case 30:
         status = phone_text_possibility(h, B("NZ"), B("03-33"), &kind);
         return kind == (status ? 99 : PHONE_LENGTH_TOO_SHORT) ? status : 98;
-    case 24:
+    case 31:
         status = phone_compare(&second, B("331 6005"), (const uint8_t *)text, strlen(text), &kind);
         return kind == (status ? 99 : PHONE_MATCH_END) ? status : 98;
+    case 32:
+        status = phone_about_number(h, n, &facts);
+        return facts.destination_length == (status ? 99 : 1) ? status : 98;
+    case 33: return status = phone_is_valid_for(h, B("NZ"), n, &flag), flag == (status ? 99 : 1) ? status : 98;
+    case 34:
+        status = phone_possibility_as(h, PHONE_KIND_MOBILE, n, &kind);
+        return kind == (status ? 99 : PHONE_LENGTH_POSSIBLE) ? status : 98;
+    case 35:
+        longer.value = longer.value * 10 + 9;
+        status = phone_truncate(h, &longer, &flag);
+        return longer.value == (status ? n->value * 10 + 9 : n->value) && flag == (status ? 99 : 1) ? status : 98;
+    case 36:
+        status = phone_match_numbers(n, bytes, len, n, bytes, len, &kind);
+        return kind == (status ? 99 : PHONE_EXACT_MATCH) ? status : 98;
+    case 37:
+        status = phone_match_text(h, n, bytes, len, B("03-331 6005"), &kind);
+        return kind == (status ? 99 : PHONE_SHORT_NSN_MATCH) ? status : 98;
+    case 38:
+        status = phone_match_texts(&second, B("331 6005"), (const uint8_t *)text, strlen(text), &kind);
+        return kind == (status ? 99 : PHONE_SHORT_NSN_MATCH) ? status : 98;
+    case 39: return status = phone_about_region(h, B("NZ"), &region), region.code == (status ? 99 : 64) ? status : 98;
+    case 40: return status = phone_is_geographical(PHONE_KIND_MOBILE, 54, &flag), flag == (status ? 99 : 1) ? status : 98;
+    case 41: return status = phone_has_letters(B("1-800-FLOWERS"), &flag), flag == (status ? 99 : 1) ? status : 98;
     default: return status = phone_is_valid(h, n, &flag), flag == (status ? 99 : 1) ? status : 98;
     }
 }
@@ -384,6 +417,74 @@ static int listed(void) {
     CHECK(1041, blocks == 0);
     return 0;
 }
+/* How libphonenumber's further questions refuse, in their order, and leave what they were to write. */
+static int questions(void) {
+    phone_handle h = PHONE_CLOSED;
+    phone_number n = {2345678, {0, 0, 0}, {0, 0, 0}, 64, PHONE_SOURCE_PLUS, 0}, bad = n, apart = n;
+    phone_region_facts region = {9, 9, 9};
+    phone_number_facts facts = {9, 9, 9, 9};
+    uint32_t told = 9, kinds[4] = {9, 9, 9, 9};
+    uint8_t flag = 9;
+    size_t count = 9;
+    bad.source = 4, apart.extension.is_there = 1, apart.extension.start = 9;
+    CHECK(1060, phone_about_region(&h, B("xx"), &region) == PHONE_IS_CLOSED && region.code == 9);
+    CHECK(1061, phone_about_number(&h, &bad, &facts) == PHONE_IS_CLOSED && phone_truncate(&h, &bad, &flag) == PHONE_IS_CLOSED);
+    CHECK(1062, phone_is_valid_for(&h, B("\xff"), &bad, &flag) == PHONE_IS_CLOSED && flag == 9);
+    CHECK(1063, phone_possibility_as(&h, 17, &bad, &told) == PHONE_IS_CLOSED && told == 9);
+    CHECK(1064, phone_match_text(&h, &apart, B(""), B("\xff"), &told) == PHONE_IS_CLOSED);
+    CHECK(1065, phone_match_texts(&h, B("\xff"), B("1"), &told) == PHONE_IS_CLOSED && told == 9);
+    CHECK(1066, phone_national_prefix(&h, B("xx"), 0, out, 9, &wrote) == PHONE_IS_CLOSED && wrote == 0);
+    CHECK(1067, phone_region_kinds(&h, B("xx"), kinds, 4, &count) == PHONE_IS_CLOSED && count == 0);
+    CHECK(1068, phone_code_kinds(&h, 64, kinds, 4, &count) == PHONE_IS_CLOSED && kinds[0] == 9);
+    CHECK(1069, phone_main_region(&h, 64, out, 9, &wrote) == PHONE_IS_CLOSED && wrote == 0);
+    CHECK(1070, phone_national_with(&h, &apart, B(""), B("\xff"), 0, out, 9, &wrote) == PHONE_IS_CLOSED && wrote == 0);
+    CHECK(1071, phone_open(B(REGION), PHONE_CRATE, &h) == PHONE_OK);
+    CHECK(1072, phone_about_region(&h, B("xx"), &region) == PHONE_NO_REGION && phone_about_region(&h, B("DE"), &region) == PHONE_NO_TERRITORY);
+    CHECK(1073, region.code == 9 && phone_about_region(&h, B("NZ"), &region) == PHONE_OK && region.code == 64 && !region.is_nanpa
+        && !region.is_portable);
+    CHECK(1074, phone_national_prefix(&h, B(""), 0, out, 9, &wrote) == PHONE_NO_REGION);
+    CHECK(1075, phone_national_prefix(&h, B("NZ"), 1, out, 0, &wrote) == PHONE_OK && wrote == 0);
+    CHECK(1076, phone_region_kinds(&h, B(""), kinds, 4, &count) == PHONE_NO_REGION && count == 0);
+    CHECK(1077, phone_region_kinds(&h, B("NZ"), kinds, 0, &count) == PHONE_TOO_SMALL && count == 1 && kinds[0] == 9);
+    CHECK(1078, phone_region_kinds(&h, B("NZ"), kinds, 1, &count) == PHONE_OK && count == 1 && kinds[0] == PHONE_KIND_MOBILE && kinds[1] == 9);
+    CHECK(1079, phone_code_kinds(&h, 64, kinds, 0, &count) == PHONE_OK && count == 0);
+    CHECK(1080, phone_main_region(&h, 65, out, 9, &wrote) == PHONE_UNKNOWN_CODE && wrote == 0);
+    CHECK(1081, phone_main_region(&h, 64, out, 1, &wrote) == PHONE_TOO_SMALL && wrote == 2);
+    CHECK(1082, phone_main_region(&h, 64, out, 2, &wrote) == PHONE_OK && !memcmp(out, "NZ", 2));
+    CHECK(1083, phone_about_number(&h, &bad, &facts) == PHONE_BAD_NUMBER && facts.area_length == 9);
+    CHECK(1084, phone_is_valid_for(&h, B("\xff"), &bad, &flag) == PHONE_NOT_UTF8 && phone_is_valid_for(&h, B("NZ"), &bad, &flag) == PHONE_BAD_NUMBER);
+    CHECK(1085, flag == 9 && phone_is_valid_for(&h, B("001"), &n, &flag) == PHONE_OK && flag == 0);
+    CHECK(1086, phone_is_valid_for(&h, B("NZ"), &n, &flag) == PHONE_OK && flag == 1);
+    CHECK(1087, phone_possibility_as(&h, 17, &bad, &told) == PHONE_NO_KIND && phone_possibility_as(&h, 1, &bad, &told) == PHONE_BAD_NUMBER);
+    CHECK(1088, told == 9 && phone_possibility_as(&h, PHONE_KIND_MOBILE, &n, &told) == PHONE_OK && told == PHONE_LENGTH_POSSIBLE);
+    CHECK(1089, phone_possibility_as(&h, PHONE_KIND_PAGER, &n, &told) == PHONE_OK && told == PHONE_LENGTH_WRONG_LENGTH);
+    CHECK(1090, (flag = 9, phone_is_geographical(17, 64, &flag)) == PHONE_NO_KIND && flag == 9);
+    CHECK(1091, phone_truncate(&h, &bad, &flag) == PHONE_BAD_NUMBER && flag == 9 && bad.source == 4);
+    CHECK(1092, (apart.value = 23456789, phone_truncate(&h, &apart, &flag)) == PHONE_OK && flag == 1 && apart.value == 2345678
+        && apart.extension.start == 9 && apart.extension.is_there == 1);
+    CHECK(1093, (apart.value = 12, phone_truncate(&h, &apart, &flag)) == PHONE_OK && flag == 0 && apart.value == 12);
+    CHECK(1094, phone_match_numbers(&n, B(""), &apart, B("12345678"), &told) == PHONE_BAD_NUMBER);
+    CHECK(1095, phone_match_numbers(&bad, B(""), &n, B(""), &told) == PHONE_BAD_NUMBER && told == PHONE_LENGTH_WRONG_LENGTH);
+    CHECK(1096, phone_match_text(&h, &apart, B(""), B("\xff"), &told) == PHONE_NOT_UTF8 && phone_match_text(&h, &apart, B(""), B("1"), &told) == PHONE_BAD_NUMBER);
+    CHECK(1097, phone_match_text(&h, &n, B(""), B("call me"), &told) == PHONE_OK && told == PHONE_NOT_A_NUMBER);
+    CHECK(1098, phone_match_texts(&h, B("1"), B("\xff"), &told) == PHONE_NOT_UTF8);
+    CHECK(1099, phone_match_texts(&h, B("+64 2345678"), B("234-5678"), &told) == PHONE_OK && told == PHONE_NSN_MATCH);
+    CHECK(1100, phone_national_with(&h, &apart, B(""), B("\xff"), 0, out, 9, &wrote) == PHONE_NOT_UTF8 && wrote == 0);
+    CHECK(1101, phone_national_with(&h, &apart, B(""), B("9"), 0, out, 9, &wrote) == PHONE_BAD_NUMBER && wrote == 0);
+    CHECK(1102, (apart.code = 65, apart.extension.is_there = 0, phone_national_with(&h, &apart, B(""), B(""), 1, out, 9, &wrote)) == PHONE_OK
+        && wrote == 2 && !memcmp(out, "12", 2));
+    CHECK(1103, phone_normalize(3, B("\xff"), out, 9, &wrote) == PHONE_NO_MODE && phone_normalize(2, B("\xff"), out, 9, &wrote) == PHONE_NOT_UTF8);
+    CHECK(1104, wrote == 0 && phone_normalize(PHONE_FORM_DIGITS, B("+1a"), out, 9, &wrote) == PHONE_OK && wrote == 1 && out[0] == '1');
+    CHECK(1105, (flag = 9, phone_has_letters(B("\xff"), &flag)) == PHONE_NOT_UTF8 && flag == 9);
+    requests = 0, refuse_at = 0;
+    CHECK(1106, phone_about_region(&h, B("NZ"), &region) == PHONE_OK && phone_main_region(&h, 64, out, 2, &wrote) == PHONE_OK);
+    CHECK(1107, phone_mobile_token(54, out, 1, &wrote) == PHONE_OK && out[0] == '9' && phone_has_letters(B("call me"), &flag) == PHONE_OK);
+    CHECK(1108, phone_is_geographical(PHONE_KIND_FIXED_LINE, 64, &flag) == PHONE_OK && flag == 1 && requests == 0);
+    refuse_at = -1;
+    phone_close(&h);
+    CHECK(1109, blocks == 0);
+    return 0;
+}
 static phone_status word(uint32_t set, uint32_t value, size_t room) {
     return set == 6 ? phone_status_words(value, out, room, &wrote) : phone_word(set, value, out, room, &wrote);
 }
@@ -507,7 +608,8 @@ int main(int argc, char **argv) {
     long rounds = argc > 2 ? atol(argv[2]) : 100, most = 0;
     int wrong;
     if ((wrong = small()) || (wrong = by_rules()) || (wrong = typing()) || (wrong = shorts()) || (wrong = prefixes())
-        || (wrong = possible()) || (wrong = listed()) || (wrong = words()) || (wrong = layouts()) || (wrong = world_in_library())
+        || (wrong = possible()) || (wrong = listed()) || (wrong = questions()) || (wrong = words()) || (wrong = layouts())
+        || (wrong = world_in_library())
         || (wrong = shared())) return wrong;
     CHECK(100, phone_version() == PHONE_VERSION);
     fill();

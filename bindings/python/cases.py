@@ -16,8 +16,8 @@ from pathlib import Path
 
 import phonenumber_proved
 from phonenumber_proved import (
-    TABLE, BadPrefixes, Database, Error, Kind, Mode, NoNumber, PhoneNumber, Prefixes, Rules, ShortNumbers, Source, UnknownCode,
-    UnknownRegion, _calls, is_viable,
+    TABLE, BadPrefixes, Database, Error, Form, Kind, Mode, NoNumber, PhoneNumber, Prefixes, Rules, ShortNumbers, Source, UnknownCode,
+    UnknownRegion, _calls, has_letters, is_viable, normalize,
 )
 
 REPLAY = Path(__file__).resolve().parents[2] / "crates" / "replay" / "data"
@@ -82,6 +82,25 @@ def numbers_are_told(world):
     check("fields", (number.code, number.national, number.extension, number.carrier), (64, "33316005", "12", None))
     with Database("[]") as none:
         check("another database", refused(number.on(none).format), ("UnknownCode", "unknown calling code"))
+
+
+def questions_are_refused(world):
+    """What libphonenumber's further questions refuse; docstrings and questions.py have their answers."""
+    for region, words in ("XX", "no region's id: 'XX'"), (None, "no region's id: ''"):
+        for ask in world.about_region, world.national_prefix, world.region_kinds:
+            check(region, refused(ask, region), ("UnknownRegion", words))
+    with Database("[]") as none:
+        check("no territory", refused(none.about_region, "NZ")[0], "UnknownRegion")
+        check("no territory", (none.national_prefix("NZ"), none.region_kinds("NZ"), none.main_region(64)), (None, [], None))
+    check("codes", [world.main_region(it) for it in (-1, 0, 1 << 16, 64)], [None, None, None, "NZ"])
+    number = world.parse("+64 3 331 6005")
+    alone = pickle.loads(pickle.dumps(number))
+    asked = (lambda: alone.about, alone.truncated, lambda: alone.is_valid_for("NZ"), lambda: alone.national_with("1"), lambda: alone.match("1"))
+    check("alone", [refused(ask)[0] for ask in asked], ["Closed"] * 5)
+    check("alone", alone.match(number).name, "EXACT_MATCH")
+    check("texts", [refused(ask, "\ud800")[0] for ask in (number.match, number.is_valid_for, number.national_with)], ["NoNumber"] * 3)
+    check("texts", (refused(normalize, Form.KEYS, b"\xff")[0], has_letters(b"\xff"), refused(normalize, 3, "1")[0]), ("NoNumber", False, "ValueError"))
+    check("texts", (world.match("call me", "331 6005").name, number.match("call me").name), ("NOT_A_NUMBER",) * 2)
 
 
 # In their order.
@@ -401,6 +420,8 @@ def docstrings():
         for test in finder.find(it, name or "phonenumber_proved", module=None if not name else False, globs=dict(names)):
             if name or test.name == "phonenumber_proved":
                 runner.run(test)
+    for test in finder.find(Database.__mro__[1], "Database", module=False, globs=dict(names)):
+        runner.run(test)
     check("docstrings", runner.failures, 0)
     return runner.tries
 
@@ -409,7 +430,7 @@ def main(words):
     folder = Path(words[0]) if words else REPLAY
     with Database.load() as world, ShortNumbers.load() as table:
         for case in (rules_are_the_callers, numbers_are_told, numbers_are_keys_of_tables, numbers_come_from_parts,
-                     errors_are_values, what_is_closed_is_refused):
+                     errors_are_values, what_is_closed_is_refused, questions_are_refused):
             case(world)
         for case in (lone_surrogates_are_refused, what_is_no_region_is_refused, texts_are_str_or_bytes):
             case(world, table)

@@ -162,6 +162,28 @@ def regions_are_told():
     check("dialled", dialled, ["1 (650) 253-0000", "00 1 650-253-0000", "1 (650) 253-0000", "+1 650-253-0000"])
 
 
+# Number: what `truncate_too_long_number` answers, and what it leaves.
+TRUNCATED = [((64, 333160059), True, 33316005), ((64, 33316005), True, 33316005), ((64, 12), False, 12), ((999, 12), False, 12)]
+
+
+def further_questions_are_answered():
+    for (code, value), is_valid, left in TRUNCATED:
+        number = PhoneNumber(code, value)
+        check(number, (names.truncate_too_long_number(number), number.national_number), (is_valid, left))
+    past = PhoneNumber(1 << 20, 1 << 60)
+    told = names.truncate_too_long_number(past), names.length_of_geographical_area_code(past), names.is_number_geographical(past)
+    check("past", told, (False, 0, False))
+    check("past", names.is_number_match(past, PhoneNumber(64, 33316005)), MatchType.NOT_A_NUMBER)
+    check("past", names.format_national_number_with_carrier_code(past, "15"), str(1 << 60))
+    check("past", names.is_possible_number_for_type_with_reason(past, 0), ValidationResult.INVALID_COUNTRY_CODE)
+    check("types", [names.supported_types_for_region(it) for it in ("ZZ", None, "nz")], [set()] * 3)
+    check("types", names.supported_types_for_non_geo_entity(800), {PhoneNumberType.TOLL_FREE})
+    check("codes", [names.region_code_for_country_code(it) for it in (64, 800, 0, -1, 1 << 16)], ["NZ", "001", "ZZ", "ZZ", "ZZ"])
+    brazil = names.parse("0 31 21 2128-6979", "BR", keep_raw_input=True)
+    texts = names.format_national_number_with_carrier_code(brazil, "15"), names.format_national_number_with_preferred_carrier_code(brazil, "15")
+    check("carrier", texts, ("0 15 (21) 2128-6979", "0 31 (21) 2128-6979"))
+
+
 def numbers_are_data():
     number = PhoneNumber(64, 33316005)
     frozen = names.FrozenPhoneNumber(number)
@@ -264,11 +286,13 @@ def readme():
 
 def main():
     for case in (numbers_are_read, numbers_are_told, numbers_are_compared_and_found, regions_are_told, short_numbers_are_told,
-                 numbers_are_data, numbers_have_classes_made_of_them, package_is_installed, records_are_told, readme):
+                 further_questions_are_answered, numbers_are_data, numbers_have_classes_made_of_them, package_is_installed,
+                 records_are_told, readme):
         case()
     missing = [name for name in names.__all__ if not hasattr(names, name)]
     check("names", missing, [])
-    check("docstrings", doctest.testmod(names).failed, 0)
+    told = [doctest.testmod(sys.modules[it]).failed for it in (names.__name__, names.is_number_match.__module__)]
+    check("docstrings", told, [0, 0])
     print(f"names: {len(failed)} failed" if failed else "names: ok")
     return 1 if failed else 0
 

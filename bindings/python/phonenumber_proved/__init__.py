@@ -37,6 +37,10 @@ from .errors import (
 from .field import Typing
 from .number import Kind, Mode, PhoneNumber, Possibility, Rules, Source
 from .prefixes import Prefixes
+from .questions import (
+    Form, NumberFacts, NumberMatch, RegionFacts, has_letters, is_geographical, mobile_token,
+    normalize,
+)
 from .short import Cost, ShortFacts, ShortNumbers
 from .tables import CARRIERS_TABLE, SHORT_TABLE, TABLE, TABLE_VERSION, TIME_ZONES_TABLE
 from .warming import warm
@@ -52,14 +56,18 @@ __all__ = [
     "Cost",
     "Database",
     "Error",
+    "Form",
     "Found",
     "Kind",
     "Leniency",
     "Mode",
     "NoNumber",
+    "NumberFacts",
+    "NumberMatch",
     "PhoneNumber",
     "Possibility",
     "Prefixes",
+    "RegionFacts",
     "Rules",
     "SHORT_TABLE",
     "Sameness",
@@ -74,7 +82,11 @@ __all__ = [
     "UnknownCode",
     "UnknownRegion",
     "__version__",
+    "has_letters",
+    "is_geographical",
     "is_viable",
+    "mobile_token",
+    "normalize",
     "warm",
 ]
 

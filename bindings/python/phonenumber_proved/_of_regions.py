@@ -1,10 +1,12 @@
-"""What `phonenumbers` tells of regions and calling codes: Python over the table of the world."""
+"""What `phonenumbers` tells of regions and calling codes; its lists are Python over the table."""
 
 from __future__ import annotations
 
 from typing import Any, Callable, Dict, Optional, Set, Tuple
 
 from . import _regions
+from .errors import UnknownRegion
+from .questions import Form, RegionFacts, normalize
 
 REGION_CODE_FOR_NON_GEO_ENTITY, UNKNOWN_REGION = _regions.NO_REGION, _regions.UNKNOWN
 
@@ -46,13 +48,22 @@ def region_codes_for_country_code(country_code: int) -> Tuple[str, ...]:
 
 
 def region_code_for_country_code(country_code: int) -> str:
-    """The main region of a calling code; `ZZ` where it has none."""
-    return (*region_codes_for_country_code(country_code), UNKNOWN_REGION)[0]
+    """The main region of a calling code, `001` where it is no region's; `ZZ` where it has none."""
+    return _regions.world().main_region(country_code) or UNKNOWN_REGION
+
+
+def _facts(region_code: Optional[str]) -> Optional[RegionFacts]:
+    """What is known of a region; none where there is no such region."""
+    try:
+        return _regions.world().about_region(region_code or "")
+    except UnknownRegion:
+        return None
 
 
 def country_code_for_region(region_code: Optional[str]) -> int:
     """The calling code of a region; 0 where there is no such region."""
-    return _regions.code_by_region().get(region_code or "", 0)
+    facts = _facts(region_code)
+    return 0 if facts is None else facts.code
 
 
 def country_code_for_valid_region(region_code: str) -> int:
@@ -70,25 +81,26 @@ def supported_calling_codes() -> Set[int]:
 
 def is_nanpa_country(region_code: Optional[str]) -> bool:
     """Whether a region has the calling code 1."""
-    return country_code_for_region(region_code) == 1
+    facts = _facts(region_code)
+    return facts is not None and facts.is_nanpa
 
 
 def is_mobile_number_portable_region(region_code: Optional[str]) -> bool:
     """Whether in a region a mobile number is kept when the carrier is changed."""
-    record = _regions.record_of(region_code)
-    return record is not None and bool(record.get("mobile_number_portable"))
+    facts = _facts(region_code)
+    return facts is not None and facts.is_portable
 
 
 def ndd_prefix_for_region(region_code: Optional[str], strip_non_digits: bool) -> Optional[str]:
     """The national prefix of a region; `None` where it has none. A tilde in it waits for a tone."""
-    prefix = (_regions.record_of((region_code or "").upper()) or {}).get("national_prefix")
-    if prefix is None or not strip_non_digits:
-        return prefix
-    return str(prefix).replace("~", "")
+    try:
+        return _regions.world().national_prefix((region_code or "").upper(), strip_non_digits)
+    except UnknownRegion:
+        return None
 
 
 def normalize_digits_only(number: str, keep_non_digits: bool = False) -> str:
     """The digits of a text, of any script, as 0 to 9, and the rest of it where that is kept."""
-    return "".join(
-        str(int(it)) if it.isdecimal() else it for it in number if keep_non_digits or it.isdecimal()
-    )
+    if not keep_non_digits:
+        return normalize(Form.DIGITS, number)
+    return "".join(str(int(it)) if it.isdecimal() else it for it in number)

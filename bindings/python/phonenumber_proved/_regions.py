@@ -5,7 +5,7 @@ from __future__ import annotations
 import functools
 import json
 from pathlib import Path
-from typing import Any, Callable, Dict, List, Optional, Tuple
+from typing import Any, Callable, Dict, List, Tuple
 
 from ._locks import new_lock
 from .database import Database
@@ -61,26 +61,12 @@ def code_by_region() -> Dict[str, int]:
     return {region: code for code, region in records() if region != NO_REGION}
 
 
-def record_of(region: Optional[str]) -> Optional[Dict[str, Any]]:
-    """The record of a region; none where the table has no such region."""
-    return records().get((code_by_region().get(region or "", 0), region or ""))
-
-
 @functools.lru_cache(maxsize=None)
 def short_regions() -> Tuple[str, ...]:
     """The regions of the table of short numbers; none where that isn't there."""
     if not Path(SHORT_TABLE).is_file():
         return ()
     return tuple(it["id"] for it in json.loads(Path(SHORT_TABLE).read_bytes()))
-
-
-def alone(code: int, region: str) -> Optional[Database]:
-    """The database that one record of the table is; none where there is no such record."""
-    record = records().get((code, region))
-    if record is None:
-        return None
-    opened = _once((code, region), lambda: Database(json.dumps([record])))
-    return opened  # type: ignore[no-any-return]
 
 
 #: The region under which `codeless` reads.

@@ -10,6 +10,7 @@ from ._calls import (
     MEMORY, NO_EXAMPLE, OK, Number, Place, Text, bytes_of, hint_of, items, lib, long_lib, refuse,
     words_of, written,
 )
+from ._asked import Asked
 from .columns import COLUMNS, Column, Progress, columns_named, read_columns, shaped
 from .errors import BadDatabase
 from .field import Typing
@@ -77,7 +78,7 @@ class Records(Held):
             raise BadDatabase(status, words_of(status))
 
 
-class Database(Records):
+class Database(Asked, Records):
     """A database: which numbers there are, and how they are written.
 
     A hint is the id of the region in which a text was written, as `NZ`; `UnknownRegion` where it is

@@ -5,10 +5,12 @@ from __future__ import annotations
 import ctypes
 import enum
 import functools
-from typing import TYPE_CHECKING, Any, Callable, Optional, Tuple
+from typing import TYPE_CHECKING, Any, Callable, Optional, Tuple, Union
 
-from ._calls import IS_CLOSED, OK, Number, Part, hint_of, lib, refuse, written
+from . import _calls
+from ._calls import IS_CLOSED, OK, Number, Part, Text, bytes_of, hint_of, lib, refuse, written
 from .errors import Closed
+from .questions import NumberFacts, NumberMatch, match_of
 
 if TYPE_CHECKING:
     from .database import Database
@@ -224,6 +226,111 @@ class PhoneNumber:
             ),
             region=region,
         ).decode()
+
+    @property
+    def about(self) -> NumberFacts:
+        """What libphonenumber's further questions tell of it, whatever the rules.
+
+        >>> from phonenumber_proved import Database
+        >>> with Database.load() as world:
+        ...     world.parse("(650) 253-0000", "US").about.area_length
+        3
+        """
+        told = _calls.NumberFacts()
+        number, answer = ctypes.byref(self._number), ctypes.byref(told)
+        status = self._call(lib.phone_about_number, number, answer)
+        if status != OK:
+            refuse(status)
+        is_abroad = told.is_dialled_from_abroad == 1
+        lengths = int(told.area_length), int(told.destination_length)
+        return NumberFacts(*lengths, told.is_geographical == 1, is_abroad)
+
+    def is_valid_for(self, region: str) -> bool:
+        """Whether it is valid for the territory of its calling code that has this id.
+
+        The id is a region's, or `001` of a code that serves none.
+
+        >>> from phonenumber_proved import Database
+        >>> with Database.load() as world:
+        ...     number = world.parse("(650) 253-0000", "US")
+        ...     number.is_valid_for("US"), number.is_valid_for("CA")
+        (True, False)
+        """
+        at, told = bytes_of(region), ctypes.c_uint8()
+        number, answer = ctypes.byref(self._number), ctypes.byref(told)
+        status = self._call(lib.phone_is_valid_for, at, len(at), number, answer)
+        return told.value == 1 if status == OK else refuse(status, region)
+
+    def possibility_as(self, kind: Kind) -> Possibility:
+        """Whether the count of its digits is possible for a number of a kind; `UNKNOWN` is any.
+
+        >>> from phonenumber_proved import Database, Kind
+        >>> with Database.load() as world:
+        ...     number = world.parse("+64 800 123 456")
+        ...     number.possibility_as(Kind.TOLL_FREE).name
+        'POSSIBLE'
+        """
+        told, of_kind = ctypes.c_uint32(), Kind(kind)
+        number, answer = ctypes.byref(self._number), ctypes.byref(told)
+        status = self._call(lib.phone_possibility_as, of_kind, number, answer)
+        return Possibility(told.value) if status == OK else refuse(status)
+
+    def truncated(self) -> "Optional[PhoneNumber]":
+        """A valid number as it is; another without so many digits at its end that it is valid.
+
+        `None` where no beginning of it is valid.
+
+        >>> from phonenumber_proved import Database
+        >>> with Database.load() as world:
+        ...     world.parse("+64 3 331 60059").truncated()
+        <PhoneNumber +6433316005>
+        """
+        told, left = ctypes.c_uint8(), Number.from_buffer_copy(self._number)
+        status = self._call(lib.phone_truncate, ctypes.byref(left), ctypes.byref(told))
+        if status != OK:
+            refuse(status)
+        return PhoneNumber(left, self._texts, self._rules, self._database) if told.value else None
+
+    def national_with(self, carrier: str, prefers_own: bool = False) -> str:
+        """The national text as it is dialled with the selection code of a carrier.
+
+        With `prefers_own`, the number's own carrier takes its place, if it has one that isn't
+        empty. The digits alone where the database lacks the calling code.
+
+        >>> from phonenumber_proved import Database
+        >>> with Database.load() as world:
+        ...     number = world.parse("0 31 21 2128-6979", "BR")
+        ...     number.national_with("15"), number.national_with("15", True)
+        ('0 15 (21) 2128-6979', '0 31 (21) 2128-6979')
+        """
+        number, texts, code = ctypes.byref(self._number), self._texts, bytes_of(carrier)
+        own, call = int(prefers_own), lib.phone_national_with
+        return written(
+            lambda *out: self._call(
+                call, number, texts, len(texts), code, len(code), own, *out
+            )
+        ).decode()
+
+    def match(self, other: "Union[PhoneNumber, Text]") -> NumberMatch:
+        """How like it and another number, or the number of a text, are by libphonenumber's rules.
+
+        A number of the calling code 0 is one whose code isn't known; a text without one is read in
+        the main region of this number's code.
+
+        >>> from phonenumber_proved import Database
+        >>> with Database.load() as world:
+        ...     number = world.parse("+64 3 331 6005")
+        ...     number.match("03 331 6005").name, number.match(number).name
+        ('NSN_MATCH', 'EXACT_MATCH')
+        """
+        told = ctypes.c_uint32()
+        number, texts, at = ctypes.byref(self._number), self._texts, ctypes.byref(told)
+        if isinstance(other, PhoneNumber):
+            two, others = ctypes.byref(other._number), other._texts
+            call = lib.phone_match_numbers
+            return match_of(call(number, texts, len(texts), two, others, len(others), at), told)
+        data, ask = bytes_of(other), lib.phone_match_text
+        return match_of(self._call(ask, number, texts, len(texts), data, len(data), at), told)
 
     def _call(self, call: Callable[..., int], *args: Any) -> Any:
         """What a call on the number's database gives, by the number's rules."""

@@ -36,6 +36,7 @@ mod found;
 mod number;
 mod possible;
 mod prefixes;
+mod questions;
 mod records;
 mod short;
 mod typing;
@@ -50,6 +51,9 @@ pub use found::{Found, Leniency};
 pub use number::{Mode, PhoneNumber, Source, Type};
 pub use possible::{Possibility, Sameness};
 pub use prefixes::Prefixes;
+pub use questions::{
+    Form, NumberFacts, NumberMatch, RegionFacts, has_letters, is_geographical, match_numbers, mobile_token, normalize,
+};
 pub use short::{Cost, ShortFacts, ShortNumbers};
 pub use typing::Typing;
 

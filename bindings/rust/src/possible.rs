@@ -22,7 +22,8 @@ pub enum Possibility {
     UnknownCode,
 }
 
-const POSSIBILITIES: [Possibility; 6] = [
+/// In the order of their numbers in `phone.h`.
+pub(crate) const POSSIBILITIES: [Possibility; 6] = [
     Possibility::Possible,
     Possibility::PossibleLocally,
     Possibility::TooShort,

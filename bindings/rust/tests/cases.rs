@@ -2,8 +2,9 @@
 //! printed texts, validity, and texts that made readers panic. Then what is by libphonenumber's rules, and what
 //! belongs to neither.
 use phonenumber_proved::{
-    Cost, Database, Error, Found, Leniency, LineFault, Mode, PhoneNumber, Prefixes, Rules, SHORT, ShortNumbers, Source,
-    TABLE_VERSION, TIME_ZONES, Type, WORLD, is_viable,
+    Cost, Database, Error, Form, Found, Leniency, LineFault, Mode, NumberMatch, PhoneNumber, Prefixes, Rules, SHORT,
+    ShortNumbers, Source, TABLE_VERSION, TIME_ZONES, Type, WORLD, has_letters, is_geographical, is_viable,
+    match_numbers, mobile_token, normalize,
 };
 use std::collections::{BTreeSet, HashMap, HashSet};
 use std::sync::Arc;
@@ -621,4 +622,26 @@ fn what_is_possible_alike_dialled_listed_and_found_is_told() {
         }
     }
     assert!(count > 500, "{count} lines");
+}
+
+#[test]
+fn further_questions_are_answered_or_refused() {
+    let world = world();
+    assert_eq!(world.about_region("XX").unwrap_err(), Error::NoRegion);
+    assert_eq!(world.national_prefix("").unwrap_err(), Error::NoRegion);
+    assert_eq!(world.region_kinds("nz").unwrap_err(), Error::NoRegion);
+    let none = Database::from_json("[]").unwrap();
+    assert_eq!(none.about_region("NZ").unwrap_err(), Error::NoTerritory);
+    assert_eq!((none.national_prefix("NZ"), none.main_region(64), none.code_kinds(800)), (Ok(None), Ok(None), Ok(vec![])));
+    // By either rules' numbers; an extension stays where digits are cut off.
+    let number = world.parse(None, "+64 3 331 60059 ext. 12").unwrap();
+    let left = world.truncated(&number).unwrap().unwrap();
+    assert_eq!((left.national_value(), left.extension()), (33316005, Some("12")));
+    assert_eq!(world.truncated(&PhoneNumber::from_parts(64, 12, 0).unwrap()), Ok(None));
+    assert_eq!(match_numbers(&number, &left), Ok(NumberMatch::NoMatch));
+    assert_eq!(match_numbers(&left, &left), Ok(NumberMatch::ExactMatch));
+    assert_eq!(world.match_text(&left, "call me"), Ok(NumberMatch::NotANumber));
+    assert_eq!(none.national_with(&left, "15").as_deref(), Ok("33316005"));
+    assert_eq!((mobile_token(64).as_deref(), is_geographical(Type::Mobile, 64)), (Ok(""), Ok(false)));
+    assert_eq!((normalize(Form::Digits, "").as_deref(), has_letters("")), (Ok(""), false));
 }

@@ -13,8 +13,9 @@ there is `install()`:
     (True, 'GB')
 
 What is read, printed, found in texts and told of kind, region, validity, count of digits and short
-numbers is what the library's calls answer, by libphonenumber's rules. What is of regions alone is
-Python over the table, of which nothing is proved. The first call opens a table of some 6 MB, which
+numbers is what the library's calls answer, by libphonenumber's rules; so are areas' lengths, kinds
+of regions, matches, and what is of one region or code. Lists of regions are Python over the table,
+of which nothing is proved. The first call opens a table of some 6 MB, which
 all threads have, and the child of a fork after it.
 
 An unknown region is none, as there. A national number of 2^56 or more, as some of 17 digits are,
@@ -27,7 +28,7 @@ the number is whole. `PhoneNumberMatcher` finds what `Database.find` does, which
 from __future__ import annotations
 
 import sys
-from typing import Any, Dict, FrozenSet, List, Optional, Tuple, Union
+from typing import Any, Dict, FrozenSet, List, Optional, Tuple
 
 from .. import _of_regions, _regions
 from .._matches import Leniency, PhoneNumberMatch, PhoneNumberMatcher
@@ -40,18 +41,26 @@ from .._of_regions import (
 )
 from .._plain import (
     CountryCodeSource, FrozenPhoneNumber, MatchType, NumberParseException, PhoneNumber,
-    PhoneNumberFormat, PhoneNumberType, ShortNumberCost, ValidationResult, leading_zeros,
+    PhoneNumberFormat, PhoneNumberType, ShortNumberCost, ValidationResult,
     national_significant_number, plain_number,
+)
+from .._questions import (
+    RESULTS, TYPES, asked, can_be_internationally_dialled, convert_alpha_characters_in_number,
+    country_mobile_token, format_national_number_with_carrier_code,
+    format_national_number_with_preferred_carrier_code, is_alpha_number, is_number_geographical,
+    is_number_match, is_number_type_geographical, is_possible_number_for_type,
+    is_possible_number_for_type_with_reason, is_valid_number_for_region,
+    length_of_geographical_area_code, length_of_national_destination_code,
+    normalize_diallable_chars_only, supported_types_for_non_geo_entity,
+    supported_types_for_region, truncate_too_long_number,
 )
 from .._shorts import (
     connects_to_emergency_number, expected_cost, expected_cost_for_region, is_carrier_specific,
     is_carrier_specific_for_region, is_emergency_number, is_possible_short_number,
     is_possible_short_number_for_region, is_valid_short_number, is_valid_short_number_for_region,
 )
-from ..database import Sameness
 from ..errors import NoNumber, UnknownCode
-from ..number import Kind, Mode, Possibility, Rules, Source, _again
-from ..number import PhoneNumber as _Read
+from ..number import Kind, Mode, Source
 
 __all__ = [
     "AsYouTypeFormatter", "COUNTRY_CODES_FOR_NON_GEO_REGIONS", "COUNTRY_CODE_TO_REGION_CODE",
@@ -59,17 +68,24 @@ __all__ = [
     "NumberParseException", "PhoneMetadata", "PhoneNumber", "PhoneNumberDesc", "PhoneNumberFormat",
     "PhoneNumberMatch", "PhoneNumberMatcher", "PhoneNumberType", "REGION_CODE_FOR_NON_GEO_ENTITY",
     "SUPPORTED_REGIONS", "SUPPORTED_SHORT_REGIONS", "ShortNumberCost", "UNKNOWN_REGION",
-    "ValidationResult", "connects_to_emergency_number", "country_code_for_region",
-    "country_code_for_valid_region", "example_number", "example_number_for_type", "expected_cost",
-    "expected_cost_for_region", "format_number", "format_out_of_country_calling_number",
-    "is_carrier_specific", "is_carrier_specific_for_region", "is_emergency_number",
-    "is_mobile_number_portable_region", "is_nanpa_country", "is_number_match", "is_possible_number",
+    "ValidationResult", "can_be_internationally_dialled", "connects_to_emergency_number",
+    "convert_alpha_characters_in_number", "country_code_for_region",
+    "country_code_for_valid_region", "country_mobile_token", "example_number",
+    "example_number_for_type", "expected_cost", "expected_cost_for_region",
+    "format_national_number_with_carrier_code",
+    "format_national_number_with_preferred_carrier_code", "format_number",
+    "format_out_of_country_calling_number", "is_alpha_number", "is_carrier_specific",
+    "is_carrier_specific_for_region", "is_emergency_number", "is_mobile_number_portable_region",
+    "is_nanpa_country", "is_number_geographical", "is_number_match", "is_number_type_geographical",
+    "is_possible_number", "is_possible_number_for_type", "is_possible_number_for_type_with_reason",
     "is_possible_number_string", "is_possible_number_with_reason", "is_possible_short_number",
     "is_possible_short_number_for_region", "is_valid_number", "is_valid_number_for_region",
-    "is_valid_short_number", "is_valid_short_number_for_region", "national_significant_number",
-    "ndd_prefix_for_region", "normalize_digits_only", "number_type", "parse",
+    "is_valid_short_number", "is_valid_short_number_for_region", "length_of_geographical_area_code",
+    "length_of_national_destination_code", "national_significant_number", "ndd_prefix_for_region",
+    "normalize_diallable_chars_only", "normalize_digits_only", "number_type", "parse",
     "region_code_for_country_code", "region_code_for_number", "region_codes_for_country_code",
-    "supported_calling_codes",
+    "supported_calling_codes", "supported_types_for_non_geo_entity", "supported_types_for_region",
+    "truncate_too_long_number",
 ]
 
 COUNTRY_CODE_TO_REGION_CODE: Dict[int, Tuple[str, ...]]
@@ -87,13 +103,6 @@ _SOURCES = {
     Source.IDD: CountryCodeSource.FROM_NUMBER_WITH_IDD,
     Source.NUMBER: CountryCodeSource.FROM_NUMBER_WITHOUT_PLUS_SIGN,
     Source.DEFAULT: CountryCodeSource.FROM_DEFAULT_COUNTRY,
-}
-
-#: The numbers of the kinds. A kind that isn't there, as that of a short code, is none there.
-_TYPES = {
-    kind: getattr(PhoneNumberType, kind.name)
-    for kind in Kind
-    if hasattr(PhoneNumberType, kind.name)
 }
 
 #: The numbers of the refusals, by those of `phone.h`; any other text is no number.
@@ -145,30 +154,16 @@ def _without_code(number: str, keep_raw_input: bool, numobj: Optional[PhoneNumbe
     return it
 
 
-def _read(numobj: PhoneNumber) -> Optional[_Read]:
-    """The number for the library; none where a field is past what it takes."""
-    code, value = numobj.country_code or 0, numobj.national_number or 0
-    zeros = leading_zeros(numobj)
-    if not (0 <= code < 1 << 16 and 0 <= value < 1 << 56 and zeros < 1 << 8):
-        return None
-    plus, rules = int(Source.PLUS), int(Rules.LIBRARY)
-    return _again(value, code, plus, zeros, numobj.extension or None, None, rules)
-
-
-def _asked(numobj: PhoneNumber) -> Optional[_Read]:
-    """The same, for a question to the table of the world."""
-    read = _read(numobj)
-    return None if read is None else read.on(_regions.world())
-
-
 def format_number(numobj: PhoneNumber, num_format: int) -> str:
     """The text in a format; the national number's digits where no region has the calling code."""
     if numobj.national_number == 0 and numobj.raw_input:
-        return numobj.raw_input
+        is_of_region = numobj.country_code_source == CountryCodeSource.FROM_DEFAULT_COUNTRY
+        is_coded = is_of_region and num_format == PhoneNumberFormat.E164
+        return f"+{numobj.country_code}{numobj.raw_input}" if is_coded else numobj.raw_input
     digits = national_significant_number(numobj)
     if num_format == PhoneNumberFormat.E164:
         return f"+{numobj.country_code}{digits}"
-    read = _asked(numobj)
+    read = asked(numobj)
     try:
         return digits if read is None else read.format(Mode(num_format))
     except UnknownCode:
@@ -183,7 +178,7 @@ def format_out_of_country_calling_number(
         return format_number(numobj, PhoneNumberFormat.INTERNATIONAL)
     if numobj.country_code == 1 and is_nanpa_country(region_calling_from):
         return "1 " + format_number(numobj, PhoneNumberFormat.NATIONAL)
-    read = _asked(numobj)
+    read = asked(numobj)
     try:
         if read is not None:
             return read.dialled_from(str(region_calling_from))
@@ -194,9 +189,9 @@ def format_out_of_country_calling_number(
 
 def number_type(numobj: PhoneNumber) -> int:
     """The kind of a number, of `PhoneNumberType`."""
-    read = _asked(numobj)
+    read = asked(numobj)
     kind = Kind.UNKNOWN if read is None else read.kind
-    return _TYPES.get(kind, PhoneNumberType.UNKNOWN)
+    return TYPES.get(kind, PhoneNumberType.UNKNOWN)
 
 
 def region_code_for_number(numobj: PhoneNumber) -> Optional[str]:
@@ -204,38 +199,21 @@ def region_code_for_number(numobj: PhoneNumber) -> Optional[str]:
     regions = region_codes_for_country_code(numobj.country_code or 0)
     if regions == (REGION_CODE_FOR_NON_GEO_ENTITY,):
         return REGION_CODE_FOR_NON_GEO_ENTITY
-    read = _asked(numobj)
+    read = asked(numobj)
     return None if read is None else read.region
 
 
 def is_valid_number(numobj: PhoneNumber) -> bool:
     """Whether such numbers are given out."""
-    read = _asked(numobj)
+    read = asked(numobj)
     return read is not None and read.is_valid
-
-
-def is_valid_number_for_region(numobj: PhoneNumber, region_code: Optional[str]) -> bool:
-    """Whether such numbers are given out in a region: the table of its record alone is asked."""
-    read, region = _read(numobj), _regions.alone(numobj.country_code or 0, region_code or "")
-    return read is not None and region is not None and read.on(region).kind != Kind.UNKNOWN
-
-
-#: The numbers of what a count of digits says.
-_RESULTS = {
-    Possibility.POSSIBLE: ValidationResult.IS_POSSIBLE,
-    Possibility.POSSIBLE_LOCALLY: ValidationResult.IS_POSSIBLE_LOCAL_ONLY,
-    Possibility.TOO_SHORT: ValidationResult.TOO_SHORT,
-    Possibility.TOO_LONG: ValidationResult.TOO_LONG,
-    Possibility.WRONG_LENGTH: ValidationResult.INVALID_LENGTH,
-    Possibility.UNKNOWN_CODE: ValidationResult.INVALID_COUNTRY_CODE,
-}
 
 
 def is_possible_number_with_reason(numobj: PhoneNumber) -> int:
     """Whether the count of a number's digits is possible under its code, of `ValidationResult`."""
-    read = _asked(numobj)
+    read = asked(numobj)
     if read is not None:
-        return _RESULTS[read.possibility]
+        return RESULTS[read.possibility]
     is_known = bool(region_codes_for_country_code(numobj.country_code or 0))
     return ValidationResult.TOO_LONG if is_known else ValidationResult.INVALID_COUNTRY_CODE
 
@@ -254,75 +232,11 @@ def is_possible_number_string(number: str, region_dialing_from: Optional[str]) -
         return False
 
 
-def _read_with_code(number: Union[PhoneNumber, str]) -> Optional[PhoneNumber]:
-    """A number, or what a text is that has its calling code; none for a text that hasn't."""
-    if isinstance(number, PhoneNumber):
-        return number
-    try:
-        return parse(number)
-    except NumberParseException as error:
-        if error.error_type != NumberParseException.INVALID_COUNTRY_CODE:
-            raise
-        return None
-
-
-def _match_of_numbers(one: PhoneNumber, two: PhoneNumber) -> int:
-    """How like two numbers are, each perhaps without a calling code."""
-    if one.extension and two.extension and one.extension != two.extension:
-        return MatchType.NO_MATCH
-    have_codes = bool(one.country_code and two.country_code)
-    if have_codes and one.country_code != two.country_code:
-        return MatchType.NO_MATCH
-    texts = national_significant_number(one), national_significant_number(two)
-    if texts[0] == texts[1] and (one.extension or "") == (two.extension or ""):
-        return MatchType.EXACT_MATCH if have_codes else MatchType.NSN_MATCH
-    ends = str(one.national_number), str(two.national_number)
-    is_end = ends[0].endswith(ends[1]) or ends[1].endswith(ends[0])
-    return MatchType.SHORT_NSN_MATCH if is_end else MatchType.NO_MATCH
-
-
-#: How like two texts without calling codes are, by what `Database.compare` says.
-_MATCHES = {
-    Sameness.EXACT: MatchType.NSN_MATCH, Sameness.NATIONAL: MatchType.NSN_MATCH,
-    Sameness.END: MatchType.SHORT_NSN_MATCH,
-}
-
-
-def is_number_match(num1: Union[PhoneNumber, str], num2: Union[PhoneNumber, str]) -> int:
-    """How like two numbers or texts are, of `MatchType`. A text may lack its calling code.
-
-    Where one has a calling code, a text without it is read in the main region of that code. Two
-    texts without are compared by `Database.compare`.
-
-    >>> from phonenumber_proved import phonenumbers
-    >>> match = phonenumbers.is_number_match("+64 3 331 6005", "03 331 6005")
-    >>> phonenumbers.MatchType.to_string(match)
-    'NSN_MATCH'
-    """
-    try:
-        one, two = _read_with_code(num1), _read_with_code(num2)
-        if one is not None and two is not None:
-            return _match_of_numbers(one, two)
-        if one is None and two is None:
-            told = _regions.world().compare(str(num1), str(num2))
-            return _MATCHES.get(told, MatchType.NO_MATCH)
-        known, text = (one, num2) if one is not None else (two, num1)
-        assert known is not None
-        region = region_code_for_country_code(known.country_code or 0)
-        if region == UNKNOWN_REGION:
-            told = _regions.world().compare(national_significant_number(known), str(text))
-            return _MATCHES.get(told, MatchType.NO_MATCH)
-        told = _match_of_numbers(known, parse(str(text), region))
-        return MatchType.NSN_MATCH if told == MatchType.EXACT_MATCH else told
-    except (NumberParseException, NoNumber):
-        return MatchType.NOT_A_NUMBER
-
-
 def example_number_for_type(region_code: Optional[str], num_type: int) -> Optional[PhoneNumber]:
     """An example of the numbers of a kind in a region, or in any where that is `None`."""
     supported = _of_regions.constant("SUPPORTED_REGIONS")
     regions = sorted(supported) if region_code is None else [region_code]
-    kinds = [kind for kind, it in _TYPES.items() if it == num_type and kind != Kind.UNKNOWN]
+    kinds = [kind for kind, it in TYPES.items() if it == num_type and kind != Kind.UNKNOWN]
     for kind in kinds:
         for it in supported.intersection(regions):
             read = _regions.world().example(it, kind)
