@@ -6,6 +6,7 @@ ghost use Rattle.phone_maps.specs.Maps.{is_geographical};
 ghost use Rattle.phone_places.specs.Countries.{country_name};
 ghost use Rattle.phone_places.specs.Descriptions.{IsAreaOrCountry, IsDescribed, IsDescribedIn};
 ghost use Rattle.phone_places.specs.Descriptions.{is_elsewhere};
+ghost use Rattle.phone_places.specs.Placed.{is_placed};
 ghost use Rattle.phone_values.specs.declared.kind.«Type».TheVariants.{Unknown};
 
 use crate::areas::area;
@@ -30,11 +31,11 @@ pub fn description<'t>(
 ) -> Result<&'t str, AllocError>
     ensures unknown { kind_of_number database.now number.now ≡ Unknown →
         IfOk result (λ t. t.now ≡ []) }
-    ensures at_place { is_geographical (kind_of_number database.now number.now) number.now.code.value ≡ true →
+    ensures at_place { is_placed database.now number.now ≡ true →
         IfOk result (λ t. IsDescribed database.now atlas.now (option_copied user.entry) number.now
         t.now) }
     ensures elsewhere { kind_of_number database.now number.now ≢ Unknown →
-        is_geographical (kind_of_number database.now number.now) number.now.code.value ≡ false →
+        is_placed database.now number.now ≡ false →
         IfOk result (λ t. t.now ≡ country_name database.now atlas.now number.now) }
 {
     let kind = number_type(database, number)?;

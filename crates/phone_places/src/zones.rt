@@ -3,6 +3,7 @@ ghost use Rattle.std.specs.Prelude.{◌≡◌, ◌≢◌, IfOk, true, false};
 ghost use Rattle.std.specs.Option.{option_copied};
 ghost use Rattle.phone_library.specs.Facts.{kind_of_number};
 ghost use Rattle.phone_maps.specs.Maps.{code_digits, digits_of, is_geographical};
+ghost use Rattle.phone_places.specs.Placed.{is_placed};
 ghost use Rattle.phone_places.specs.Zones.{AreZones, unknown_zone, zones_told};
 ghost use Rattle.phone_values.specs.declared.kind.«Type».TheVariants.{Unknown};
 
@@ -28,10 +29,10 @@ pub fn time_zones<'t>(
 ) -> Result<&'t str, AllocError>
     ensures unknown { kind_of_number database.now number.now ≡ Unknown →
         IfOk result (λ t. t.now ≡ unknown_zone) }
-    ensures at_place { is_geographical (kind_of_number database.now number.now) number.now.code.value ≡ true →
+    ensures at_place { is_placed database.now number.now ≡ true →
         IfOk result (λ t. AreZones zones.entry.now (digits_of number.now) t.now) }
     ensures elsewhere { kind_of_number database.now number.now ≢ Unknown →
-        is_geographical (kind_of_number database.now number.now) number.now.code.value ≡ false →
+        is_placed database.now number.now ≡ false →
         IfOk result (λ t. AreZones zones.entry.now (code_digits number.now) t.now) }
 {
     let kind = number_type(database, number)?;
