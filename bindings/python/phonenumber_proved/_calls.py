@@ -177,7 +177,9 @@ def _declare(lib: Library) -> None:
         "match_numbers": [u32, number, text, size, number, text, size, pointer(u32)],
         "match_text": [u32, handle, number, text, size, text, size, pointer(u32)],
         "match_texts": [u32, handle, text, size, text, size, pointer(u32)],
-        "national_with": [u32, handle, number, text, size, text, size, u8, text, size, pointer(size)],
+        "national_with": [
+            u32, handle, number, text, size, text, size, u8, text, size, pointer(size),
+        ],
         "normalize": [u32, u32, text, size, text, size, pointer(size)],
         "has_letters": [u32, text, size, pointer(u8)],
         "prefixes_open": [u32, text, size, prefixes, pointer(size)],
