@@ -4,6 +4,7 @@ ghost use Rattle.phone_c_base.specs.Answers.{kind_number};
 ghost use Rattle.phone_c_base.specs.Buffers.{IsTooLong, IsWritten};
 ghost use Rattle.phone_c_base.specs.ShortNumbers.{flag};
 
+use phone_c_base::asked::kind_number;
 use phone_c_base::buffer::give;
 use phone_c_base::status::{MEMORY, OK, TOO_SMALL};
 use phone_values::Type;
@@ -14,31 +15,6 @@ pub(crate) fn flag(is_so: bool) -> u8
     ensures { result ≡ flag is_so }
 {
     if is_so { 1 } else { 0 }
-}
-
-/// A kind by its number.
-fn kind_number(kind: Type) -> u32
-    ensures { result ≡ kind_number kind }
-{
-    match kind {
-        Type::FixedLine => 0,
-        Type::Mobile => 1,
-        Type::FixedLineOrMobile => 2,
-        Type::TollFree => 3,
-        Type::PremiumRate => 4,
-        Type::SharedCost => 5,
-        Type::PersonalNumber => 6,
-        Type::Voip => 7,
-        Type::Pager => 8,
-        Type::Uan => 9,
-        Type::Emergency => 10,
-        Type::Voicemail => 11,
-        Type::ShortCode => 12,
-        Type::StandardRate => 13,
-        Type::Carrier => 14,
-        Type::NoInternational => 15,
-        Type::Unknown => 16,
-    }
 }
 
 /// The numbers of kinds. Refused only for memory.
