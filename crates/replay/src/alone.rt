@@ -1,8 +1,7 @@
 //! One line, whose requests for memory may be refused.
-use crate::calls::answer;
+use crate::calls::{AtHand, answer};
 use anyhow::{Result, anyhow};
 use replay_base::table::Row;
-use replay_database::named::Named;
 use std::alloc::AllocGlobal;
 use std::fs::{self, Files};
 
@@ -16,7 +15,7 @@ pub fn judge<R: Files + AllocGlobal + Print>(rt: &R, file: &str, line: usize) ->
         return Err(anyhow!("the table has no such line"));
     };
     let row = Row::read(alloc, line)?;
-    let mut at_hand = None;
+    let mut at_hand = AtHand::new();
     let first = is_wanted(rt, &row, "first", &mut at_hand)?;
     let again = is_wanted(rt, &row, "again", &mut at_hand)?;
     Ok(first != Some(false) && again == Some(true))
@@ -27,7 +26,7 @@ fn is_wanted<R: Files + AllocGlobal + Print>(
     rt: &R,
     row: &Row,
     which: &str,
-    at_hand: &mut Option<Named>,
+    at_hand: &mut AtHand,
 ) -> Result<Option<bool>> {
     match answer(rt, row, at_hand) {
         Ok(found) => {

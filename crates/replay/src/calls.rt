@@ -5,8 +5,30 @@ use replay_base::table::Row;
 use replay_database::look_ups;
 use replay_database::named::{Named, load, of_name};
 use replay_numbers::printing::layouts_of;
+use replay_questions::short;
 use std::alloc::{AllocGlobal, Global};
 use std::fs::Files;
+
+/// The database of short numbers.
+const SHORT: &str = "world/short";
+
+/// The databases that are at hand for the next line: the one that a line names, and the one of
+/// short numbers.
+#[derive(Drop)]
+pub struct AtHand {
+    named: Option<Named>,
+    short: Option<Named>,
+}
+
+impl AtHand {
+    /// No database.
+    pub fn new() -> AtHand {
+        AtHand {
+            named: None,
+            short: None,
+        }
+    }
+}
 
 /// The answer to a call on no database, or on one that the call takes for itself; none for any
 /// other call.
@@ -49,16 +71,16 @@ fn on_database(
     replay_util::answer(alloc, row, db)
 }
 
-/// The answer to a line. The database that it names is at hand for the next line.
-pub fn answer<R: Files + AllocGlobal>(
-    rt: &R,
-    row: &Row,
-    at_hand: &mut Option<Named>,
-) -> Result<String> {
+/// The answer to a line. The databases that it asks are at hand for the next line.
+pub fn answer<R: Files + AllocGlobal>(rt: &R, row: &Row, at_hand: &mut AtHand) -> Result<String> {
     if let Some(found) = without_database(rt, row)? {
         return Ok(found);
     }
-    let db = of_name(rt, at_hand, row.argument(0))?;
+    let db = of_name(rt, &mut at_hand.named, row.argument(0))?;
+    if short::is_asked(row) {
+        let short = of_name(rt, &mut at_hand.short, SHORT)?;
+        return short::answer(rt.alloc(), row, db, short);
+    }
     match under(rt, row, db)? {
         Some(found) => Ok(found),
         None => Err(anyhow!("no call has this name")),
@@ -77,7 +99,7 @@ fn under<R: Files + AllocGlobal>(rt: &R, row: &Row, db: &Database) -> Result<Opt
 pub fn answer_or_error<R: Files + AllocGlobal>(
     rt: &R,
     row: &Row,
-    at_hand: &mut Option<Named>,
+    at_hand: &mut AtHand,
 ) -> Result<String> {
     match answer(rt, row, at_hand) {
         Ok(found) => Ok(found),

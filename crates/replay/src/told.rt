@@ -1,8 +1,7 @@
 //! The answers to the lines of a file.
-use crate::calls::answer_or_error;
+use crate::calls::{AtHand, answer_or_error};
 use anyhow::Result;
 use replay_base::table::{Row, escape};
-use replay_database::named::Named;
 use std::alloc::AllocGlobal;
 use std::fs::{self, Files};
 
@@ -10,7 +9,7 @@ use std::fs::{self, Files};
 /// none.
 pub fn answers<R: Files + AllocGlobal + Print>(rt: &R, file: &str) -> Result<()> {
     let text = fs::read_to_string(rt, file)?;
-    let mut at_hand = None;
+    let mut at_hand = AtHand::new();
     for line in text.as_str().lines() {
         tell(rt, line, &mut at_hand)?;
     }
@@ -18,11 +17,7 @@ pub fn answers<R: Files + AllocGlobal + Print>(rt: &R, file: &str) -> Result<()>
 }
 
 /// Prints the answer to one line.
-fn tell<R: Files + AllocGlobal + Print>(
-    rt: &R,
-    line: &str,
-    at_hand: &mut Option<Named>,
-) -> Result<()> {
+fn tell<R: Files + AllocGlobal + Print>(rt: &R, line: &str, at_hand: &mut AtHand) -> Result<()> {
     let alloc = rt.alloc();
     let row = Row::read(alloc, line)?;
     let found = answer_or_error(rt, &row, at_hand)?;

@@ -1,9 +1,8 @@
 //! All tables.
-use crate::calls::answer_or_error;
+use crate::calls::{AtHand, answer_or_error};
 use anyhow::Result;
 use replay_base::table::Row;
 use replay_base::tally::Tally;
-use replay_database::named::Named;
 use std::alloc::AllocGlobal;
 use std::fs::{self, Files};
 
@@ -61,7 +60,7 @@ fn replay_table<R: Files + AllocGlobal + Print>(
     tally: &mut Tally,
 ) -> Result<()> {
     let text = fs::read_to_string(rt, file)?;
-    let mut at_hand = None;
+    let mut at_hand = AtHand::new();
     for line in text.as_str().lines() {
         replay_line(rt, line, &mut at_hand, tally)?;
     }
@@ -72,7 +71,7 @@ fn replay_table<R: Files + AllocGlobal + Print>(
 fn replay_line<R: Files + AllocGlobal + Print>(
     rt: &R,
     line: &str,
-    at_hand: &mut Option<Named>,
+    at_hand: &mut AtHand,
     tally: &mut Tally,
 ) -> Result<()> {
     let alloc = rt.alloc();
