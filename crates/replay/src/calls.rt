@@ -68,6 +68,9 @@ fn on_database(
     if let Some(found) = replay_questions::answer(alloc, row, db)? {
         return Ok(Some(found));
     }
+    if let Some(found) = replay_matches::answer(alloc, row, db)? {
+        return Ok(Some(found));
+    }
     replay_util::answer(alloc, row, db)
 }
 

@@ -7,7 +7,7 @@ use std::alloc::AllocGlobal;
 use std::fs::{self, Files};
 
 /// The tables, by their files.
-const TABLES: [&str; 28] = [
+const TABLES: [&str; 29] = [
     "calls.tsv",
     "report.tsv",
     "json.tsv",
@@ -36,6 +36,7 @@ const TABLES: [&str; 28] = [
     "report-lines.tsv",
     "doubts.tsv",
     "questions.tsv",
+    "matches.tsv",
 ];
 
 /// Prints each line whose answer is another one here, then the counts, then what the examples of
