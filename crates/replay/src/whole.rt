@@ -7,7 +7,7 @@ use std::alloc::AllocGlobal;
 use std::fs::{self, Files};
 
 /// The tables, by their files.
-const TABLES: [&str; 29] = [
+const TABLES: [&str; 30] = [
     "calls.tsv",
     "report.tsv",
     "json.tsv",
@@ -37,6 +37,7 @@ const TABLES: [&str; 29] = [
     "doubts.tsv",
     "questions.tsv",
     "matches.tsv",
+    "places.tsv",
 ];
 
 /// Prints each line whose answer is another one here, then the counts, then what the examples of
