@@ -5,6 +5,7 @@
 mod about;
 mod beside;
 mod failures;
+mod names;
 mod operands;
 mod outlet;
 mod say;
