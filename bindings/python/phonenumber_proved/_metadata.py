@@ -116,8 +116,8 @@ class PhoneMetadata(_Record):
         cls, region_code: Optional[str], default: Optional[PhoneMetadata] = None
     ) -> Optional[PhoneMetadata]:
         """The territory of a region."""
-        record = _regions.record_of(region_code)
-        return default if record is None else _territory(record["country_code"], str(region_code))
+        code = _regions.code_by_region().get(region_code or "")
+        return default if code is None else _territory(code, str(region_code))
 
     @classmethod
     def metadata_for_nongeo_region(
