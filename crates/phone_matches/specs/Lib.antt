@@ -1,4 +1,5 @@
 pub mod Leniencies
 pub mod Marks
 pub mod Numbers
+pub mod Orders
 pub mod Prefixes

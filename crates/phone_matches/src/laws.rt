@@ -4,6 +4,7 @@ ghost use Rattle.std.specs.Prelude.{◌≡◌, ℕ, List, Option, Ok};
 ghost use Rattle.std.specs.List.{AllByRecursion};
 ghost use Rattle.phone_library.specs.Readings.{ReadsByLibrary};
 ghost use Rattle.phone_matches.specs.Numbers.{AreNumbers};
+ghost use Rattle.phone_matches.specs.Orders.{IsOrdered};
 ghost use Rattle.phone_matches.specs.declared.leniency.Leniency.{Leniency};
 ghost use Rattle.phone_matches_search.specs.Searches.{Matched};
 ghost use Rattle.phone_records.specs.declared.loader.Metadata as loader;
@@ -27,4 +28,12 @@ pub fn read_as_found()
     ensures { (db : List loader.Metadata) (hint : Option Id) (l : Leniency) (tries : ℕ)
         (text : List ℕ) (all : List (Matched Reading)) → AreNumbers db hint l tries text all →
         AllByRecursion (λ (m : Matched Reading). ReadsByLibrary db hint m.0.1 (Ok m.1)) all }
+{}
+
+/// Matches come in their order and don't overlap: each begins where the one before it ends, or
+/// later.
+pub fn in_order()
+    ensures { (db : List loader.Metadata) (hint : Option Id) (l : Leniency) (tries : ℕ)
+        (text : List ℕ) (all : List (Matched Reading)) → AreNumbers db hint l tries text all →
+        IsOrdered 0 all }
 {}
