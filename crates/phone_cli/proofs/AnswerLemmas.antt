@@ -29,8 +29,8 @@ use Rattle.phone_engine.specs.declared.engine.Engine.{Engine}
 use Rattle.phone_lines.specs.Ends.{Devices}
 use Rattle.phone_lines.specs.Taken.{begins_with_nothing, each_by_itself}
 use Rattle.phone_records.specs.declared.loader.Metadata.{Metadata}
-use Rattle.phone_table.specs.declared.counts.Counts.{Counts}
 use Rattle.phone_table.specs.declared.run.Asked.{Asked}
+use Rattle.phone_table.specs.declared.summed.Totals.{Totals}
 use Rattle.phone_typed.specs.Fields.{Field}
 use Rattle.phone_values.specs.declared.country.Id.{Id}
 use Rattle.phone_cli.specs.Commands.{AnswersInputs, BeginsFound, Finding, GivesFound}
@@ -279,10 +279,10 @@ short_by e files s before after last end =
 -- a table
 abbrev pub CustomersAct : Customers → Devices → Devices → Customers → Result ⊤ JobError → Type 0
 CustomersAct c before after c' result = AnswersTable c.engine.rules c.engine.database.now
-    c.engine.hint c.asked before after c'.counts result ×
-    (c' ≡ record c { counts = c'.counts; unknown = c'.unknown })
+    c.engine.hint c.asked before after c'.totals result ×
+    (c' ≡ record c { totals = c'.totals; unknown = c'.unknown })
 
-abbrev pub EngineAnswers : Engine → Asked → Counts → Devices → Devices → Counts →
+abbrev pub EngineAnswers : Engine → Asked → Totals → Devices → Devices → Totals →
     Result ⊤ JobError → Type 0
 EngineAnswers e = Tables e.rules e.database.now e.hint
 
@@ -293,12 +293,12 @@ record IsTableOf (c k : Customers) : Type 0 where
 
 customers_act : (c a : Customers) (before after : Devices) (b : Customers)
     (end : Result ⊤ JobError) → IsTableOf c a → CustomersAct a before after b end →
-    EngineAnswers c.engine c.asked a.counts before after b.counts end ×
+    EngineAnswers c.engine c.asked a.totals before after b.totals end ×
     (end ≡ Ok tt → IsTableOf c b)
 customers_act c a before after b end h act =
-    let by_engine = subst (λ (e : Engine). EngineAnswers e a.asked a.counts before after
-    b.counts end) h.engine act.0 in (
-      subst (λ (q : Asked). EngineAnswers c.engine q a.counts before after b.counts end)
+    let by_engine = subst (λ (e : Engine). EngineAnswers e a.asked a.totals before after
+    b.totals end) h.engine act.0 in (
+      subst (λ (q : Asked). EngineAnswers c.engine q a.totals before after b.totals end)
           h.asked by_engine,
       λ _. record {
         engine = ap (λ (k : Customers). k.engine) act.1 ∙ h.engine;
@@ -310,9 +310,9 @@ pub table_by : (e : Option Encoding) (files : List Name) (c : Customers) (before
     (last : Customers)
     (end : Result ⊤ Failure) →
     AnswersInputs (ActsIn e CustomersAct) files c before after last end →
-    AnswersInputs (ActsIn e (EngineAnswers c.engine c.asked)) files c.counts before after
-    last.counts end
+    AnswersInputs (ActsIn e (EngineAnswers c.engine c.asked)) files c.totals before after
+    last.totals end
 table_by e files c before after last end =
     answers_in CustomersAct (EngineAnswers c.engine c.asked)
-    (λ k. k.counts) (IsTableOf c) (customers_act c) e files c before after last end
+    (λ k. k.totals) (IsTableOf c) (customers_act c) e files c before after last end
     (record { engine = refl; asked = refl })

@@ -21,8 +21,7 @@ use Rattle.phone_lines.specs.Ends.{Devices}
 use Rattle.phone_lines.specs.Taken.{begins_with_nothing}
 use Rattle.phone_plans.specs.CodeLookUps.{is_prefix_free}
 use Rattle.phone_records.specs.declared.loader.Metadata.{Metadata}
-use Rattle.phone_table.specs.Counts.{no_counts}
-use Rattle.phone_table.specs.declared.counts.Counts.{Counts}
+use Rattle.phone_table.specs.declared.summed.Totals.{Totals}
 use Rattle.phone_values.specs.declared.country.Id.{Id}
 use Rattle.phone_values.specs.declared.rules.Rules.{Rules}
 use Rattle.phone_words.specs.declared.call.Call.{Call}
@@ -34,7 +33,7 @@ use Rattle.phone_cli.specs.Commands.{AnswersInputs, BeginsFound, Finding, GivesF
 use Rattle.phone_cli.specs.Commands.{GivesObjects, GivesWithInput, Reports, Tables}
 use Rattle.phone_cli.specs.Commands.{found_form, no_first_lines}
 use Rattle.phone_cli.specs.Operands.{files_of, has_reader, region_and_files, region_of}
-use Rattle.phone_cli.specs.Operands.{shorts_of}
+use Rattle.phone_cli.specs.Operands.{IsApart, shorts_of}
 use Rattle.phone_cli.specs.Streams.{Streams}
 use Rattle.phone_cli.proofs.AnswerLemmas.{FinderBegins, FinderGives, ObjectsGive}
 use Rattle.phone_cli.proofs.AnswerLemmas.{ReportActs, ShortsGive, TypistGives, WithInputGives, finding, found_by}
@@ -216,23 +215,19 @@ firsts_runs c hint files db f before after last end is free none act =
 
 -- a table
 pub table_runs : (c : Call) (hint : Option Id) (files : List Name) (k : Customers)
-    (shorts : Option (List Metadata)) (before after : Devices) (last : Counts)
-    (end : Result ⊤ Failure) → c.command ≡ command.Table →
+    (shorts : Option (List Metadata)) (before after : Devices) (last : Totals)
+    (end : Result ⊤ Failure) → c.command ≡ command.Table → IsApart c files →
     IsLoaded (shorts_of c) shorts → IsAsked c.table shorts k.asked →
-    k.engine.rules ≡ c.rules → k.engine.hint ≡ hint → k.counts ≡ no_counts →
+    k.engine.rules ≡ c.rules → k.engine.hint ≡ hint →
     AnswersInputs (ActsIn c.encoding (Tables k.engine.rules k.engine.database.now k.engine.hint
     k.asked)) files
-    k.counts before after last end →
+    k.totals before after last end →
     Runs c hint files before after end
-table_runs c hint files k shorts before after last end is loaded asked rules under none act =
+table_runs c hint files k shorts before after last end is apart loaded asked rules under act =
     let db = k.engine.database.now in
     let by_rules = subst (λ x. AnswersInputs (ActsIn c.encoding (Tables x db k.engine.hint
-    k.asked)) files k.counts
+    k.asked)) files k.totals
     before after last end) rules act in
-    let by_hint = subst (λ x. AnswersInputs (ActsIn c.encoding (Tables c.rules db x k.asked)) files
-    k.counts before
-    after last end) under by_rules in
-    table db shorts k.asked last is loaded asked
-    (subst (λ x. AnswersInputs (ActsIn c.encoding (Tables c.rules db hint k.asked)) files x before
-    after last end)
-    none by_hint)
+    table db shorts k.asked k.totals last is apart loaded asked
+    (subst (λ x. AnswersInputs (ActsIn c.encoding (Tables c.rules db x k.asked)) files k.totals
+    before after last end) under by_rules)

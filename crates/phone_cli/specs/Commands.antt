@@ -17,8 +17,8 @@ use Rattle.phone_engine.specs.ReportLines.{IsReportLine}
 use Rattle.phone_lines.specs.Ends.{Devices}
 use Rattle.phone_lines.specs.Taken.{Begins, Gives, each_by_itself}
 use Rattle.phone_records.specs.declared.loader.Metadata.{Metadata}
-use Rattle.phone_table.specs.declared.counts.Counts.{Counts}
 use Rattle.phone_table.specs.declared.run.Asked.{Asked}
+use Rattle.phone_table.specs.declared.summed.Totals.{Totals}
 use Rattle.phone_values.specs.declared.country.Id.{Id}
 use Rattle.phone_values.specs.declared.rules.Rules.{Rules}
 use Rattle.phone_words.specs.declared.command.Command.{Command}
@@ -86,10 +86,10 @@ no_first_lines db rules hint = record {
   refused = 0;
 }
 
--- a table: each by itself; what is kept are the counts of the last one
-abbrev pub Tables : Rules → List Metadata → Option Id → Asked → Acts Counts
-Tables rules db hint asked kept before after counts end =
-    AnswersTable rules db hint asked before after counts end
+-- a table: each by itself; what is kept are the counts and the summary of the last one
+abbrev pub Tables : Rules → List Metadata → Option Id → Asked → Acts Totals
+Tables rules db hint asked kept before after totals end =
+    AnswersTable rules db hint asked before after totals end
 
 -- how a command tells the numbers that it finds
 abbrev pub found_form : Command → FoundForm

@@ -8,6 +8,7 @@ mod failures;
 mod operands;
 mod outlet;
 mod say;
+mod summing;
 mod tool;
 mod written;
 

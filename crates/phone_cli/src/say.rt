@@ -10,7 +10,7 @@ use itoa::Buffer;
 use phone_commands::{Customers, FirstLines};
 use phone_countries::Entry;
 use phone_device::{ByteSink, Fault, write_all};
-use phone_table::Countries;
+use phone_table::{Countries, Tally};
 use phone_words::{Why, WordError, value_word};
 use std::alloc::Global;
 
@@ -169,6 +169,19 @@ pub(crate) fn say_taken<E: ByteSink>(errors: &mut E, name: &[u8]) -> u8
     2
 }
 
+/// Tells that the file of a summary is read or written as well, and gives the status.
+pub(crate) fn say_taken_summary<E: ByteSink>(errors: &mut E, name: &str) -> u8
+    ensures status { result ≡ 2 }
+    ensures told { IsSomeTold (E.taken errors.old) (E.faults errors.old)
+        (E.taken errors.new) (E.faults errors.new) }
+{
+    say(
+        errors,
+        &[name, " is read or written, so it can't have the summary"],
+        2,
+    )
+}
+
 /// What is told behind the count of those that are left out: by which key.
 const LEFT_OUT: &str = ", whose number and extension an earlier one has";
 
@@ -201,18 +214,48 @@ fn write_count<E: ByteSink>(errors: &mut E, name: &str, count: u64) -> Result<()
 
 /// Writes how many records a table has, and how many of them gave what.
 fn write_records<E: ByteSink>(job: &Customers<'_, '_>, errors: &mut E) -> Result<(), Fault> {
-    write_count(errors, "phone: records: ", job.counts.records)?;
-    write_count(errors, ", unknown region: ", job.counts.unknown_region)?;
-    write_count(errors, ", empty: ", job.counts.empty)?;
-    write_count(errors, ", wrong count of fields: ", job.counts.wrong_count)?;
-    write_count(errors, ", no number: ", job.counts.no_number)?;
-    write_count(errors, ", not valid: ", job.counts.invalid)?;
+    write_count(errors, "phone: records: ", job.totals.counts.records)?;
+    write_count(
+        errors,
+        ", unknown region: ",
+        job.totals.counts.unknown_region,
+    )?;
+    write_count(errors, ", empty: ", job.totals.counts.empty)?;
+    write_count(
+        errors,
+        ", wrong count of fields: ",
+        job.totals.counts.wrong_count,
+    )?;
+    write_count(errors, ", no number: ", job.totals.counts.no_number)?;
+    write_count(errors, ", not valid: ", job.totals.counts.invalid)?;
     if job.asked.short.is_some() {
-        write_count(errors, ", short numbers: ", job.counts.short)?;
+        write_count(errors, ", short numbers: ", job.totals.counts.short)?;
     }
     if job.asked.is_unique {
-        write_count(errors, ", left out: ", job.counts.repeated)?;
+        write_count(errors, ", left out: ", job.totals.counts.repeated)?;
         write_str(errors, LEFT_OUT)?;
+    }
+    write_str(errors, "\n")
+}
+
+/// Writes how many fields have each word of what is suspicious, where any has one.
+fn write_suspicions<E: ByteSink>(suspicions: &Tally, errors: &mut E) -> Result<(), Fault> {
+    if suspicions.is_empty() {
+        return Ok(());
+    }
+    let mut is_first = true;
+    for (word, count) in suspicions {
+        write_str(
+            errors,
+            if is_first {
+                "phone: suspicious: "
+            } else {
+                ", "
+            },
+        )?;
+        write_str(errors, word.as_str())?;
+        write_count(errors, ": ", *count)?;
+        is_first = false;
     }
     write_str(errors, "\n")
 }
@@ -275,12 +318,13 @@ fn write_all_unknown<E: ByteSink>(
     Ok(())
 }
 
-/// Tells which texts of a table name no region, then how many records it has, and how many of them
-/// gave what, and gives the status.
+/// Tells which texts of a table name no region, then how many fields are suspicious, then how many
+/// records it has, and how many of them gave what, and gives the status.
 pub(crate) fn say_records<E: ByteSink>(alloc: Global, job: &Customers<'_, '_>, errors: &mut E) -> u8
     ensures { result ≡ 0 }
 {
     let _told = write_all_unknown(alloc, job, errors);
+    let _counted = write_suspicions(&job.totals.summary.suspicions, errors);
     let _written = write_records(job, errors);
     0
 }

@@ -1,10 +1,12 @@
 //! The program over its words, files and devices.
-ghost use Rattle.std.specs.Prelude.{◌≡◌, ◌⊎◌, ℕ, List, MatchResult, Option, Result, Some, ⊤};
+ghost use Rattle.std.specs.Prelude.{◌≡◌, ◌||◌, ◌⊎◌, ℕ, List, MatchResult, Option, Result};
+ghost use Rattle.std.specs.Prelude.{Some, ⊤};
 ghost use Rattle.std.specs.Prelude.{codes, is_some, option_map, false, true};
 ghost use Rattle.phone_cli.specs.Abouts.{Tells};
 ghost use Rattle.phone_cli.specs.Answers.{Answers, AnswersReading, Does, IsAsked, IsLoaded, reads};
 ghost use Rattle.phone_cli.specs.Commands.{AnswersInputs, Tables, found_form};
-ghost use Rattle.phone_cli.specs.Operands.{database_of, files_of, has_reader, ignores_words};
+ghost use Rattle.phone_cli.specs.Operands.{IsApart, database_of, files_of, has_reader};
+ghost use Rattle.phone_cli.specs.Operands.{ignores_words};
 ghost use Rattle.phone_cli.specs.Operands.{is_misfit, names_read, region_of, shorts_of};
 ghost use Rattle.phone_cli.specs.Operands.{tells_alone};
 ghost use Rattle.phone_cli.specs.Programs.{Acts};
@@ -27,8 +29,9 @@ use crate::beside::{Place, Target, Unfinished, create_beside, place_of, put_in_p
 use crate::failures::{say_failure, say_no_columns, say_refusal};
 use crate::operands::{hint_and_files, say_missing};
 use crate::outlet::Outlet;
-use crate::say::{say, say_firsts, say_records, say_word_error};
-use crate::written::is_read;
+use crate::say::{say, say_firsts, say_taken_summary, say_word_error};
+use crate::summing::sum_up;
+use crate::written::{is_read, taken_summary};
 use phone_commands::{
     ByLines, Customers, Encoded, Finder, FirstLines, FoundForm, Job, LineTaker, Loaded, Objects,
     Reader, Report, Shorts, Typist, WithInput, countries_in, on_inputs,
@@ -36,7 +39,7 @@ use phone_commands::{
 use phone_device::{ByteSink, ByteSource, Fault, Std};
 use phone_engine::{Engine, Rules};
 use phone_plans::Plans;
-use phone_table::{Asked, Countries, Counts, Extra, UnknownNames};
+use phone_table::{Asked, Countries, Extra, Totals, UnknownNames};
 use phone_words::{Call, Command, Table, call_of, help};
 use phonenumber::country::Id;
 use std::alloc::AllocGlobal;
@@ -47,17 +50,18 @@ use std::fs::{self, Files};
 /// that is named for it. Inputs in another encoding that is named are read as their text in UTF-8.
 /// It gives the status to end with, and for each but 0 writes a line to `errors`, unless what read
 /// the output is gone; that this fails changes no status. After a table and after `--unique` a line
-/// there counts what was read.
+/// there counts what was read. The file of a table's summary is written after that was answered
+/// whole, in the same way as the output's.
 ///
 /// The file gets all that was written at once, where the status is 0: until then it is written
 /// beside it, under its name, `.new-` and a number, and at another status removed. What is no
 /// file whose bytes are kept, as a pipe, is written as the output is.
 ///
-/// Status 0: all was written. 1: an input, the output or memory failed, or a record of a table has
-/// another count of fields than the header; what is in front is written. 2: the words are no call,
-/// a file isn't there, the file to be written is read as well, or a table lacks a header or a
-/// column; then nothing is written. 3: a database or a table of prefixes was refused; then nothing
-/// is written.
+/// Status 0: all was written. 1: an input, the output, the summary or memory failed, or a record of
+/// a table has another count of fields than the header; what is in front is written. 2: the words
+/// are no call, a file isn't there, a file to be written is read as well, or a table lacks a header
+/// or a column; then nothing is written. 3: a database or a table of prefixes was refused; then
+/// nothing is written.
 pub fn program<R: Files + AllocGlobal, S: ByteSource, W: Outlet, E: ByteSink>(
     rt: &R,
     words: &[&str],
@@ -644,7 +648,7 @@ fn firsts<R: Files + AllocGlobal, S: ByteSource, W: Outlet, E: ByteSink>(
     }
 }
 
-/// A table of customers, with further columns where they are asked for.
+/// A table of customers, unless its summary's file is read or written as well.
 fn customers<R: Files + AllocGlobal, S: ByteSource, W: Outlet, E: ByteSink>(
     rt: &R,
     reading: Reading<'_, '_>,
@@ -658,6 +662,36 @@ fn customers<R: Files + AllocGlobal, S: ByteSource, W: Outlet, E: ByteSink>(
         reader.entry.engine.hint ≡ reading.entry.hint →
         IsLoaded (shorts_of reading.entry.call.now)
         (option_map (λ d. d.now) reader.entry.short) →
+        Does reading.entry.call.now reading.entry.hint reading.entry.files.now
+        (streams (seen (S.to_come input.old) (S.faults input.old) (W.taken output.old)
+        (W.faults output.old) (W.unflushed output.old)) (E.taken errors.old)
+        (E.faults errors.old))
+        (streams (seen (S.to_come input.new) (S.faults input.new) (W.taken output.new)
+        (W.faults output.new) (W.unflushed output.new)) (E.taken errors.new)
+        (E.faults errors.new))
+        result }
+{
+    match taken_summary(rt, reading) {
+        Some(name) => say_taken_summary(errors, name),
+        None => on_table(rt, reading, reader, input, output, errors),
+    }
+}
+
+/// A table of customers, with further columns where they are asked for.
+fn on_table<R: Files + AllocGlobal, S: ByteSource, W: Outlet, E: ByteSink>(
+    rt: &R,
+    reading: Reading<'_, '_>,
+    reader: Reader<'_>,
+    input: &mut S,
+    output: &mut W,
+    errors: &mut E,
+) -> u8
+    ensures { reading.entry.call.now.command ≡ command.Table →
+        reader.entry.engine.rules ≡ reading.entry.call.now.rules →
+        reader.entry.engine.hint ≡ reading.entry.hint →
+        IsLoaded (shorts_of reading.entry.call.now)
+        (option_map (λ d. d.now) reader.entry.short) →
+        IsApart reading.entry.call.now reading.entry.files.now →
         Does reading.entry.call.now reading.entry.hint reading.entry.files.now
         (streams (seen (S.to_come input.old) (S.faults input.old) (W.taken output.old)
         (W.faults output.old) (W.unflushed output.old)) (E.taken errors.old)
@@ -682,7 +716,7 @@ fn customers<R: Files + AllocGlobal, S: ByteSource, W: Outlet, E: ByteSink>(
     let mut job = Customers {
         engine: reader.engine,
         asked: asked(table, reader, extra.as_slice(), countries.as_ref()),
-        counts: Counts::new(),
+        totals: Totals::new(rt.alloc()),
         unknown: UnknownNames::new(rt.alloc()),
     };
     run_table(rt, reading, &mut job, input, output, errors)
@@ -697,18 +731,19 @@ fn run_table<R: Files + AllocGlobal, S: ByteSource, W: Outlet, E: ByteSink>(
     output: &mut W,
     errors: &mut E,
 ) -> u8
-    ensures { (end : Result ⊤ Failure) × (last : Counts) × AnswersInputs
+    ensures { (end : Result ⊤ Failure) × (last : Totals) × AnswersInputs
         (ActsIn reading.entry.call.now.encoding (Tables
         job.old.engine.rules job.old.engine.database.now job.old.engine.hint job.old.asked))
-        reading.entry.files.now job.old.counts
+        reading.entry.files.now job.old.totals
         (seen (S.to_come input.old) (S.faults input.old) (W.taken output.old)
         (W.faults output.old) (W.unflushed output.old))
         (seen (S.to_come input.new) (S.faults input.new) (W.taken output.new)
         (W.faults output.new) (W.unflushed output.new))
-        last end × (result ≡ status_of end) }
+        last end × ((result ≡ status_of end) ⊎ ((status_of end ≡ 0) × (result ≡ 1) ×
+        (is_some reading.entry.call.now.table.summary ≡ true))) }
 {
     match run(rt, reading, job, input, output, errors) {
-        0 => say_records(rt.alloc(), job, errors),
+        0 => sum_up(rt, reading.call.table.summary, job, errors),
         status => status,
     }
 }
@@ -736,5 +771,14 @@ fn asked<'t>(
         front: table.front,
         extra,
         short: reader.short,
+        is_summed: is_summed(table),
     }
+}
+
+/// Whether a summary is made: where a file is named for it, or words of what is suspicious are
+/// asked for, whose counts are told.
+fn is_summed(table: Table<'_>) -> bool
+    ensures { result ≡ (is_some table.entry.summary || table.entry.further.suspicion) }
+{
+    table.summary.is_some() || table.further.suspicion
 }

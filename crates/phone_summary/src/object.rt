@@ -44,8 +44,8 @@ fn put_tally(
 }
 
 impl Summary {
-    /// The object of the summary, whose members `types`, `regions`, `refusals` and `suspicions` have
-    /// each text with its count. Refused only for memory.
+    /// The object of the summary, whose members `refusals`, `regions`, `suspicions` and `types`
+    /// have each text with its count. Refused only for memory.
     fn object(&self, alloc: Global) -> Result<Value, AllocError>
         ensures { IfOk result (λ v. view v ≡ summary_object self.now) }
     {

@@ -213,6 +213,7 @@ pub record IsTable (ps : List Said) (t : Table) : Type 0 where
   pub duplicates : t.duplicates ≡ has ps (codes "--duplicates")
   pub mark_bad : t.mark_bad ≡ has ps (codes "--mark-bad-records")
   pub front : t.front.now ≡ text ps (codes "--prefix")
+  pub summary : text_in t.summary ≡ value ps (codes "--summary")
   pub further : IsFurther ps t.further
 
 -- a call says what this meaning is
