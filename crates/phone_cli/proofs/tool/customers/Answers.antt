@@ -1,8 +1,8 @@
 use Rattle.std.proofs.Common.{ap, inl, inr, refl, rules, ◌∙◌}
 use Rattle.phone_commands.specs.Columns.{asked}
 use Rattle.phone_commands.specs.declared.customers.Customers.{Customers}
-use Rattle.phone_cli.specs.Answers.Does.{no_memory, ran, refused}
-use Rattle.phone_cli.proofs.RunLemmas.{table_runs}
+use Rattle.phone_cli.specs.Answers.Does.{no_memory, refused}
+use Rattle.phone_cli.proofs.RunLemmas.{table_ran}
 use Rattle.phone_cli.proofs.tool.customers.Goals as goal
 
 pub returns-in-Err : goal.returns-in-Err
@@ -29,5 +29,6 @@ returns g c = λ is rules under loaded.
       asked = c.asked.result;
       counts = c.new-2.result;
       unknown = c.new-3.result;
-    } in rw c.run_table.ensures.3 (ran c.run_table.ensures.0 (table_runs _ _ _ job _ _ _ _ _ is
-    loaded (c.asked.ensures further (c.as_ref.ensures.variant ∙ c.in-Ok-countries_in.ensures)) rules under c.new-2.ensures c.run_table.ensures.2))
+    } in rw c.run_table.ensures.3 (table_ran _ _ _ job _ _ _ c.run_table.ensures.1
+    c.run_table.ensures.0 is
+    loaded (c.asked.ensures further (c.as_ref.ensures.variant ∙ c.in-Ok-countries_in.ensures)) rules under c.new-2.ensures c.run_table.ensures.2)
