@@ -10,16 +10,16 @@ use Rattle.phone_words.specs.Rows.{Lent}
 use Rattle.phone_cli.specs.declared.names.TheConstants.{REGIONS}
 
 -- the line of a region: its id, a tab and its English name
-abbrev pub region_line : Id × Lent → List ℕ
-region_line (id, english) = name id ++ (9 ∷ (english.now ++ 10 ∷ []))
+abbrev pub region_line : Id → List ℕ → List ℕ
+region_line id english = name id ++ (9 ∷ (english ++ 10 ∷ []))
 
 -- the lines of regions, one after the other
 abbrev pub region_lines : List (Id × Lent) → List ℕ
-region_lines regions = flat_map region_line regions
+region_lines regions = flat_map (λ (r : Id × Lent). region_line r.0 r.1.now) regions
 
 -- the answer to `--regions`: the line of each region
 unfoldable pub regions_text : List ℕ
-regions_text = region_lines REGIONS
+regions_text = flat_map (λ r. region_line r.0 r.1.now) REGIONS
 
 -- which program this is
 abbrev pub name_line : List ℕ

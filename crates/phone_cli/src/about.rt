@@ -51,7 +51,7 @@ fn write_region_lines<W: ByteSink>(output: &mut W, regions: &[(Id, &str)]) -> Re
 
 /// Writes the line of a region.
 fn write_region_line<W: ByteSink>(output: &mut W, id: Id, name: &str) -> Result<(), Fault>
-    ensures { Writes (region_line (id, name.entry)) (W.taken output.old) (W.faults output.old)
+    ensures { Writes (region_line id name.now) (W.taken output.old) (W.faults output.old)
         (W.taken output.new) (W.faults output.new) result }
 {
     write_str(output, id.as_str())?;
