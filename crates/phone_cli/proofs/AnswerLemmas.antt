@@ -5,7 +5,7 @@ use Rattle.std.specs.Prelude.{⊤, option_map}
 use Rattle.phone_commands.specs.EncodedJobs.{ActsIn}
 use Rattle.phone_commands.specs.FoundLines.{IsFoundLine, in_front, name_told}
 use Rattle.phone_commands.specs.Inputs.{InputsEnd, IsAnswered, IsStandard, Name}
-use Rattle.phone_commands.specs.Jobs.{AnswersLines, TakesLines}
+use Rattle.phone_commands.specs.Jobs.{TakesLines}
 use Rattle.phone_commands.specs.ObjectLines.{IsObjectLine, after_one}
 use Rattle.phone_commands.specs.ShortLines.{IsShortLine}
 use Rattle.phone_commands.specs.TableJobs.{AnswersTable}
@@ -55,25 +55,35 @@ answers_of acts (f ∷ fs) first before after last end s n =
     let some = not_empty f fs in named some (n some)
 
 -- the report
-abbrev pub ReportActs : Report → Devices → Devices → Report → Result ⊤ JobError → Type 0
-ReportActs r before after r' result = AnswersLines
-    (IsReportLine r.reader.engine.rules r.reader.engine.database.now r.reader.engine.hint)
-    before after result × (r' ≡ r)
+abbrev pub ReportGives : Report → List ℕ → List ℕ → Report → Type 0
+ReportGives = each_by_itself (λ (r : Report). IsReportLine r.reader.engine.rules
+    r.reader.engine.database.now r.reader.engine.hint)
 
 pub report_by : (e : Option Encoding) (files : List Name) (r : Report) (before after : Devices)
     (last : Report)
-    (end : Result ⊤ Failure) → AnswersInputs (ActsIn e ReportActs) files r before after last end →
+    (end : Result ⊤ Failure) →
+    AnswersInputs (ActsIn e (TakesLines begins_with_nothing ReportGives)) files r before after last
+    end →
     AnswersInputs (ActsIn e (Reports r.reader.engine.rules r.reader.engine.database.now
     r.reader.engine.hint)) files tt before after tt end
 report_by e files r before after last end =
-    answers_in ReportActs
+    answers_in (TakesLines begins_with_nothing ReportGives)
     (Reports r.reader.engine.rules r.reader.engine.database.now r.reader.engine.hint)
     (λ _. tt) (λ k. k ≡ r)
-    (λ a before after b end h act. (
-      subst (λ k. AnswersLines (IsReportLine k.reader.engine.rules
-          k.reader.engine.database.now k.reader.engine.hint) before after end) h act.0,
-      λ _. act.1 ∙ h,
-    )) e files r before after last end refl
+    (lines_by begins_with_nothing ReportGives begins_with_nothing
+    (each_by_itself (λ _. IsReportLine r.reader.engine.rules r.reader.engine.database.now
+    r.reader.engine.hint)) (λ _. tt) (λ k. k ≡ r)
+    (λ a head b h is. ((is.0, refl), is.1 ∙ h))
+    (λ a line answer b h is. (
+      (
+        is.0,
+        subst (λ (k : Report). IsReportLine k.reader.engine.rules k.reader.engine.database.now
+            k.reader.engine.hint line is.0) h is.1,
+        is.2,
+        refl,
+      ),
+      is.3 ∙ h,
+    ))) e files r before after last end refl
 
 -- objects
 abbrev pub ObjectsGive : Objects → List ℕ → List ℕ → Objects → Type 0

@@ -4,21 +4,22 @@ use Rattle.phone_device.specs.Passing.{Takes, TakesFront}
 use Rattle.phone_lines.specs.Ends.{Devices}
 use Rattle.phone_values.specs.Ids.{name}
 use Rattle.phone_values.specs.declared.country.Id.{Id}
-use Rattle.phone_values.specs.declared.country.TheConstants.{ALL}
 use Rattle.phone_values.specs.declared.rules.Rules.{Rules}
 use Rattle.phone_values.specs.declared.rules.Rules.TheVariants.{Crate, Library}
+use Rattle.phone_words.specs.Rows.{Lent}
+use Rattle.phone_cli.specs.declared.names.TheConstants.{REGIONS}
 
--- an id's line
-abbrev pub id_line : Id → List ℕ
-id_line id = name id ++ 10 ∷ []
+-- the line of a region: its id, a tab and its English name
+abbrev pub region_line : Id → List ℕ → List ℕ
+region_line id english = name id ++ (9 ∷ (english ++ 10 ∷ []))
 
--- the lines of ids, one after the other
-abbrev pub id_lines : List Id → List ℕ
-id_lines ids = flat_map id_line ids
+-- the lines of regions, one after the other
+abbrev pub region_lines : List (Id × Lent) → List ℕ
+region_lines regions = flat_map (λ (r : Id × Lent). region_line r.0 r.1.now) regions
 
--- the answer to `--regions`: each region's id, one a line
+-- the answer to `--regions`: the line of each region
 unfoldable pub regions_text : List ℕ
-regions_text = id_lines ALL
+regions_text = flat_map (λ r. region_line r.0 r.1.now) REGIONS
 
 -- which program this is
 abbrev pub name_line : List ℕ

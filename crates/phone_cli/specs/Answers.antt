@@ -9,7 +9,10 @@ use Rattle.phone_commands.specs.FirstLines.{IsFirstLine}
 use Rattle.phone_commands.specs.Inputs.{IsStandard, Name}
 use Rattle.phone_commands.specs.Jobs.{TakesLines}
 use Rattle.phone_commands.specs.ObjectLines.{after_one}
+use Rattle.phone_commands.specs.Strays.{CountsBegin, CountsLine, no_strays, no_tally}
 use Rattle.phone_commands.specs.declared.inputs.Failure.{Failure}
+use Rattle.phone_commands.specs.declared.strays.Strays.{Strays}
+use Rattle.phone_commands.specs.declared.strays.Tally.{Tally}
 use Rattle.phone_commands.specs.declared.takers.FirstLines.{FirstLines}
 use Rattle.phone_lines.specs.Ends.{Devices}
 use Rattle.phone_lines.specs.Taken.{begins_with_nothing}
@@ -106,6 +109,19 @@ pub data Runs (c : Call) (hint : Option Id) (files : List Name) (before after : 
       after last end →
       Runs c hint files before after end
 
+-- a command reads a table
+abbrev pub is_table : Command → Bool
+is_table command.Table = true
+is_table other = false
+
+-- the lines of the inputs of a call that aren't UTF-8; of a table none are counted
+pub data Meets (c : Call) (files : List Name) (before after : Devices)
+    (end : Result ⊤ Failure) : Strays → Type 0 where
+  of_lines : (t : Tally) → is_table c.command ≡ false →
+      AnswersInputs (ActsIn c.encoding (TakesLines CountsBegin CountsLine)) files
+      (no_tally c.skipped) before after t end → Meets c files before after end t.strays
+  of_table : c.command ≡ command.Table → Meets c files before after end no_strays
+
 -- what a call does once it reads and writes, and its status: a database or a table of prefixes is
 -- refused; the file of a summary is read or written as well; there is no memory for further
 -- columns; it answers its inputs; or it answers them whole, and a summary can't be written
@@ -116,10 +132,17 @@ pub data Does (c : Call) (hint : Option Id) (files : List Name) (before after : 
       RefusesBySome before after → Does c hint files before after 2
   no_memory : c.command ≡ command.Table → Refuses (codes "out of memory") before after →
       Does c hint files before after 1
+<<<<<<< HEAD
   ran : (end : Result ⊤ Failure) → Runs c hint files before.devices after.devices end →
       Does c hint files before after (status_of end)
   unsummed : (end : Result ⊤ Failure) → status_of end ≡ 0 → is_some c.table.summary ≡ true →
       Runs c hint files before.devices after.devices end → Does c hint files before after 1
+=======
+  ran : (end : Result ⊤ Failure) → (strays : Strays) →
+      Runs c hint files before.devices after.devices end →
+      Meets c files before.devices after.devices end strays →
+      Does c hint files before after (status_of c.lenient strays end)
+>>>>>>> 18676796b99a19885e5c107fadf1f82471c7a0e9
 
 -- a call reads numbers
 abbrev pub reads : Command → Bool

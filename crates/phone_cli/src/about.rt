@@ -1,13 +1,17 @@
 //! What the program says of itself, and of what words it knows.
-ghost use Rattle.std.specs.Prelude.{◌≡◌, ℕ, List, None, OnOk, Option, option_map, string_bytes};
-ghost use Rattle.phone_cli.specs.Abouts.{id_line, id_lines, regions_text, rules_line, table_line};
-ghost use Rattle.phone_cli.specs.Abouts.{version_text};
+ghost use Rattle.std.specs.Prelude.{◌≡◌, ℕ, List, None, OnOk, Option, map, option_map};
+ghost use Rattle.std.specs.Prelude.{string_bytes};
+ghost use Rattle.phone_cli.specs.Abouts.{region_line, region_lines, regions_text, rules_line};
+ghost use Rattle.phone_cli.specs.Abouts.{table_line, version_text};
 ghost use Rattle.phone_cli.specs.Streams.{Writes};
+ghost use Rattle.phone_cli.specs.declared.names.TheConstants.{REGIONS};
+ghost use Rattle.phone_values.specs.declared.country.TheConstants.{ALL};
 
+use crate::names::REGIONS;
 use crate::say::write_str;
 use phone_device::{ByteSink, Fault, write_out};
 use phone_engine::Rules;
-use phone_values::country::{ALL, Id};
+use phone_values::country::Id;
 use std::alloc::AllocGlobal;
 use std::fs::{self, Files};
 
@@ -23,33 +27,36 @@ pub(crate) fn write_text<W: ByteSink>(output: &mut W, text: &str) -> Result<(), 
     write_out(output, text.as_bytes())
 }
 
-/// Writes each region's id, one a line.
+/// Writes a line for each region: its id, a tab and its English name.
 pub(crate) fn write_regions<W: ByteSink>(output: &mut W) -> Result<(), Fault>
     ensures written { Writes regions_text (W.taken output.old) (W.faults output.old)
         (W.taken output.new) (W.faults output.new) result }
     ensures handed_on { OnOk result (W.unflushed output.new ≡ 0) }
+    ensures all { map (λ r. r.0) REGIONS ≡ ALL }
 {
-    write_ids(output, &ALL)?;
+    write_region_lines(output, &REGIONS)?;
     output.flush()
 }
 
-/// Writes ids, one a line.
-fn write_ids<W: ByteSink>(output: &mut W, ids: &[Id]) -> Result<(), Fault>
-    ensures { Writes (id_lines ids.now) (W.taken output.old) (W.faults output.old)
+/// Writes the lines of regions.
+fn write_region_lines<W: ByteSink>(output: &mut W, regions: &[(Id, &str)]) -> Result<(), Fault>
+    ensures { Writes (region_lines regions.now) (W.taken output.old) (W.faults output.old)
         (W.taken output.new) (W.faults output.new) result }
 {
-    for id in ids {
-        write_id(output, *id)?;
+    for (id, name) in regions {
+        write_region_line(output, *id, *name)?;
     }
     Ok(())
 }
 
-/// Writes an id and a line feed.
-fn write_id<W: ByteSink>(output: &mut W, id: Id) -> Result<(), Fault>
-    ensures { Writes (id_line id) (W.taken output.old) (W.faults output.old)
+/// Writes the line of a region.
+fn write_region_line<W: ByteSink>(output: &mut W, id: Id, name: &str) -> Result<(), Fault>
+    ensures { Writes (region_line id name.now) (W.taken output.old) (W.faults output.old)
         (W.taken output.new) (W.faults output.new) result }
 {
     write_str(output, id.as_str())?;
+    write_str(output, "\t")?;
+    write_str(output, name)?;
     write_str(output, "\n")
 }
 

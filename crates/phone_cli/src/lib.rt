@@ -5,6 +5,7 @@
 mod about;
 mod beside;
 mod failures;
+mod names;
 mod operands;
 mod outlet;
 mod say;
@@ -13,4 +14,5 @@ mod tool;
 mod written;
 
 pub use outlet::{Input, Meter, Outlet, Output};
+pub use phone_encodings::{Ahead, Inlet};
 pub use tool::program;

@@ -1,13 +1,14 @@
 //! The lines that are told of what failed, and the statuses that go with them.
 ghost use Rattle.std.specs.Prelude.{◌≡◌, codes};
-ghost use Rattle.phone_cli.specs.Statuses.{status_of_words};
+ghost use Rattle.phone_cli.specs.Statuses.{status_of_strays, status_of_words};
 ghost use Rattle.phone_cli.specs.Streams.{IsSomeTold, Writes, joined, line_of};
 ghost use Rattle.phone_engine.specs.Programs.{IsTold};
 ghost use Rattle.phone_words.specs.declared.parts.Why.TheVariants.{Memory};
 
+use crate::tool::Reading;
 use csv::ByteRecord;
 use itoa::Buffer;
-use phone_commands::{Customers, FirstLines};
+use phone_commands::{Customers, FirstLines, LinePlace, Strays};
 use phone_countries::Entry;
 use phone_device::{ByteSink, Fault, write_all};
 use phone_table::{Countries, Tally};
@@ -130,22 +131,10 @@ fn write_columns<E: ByteSink>(
     write_str(errors, "\n")
 }
 
-/// Whether a header begins with the mark of UTF-16.
-fn is_utf_16(header: &ByteRecord) -> bool {
-    matches!(header.get(0), Some([0xFF, 0xFE, ..] | [0xFE, 0xFF, ..]))
-}
-
-/// Tells that a header lacks a column, or that it is UTF-16, and gives the status.
+/// Tells that a header lacks a column, and gives the status.
 pub(crate) fn say_columns<E: ByteSink>(errors: &mut E, name: &str, header: &ByteRecord) -> u8
     ensures { result ≡ 2 }
 {
-    if is_utf_16(header) {
-        return say(
-            errors,
-            &["the input is UTF-16: --encoding utf-16 reads it"],
-            2,
-        );
-    }
     let _written = write_columns(errors, name, header);
     2
 }
@@ -327,4 +316,49 @@ pub(crate) fn say_records<E: ByteSink>(alloc: Global, job: &Customers<'_, '_>, e
     let _counted = write_suspicions(&job.totals.summary.suspicions, errors);
     let _written = write_records(job, errors);
     0
+}
+
+/// What is told behind the lines that aren't UTF-8.
+const NOT_TEXT: &str =
+    "; --encoding NAME reads another encoding, and --lenient leaves the status 0";
+
+/// The name of the file in which a line stands, where several are read.
+fn name_of<'w>(files: &[&'w str], place: LinePlace) -> Option<&'w str> {
+    if files.len() < 2 {
+        return None;
+    }
+    let at = usize::try_from(place.input.saturating_sub(1)).ok()?;
+    Some(*files.get(at)?)
+}
+
+/// Tells how many lines aren't UTF-8, and where the first one stands, and gives the status.
+pub(crate) fn say_strays<E: ByteSink>(
+    reading: Reading<'_, '_>,
+    strays: Strays,
+    errors: &mut E,
+) -> u8
+    ensures { result ≡ status_of_strays reading.entry.call.now.lenient strays }
+{
+    let Some(first) = strays.first else {
+        return 0;
+    };
+    let (mut count, mut line) = (Buffer::new(), Buffer::new());
+    let (of, name) = match name_of(reading.files, first) {
+        Some(name) => (" of ", name),
+        None => ("", ""),
+    };
+    let status = if reading.call.lenient { 0 } else { 1 };
+    say(
+        errors,
+        &[
+            "lines that aren't UTF-8: ",
+            count.format(strays.count),
+            ", the first is line ",
+            line.format(first.line),
+            of,
+            name,
+            if reading.call.lenient { "" } else { NOT_TEXT },
+        ],
+        status,
+    )
 }

@@ -16,7 +16,9 @@ ghost use Rattle.phone_commands.specs.Columns as columns;
 ghost use Rattle.phone_commands.specs.EncodedJobs.{ActsIn};
 ghost use Rattle.phone_commands.specs.Jobs.{TakesLines};
 ghost use Rattle.phone_commands.specs.ObjectLines.{after_one};
+ghost use Rattle.phone_commands.specs.Strays.{CountsBegin, CountsLine, no_strays, no_tally};
 ghost use Rattle.phone_commands.specs.declared.inputs.Failure.{Failure};
+ghost use Rattle.phone_commands.specs.declared.strays.Tally.{Tally};
 ghost use Rattle.phone_lines.specs.Ends.{seen};
 ghost use Rattle.std.specs.List.{list_any};
 ghost use Rattle.std.specs.Str.{bytes_eq};
@@ -29,14 +31,20 @@ use crate::beside::{Place, Target, Unfinished, create_beside, place_of, put_in_p
 use crate::failures::{say_failure, say_no_columns, say_refusal};
 use crate::operands::{hint_and_files, say_missing};
 use crate::outlet::Outlet;
+<<<<<<< HEAD
 use crate::say::{say, say_firsts, say_taken_summary, say_word_error};
 use crate::summing::sum_up;
 use crate::written::{is_read, taken_summary};
+=======
+use crate::say::{say, say_firsts, say_records, say_strays, say_word_error};
+use crate::written::is_read;
+>>>>>>> 18676796b99a19885e5c107fadf1f82471c7a0e9
 use phone_commands::{
     ByLines, Customers, Encoded, Finder, FirstLines, FoundForm, Job, LineTaker, Loaded, Objects,
-    Reader, Report, Shorts, Typist, WithInput, countries_in, on_inputs,
+    Reader, Report, Shorts, Tally, Typist, WithInput, countries_in, on_inputs,
 };
-use phone_device::{ByteSink, ByteSource, Fault, Std};
+use phone_device::{ByteSink, Fault, Std};
+use phone_encodings::Inlet;
 use phone_engine::{Engine, Rules};
 use phone_plans::Plans;
 use phone_table::{Asked, Countries, Extra, Totals, UnknownNames};
@@ -57,12 +65,22 @@ use std::fs::{self, Files};
 /// beside it, under its name, `.new-` and a number, and at another status removed. What is no
 /// file whose bytes are kept, as a pipe, is written as the output is.
 ///
+<<<<<<< HEAD
 /// Status 0: all was written. 1: an input, the output, the summary or memory failed, or a record of
 /// a table has another count of fields than the header; what is in front is written. 2: the words
 /// are no call, a file isn't there, a file to be written is read as well, or a table lacks a header
 /// or a column; then nothing is written. 3: a database or a table of prefixes was refused; then
 /// nothing is written.
 pub fn program<R: Files + AllocGlobal, S: ByteSource, W: Outlet, E: ByteSink>(
+=======
+/// Status 0: all was written. 1: an input, the output or memory failed, or a record of a table has
+/// another count of fields than the header; what is in front is written; or all was, and a line
+/// isn't UTF-8, where the call isn't lenient and reads no table. 2: the words are no call, a file
+/// isn't there, the file to be written is read as well, a table lacks a header or a column, or the
+/// input begins with the mark of UTF-16 and no encoding is named; then nothing of it is written. 3:
+/// a database or a table of prefixes was refused; then nothing is written.
+pub fn program<R: Files + AllocGlobal, S: Inlet, W: Outlet, E: ByteSink>(
+>>>>>>> 18676796b99a19885e5c107fadf1f82471c7a0e9
     rt: &R,
     words: &[&str],
     input: &mut S,
@@ -85,7 +103,7 @@ pub fn program<R: Files + AllocGlobal, S: ByteSource, W: Outlet, E: ByteSink>(
 }
 
 /// The program on a call.
-fn on_call<R: Files + AllocGlobal, S: ByteSource, W: Outlet, E: ByteSink>(
+fn on_call<R: Files + AllocGlobal, S: Inlet, W: Outlet, E: ByteSink>(
     rt: &R,
     call: &Call<'_>,
     input: &mut S,
@@ -189,7 +207,7 @@ pub(crate) struct Reading<'l, 'w> {
 }
 
 /// The program on a call that reads files.
-fn on_files<R: Files + AllocGlobal, S: ByteSource, W: Outlet, E: ByteSink>(
+fn on_files<R: Files + AllocGlobal, S: Inlet, W: Outlet, E: ByteSink>(
     rt: &R,
     call: &Call<'_>,
     input: &mut S,
@@ -261,7 +279,7 @@ fn no_database(command: Command) -> &'static str {
 }
 
 /// The program where a file is written.
-fn to_file<R: Files + AllocGlobal, S: ByteSource, E: ByteSink>(
+fn to_file<R: Files + AllocGlobal, S: Inlet, E: ByteSink>(
     rt: &R,
     reading: Reading<'_, '_>,
     name: &str,
@@ -292,7 +310,7 @@ fn to_file<R: Files + AllocGlobal, S: ByteSource, E: ByteSink>(
 }
 
 /// The program where a file is written that isn't one whose bytes are kept, as a pipe.
-fn to_file_itself<R: Files + AllocGlobal, S: ByteSource, E: ByteSink>(
+fn to_file_itself<R: Files + AllocGlobal, S: Inlet, E: ByteSink>(
     rt: &R,
     reading: Reading<'_, '_>,
     name: &str,
@@ -322,7 +340,7 @@ fn to_file_itself<R: Files + AllocGlobal, S: ByteSource, E: ByteSink>(
 
 /// The program where another file is written, which takes the place of the one of the name when all
 /// went well, and else is removed.
-fn to_file_beside<R: Files + AllocGlobal, S: ByteSource, E: ByteSink>(
+fn to_file_beside<R: Files + AllocGlobal, S: Inlet, E: ByteSink>(
     rt: &R,
     reading: Reading<'_, '_>,
     name: &str,
@@ -364,7 +382,7 @@ fn to_file_beside<R: Files + AllocGlobal, S: ByteSource, E: ByteSink>(
 }
 
 /// The program where the output is there: the database is loaded.
-fn on_reading<R: Files + AllocGlobal, S: ByteSource, W: Outlet, E: ByteSink>(
+fn on_reading<R: Files + AllocGlobal, S: Inlet, W: Outlet, E: ByteSink>(
     rt: &R,
     reading: Reading<'_, '_>,
     input: &mut S,
@@ -390,7 +408,7 @@ fn on_reading<R: Files + AllocGlobal, S: ByteSource, W: Outlet, E: ByteSink>(
 }
 
 /// The program where the database is loaded.
-fn on_database<R: Files + AllocGlobal, S: ByteSource, W: Outlet, E: ByteSink>(
+fn on_database<R: Files + AllocGlobal, S: Inlet, W: Outlet, E: ByteSink>(
     rt: &R,
     reading: Reading<'_, '_>,
     database: Plans,
@@ -436,7 +454,7 @@ fn shorts_of<'w>(reading: Reading<'_, 'w>) -> Option<&'w str>
 }
 
 /// The program where that database is loaded too.
-fn with_shorts<R: Files + AllocGlobal, S: ByteSource, W: Outlet, E: ByteSink>(
+fn with_shorts<R: Files + AllocGlobal, S: Inlet, W: Outlet, E: ByteSink>(
     rt: &R,
     reading: Reading<'_, '_>,
     database: &Plans,
@@ -484,7 +502,7 @@ fn reader_of<'d>(
 }
 
 /// The program where all databases are loaded, so that a reader reads the numbers.
-fn by_reader<R: Files + AllocGlobal, S: ByteSource, W: Outlet, E: ByteSink>(
+fn by_reader<R: Files + AllocGlobal, S: Inlet, W: Outlet, E: ByteSink>(
     rt: &R,
     reading: Reading<'_, '_>,
     database: &Plans,
@@ -526,12 +544,12 @@ fn by_reader<R: Files + AllocGlobal, S: ByteSource, W: Outlet, E: ByteSink>(
             run_lines(rt, reading, &mut taker, input, output, errors)
         }
         Command::Table => customers(rt, reading, reader, input, output, errors),
-        _ => run(rt, reading, &mut Report { reader }, input, output, errors),
+        _ => run_lines(rt, reading, &mut Report { reader }, input, output, errors),
     }
 }
 
-/// Answers the inputs, and tells of what failed.
-fn run<R: Files + AllocGlobal, S: ByteSource, W: Outlet, E: ByteSink, J: Job>(
+/// Answers the inputs, and tells of what failed, or else of what isn't UTF-8.
+fn run<R: Files + AllocGlobal, S: Inlet, W: Outlet, E: ByteSink, J: Job>(
     rt: &R,
     reading: Reading<'_, '_>,
     job: &mut J,
@@ -545,20 +563,28 @@ fn run<R: Files + AllocGlobal, S: ByteSource, W: Outlet, E: ByteSink, J: Job>(
         (W.faults output.old) (W.unflushed output.old))
         (seen (S.to_come input.new) (S.faults input.new) (W.taken output.new)
         (W.faults output.new) (W.unflushed output.new))
-        last end × (result ≡ status_of end) }
+        last end ×
+        (result ≡ status_of reading.entry.call.now.lenient (J.met last) end) }
 {
     let encoding = reading.call.encoding;
     let mut job = Encoded { job, encoding };
-    let end = on_inputs(rt, reading.files, input, output, &mut job);
+    let end = on_inputs(
+        rt,
+        reading.files,
+        encoding.is_none(),
+        input,
+        output,
+        &mut job,
+    );
     output.end_progress();
     match end {
-        Ok(()) => 0,
+        Ok(()) => say_strays(reading, job.strays(), errors),
         Err(failure) => say_failure(reading.call, &failure, output.is_closed(), errors),
     }
 }
 
-/// Answers the lines of the inputs, and tells of what failed.
-fn run_lines<R: Files + AllocGlobal, S: ByteSource, W: Outlet, E: ByteSink, T: LineTaker>(
+/// Answers the lines of the inputs, and tells of what failed, or else of those that aren't UTF-8.
+fn run_lines<R: Files + AllocGlobal, S: Inlet, W: Outlet, E: ByteSink, T: LineTaker>(
     rt: &R,
     reading: Reading<'_, '_>,
     taker: &mut T,
@@ -566,16 +592,25 @@ fn run_lines<R: Files + AllocGlobal, S: ByteSource, W: Outlet, E: ByteSink, T: L
     output: &mut W,
     errors: &mut E,
 ) -> u8
-    ensures { (end : Result ⊤ Failure) × (last : T) × AnswersInputs
+    ensures { (end : Result ⊤ Failure) × (last : T) × (tally : Tally) × AnswersInputs
         (ActsIn reading.entry.call.now.encoding (TakesLines T.begins T.gives))
         reading.entry.files.now taker.old
         (seen (S.to_come input.old) (S.faults input.old) (W.taken output.old)
         (W.faults output.old) (W.unflushed output.old))
         (seen (S.to_come input.new) (S.faults input.new) (W.taken output.new)
         (W.faults output.new) (W.unflushed output.new))
-        last end × (result ≡ status_of end) }
+        last end × AnswersInputs
+        (ActsIn reading.entry.call.now.encoding (TakesLines CountsBegin CountsLine))
+        reading.entry.files.now (no_tally reading.entry.call.now.skipped)
+        (seen (S.to_come input.old) (S.faults input.old) (W.taken output.old)
+        (W.faults output.old) (W.unflushed output.old))
+        (seen (S.to_come input.new) (S.faults input.new) (W.taken output.new)
+        (W.faults output.new) (W.unflushed output.new))
+        tally end ×
+        (result ≡ status_of reading.entry.call.now.lenient tally.strays end) }
 {
-    let mut job = ByLines { taker };
+    let tally = Tally::new(reading.call.skipped);
+    let mut job = ByLines { taker, tally };
     run(rt, reading, &mut job, input, output, errors)
 }
 
@@ -620,7 +655,7 @@ fn finder_of<'d, 'l>(reading: Reading<'l, 'l>, reader: Reader<'d>) -> Finder<'d,
 }
 
 /// The first line of each number; then their counts are told.
-fn firsts<R: Files + AllocGlobal, S: ByteSource, W: Outlet, E: ByteSink>(
+fn firsts<R: Files + AllocGlobal, S: Inlet, W: Outlet, E: ByteSink>(
     rt: &R,
     reading: Reading<'_, '_>,
     database: Plans,
@@ -648,8 +683,13 @@ fn firsts<R: Files + AllocGlobal, S: ByteSource, W: Outlet, E: ByteSink>(
     }
 }
 
+<<<<<<< HEAD
 /// A table of customers, unless its summary's file is read or written as well.
 fn customers<R: Files + AllocGlobal, S: ByteSource, W: Outlet, E: ByteSink>(
+=======
+/// A table of customers, with further columns where they are asked for.
+fn customers<R: Files + AllocGlobal, S: Inlet, W: Outlet, E: ByteSink>(
+>>>>>>> 18676796b99a19885e5c107fadf1f82471c7a0e9
     rt: &R,
     reading: Reading<'_, '_>,
     reader: Reader<'_>,
@@ -723,7 +763,7 @@ fn on_table<R: Files + AllocGlobal, S: ByteSource, W: Outlet, E: ByteSink>(
 }
 
 /// Answers a table, and tells what failed, or else its counts.
-fn run_table<R: Files + AllocGlobal, S: ByteSource, W: Outlet, E: ByteSink>(
+fn run_table<R: Files + AllocGlobal, S: Inlet, W: Outlet, E: ByteSink>(
     rt: &R,
     reading: Reading<'_, '_>,
     job: &mut Customers<'_, '_>,
@@ -739,8 +779,13 @@ fn run_table<R: Files + AllocGlobal, S: ByteSource, W: Outlet, E: ByteSink>(
         (W.faults output.old) (W.unflushed output.old))
         (seen (S.to_come input.new) (S.faults input.new) (W.taken output.new)
         (W.faults output.new) (W.unflushed output.new))
+<<<<<<< HEAD
         last end × ((result ≡ status_of end) ⊎ ((status_of end ≡ 0) × (result ≡ 1) ×
         (is_some reading.entry.call.now.table.summary ≡ true))) }
+=======
+        last end ×
+        (result ≡ status_of reading.entry.call.now.lenient no_strays end) }
+>>>>>>> 18676796b99a19885e5c107fadf1f82471c7a0e9
 {
     match run(rt, reading, job, input, output, errors) {
         0 => sum_up(rt, reading.call.table.summary, job, errors),

@@ -4,6 +4,7 @@ ghost use Rattle.phone_commands.specs.TableJobs.{AnswersTable, table_error};
 ghost use Rattle.phone_lines.specs.Ends.{seen};
 
 use crate::jobs::{Job, JobError};
+use crate::strays::Strays;
 use phone_csv::FirstError;
 use phone_device::{ByteSink, ByteSource};
 use phone_engine::Engine;
@@ -67,12 +68,20 @@ impl<'d, 'w> Customers<'d, 'w> {
 
 impl<'d, 'w> Job for Customers<'d, 'w> {
     ghost use Rattle.std.specs.Prelude.{◌≡◌};
+    ghost use Rattle.phone_commands.specs.Strays.{no_strays};
     ghost use Rattle.phone_commands.specs.TableJobs.{AnswersTable};
 
     // The answer to a table, whose totals and texts that name no region are kept anew.
     ghost acts = { λ c before after c' result. AnswersTable c.engine.rules c.engine.database.now
         c.engine.hint c.asked before after c'.totals result ×
         (c' ≡ record c { totals = c'.totals; unknown = c'.unknown }) };
+
+    // Of a table no line is counted.
+    ghost met = { λ _. no_strays };
+
+    fn strays(&self) -> Strays {
+        Strays::none()
+    }
 
     fn answer<S: ByteSource, W: ByteSink>(
         &mut self,

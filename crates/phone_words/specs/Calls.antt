@@ -223,6 +223,7 @@ pub record Says (m : Meaning) (c : Call) : Type 0 where
   pub skipped : c.skipped ≡ m.skipped
   pub delimiter : c.table.delimiter ≡ m.delimiter
   pub encoding : c.encoding ≡ m.encoding
+  pub lenient : c.lenient ≡ has m.parts (codes "--lenient")
   pub table : IsTable m.parts c.table
   pub database : text_in c.database ≡ value m.parts (codes "--database")
   pub short_database : text_in c.short_database ≡ value m.parts (codes "--short-database")

@@ -150,10 +150,13 @@ pub(crate) const ROWS: [Cells; 38] = rows! {
     "--encoding" "" "NAME" "" [] [] "
       the encoding of the inputs, in place of utf-8: utf-16 (its mark tells the order of its bytes),
       utf-16le, utf-16be, latin-1 or windows-1252. What is written is UTF-8"
+    "--lenient" "" "" "" [] [] "
+      a line that isn't UTF-8 leaves the status 0, which is 1 without this option. How many there
+      are, and where the first one stands, is told on standard error. Of a table none are counted"
     "--skipped" "" "N" "" [] [] "
       lines are counted as if N stood before them (of a table: after its header)"
     "--regions" "" "" "" [] [] "
-      lists the ids of regions"
+      lists the regions, each by its id, a tab and its English name"
     "--version" "-V" "" "" [] [] "
       tells the version of the program and of the table of the world"
     "--help" "-h" "" "" [] [] "
