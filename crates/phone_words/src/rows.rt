@@ -44,7 +44,7 @@ macro_rules! rows {
 
 /// The options, each by its name, its name of one letter, what its value is, the word beside which
 /// it counts, what it needs, what it doesn't go with, and its help.
-pub(crate) const ROWS: [Cells; 38] = rows! {
+pub(crate) const ROWS: [Cells; 39] = rows! {
     "--json" "" "" "" [] ["--unique" "--typed" "--short"] "
       a JSON object a line: the line's number and text, and the fields that --csv gives; with
       --find an object for each number: line, column, text, those fields but the refusal, and
