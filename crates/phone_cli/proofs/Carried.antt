@@ -1,7 +1,7 @@
 -- Answers to inputs, told by a part of what is kept.
 use Rattle.std.proofs.Common.{◌≡◌, ◌⊎◌, ⊎_elim, inl, inr, ℕ, List, Option, None, Some, Result, Ok}
-use Rattle.std.proofs.Common.{Err, ap, refl, sym, ◌∙◌}
-use Rattle.std.specs.Prelude.{⊤, is_none}
+use Rattle.std.proofs.Common.{Err, ap, refl, subst, sym, ◌∙◌}
+use Rattle.std.specs.Prelude.{Bool, ⊤, false, is_none, is_some, not, true}
 use Rattle.phone_commands.specs.EncodedJobs.{ActsIn, ActsOn, ActsUnmarked, Asked, as_text}
 use Rattle.phone_commands.specs.EncodedJobs.ActsUnmarked.{answered, unread, utf_16}
 use Rattle.phone_commands.specs.Inputs.{AreAnswered, InputsEnd, IsAnswered, Name}
@@ -87,12 +87,12 @@ module _ {A B : Type 0} (acts : A → Devices → Devices → A → Result ⊤ J
   unmarked : (a : A) (before after : Devices) (b : A) (end : Result ⊤ JobError) → holds a →
       ActsUnmarked acts a before after b end →
       ActsUnmarked parts (part a) before after (part b) end × (end ≡ Ok tt → holds b)
-  unmarked a before after b _ h (answered end none act) =
-      let s = step a before after b end h act in (answered end none s.0, s.1)
+  unmarked a before after b _ h (answered end clear act) =
+      let s = step a before after b end h act in (answered end clear s.0, s.1)
   unmarked a before after b _ h (utf_16 mark same kept) =
       (utf_16 mark same (ap part kept), λ e. absurd (cc))
-  unmarked a before after b _ h (unread failed kept) =
-      (unread failed (ap part kept), λ e. absurd (cc))
+  unmarked a before after b _ h (unread fault kept) =
+      (unread fault (ap part kept), λ e. absurd (cc))
 
   -- and those in an encoding
   encoded : (e : Option Encoding) (a : A) (before after : Devices) (b : A)
@@ -118,6 +118,13 @@ module _ {A B : Type 0} (acts : A → Devices → Devices → A → Result ⊤ J
   answers_in e = answers_by (ActsIn e acts) (ActsIn e parts) part holds
       (encoded acts parts part holds step e)
 
+-- what is asked where there is none
+pub asks_by : (e : Option Encoding) (asks : Bool) → is_some e ≡ not asks → asks ≡ is_none e
+asks_by None true h = refl
+asks_by None false h = absurd (cc)
+asks_by (Some e) false h = refl
+asks_by (Some e) true h = absurd (cc)
+
 -- inputs in an encoding, which are asked for the mark of UTF-16 where none is named
 module _ {A B : Type 0} (named : A → Option Encoding) (own : A → B)
     (acts : B → Devices → Devices → B → Result ⊤ JobError → Type 0) where
@@ -137,12 +144,12 @@ module _ {A B : Type 0} (named : A → Option Encoding) (own : A → B)
       (end : Result ⊤ JobError) → named a ≡ e →
       Asked (is_none e) In a before after b end →
       ActsIn e acts (own a) before after (own b) end × (end ≡ Ok tt → named b ≡ e)
-  asked_in None a before after b _ h (answered end none act) =
-      let s = one_in None a before after b end h act in (answered end none s.0, λ _. s.1)
+  asked_in None a before after b _ h (answered end clear act) =
+      let s = one_in None a before after b end h act in (answered end clear s.0, λ _. s.1)
   asked_in None a before after b _ h (utf_16 mark same kept) =
       (utf_16 mark same (ap own kept), λ e. absurd (cc))
-  asked_in None a before after b _ h (unread failed kept) =
-      (unread failed (ap own kept), λ e. absurd (cc))
+  asked_in None a before after b _ h (unread fault kept) =
+      (unread fault (ap own kept), λ e. absurd (cc))
   asked_in (Some e) a before after b end h act =
       let s = one_in (Some e) a before after b end h act in (s.0, λ _. s.1)
 

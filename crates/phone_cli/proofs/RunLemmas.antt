@@ -1,7 +1,7 @@
 -- What a call's command answers to its inputs, by what its taker or its job is made of.
 use Rattle.std.proofs.Common.{◌≡◌, ◌⊎◌, ℕ, List, [], false, true, Option, Some, Result, ap, inl, inr, refl}
 use Rattle.std.proofs.Common.{subst}
-use Rattle.std.specs.Prelude.{⊤, option_map}
+use Rattle.std.specs.Prelude.{⊤, is_some, option_map}
 use Rattle.phone_commands.specs.EncodedJobs.{ActsIn}
 use Rattle.phone_commands.specs.FirstLines.{IsFirstLine}
 use Rattle.phone_commands.specs.Inputs.{Name}
@@ -31,19 +31,15 @@ use Rattle.phone_words.specs.declared.command.Command.{Command}
 use Rattle.phone_words.specs.declared.command.Command.TheVariants as command
 use Rattle.phone_cli.specs.Answers.{AnswersReading, Does, IsAsked, IsLoaded, Runs, finds}
 use Rattle.phone_cli.specs.Answers.{is_table, reads}
-use Rattle.phone_cli.specs.Answers.Does.{ran}
+use Rattle.phone_cli.specs.Answers.Does.{ran, unsummed}
 use Rattle.phone_cli.specs.Answers.Meets.{of_lines, of_table}
 use Rattle.phone_cli.specs.Answers.Runs.{firsts, found, objects, report, short, table, typed, with_input}
 use Rattle.phone_cli.specs.Commands.{AnswersInputs, BeginsFound, Finding, GivesFound}
 use Rattle.phone_cli.specs.Commands.{GivesObjects, GivesWithInput, Reports, Tables}
 use Rattle.phone_cli.specs.Commands.{found_form, no_first_lines}
 use Rattle.phone_cli.specs.Operands.{files_of, has_reader, region_and_files, region_of}
-<<<<<<< HEAD
 use Rattle.phone_cli.specs.Operands.{IsApart, shorts_of}
-=======
-use Rattle.phone_cli.specs.Operands.{shorts_of}
 use Rattle.phone_cli.specs.Statuses.{status_of}
->>>>>>> 18676796b99a19885e5c107fadf1f82471c7a0e9
 use Rattle.phone_cli.specs.Streams.{Streams}
 use Rattle.phone_cli.proofs.AnswerLemmas.{FinderBegins, FinderGives, ObjectsGive}
 use Rattle.phone_cli.proofs.AnswerLemmas.{ReportGives, ShortsGive, TypistGives, WithInputGives, finding, found_by}
@@ -239,32 +235,29 @@ table_runs c hint files k shorts before after last end is apart loaded asked rul
     let by_rules = subst (λ x. AnswersInputs (ActsIn c.encoding (Tables x db k.engine.hint
     k.asked)) files k.totals
     before after last end) rules act in
-<<<<<<< HEAD
     table db shorts k.asked k.totals last is apart loaded asked
     (subst (λ x. AnswersInputs (ActsIn c.encoding (Tables c.rules db x k.asked)) files k.totals
     before after last end) under by_rules)
-=======
-    let by_hint = subst (λ x. AnswersInputs (ActsIn c.encoding (Tables c.rules db x k.asked)) files
-    k.counts before
-    after last end) under by_rules in
-    table db shorts k.asked last is loaded asked
-    (subst (λ x. AnswersInputs (ActsIn c.encoding (Tables c.rules db hint k.asked)) files x before
-    after last end)
-    none by_hint)
 
--- it ran
-pub table_ran : (c : Call) (hint : Option Id) (files : List Name) (k : Customers)
-    (shorts : Option (List Metadata)) (before after : Streams) (last : Counts)
-    (end : Result ⊤ Failure) → c.command ≡ command.Table →
+-- it ran; or it ran whole, and its summary can't be written
+pub table_does : (c : Call) (hint : Option Id) (files : List Name) (k : Customers)
+    (shorts : Option (List Metadata)) (before after : Streams) (last : Totals)
+    (end : Result ⊤ Failure) (status : ℕ) → c.command ≡ command.Table → IsApart c files →
     IsLoaded (shorts_of c) shorts → IsAsked c.table shorts k.asked →
-    k.engine.rules ≡ c.rules → k.engine.hint ≡ hint → k.counts ≡ no_counts →
+    k.engine.rules ≡ c.rules → k.engine.hint ≡ hint →
     AnswersInputs (ActsIn c.encoding (Tables k.engine.rules k.engine.database.now k.engine.hint
     k.asked)) files
-    k.counts before.devices after.devices last end →
-    Does c hint files before after (status_of c.lenient no_strays end)
-table_ran c hint files k shorts before after last end is loaded asked rules under none act =
-    ran end no_strays (table_runs c hint files k shorts before.devices after.devices last end is
-    loaded asked rules under none act) (of_table is)
+    k.totals before.devices after.devices last end →
+    ((status ≡ status_of c.lenient no_strays end) ⊎
+    ((status_of c.lenient no_strays end ≡ 0) × (status ≡ 1) ×
+    (is_some c.table.summary ≡ true))) →
+    Does c hint files before after status
+table_does c hint files k shorts before after last end status is apart loaded asked rules under act
+    (inl e) = rw e (ran end no_strays (table_runs c hint files k shorts before.devices after.devices
+    last end is apart loaded asked rules under act) (of_table is))
+table_does c hint files k shorts before after last end status is apart loaded asked rules under act
+    (inr (whole, one, named)) = rw one (unsummed end whole is named (table_runs c hint files k
+    shorts before.devices after.devices last end is apart loaded asked rules under act))
 
 -- lines are those of a command that reads no table
 pub lines_ran : (c : Call) (hint : Option Id) (files : List Name) (before after : Streams)
@@ -291,4 +284,3 @@ finds_no_table command.Version f = absurd (cc)
 finds_no_table command.Regions f = absurd (cc)
 finds_no_table command.Unique f = absurd (cc)
 finds_no_table command.Short f = absurd (cc)
->>>>>>> 18676796b99a19885e5c107fadf1f82471c7a0e9

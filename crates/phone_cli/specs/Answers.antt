@@ -132,17 +132,13 @@ pub data Does (c : Call) (hint : Option Id) (files : List Name) (before after : 
       RefusesBySome before after → Does c hint files before after 2
   no_memory : c.command ≡ command.Table → Refuses (codes "out of memory") before after →
       Does c hint files before after 1
-<<<<<<< HEAD
-  ran : (end : Result ⊤ Failure) → Runs c hint files before.devices after.devices end →
-      Does c hint files before after (status_of end)
-  unsummed : (end : Result ⊤ Failure) → status_of end ≡ 0 → is_some c.table.summary ≡ true →
-      Runs c hint files before.devices after.devices end → Does c hint files before after 1
-=======
   ran : (end : Result ⊤ Failure) → (strays : Strays) →
       Runs c hint files before.devices after.devices end →
       Meets c files before.devices after.devices end strays →
       Does c hint files before after (status_of c.lenient strays end)
->>>>>>> 18676796b99a19885e5c107fadf1f82471c7a0e9
+  unsummed : (end : Result ⊤ Failure) → status_of c.lenient no_strays end ≡ 0 →
+      c.command ≡ command.Table → is_some c.table.summary ≡ true →
+      Runs c hint files before.devices after.devices end → Does c hint files before after 1
 
 -- a call reads numbers
 abbrev pub reads : Command → Bool

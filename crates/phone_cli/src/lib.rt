@@ -5,6 +5,7 @@
 mod about;
 mod beside;
 mod failures;
+mod made;
 mod names;
 mod operands;
 mod outlet;

@@ -1,5 +1,5 @@
 //! The lines that are told of what failed, and the statuses that go with them.
-ghost use Rattle.std.specs.Prelude.{◌≡◌, codes};
+ghost use Rattle.std.specs.Prelude.{◌≡◌, codes, if◌then◌else◌, not};
 ghost use Rattle.phone_cli.specs.Statuses.{status_of_strays, status_of_words};
 ghost use Rattle.phone_cli.specs.Streams.{IsSomeTold, Writes, joined, line_of};
 ghost use Rattle.phone_engine.specs.Programs.{IsTold};
@@ -331,6 +331,35 @@ fn name_of<'w>(files: &[&'w str], place: LinePlace) -> Option<&'w str> {
     Some(*files.get(at)?)
 }
 
+/// Tells that so many lines aren't UTF-8, and that the first one stands there, in the file of a
+/// name, and gives the status.
+fn say_stray_lines<'t, E: ByteSink>(
+    errors: &mut E,
+    count: &'t str,
+    line: &'t str,
+    of: &'t str,
+    name: &'t str,
+    lenient: bool,
+) -> u8
+    ensures { result ≡ (if not lenient then 1 else 0) }
+{
+    let more = if lenient { "" } else { NOT_TEXT };
+    let status = if lenient { 0 } else { 1 };
+    say(
+        errors,
+        &[
+            "lines that aren't UTF-8: ",
+            count,
+            ", the first is line ",
+            line,
+            of,
+            name,
+            more,
+        ],
+        status,
+    )
+}
+
 /// Tells how many lines aren't UTF-8, and where the first one stands, and gives the status.
 pub(crate) fn say_strays<E: ByteSink>(
     reading: Reading<'_, '_>,
@@ -343,22 +372,11 @@ pub(crate) fn say_strays<E: ByteSink>(
         return 0;
     };
     let (mut count, mut line) = (Buffer::new(), Buffer::new());
-    let (of, name) = match name_of(reading.files, first) {
-        Some(name) => (" of ", name),
-        None => ("", ""),
-    };
-    let status = if reading.call.lenient { 0 } else { 1 };
-    say(
-        errors,
-        &[
-            "lines that aren't UTF-8: ",
-            count.format(strays.count),
-            ", the first is line ",
-            line.format(first.line),
-            of,
-            name,
-            if reading.call.lenient { "" } else { NOT_TEXT },
-        ],
-        status,
-    )
+    let count = count.format(strays.count);
+    let line = line.format(first.line);
+    let lenient = reading.call.lenient;
+    match name_of(reading.files, first) {
+        Some(name) => say_stray_lines(errors, count, line, " of ", name, lenient),
+        None => say_stray_lines(errors, count, line, "", "", lenient),
+    }
 }

@@ -1,10 +1,10 @@
 //! The program over its words, files and devices.
-ghost use Rattle.std.specs.Prelude.{◌≡◌, ◌||◌, ◌⊎◌, ℕ, List, MatchResult, Option, Result};
+ghost use Rattle.std.specs.Prelude.{◌≡◌, ◌⊎◌, ℕ, List, MatchResult, Option, Result};
 ghost use Rattle.std.specs.Prelude.{Some, ⊤};
 ghost use Rattle.std.specs.Prelude.{codes, is_some, option_map, false, true};
 ghost use Rattle.phone_cli.specs.Abouts.{Tells};
-ghost use Rattle.phone_cli.specs.Answers.{Answers, AnswersReading, Does, IsAsked, IsLoaded, reads};
-ghost use Rattle.phone_cli.specs.Commands.{AnswersInputs, Tables, found_form};
+ghost use Rattle.phone_cli.specs.Answers.{Answers, AnswersReading, Does, IsLoaded, reads};
+ghost use Rattle.phone_cli.specs.Commands.{AnswersInputs, Tables};
 ghost use Rattle.phone_cli.specs.Operands.{IsApart, database_of, files_of, has_reader};
 ghost use Rattle.phone_cli.specs.Operands.{ignores_words};
 ghost use Rattle.phone_cli.specs.Operands.{is_misfit, names_read, region_of, shorts_of};
@@ -12,10 +12,8 @@ ghost use Rattle.phone_cli.specs.Operands.{tells_alone};
 ghost use Rattle.phone_cli.specs.Programs.{Acts};
 ghost use Rattle.phone_cli.specs.Statuses.{status_of};
 ghost use Rattle.phone_cli.specs.Streams.{Refuses, streams};
-ghost use Rattle.phone_commands.specs.Columns as columns;
 ghost use Rattle.phone_commands.specs.EncodedJobs.{ActsIn};
 ghost use Rattle.phone_commands.specs.Jobs.{TakesLines};
-ghost use Rattle.phone_commands.specs.ObjectLines.{after_one};
 ghost use Rattle.phone_commands.specs.Strays.{CountsBegin, CountsLine, no_strays, no_tally};
 ghost use Rattle.phone_commands.specs.declared.inputs.Failure.{Failure};
 ghost use Rattle.phone_commands.specs.declared.strays.Tally.{Tally};
@@ -29,26 +27,22 @@ ghost use Rattle.phone_words.specs.declared.command.Command.TheVariants as comma
 use crate::about::{write_regions, write_text, write_version};
 use crate::beside::{Place, Target, Unfinished, create_beside, place_of, put_in_place};
 use crate::failures::{say_failure, say_no_columns, say_refusal};
+use crate::made::{asked, finder_of, objects_of};
 use crate::operands::{hint_and_files, say_missing};
 use crate::outlet::Outlet;
-<<<<<<< HEAD
-use crate::say::{say, say_firsts, say_taken_summary, say_word_error};
+use crate::say::{say, say_firsts, say_strays, say_taken_summary, say_word_error};
 use crate::summing::sum_up;
 use crate::written::{is_read, taken_summary};
-=======
-use crate::say::{say, say_firsts, say_records, say_strays, say_word_error};
-use crate::written::is_read;
->>>>>>> 18676796b99a19885e5c107fadf1f82471c7a0e9
 use phone_commands::{
-    ByLines, Customers, Encoded, Finder, FirstLines, FoundForm, Job, LineTaker, Loaded, Objects,
-    Reader, Report, Shorts, Tally, Typist, WithInput, countries_in, on_inputs,
+    ByLines, Customers, Encoded, FirstLines, Job, LineTaker, Loaded, Reader, Report, Shorts, Tally,
+    Typist, WithInput, countries_in, on_inputs,
 };
 use phone_device::{ByteSink, Fault, Std};
 use phone_encodings::Inlet;
 use phone_engine::{Engine, Rules};
 use phone_plans::Plans;
-use phone_table::{Asked, Countries, Extra, Totals, UnknownNames};
-use phone_words::{Call, Command, Table, call_of, help};
+use phone_table::{Totals, UnknownNames};
+use phone_words::{Call, Command, call_of, help};
 use phonenumber::country::Id;
 use std::alloc::AllocGlobal;
 use std::fs::{self, Files};
@@ -65,22 +59,13 @@ use std::fs::{self, Files};
 /// beside it, under its name, `.new-` and a number, and at another status removed. What is no
 /// file whose bytes are kept, as a pipe, is written as the output is.
 ///
-<<<<<<< HEAD
 /// Status 0: all was written. 1: an input, the output, the summary or memory failed, or a record of
-/// a table has another count of fields than the header; what is in front is written. 2: the words
-/// are no call, a file isn't there, a file to be written is read as well, or a table lacks a header
-/// or a column; then nothing is written. 3: a database or a table of prefixes was refused; then
-/// nothing is written.
-pub fn program<R: Files + AllocGlobal, S: ByteSource, W: Outlet, E: ByteSink>(
-=======
-/// Status 0: all was written. 1: an input, the output or memory failed, or a record of a table has
-/// another count of fields than the header; what is in front is written; or all was, and a line
-/// isn't UTF-8, where the call isn't lenient and reads no table. 2: the words are no call, a file
-/// isn't there, the file to be written is read as well, a table lacks a header or a column, or the
-/// input begins with the mark of UTF-16 and no encoding is named; then nothing of it is written. 3:
-/// a database or a table of prefixes was refused; then nothing is written.
+/// a table has another count of fields than the header; what is in front is written; or all was,
+/// and a line isn't UTF-8, where the call isn't lenient and reads no table. 2: the words are no
+/// call, a file isn't there, a file to be written is read as well, a table lacks a header or a
+/// column, or the input begins with the mark of UTF-16 and no encoding is named; then nothing of it
+/// is written. 3: a database or a table of prefixes was refused; then nothing is written.
 pub fn program<R: Files + AllocGlobal, S: Inlet, W: Outlet, E: ByteSink>(
->>>>>>> 18676796b99a19885e5c107fadf1f82471c7a0e9
     rt: &R,
     words: &[&str],
     input: &mut S,
@@ -614,46 +599,6 @@ fn run_lines<R: Files + AllocGlobal, S: Inlet, W: Outlet, E: ByteSink, T: LineTa
     run(rt, reading, &mut job, input, output, errors)
 }
 
-/// What answers each line by an object.
-fn objects_of<'d>(reading: Reading<'_, '_>, reader: Reader<'d>) -> Objects<'d>
-    ensures reader { result.reader ≡ reader.entry }
-    ensures place { result.place ≡ after_one reading.entry.call.now.skipped }
-{
-    let place = reading.call.skipped.saturating_add(1);
-    Objects { reader, place }
-}
-
-/// How a command tells the numbers that it finds.
-fn found_form(command: Command) -> FoundForm
-    ensures { result ≡ found_form command }
-{
-    match command {
-        Command::FoundObjects => FoundForm::Object,
-        Command::FoundRecords => FoundForm::Record,
-        _ => FoundForm::Fields,
-    }
-}
-
-/// What finds the numbers that stand in the inputs.
-fn finder_of<'d, 'l>(reading: Reading<'l, 'l>, reader: Reader<'d>) -> Finder<'d, 'l>
-    ensures reader { result.reader ≡ reader.entry }
-    ensures form { result.form ≡ found_form reading.entry.call.now.command }
-    ensures first { result.first ≡ after_one reading.entry.call.now.skipped }
-    ensures place { result.place ≡ after_one reading.entry.call.now.skipped }
-    ensures names { result.names ≡ reading.entry.files }
-    ensures begun { result.begun ≡ 0 }
-{
-    let first = reading.call.skipped.saturating_add(1);
-    Finder {
-        reader,
-        form: found_form(reading.call.command),
-        first,
-        place: first,
-        names: reading.files,
-        begun: 0,
-    }
-}
-
 /// The first line of each number; then their counts are told.
 fn firsts<R: Files + AllocGlobal, S: Inlet, W: Outlet, E: ByteSink>(
     rt: &R,
@@ -683,13 +628,8 @@ fn firsts<R: Files + AllocGlobal, S: Inlet, W: Outlet, E: ByteSink>(
     }
 }
 
-<<<<<<< HEAD
 /// A table of customers, unless its summary's file is read or written as well.
-fn customers<R: Files + AllocGlobal, S: ByteSource, W: Outlet, E: ByteSink>(
-=======
-/// A table of customers, with further columns where they are asked for.
 fn customers<R: Files + AllocGlobal, S: Inlet, W: Outlet, E: ByteSink>(
->>>>>>> 18676796b99a19885e5c107fadf1f82471c7a0e9
     rt: &R,
     reading: Reading<'_, '_>,
     reader: Reader<'_>,
@@ -718,7 +658,7 @@ fn customers<R: Files + AllocGlobal, S: Inlet, W: Outlet, E: ByteSink>(
 }
 
 /// A table of customers, with further columns where they are asked for.
-fn on_table<R: Files + AllocGlobal, S: ByteSource, W: Outlet, E: ByteSink>(
+fn on_table<R: Files + AllocGlobal, S: Inlet, W: Outlet, E: ByteSink>(
     rt: &R,
     reading: Reading<'_, '_>,
     reader: Reader<'_>,
@@ -779,51 +719,12 @@ fn run_table<R: Files + AllocGlobal, S: Inlet, W: Outlet, E: ByteSink>(
         (W.faults output.old) (W.unflushed output.old))
         (seen (S.to_come input.new) (S.faults input.new) (W.taken output.new)
         (W.faults output.new) (W.unflushed output.new))
-<<<<<<< HEAD
-        last end × ((result ≡ status_of end) ⊎ ((status_of end ≡ 0) × (result ≡ 1) ×
+        last end × ((result ≡ status_of reading.entry.call.now.lenient no_strays end) ⊎
+        ((status_of reading.entry.call.now.lenient no_strays end ≡ 0) × (result ≡ 1) ×
         (is_some reading.entry.call.now.table.summary ≡ true))) }
-=======
-        last end ×
-        (result ≡ status_of reading.entry.call.now.lenient no_strays end) }
->>>>>>> 18676796b99a19885e5c107fadf1f82471c7a0e9
 {
     match run(rt, reading, job, input, output, errors) {
         0 => sum_up(rt, reading.call.table.summary, job, errors),
         status => status,
     }
-}
-
-/// What is asked of a table that this reads, with these further columns and names of regions.
-fn asked<'t>(
-    table: Table<'t>,
-    reader: Reader<'t>,
-    extra: &'t [Extra<'t>],
-    countries: Option<&'t Countries>,
-) -> Asked<'t>
-    ensures { columns.asked extra.entry.now ≡ columns.columns_for table.entry.further →
-        is_some countries.entry ≡ is_some table.entry.countries →
-        IsAsked table.entry (option_map (λ d. d.now) reader.entry.short) result }
-{
-    Asked {
-        number: table.column,
-        region: table.region_column,
-        countries,
-        delimiter: table.delimiter,
-        else_hint: table.fallback_region,
-        mark_bad: table.mark_bad,
-        is_unique: table.is_unique,
-        tells_duplicates: table.duplicates,
-        front: table.front,
-        extra,
-        short: reader.short,
-        is_summed: is_summed(table),
-    }
-}
-
-/// Whether a summary is made: where a file is named for it, or words of what is suspicious are
-/// asked for, whose counts are told.
-fn is_summed(table: Table<'_>) -> bool
-    ensures { result ≡ (is_some table.entry.summary || table.entry.further.suspicion) }
-{
-    table.summary.is_some() || table.further.suspicion
 }

@@ -1,8 +1,8 @@
 use Rattle.std.proofs.Common.{ap, inl, inr, refl, rules, ◌∙◌}
 use Rattle.phone_commands.specs.Columns.{asked}
 use Rattle.phone_commands.specs.declared.customers.Customers.{Customers}
-use Rattle.phone_cli.specs.Answers.Does.{no_memory, ran, refused, unsummed}
-use Rattle.phone_cli.proofs.RunLemmas.{table_runs}
+use Rattle.phone_cli.specs.Answers.Does.{no_memory, refused}
+use Rattle.phone_cli.proofs.RunLemmas.{table_does}
 use Rattle.phone_cli.proofs.tool.on_table.Goals as goal
 
 pub returns-in-Err : goal.returns-in-Err
@@ -30,9 +30,6 @@ returns g c = λ is rules under loaded apart.
       totals = c.new-2.result;
       unknown = c.new-3.result;
     } in
-    let runs = table_runs _ _ _ job _ _ _ _ _ is apart
-    loaded (c.asked.ensures further (c.as_ref.ensures.variant ∙ c.in-Ok-countries_in.ensures)) rules under c.run_table.ensures.2 in
-    elim c.run_table.ensures.3 [
-      | inl e ↦ rw e (ran c.run_table.ensures.0 runs)
-      | inr (whole, status, named) ↦ rw status (unsummed c.run_table.ensures.0 whole named runs)
-    ]
+    table_does _ _ _ job _ _ _ c.run_table.ensures.1 c.run_table.ensures.0 _ is apart
+    loaded (c.asked.ensures further (c.as_ref.ensures.variant ∙ c.in-Ok-countries_in.ensures)) rules under c.run_table.ensures.2
+    c.run_table.ensures.3
