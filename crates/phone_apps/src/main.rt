@@ -2,7 +2,7 @@
 //! writes, and the status that it ends with, is told at `phone_cli::program`.
 #![tactic(auto)]
 
-use phone_cli::{Input, Meter, Output, program};
+use phone_cli::{Ahead, Input, Meter, Output, program};
 use phone_device::Std;
 use std::alloc::{AllocError, Global};
 use std::env::{self, Args};
@@ -27,7 +27,7 @@ fn notice(rt: &HostRuntime) -> Option<Stderr> {
 
 /// Runs the program on these words and the standard streams.
 fn on_streams(rt: &HostRuntime, words: &[&str]) -> u8 {
-    let mut input = Input::new(rt.stdin().lock(), notice(rt));
+    let mut input = Ahead::new(Input::new(rt.stdin().lock(), notice(rt)));
     let mut output = Output::new(rt.stdout(), meter(rt));
     let mut errors = Std::new(rt.stderr());
     program(rt, words, &mut input, &mut output, &mut errors)

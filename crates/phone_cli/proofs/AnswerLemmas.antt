@@ -5,7 +5,7 @@ use Rattle.std.specs.Prelude.{⊤, option_map}
 use Rattle.phone_commands.specs.EncodedJobs.{ActsIn}
 use Rattle.phone_commands.specs.FoundLines.{IsFoundLine, in_front, name_told}
 use Rattle.phone_commands.specs.Inputs.{InputsEnd, IsAnswered, IsStandard, Name}
-use Rattle.phone_commands.specs.Jobs.{AnswersLines, TakesLines}
+use Rattle.phone_commands.specs.Jobs.{TakesLines}
 use Rattle.phone_commands.specs.ObjectLines.{IsObjectLine, after_one}
 use Rattle.phone_commands.specs.ShortLines.{IsShortLine}
 use Rattle.phone_commands.specs.TableJobs.{AnswersTable}
@@ -29,8 +29,8 @@ use Rattle.phone_engine.specs.declared.engine.Engine.{Engine}
 use Rattle.phone_lines.specs.Ends.{Devices}
 use Rattle.phone_lines.specs.Taken.{begins_with_nothing, each_by_itself}
 use Rattle.phone_records.specs.declared.loader.Metadata.{Metadata}
-use Rattle.phone_table.specs.declared.counts.Counts.{Counts}
 use Rattle.phone_table.specs.declared.run.Asked.{Asked}
+use Rattle.phone_table.specs.declared.summed.Totals.{Totals}
 use Rattle.phone_typed.specs.Fields.{Field}
 use Rattle.phone_values.specs.declared.country.Id.{Id}
 use Rattle.phone_cli.specs.Commands.{AnswersInputs, BeginsFound, Finding, GivesFound}
@@ -55,25 +55,35 @@ answers_of acts (f ∷ fs) first before after last end s n =
     let some = not_empty f fs in named some (n some)
 
 -- the report
-abbrev pub ReportActs : Report → Devices → Devices → Report → Result ⊤ JobError → Type 0
-ReportActs r before after r' result = AnswersLines
-    (IsReportLine r.reader.engine.rules r.reader.engine.database.now r.reader.engine.hint)
-    before after result × (r' ≡ r)
+abbrev pub ReportGives : Report → List ℕ → List ℕ → Report → Type 0
+ReportGives = each_by_itself (λ (r : Report). IsReportLine r.reader.engine.rules
+    r.reader.engine.database.now r.reader.engine.hint)
 
 pub report_by : (e : Option Encoding) (files : List Name) (r : Report) (before after : Devices)
     (last : Report)
-    (end : Result ⊤ Failure) → AnswersInputs (ActsIn e ReportActs) files r before after last end →
+    (end : Result ⊤ Failure) →
+    AnswersInputs (ActsIn e (TakesLines begins_with_nothing ReportGives)) files r before after last
+    end →
     AnswersInputs (ActsIn e (Reports r.reader.engine.rules r.reader.engine.database.now
     r.reader.engine.hint)) files tt before after tt end
 report_by e files r before after last end =
-    answers_in ReportActs
+    answers_in (TakesLines begins_with_nothing ReportGives)
     (Reports r.reader.engine.rules r.reader.engine.database.now r.reader.engine.hint)
     (λ _. tt) (λ k. k ≡ r)
-    (λ a before after b end h act. (
-      subst (λ k. AnswersLines (IsReportLine k.reader.engine.rules
-          k.reader.engine.database.now k.reader.engine.hint) before after end) h act.0,
-      λ _. act.1 ∙ h,
-    )) e files r before after last end refl
+    (lines_by begins_with_nothing ReportGives begins_with_nothing
+    (each_by_itself (λ _. IsReportLine r.reader.engine.rules r.reader.engine.database.now
+    r.reader.engine.hint)) (λ _. tt) (λ k. k ≡ r)
+    (λ a head b h is. ((is.0, refl), is.1 ∙ h))
+    (λ a line answer b h is. (
+      (
+        is.0,
+        subst (λ (k : Report). IsReportLine k.reader.engine.rules k.reader.engine.database.now
+            k.reader.engine.hint line is.0) h is.1,
+        is.2,
+        refl,
+      ),
+      is.3 ∙ h,
+    ))) e files r before after last end refl
 
 -- objects
 abbrev pub ObjectsGive : Objects → List ℕ → List ℕ → Objects → Type 0
@@ -279,10 +289,10 @@ short_by e files s before after last end =
 -- a table
 abbrev pub CustomersAct : Customers → Devices → Devices → Customers → Result ⊤ JobError → Type 0
 CustomersAct c before after c' result = AnswersTable c.engine.rules c.engine.database.now
-    c.engine.hint c.asked before after c'.counts result ×
-    (c' ≡ record c { counts = c'.counts; unknown = c'.unknown })
+    c.engine.hint c.asked before after c'.totals result ×
+    (c' ≡ record c { totals = c'.totals; unknown = c'.unknown })
 
-abbrev pub EngineAnswers : Engine → Asked → Counts → Devices → Devices → Counts →
+abbrev pub EngineAnswers : Engine → Asked → Totals → Devices → Devices → Totals →
     Result ⊤ JobError → Type 0
 EngineAnswers e = Tables e.rules e.database.now e.hint
 
@@ -293,12 +303,12 @@ record IsTableOf (c k : Customers) : Type 0 where
 
 customers_act : (c a : Customers) (before after : Devices) (b : Customers)
     (end : Result ⊤ JobError) → IsTableOf c a → CustomersAct a before after b end →
-    EngineAnswers c.engine c.asked a.counts before after b.counts end ×
+    EngineAnswers c.engine c.asked a.totals before after b.totals end ×
     (end ≡ Ok tt → IsTableOf c b)
 customers_act c a before after b end h act =
-    let by_engine = subst (λ (e : Engine). EngineAnswers e a.asked a.counts before after
-    b.counts end) h.engine act.0 in (
-      subst (λ (q : Asked). EngineAnswers c.engine q a.counts before after b.counts end)
+    let by_engine = subst (λ (e : Engine). EngineAnswers e a.asked a.totals before after
+    b.totals end) h.engine act.0 in (
+      subst (λ (q : Asked). EngineAnswers c.engine q a.totals before after b.totals end)
           h.asked by_engine,
       λ _. record {
         engine = ap (λ (k : Customers). k.engine) act.1 ∙ h.engine;
@@ -310,9 +320,9 @@ pub table_by : (e : Option Encoding) (files : List Name) (c : Customers) (before
     (last : Customers)
     (end : Result ⊤ Failure) →
     AnswersInputs (ActsIn e CustomersAct) files c before after last end →
-    AnswersInputs (ActsIn e (EngineAnswers c.engine c.asked)) files c.counts before after
-    last.counts end
+    AnswersInputs (ActsIn e (EngineAnswers c.engine c.asked)) files c.totals before after
+    last.totals end
 table_by e files c before after last end =
     answers_in CustomersAct (EngineAnswers c.engine c.asked)
-    (λ k. k.counts) (IsTableOf c) (customers_act c) e files c before after last end
+    (λ k. k.totals) (IsTableOf c) (customers_act c) e files c before after last end
     (record { engine = refl; asked = refl })

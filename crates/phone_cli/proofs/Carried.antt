@@ -1,8 +1,9 @@
 -- Answers to inputs, told by a part of what is kept.
 use Rattle.std.proofs.Common.{◌≡◌, ◌⊎◌, ⊎_elim, inl, inr, ℕ, List, Option, None, Some, Result, Ok}
-use Rattle.std.proofs.Common.{Err, ap, refl, sym, ◌∙◌}
-use Rattle.std.specs.Prelude.{⊤}
-use Rattle.phone_commands.specs.EncodedJobs.{ActsIn, as_text}
+use Rattle.std.proofs.Common.{Err, ap, refl, subst, sym, ◌∙◌}
+use Rattle.std.specs.Prelude.{Bool, ⊤, false, is_none, is_some, not, true}
+use Rattle.phone_commands.specs.EncodedJobs.{ActsIn, ActsOn, ActsUnmarked, Asked, as_text}
+use Rattle.phone_commands.specs.EncodedJobs.ActsUnmarked.{answered, unread, utf_16}
 use Rattle.phone_commands.specs.Inputs.{AreAnswered, InputsEnd, IsAnswered, Name}
 use Rattle.phone_commands.specs.Inputs.{failed_in}
 use Rattle.phone_commands.specs.Inputs.AreAnswered.{next, none}
@@ -82,11 +83,22 @@ module _ {A B : Type 0} (acts : A → Devices → Devices → A → Result ⊤ J
   answers_by names a before after b end h (named some act) =
       named some (ends names a before after b end h act)
 
-  -- so are those in an encoding
+  -- so are those that don't begin with the mark of UTF-16
+  unmarked : (a : A) (before after : Devices) (b : A) (end : Result ⊤ JobError) → holds a →
+      ActsUnmarked acts a before after b end →
+      ActsUnmarked parts (part a) before after (part b) end × (end ≡ Ok tt → holds b)
+  unmarked a before after b _ h (answered end clear act) =
+      let s = step a before after b end h act in (answered end clear s.0, s.1)
+  unmarked a before after b _ h (utf_16 mark same kept) =
+      (utf_16 mark same (ap part kept), λ e. absurd (cc))
+  unmarked a before after b _ h (unread fault kept) =
+      (unread fault (ap part kept), λ e. absurd (cc))
+
+  -- and those in an encoding
   encoded : (e : Option Encoding) (a : A) (before after : Devices) (b : A)
       (end : Result ⊤ JobError) → holds a → ActsIn e acts a before after b end →
       ActsIn e parts (part a) before after (part b) end × (end ≡ Ok tt → holds b)
-  encoded None a before after b end h act = step a before after b end h act
+  encoded None a before after b end h act = unmarked a before after b end h act
   encoded (Some e) a before after b end h act =
       let s = step a (as_text e before)
       (record after { to_come = act.0; source_faults = act.1 }) b end h act.2 in
@@ -105,6 +117,49 @@ module _ {A B : Type 0} (acts : A → Devices → Devices → A → Result ⊤ J
       AnswersInputs (ActsIn e parts) names (part a) before after (part b) end
   answers_in e = answers_by (ActsIn e acts) (ActsIn e parts) part holds
       (encoded acts parts part holds step e)
+
+-- what is asked where there is none
+pub asks_by : (e : Option Encoding) (asks : Bool) → is_some e ≡ not asks → asks ≡ is_none e
+asks_by None true h = refl
+asks_by None false h = absurd (cc)
+asks_by (Some e) false h = refl
+asks_by (Some e) true h = absurd (cc)
+
+-- inputs in an encoding, which are asked for the mark of UTF-16 where none is named
+module _ {A B : Type 0} (named : A → Option Encoding) (own : A → B)
+    (acts : B → Devices → Devices → B → Result ⊤ JobError → Type 0) where
+  abbrev pub In : A → Devices → Devices → A → Result ⊤ JobError → Type 0
+  In a before after b end = ActsOn (named a) acts (own a) before after (own b) end ×
+      (named b ≡ named a)
+
+  one_in : (e : Option Encoding) (a : A) (before after : Devices) (b : A)
+      (end : Result ⊤ JobError) → named a ≡ e → In a before after b end →
+      ActsOn e acts (own a) before after (own b) end × (named b ≡ e)
+  one_in e a before after b end h act = (
+    subst (λ x. ActsOn x acts (own a) before after (own b) end) h act.0,
+    act.1 ∙ h,
+  )
+
+  asked_in : (e : Option Encoding) (a : A) (before after : Devices) (b : A)
+      (end : Result ⊤ JobError) → named a ≡ e →
+      Asked (is_none e) In a before after b end →
+      ActsIn e acts (own a) before after (own b) end × (end ≡ Ok tt → named b ≡ e)
+  asked_in None a before after b _ h (answered end clear act) =
+      let s = one_in None a before after b end h act in (answered end clear s.0, λ _. s.1)
+  asked_in None a before after b _ h (utf_16 mark same kept) =
+      (utf_16 mark same (ap own kept), λ e. absurd (cc))
+  asked_in None a before after b _ h (unread fault kept) =
+      (unread fault (ap own kept), λ e. absurd (cc))
+  asked_in (Some e) a before after b end h act =
+      let s = one_in (Some e) a before after b end h act in (s.0, λ _. s.1)
+
+  pub answers_asked : (e : Option Encoding) (names : List Name) (a : A) (before after : Devices)
+      (b : A) (end : Result ⊤ Failure) → named a ≡ e →
+      AnswersInputs (Asked (is_none e) In) names a before after b end →
+      AnswersInputs (ActsIn e acts) names (own a) before after (own b) end
+  answers_asked e names a before after b end h =
+      answers_by (Asked (is_none e) In) (ActsIn e acts) own (λ k. named k ≡ e) (asked_in e)
+      names a before after b end h
 
 -- lines that are taken are so by a part of what is kept, where each line is, as long as something
 -- holds of what is kept that a line leaves

@@ -1,7 +1,7 @@
 -- What a call's command answers to its inputs, by what its taker or its job is made of.
-use Rattle.std.proofs.Common.{◌≡◌, ◌⊎◌, ℕ, List, [], true, Option, Some, Result, ap, inl, inr, refl}
+use Rattle.std.proofs.Common.{◌≡◌, ◌⊎◌, ℕ, List, [], false, true, Option, Some, Result, ap, inl, inr, refl}
 use Rattle.std.proofs.Common.{subst}
-use Rattle.std.specs.Prelude.{⊤, option_map}
+use Rattle.std.specs.Prelude.{⊤, is_some, option_map}
 use Rattle.phone_commands.specs.EncodedJobs.{ActsIn}
 use Rattle.phone_commands.specs.FirstLines.{IsFirstLine}
 use Rattle.phone_commands.specs.Inputs.{Name}
@@ -14,6 +14,8 @@ use Rattle.phone_commands.specs.declared.inputs.Failure.{Failure}
 use Rattle.phone_commands.specs.declared.jobs.Report.{Report}
 use Rattle.phone_commands.specs.declared.shorts.Shorts.{Shorts}
 use Rattle.phone_commands.specs.declared.takers.FirstLines.{FirstLines}
+use Rattle.phone_commands.specs.Strays.{CountsBegin, CountsLine, no_strays, no_tally}
+use Rattle.phone_commands.specs.declared.strays.Tally.{Tally}
 use Rattle.phone_commands.specs.declared.takers.Objects.{Objects}
 use Rattle.phone_commands.specs.declared.typist.Typist.{Typist}
 use Rattle.phone_commands.specs.declared.with_input.WithInput.{WithInput}
@@ -21,23 +23,26 @@ use Rattle.phone_lines.specs.Ends.{Devices}
 use Rattle.phone_lines.specs.Taken.{begins_with_nothing}
 use Rattle.phone_plans.specs.CodeLookUps.{is_prefix_free}
 use Rattle.phone_records.specs.declared.loader.Metadata.{Metadata}
-use Rattle.phone_table.specs.Counts.{no_counts}
-use Rattle.phone_table.specs.declared.counts.Counts.{Counts}
+use Rattle.phone_table.specs.declared.summed.Totals.{Totals}
 use Rattle.phone_values.specs.declared.country.Id.{Id}
 use Rattle.phone_values.specs.declared.rules.Rules.{Rules}
 use Rattle.phone_words.specs.declared.call.Call.{Call}
 use Rattle.phone_words.specs.declared.command.Command.{Command}
 use Rattle.phone_words.specs.declared.command.Command.TheVariants as command
-use Rattle.phone_cli.specs.Answers.{AnswersReading, IsAsked, IsLoaded, Runs, finds, reads}
+use Rattle.phone_cli.specs.Answers.{AnswersReading, Does, IsAsked, IsLoaded, Runs, finds}
+use Rattle.phone_cli.specs.Answers.{is_table, reads}
+use Rattle.phone_cli.specs.Answers.Does.{ran, unsummed}
+use Rattle.phone_cli.specs.Answers.Meets.{of_lines, of_table}
 use Rattle.phone_cli.specs.Answers.Runs.{firsts, found, objects, report, short, table, typed, with_input}
 use Rattle.phone_cli.specs.Commands.{AnswersInputs, BeginsFound, Finding, GivesFound}
 use Rattle.phone_cli.specs.Commands.{GivesObjects, GivesWithInput, Reports, Tables}
 use Rattle.phone_cli.specs.Commands.{found_form, no_first_lines}
 use Rattle.phone_cli.specs.Operands.{files_of, has_reader, region_and_files, region_of}
-use Rattle.phone_cli.specs.Operands.{shorts_of}
+use Rattle.phone_cli.specs.Operands.{IsApart, shorts_of}
+use Rattle.phone_cli.specs.Statuses.{status_of}
 use Rattle.phone_cli.specs.Streams.{Streams}
 use Rattle.phone_cli.proofs.AnswerLemmas.{FinderBegins, FinderGives, ObjectsGive}
-use Rattle.phone_cli.proofs.AnswerLemmas.{ReportActs, ShortsGive, TypistGives, WithInputGives, finding, found_by}
+use Rattle.phone_cli.proofs.AnswerLemmas.{ReportGives, ShortsGive, TypistGives, WithInputGives, finding, found_by}
 use Rattle.phone_cli.proofs.AnswerLemmas.{objects_by, report_by, short_by, typed_by, with_input_by}
 
 -- a command that finds numbers
@@ -95,7 +100,8 @@ pub report_runs : (c : Call) (hint : Option Id) (files : List Name) (r : Report)
     (before after : Devices) (last : Report) (end : Result ⊤ Failure) →
     c.command ≡ command.Report → r.reader.engine.rules ≡ c.rules →
     r.reader.engine.hint ≡ hint →
-    AnswersInputs (ActsIn c.encoding ReportActs) files r before after last end →
+    AnswersInputs (ActsIn c.encoding (TakesLines begins_with_nothing ReportGives)) files r before
+    after last end →
     Runs c hint files before after end
 report_runs c hint files r before after last end is rules under act =
     let db = r.reader.engine.database.now in
@@ -216,23 +222,65 @@ firsts_runs c hint files db f before after last end is free none act =
 
 -- a table
 pub table_runs : (c : Call) (hint : Option Id) (files : List Name) (k : Customers)
-    (shorts : Option (List Metadata)) (before after : Devices) (last : Counts)
-    (end : Result ⊤ Failure) → c.command ≡ command.Table →
+    (shorts : Option (List Metadata)) (before after : Devices) (last : Totals)
+    (end : Result ⊤ Failure) → c.command ≡ command.Table → IsApart c files →
     IsLoaded (shorts_of c) shorts → IsAsked c.table shorts k.asked →
-    k.engine.rules ≡ c.rules → k.engine.hint ≡ hint → k.counts ≡ no_counts →
+    k.engine.rules ≡ c.rules → k.engine.hint ≡ hint →
     AnswersInputs (ActsIn c.encoding (Tables k.engine.rules k.engine.database.now k.engine.hint
     k.asked)) files
-    k.counts before after last end →
+    k.totals before after last end →
     Runs c hint files before after end
-table_runs c hint files k shorts before after last end is loaded asked rules under none act =
+table_runs c hint files k shorts before after last end is apart loaded asked rules under act =
     let db = k.engine.database.now in
     let by_rules = subst (λ x. AnswersInputs (ActsIn c.encoding (Tables x db k.engine.hint
-    k.asked)) files k.counts
+    k.asked)) files k.totals
     before after last end) rules act in
-    let by_hint = subst (λ x. AnswersInputs (ActsIn c.encoding (Tables c.rules db x k.asked)) files
-    k.counts before
-    after last end) under by_rules in
-    table db shorts k.asked last is loaded asked
-    (subst (λ x. AnswersInputs (ActsIn c.encoding (Tables c.rules db hint k.asked)) files x before
-    after last end)
-    none by_hint)
+    table db shorts k.asked k.totals last is apart loaded asked
+    (subst (λ x. AnswersInputs (ActsIn c.encoding (Tables c.rules db x k.asked)) files k.totals
+    before after last end) under by_rules)
+
+-- it ran; or it ran whole, and its summary can't be written
+pub table_does : (c : Call) (hint : Option Id) (files : List Name) (k : Customers)
+    (shorts : Option (List Metadata)) (before after : Streams) (last : Totals)
+    (end : Result ⊤ Failure) (status : ℕ) → c.command ≡ command.Table → IsApart c files →
+    IsLoaded (shorts_of c) shorts → IsAsked c.table shorts k.asked →
+    k.engine.rules ≡ c.rules → k.engine.hint ≡ hint →
+    AnswersInputs (ActsIn c.encoding (Tables k.engine.rules k.engine.database.now k.engine.hint
+    k.asked)) files
+    k.totals before.devices after.devices last end →
+    ((status ≡ status_of c.lenient no_strays end) ⊎
+    ((status_of c.lenient no_strays end ≡ 0) × (status ≡ 1) ×
+    (is_some c.table.summary ≡ true))) →
+    Does c hint files before after status
+table_does c hint files k shorts before after last end status is apart loaded asked rules under act
+    (inl e) = rw e (ran end no_strays (table_runs c hint files k shorts before.devices after.devices
+    last end is apart loaded asked rules under act) (of_table is))
+table_does c hint files k shorts before after last end status is apart loaded asked rules under act
+    (inr (whole, one, named)) = rw one (unsummed end whole is named (table_runs c hint files k
+    shorts before.devices after.devices last end is apart loaded asked rules under act))
+
+-- lines are those of a command that reads no table
+pub lines_ran : (c : Call) (hint : Option Id) (files : List Name) (before after : Streams)
+    (t : Tally) (end : Result ⊤ Failure) → is_table c.command ≡ false →
+    AnswersInputs (ActsIn c.encoding (TakesLines CountsBegin CountsLine)) files
+    (no_tally c.skipped) before.devices after.devices t end →
+    Runs c hint files before.devices after.devices end →
+    Does c hint files before after (status_of c.lenient t.strays end)
+lines_ran c hint files before after t end no_table counted runs =
+    ran end t.strays runs (of_lines t no_table counted)
+
+-- a command that finds numbers reads no table
+pub finds_no_table : (is : Command) → finds is ≡ true → is_table is ≡ false
+finds_no_table command.Find f = refl
+finds_no_table command.FoundObjects f = refl
+finds_no_table command.FoundRecords f = refl
+finds_no_table command.Report f = absurd (cc)
+finds_no_table command.ReportWithInput f = absurd (cc)
+finds_no_table command.Objects f = absurd (cc)
+finds_no_table command.Typed f = absurd (cc)
+finds_no_table command.Table f = absurd (cc)
+finds_no_table command.Help f = absurd (cc)
+finds_no_table command.Version f = absurd (cc)
+finds_no_table command.Regions f = absurd (cc)
+finds_no_table command.Unique f = absurd (cc)
+finds_no_table command.Short f = absurd (cc)

@@ -1,5 +1,5 @@
 -- What a call does.
-use Rattle.std.specs.Prelude.{◌≡◌, ℕ, ⊤, Bool, false, true, List, ◌++◌, codes}
+use Rattle.std.specs.Prelude.{◌≡◌, ◌||◌, ℕ, ⊤, Bool, false, true, List, ◌++◌, codes}
 use Rattle.std.specs.Prelude.{IsSome, Option, None, Some, Result, is_some, option_map, slice_get}
 use Rattle.std.specs.List.{list_any}
 use Rattle.std.specs.Str.{bytes_eq}
@@ -9,15 +9,17 @@ use Rattle.phone_commands.specs.FirstLines.{IsFirstLine}
 use Rattle.phone_commands.specs.Inputs.{IsStandard, Name}
 use Rattle.phone_commands.specs.Jobs.{TakesLines}
 use Rattle.phone_commands.specs.ObjectLines.{after_one}
+use Rattle.phone_commands.specs.Strays.{CountsBegin, CountsLine, no_strays, no_tally}
 use Rattle.phone_commands.specs.declared.inputs.Failure.{Failure}
+use Rattle.phone_commands.specs.declared.strays.Strays.{Strays}
+use Rattle.phone_commands.specs.declared.strays.Tally.{Tally}
 use Rattle.phone_commands.specs.declared.takers.FirstLines.{FirstLines}
 use Rattle.phone_lines.specs.Ends.{Devices}
 use Rattle.phone_lines.specs.Taken.{begins_with_nothing}
 use Rattle.phone_plans.specs.CodeLookUps.{is_prefix_free}
 use Rattle.phone_records.specs.declared.loader.Metadata.{Metadata}
-use Rattle.phone_table.specs.Counts.{no_counts}
-use Rattle.phone_table.specs.declared.counts.Counts.{Counts}
 use Rattle.phone_table.specs.declared.run.Asked.{Asked}
+use Rattle.phone_table.specs.declared.summed.Totals.{Totals}
 use Rattle.phone_values.specs.declared.country.Id.{Id}
 use Rattle.phone_words.specs.Help.{help_text}
 use Rattle.phone_words.specs.Rows.{Lent}
@@ -30,7 +32,8 @@ use Rattle.phone_cli.specs.Commands.{AnswersInputs, BeginsFound, Finding, Tables
 use Rattle.phone_cli.specs.Commands.{GivesFound, GivesObjects, GivesShorts, GivesTyped}
 use Rattle.phone_cli.specs.Commands.{GivesWithInput, Reports}
 use Rattle.phone_cli.specs.Commands.{found_form, no_first_lines}
-use Rattle.phone_cli.specs.Operands.{database_of, files_of, ignores_words, is_misfit, names_read}
+use Rattle.phone_cli.specs.Operands.{IsApart, database_of, files_of, ignores_words, is_misfit}
+use Rattle.phone_cli.specs.Operands.{names_read}
 use Rattle.phone_cli.specs.Operands.{region_of, shorts_of}
 use Rattle.phone_cli.specs.Statuses.{status_of}
 use Rattle.phone_cli.specs.Streams.{IsSinkKept, Refuses, RefusesBySome, Says, Streams}
@@ -55,6 +58,7 @@ pub record IsAsked (t : Table) (shorts : Option (List Metadata)) (a : Asked) : T
   pub front : a.front ≡ t.front
   pub further : columns.asked a.extra.now ≡ columns.columns_for t.further
   pub short : option_map (λ d. d.now) a.short ≡ shorts
+  pub is_summed : a.is_summed ≡ (is_some t.summary || t.further.suspicion)
 
 -- a command finds the numbers in a text
 abbrev pub finds : Command → Bool
@@ -99,21 +103,42 @@ pub data Runs (c : Call) (hint : Option Id) (files : List Name) (before after : 
       (no_first_lines db c.rules hint) before after last end →
       Runs c hint files before after end
   table : (db : List Metadata) → (short : Option (List Metadata)) → (asked : Asked) →
-      (last : Counts) → c.command ≡ command.Table →
+      (first last : Totals) → c.command ≡ command.Table → IsApart c files →
       IsLoaded (shorts_of c) short → IsAsked c.table short asked →
-      AnswersInputs (ActsIn c.encoding (Tables c.rules db hint asked)) files no_counts before
+      AnswersInputs (ActsIn c.encoding (Tables c.rules db hint asked)) files first before
       after last end →
       Runs c hint files before after end
 
+-- a command reads a table
+abbrev pub is_table : Command → Bool
+is_table command.Table = true
+is_table other = false
+
+-- the lines of the inputs of a call that aren't UTF-8; of a table none are counted
+pub data Meets (c : Call) (files : List Name) (before after : Devices)
+    (end : Result ⊤ Failure) : Strays → Type 0 where
+  of_lines : (t : Tally) → is_table c.command ≡ false →
+      AnswersInputs (ActsIn c.encoding (TakesLines CountsBegin CountsLine)) files
+      (no_tally c.skipped) before after t end → Meets c files before after end t.strays
+  of_table : c.command ≡ command.Table → Meets c files before after end no_strays
+
 -- what a call does once it reads and writes, and its status: a database or a table of prefixes is
--- refused; there is no memory for further columns; or it answers its inputs
+-- refused; the file of a summary is read or written as well; there is no memory for further
+-- columns; it answers its inputs; or it answers them whole, and a summary can't be written
 pub data Does (c : Call) (hint : Option Id) (files : List Name) (before after : Streams) :
     ℕ → Type 0 where
   refused : RefusesBySome before after → Does c hint files before after 3
+  taken : c.command ≡ command.Table → is_some c.table.summary ≡ true →
+      RefusesBySome before after → Does c hint files before after 2
   no_memory : c.command ≡ command.Table → Refuses (codes "out of memory") before after →
       Does c hint files before after 1
-  ran : (end : Result ⊤ Failure) → Runs c hint files before.devices after.devices end →
-      Does c hint files before after (status_of end)
+  ran : (end : Result ⊤ Failure) → (strays : Strays) →
+      Runs c hint files before.devices after.devices end →
+      Meets c files before.devices after.devices end strays →
+      Does c hint files before after (status_of c.lenient strays end)
+  unsummed : (end : Result ⊤ Failure) → status_of c.lenient no_strays end ≡ 0 →
+      c.command ≡ command.Table → is_some c.table.summary ≡ true →
+      Runs c hint files before.devices after.devices end → Does c hint files before after 1
 
 -- a call reads numbers
 abbrev pub reads : Command → Bool

@@ -2,7 +2,7 @@
 use Rattle.std.specs.Prelude.{◌≡◌, ℕ, ⊤, List, [], Option, Result}
 use Rattle.phone_commands.specs.FoundLines.{IsFoundLine, in_front, name_told}
 use Rattle.phone_commands.specs.Inputs.{InputsEnd, IsAnswered, IsStandard, Name}
-use Rattle.phone_commands.specs.Jobs.{Acts, AnswersLines}
+use Rattle.phone_commands.specs.Jobs.{Acts, TakesLines}
 use Rattle.phone_commands.specs.ObjectLines.{IsObjectLine, after_one}
 use Rattle.phone_commands.specs.ShortLines.{IsShortLine}
 use Rattle.phone_commands.specs.TableJobs.{AnswersTable}
@@ -15,10 +15,10 @@ use Rattle.phone_commands.specs.declared.jobs.JobError.{JobError}
 use Rattle.phone_commands.specs.declared.takers.FirstLines.{FirstLines}
 use Rattle.phone_engine.specs.ReportLines.{IsReportLine}
 use Rattle.phone_lines.specs.Ends.{Devices}
-use Rattle.phone_lines.specs.Taken.{Begins, Gives, each_by_itself}
+use Rattle.phone_lines.specs.Taken.{Begins, Gives, begins_with_nothing, each_by_itself}
 use Rattle.phone_records.specs.declared.loader.Metadata.{Metadata}
-use Rattle.phone_table.specs.declared.counts.Counts.{Counts}
 use Rattle.phone_table.specs.declared.run.Asked.{Asked}
+use Rattle.phone_table.specs.declared.summed.Totals.{Totals}
 use Rattle.phone_values.specs.declared.country.Id.{Id}
 use Rattle.phone_values.specs.declared.rules.Rules.{Rules}
 use Rattle.phone_words.specs.declared.command.Command.{Command}
@@ -37,8 +37,8 @@ pub data AnswersInputs {Kept : Type 0}
 
 -- the report: each line by itself
 abbrev pub Reports : Rules → List Metadata → Option Id → Acts ⊤
-Reports rules db hint kept before after kept' end =
-    AnswersLines (IsReportLine rules db hint) before after end
+Reports rules db hint =
+    TakesLines begins_with_nothing (each_by_itself (λ _. IsReportLine rules db hint))
 
 -- `--with-input`: the same, each with the line
 abbrev pub GivesWithInput : Rules → List Metadata → Option Id → Gives ⊤
@@ -86,10 +86,10 @@ no_first_lines db rules hint = record {
   refused = 0;
 }
 
--- a table: each by itself; what is kept are the counts of the last one
-abbrev pub Tables : Rules → List Metadata → Option Id → Asked → Acts Counts
-Tables rules db hint asked kept before after counts end =
-    AnswersTable rules db hint asked before after counts end
+-- a table: each by itself; what is kept are the counts and the summary of the last one
+abbrev pub Tables : Rules → List Metadata → Option Id → Asked → Acts Totals
+Tables rules db hint asked kept before after totals end =
+    AnswersTable rules db hint asked before after totals end
 
 -- how a command tells the numbers that it finds
 abbrev pub found_form : Command → FoundForm

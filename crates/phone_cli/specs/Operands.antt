@@ -1,7 +1,7 @@
 -- The region and the files that a call names.
 use Rattle.std.specs.Prelude.{ℕ, Bool, false, true, List, [], ◌∷◌, ◌++◌, Option, None, Some, codes}
-use Rattle.std.specs.Prelude.{◌&&◌, ◌==◌, if◌then◌else◌, length, map, not}
-use Rattle.std.specs.List.{filter_map}
+use Rattle.std.specs.Prelude.{◌&&◌, ◌≡◌, ◌==◌, if◌then◌else◌, IfSome, length, map, not}
+use Rattle.std.specs.List.{filter_map, list_any}
 use Rattle.std.specs.Option.{option_map_or}
 use Rattle.std.specs.Str.{bytes_eq}
 use Rattle.phone_countries.specs.Ids.{id_in}
@@ -103,6 +103,17 @@ input_names (file ∷ files) = map input_name (file ∷ files)
 -- the names of some files that are there
 abbrev pub named_files : List (Option Lent) → List (List ℕ)
 named_files files = filter_map text_in files
+
+-- the names of the files that a call with a table reads or writes, but for the summary's
+abbrev pub names_taken : Call → (files : List Lent) → List (List ℕ)
+names_taken c files = input_names files ++
+    (named_files (c.database ∷ c.short_database ∷ c.table.countries ∷ c.output ∷ []) ++
+    named_files (further_files c.table.further))
+
+-- the file of the summary is none of these by its name
+abbrev pub IsApart : Call → (files : List Lent) → Type 0
+IsApart c files = IfSome c.table.summary
+    (λ name. list_any (bytes_eq name.now) (names_taken c files) ≡ false)
 
 -- the names of the files that a call reads: inputs, the database, that of short numbers, the table
 -- of the names of regions, tables of prefixes

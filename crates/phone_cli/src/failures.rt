@@ -60,8 +60,17 @@ pub(crate) fn say_failure<E: ByteSink>(
         Failure::In(_, JobError::Output) if is_closed => 1,
         Failure::In(_, JobError::Output) => say(errors, &["output failed"], 1),
         Failure::In(_, JobError::Memory) => say(errors, &["out of memory"], 1),
+        Failure::In(name, JobError::Utf16) => say_utf_16(name, errors),
         Failure::In(_, JobError::Table(error)) => say_table(call, error, errors),
     }
+}
+
+/// Tells that an input is UTF-16, and gives the status.
+fn say_utf_16<E: ByteSink>(name: &str, errors: &mut E) -> u8
+    ensures { result ≡ 2 }
+{
+    let name = if is_standard(name) { "the input" } else { name };
+    say(errors, &[name, " is UTF-16: --encoding utf-16 reads it"], 2)
 }
 
 /// Tells what is wrong with a table, and gives the status.

@@ -5,12 +5,15 @@
 mod about;
 mod beside;
 mod failures;
+mod made;
 mod names;
 mod operands;
 mod outlet;
 mod say;
+mod summing;
 mod tool;
 mod written;
 
 pub use outlet::{Input, Meter, Outlet, Output};
+pub use phone_encodings::{Ahead, Inlet};
 pub use tool::program;

@@ -1,16 +1,17 @@
 //! The lines that are told of what failed, and the statuses that go with them.
-ghost use Rattle.std.specs.Prelude.{◌≡◌, codes};
-ghost use Rattle.phone_cli.specs.Statuses.{status_of_words};
+ghost use Rattle.std.specs.Prelude.{◌≡◌, codes, if◌then◌else◌, not};
+ghost use Rattle.phone_cli.specs.Statuses.{status_of_strays, status_of_words};
 ghost use Rattle.phone_cli.specs.Streams.{IsSomeTold, Writes, joined, line_of};
 ghost use Rattle.phone_engine.specs.Programs.{IsTold};
 ghost use Rattle.phone_words.specs.declared.parts.Why.TheVariants.{Memory};
 
+use crate::tool::Reading;
 use csv::ByteRecord;
 use itoa::Buffer;
-use phone_commands::{Customers, FirstLines};
+use phone_commands::{Customers, FirstLines, LinePlace, Strays};
 use phone_countries::Entry;
 use phone_device::{ByteSink, Fault, write_all};
-use phone_table::Countries;
+use phone_table::{Countries, Tally};
 use phone_words::{Why, WordError, value_word};
 use std::alloc::Global;
 
@@ -130,22 +131,10 @@ fn write_columns<E: ByteSink>(
     write_str(errors, "\n")
 }
 
-/// Whether a header begins with the mark of UTF-16.
-fn is_utf_16(header: &ByteRecord) -> bool {
-    matches!(header.get(0), Some([0xFF, 0xFE, ..] | [0xFE, 0xFF, ..]))
-}
-
-/// Tells that a header lacks a column, or that it is UTF-16, and gives the status.
+/// Tells that a header lacks a column, and gives the status.
 pub(crate) fn say_columns<E: ByteSink>(errors: &mut E, name: &str, header: &ByteRecord) -> u8
     ensures { result ≡ 2 }
 {
-    if is_utf_16(header) {
-        return say(
-            errors,
-            &["the input is UTF-16: --encoding utf-16 reads it"],
-            2,
-        );
-    }
     let _written = write_columns(errors, name, header);
     2
 }
@@ -167,6 +156,19 @@ pub(crate) fn say_taken<E: ByteSink>(errors: &mut E, name: &[u8]) -> u8
 {
     let _written = write_taken(errors, name);
     2
+}
+
+/// Tells that the file of a summary is read or written as well, and gives the status.
+pub(crate) fn say_taken_summary<E: ByteSink>(errors: &mut E, name: &str) -> u8
+    ensures status { result ≡ 2 }
+    ensures told { IsSomeTold (E.taken errors.old) (E.faults errors.old)
+        (E.taken errors.new) (E.faults errors.new) }
+{
+    say(
+        errors,
+        &[name, " is read or written, so it can't have the summary"],
+        2,
+    )
 }
 
 /// What is told behind the count of those that are left out: by which key.
@@ -201,18 +203,48 @@ fn write_count<E: ByteSink>(errors: &mut E, name: &str, count: u64) -> Result<()
 
 /// Writes how many records a table has, and how many of them gave what.
 fn write_records<E: ByteSink>(job: &Customers<'_, '_>, errors: &mut E) -> Result<(), Fault> {
-    write_count(errors, "phone: records: ", job.counts.records)?;
-    write_count(errors, ", unknown region: ", job.counts.unknown_region)?;
-    write_count(errors, ", empty: ", job.counts.empty)?;
-    write_count(errors, ", wrong count of fields: ", job.counts.wrong_count)?;
-    write_count(errors, ", no number: ", job.counts.no_number)?;
-    write_count(errors, ", not valid: ", job.counts.invalid)?;
+    write_count(errors, "phone: records: ", job.totals.counts.records)?;
+    write_count(
+        errors,
+        ", unknown region: ",
+        job.totals.counts.unknown_region,
+    )?;
+    write_count(errors, ", empty: ", job.totals.counts.empty)?;
+    write_count(
+        errors,
+        ", wrong count of fields: ",
+        job.totals.counts.wrong_count,
+    )?;
+    write_count(errors, ", no number: ", job.totals.counts.no_number)?;
+    write_count(errors, ", not valid: ", job.totals.counts.invalid)?;
     if job.asked.short.is_some() {
-        write_count(errors, ", short numbers: ", job.counts.short)?;
+        write_count(errors, ", short numbers: ", job.totals.counts.short)?;
     }
     if job.asked.is_unique {
-        write_count(errors, ", left out: ", job.counts.repeated)?;
+        write_count(errors, ", left out: ", job.totals.counts.repeated)?;
         write_str(errors, LEFT_OUT)?;
+    }
+    write_str(errors, "\n")
+}
+
+/// Writes how many fields have each word of what is suspicious, where any has one.
+fn write_suspicions<E: ByteSink>(suspicions: &Tally, errors: &mut E) -> Result<(), Fault> {
+    if suspicions.is_empty() {
+        return Ok(());
+    }
+    let mut is_first = true;
+    for (word, count) in suspicions {
+        write_str(
+            errors,
+            if is_first {
+                "phone: suspicious: "
+            } else {
+                ", "
+            },
+        )?;
+        write_str(errors, word.as_str())?;
+        write_count(errors, ": ", *count)?;
+        is_first = false;
     }
     write_str(errors, "\n")
 }
@@ -275,12 +307,76 @@ fn write_all_unknown<E: ByteSink>(
     Ok(())
 }
 
-/// Tells which texts of a table name no region, then how many records it has, and how many of them
-/// gave what, and gives the status.
+/// Tells which texts of a table name no region, then how many fields are suspicious, then how many
+/// records it has, and how many of them gave what, and gives the status.
 pub(crate) fn say_records<E: ByteSink>(alloc: Global, job: &Customers<'_, '_>, errors: &mut E) -> u8
     ensures { result ≡ 0 }
 {
     let _told = write_all_unknown(alloc, job, errors);
+    let _counted = write_suspicions(&job.totals.summary.suspicions, errors);
     let _written = write_records(job, errors);
     0
+}
+
+/// What is told behind the lines that aren't UTF-8.
+const NOT_TEXT: &str =
+    "; --encoding NAME reads another encoding, and --lenient leaves the status 0";
+
+/// The name of the file in which a line stands, where several are read.
+fn name_of<'w>(files: &[&'w str], place: LinePlace) -> Option<&'w str> {
+    if files.len() < 2 {
+        return None;
+    }
+    let at = usize::try_from(place.input.saturating_sub(1)).ok()?;
+    Some(*files.get(at)?)
+}
+
+/// Tells that so many lines aren't UTF-8, and that the first one stands there, in the file of a
+/// name, and gives the status.
+fn say_stray_lines<'t, E: ByteSink>(
+    errors: &mut E,
+    count: &'t str,
+    line: &'t str,
+    of: &'t str,
+    name: &'t str,
+    lenient: bool,
+) -> u8
+    ensures { result ≡ (if not lenient then 1 else 0) }
+{
+    let more = if lenient { "" } else { NOT_TEXT };
+    let status = if lenient { 0 } else { 1 };
+    say(
+        errors,
+        &[
+            "lines that aren't UTF-8: ",
+            count,
+            ", the first is line ",
+            line,
+            of,
+            name,
+            more,
+        ],
+        status,
+    )
+}
+
+/// Tells how many lines aren't UTF-8, and where the first one stands, and gives the status.
+pub(crate) fn say_strays<E: ByteSink>(
+    reading: Reading<'_, '_>,
+    strays: Strays,
+    errors: &mut E,
+) -> u8
+    ensures { result ≡ status_of_strays reading.entry.call.now.lenient strays }
+{
+    let Some(first) = strays.first else {
+        return 0;
+    };
+    let (mut count, mut line) = (Buffer::new(), Buffer::new());
+    let count = count.format(strays.count);
+    let line = line.format(first.line);
+    let lenient = reading.call.lenient;
+    match name_of(reading.files, first) {
+        Some(name) => say_stray_lines(errors, count, line, " of ", name, lenient),
+        None => say_stray_lines(errors, count, line, "", "", lenient),
+    }
 }

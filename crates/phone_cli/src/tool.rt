@@ -1,20 +1,22 @@
 //! The program over its words, files and devices.
-ghost use Rattle.std.specs.Prelude.{◌≡◌, ◌⊎◌, ℕ, List, MatchResult, Option, Result, Some, ⊤};
+ghost use Rattle.std.specs.Prelude.{◌≡◌, ◌⊎◌, ℕ, List, MatchResult, Option, Result};
+ghost use Rattle.std.specs.Prelude.{Some, ⊤};
 ghost use Rattle.std.specs.Prelude.{codes, is_some, option_map, false, true};
 ghost use Rattle.phone_cli.specs.Abouts.{Tells};
-ghost use Rattle.phone_cli.specs.Answers.{Answers, AnswersReading, Does, IsAsked, IsLoaded, reads};
-ghost use Rattle.phone_cli.specs.Commands.{AnswersInputs, Tables, found_form};
-ghost use Rattle.phone_cli.specs.Operands.{database_of, files_of, has_reader, ignores_words};
+ghost use Rattle.phone_cli.specs.Answers.{Answers, AnswersReading, Does, IsLoaded, reads};
+ghost use Rattle.phone_cli.specs.Commands.{AnswersInputs, Tables};
+ghost use Rattle.phone_cli.specs.Operands.{IsApart, database_of, files_of, has_reader};
+ghost use Rattle.phone_cli.specs.Operands.{ignores_words};
 ghost use Rattle.phone_cli.specs.Operands.{is_misfit, names_read, region_of, shorts_of};
 ghost use Rattle.phone_cli.specs.Operands.{tells_alone};
 ghost use Rattle.phone_cli.specs.Programs.{Acts};
 ghost use Rattle.phone_cli.specs.Statuses.{status_of};
 ghost use Rattle.phone_cli.specs.Streams.{Refuses, streams};
-ghost use Rattle.phone_commands.specs.Columns as columns;
 ghost use Rattle.phone_commands.specs.EncodedJobs.{ActsIn};
 ghost use Rattle.phone_commands.specs.Jobs.{TakesLines};
-ghost use Rattle.phone_commands.specs.ObjectLines.{after_one};
+ghost use Rattle.phone_commands.specs.Strays.{CountsBegin, CountsLine, no_strays, no_tally};
 ghost use Rattle.phone_commands.specs.declared.inputs.Failure.{Failure};
+ghost use Rattle.phone_commands.specs.declared.strays.Tally.{Tally};
 ghost use Rattle.phone_lines.specs.Ends.{seen};
 ghost use Rattle.std.specs.List.{list_any};
 ghost use Rattle.std.specs.Str.{bytes_eq};
@@ -25,19 +27,22 @@ ghost use Rattle.phone_words.specs.declared.command.Command.TheVariants as comma
 use crate::about::{write_regions, write_text, write_version};
 use crate::beside::{Place, Target, Unfinished, create_beside, place_of, put_in_place};
 use crate::failures::{say_failure, say_no_columns, say_refusal};
+use crate::made::{asked, finder_of, objects_of};
 use crate::operands::{hint_and_files, say_missing};
 use crate::outlet::Outlet;
-use crate::say::{say, say_firsts, say_records, say_word_error};
-use crate::written::is_read;
+use crate::say::{say, say_firsts, say_strays, say_taken_summary, say_word_error};
+use crate::summing::sum_up;
+use crate::written::{is_read, taken_summary};
 use phone_commands::{
-    ByLines, Customers, Encoded, Finder, FirstLines, FoundForm, Job, LineTaker, Loaded, Objects,
-    Reader, Report, Shorts, Typist, WithInput, countries_in, on_inputs,
+    ByLines, Customers, Encoded, FirstLines, Job, LineTaker, Loaded, Reader, Report, Shorts, Tally,
+    Typist, WithInput, countries_in, on_inputs,
 };
-use phone_device::{ByteSink, ByteSource, Fault, Std};
+use phone_device::{ByteSink, Fault, Std};
+use phone_encodings::Inlet;
 use phone_engine::{Engine, Rules};
 use phone_plans::Plans;
-use phone_table::{Asked, Countries, Counts, Extra, UnknownNames};
-use phone_words::{Call, Command, Table, call_of, help};
+use phone_table::{Totals, UnknownNames};
+use phone_words::{Call, Command, call_of, help};
 use phonenumber::country::Id;
 use std::alloc::AllocGlobal;
 use std::fs::{self, Files};
@@ -47,18 +52,20 @@ use std::fs::{self, Files};
 /// that is named for it. Inputs in another encoding that is named are read as their text in UTF-8.
 /// It gives the status to end with, and for each but 0 writes a line to `errors`, unless what read
 /// the output is gone; that this fails changes no status. After a table and after `--unique` a line
-/// there counts what was read.
+/// there counts what was read. The file of a table's summary is written after that was answered
+/// whole, in the same way as the output's.
 ///
 /// The file gets all that was written at once, where the status is 0: until then it is written
 /// beside it, under its name, `.new-` and a number, and at another status removed. What is no
 /// file whose bytes are kept, as a pipe, is written as the output is.
 ///
-/// Status 0: all was written. 1: an input, the output or memory failed, or a record of a table has
-/// another count of fields than the header; what is in front is written. 2: the words are no call,
-/// a file isn't there, the file to be written is read as well, or a table lacks a header or a
-/// column; then nothing is written. 3: a database or a table of prefixes was refused; then nothing
-/// is written.
-pub fn program<R: Files + AllocGlobal, S: ByteSource, W: Outlet, E: ByteSink>(
+/// Status 0: all was written. 1: an input, the output, the summary or memory failed, or a record of
+/// a table has another count of fields than the header; what is in front is written; or all was,
+/// and a line isn't UTF-8, where the call isn't lenient and reads no table. 2: the words are no
+/// call, a file isn't there, a file to be written is read as well, a table lacks a header or a
+/// column, or the input begins with the mark of UTF-16 and no encoding is named; then nothing of it
+/// is written. 3: a database or a table of prefixes was refused; then nothing is written.
+pub fn program<R: Files + AllocGlobal, S: Inlet, W: Outlet, E: ByteSink>(
     rt: &R,
     words: &[&str],
     input: &mut S,
@@ -81,7 +88,7 @@ pub fn program<R: Files + AllocGlobal, S: ByteSource, W: Outlet, E: ByteSink>(
 }
 
 /// The program on a call.
-fn on_call<R: Files + AllocGlobal, S: ByteSource, W: Outlet, E: ByteSink>(
+fn on_call<R: Files + AllocGlobal, S: Inlet, W: Outlet, E: ByteSink>(
     rt: &R,
     call: &Call<'_>,
     input: &mut S,
@@ -185,7 +192,7 @@ pub(crate) struct Reading<'l, 'w> {
 }
 
 /// The program on a call that reads files.
-fn on_files<R: Files + AllocGlobal, S: ByteSource, W: Outlet, E: ByteSink>(
+fn on_files<R: Files + AllocGlobal, S: Inlet, W: Outlet, E: ByteSink>(
     rt: &R,
     call: &Call<'_>,
     input: &mut S,
@@ -257,7 +264,7 @@ fn no_database(command: Command) -> &'static str {
 }
 
 /// The program where a file is written.
-fn to_file<R: Files + AllocGlobal, S: ByteSource, E: ByteSink>(
+fn to_file<R: Files + AllocGlobal, S: Inlet, E: ByteSink>(
     rt: &R,
     reading: Reading<'_, '_>,
     name: &str,
@@ -288,7 +295,7 @@ fn to_file<R: Files + AllocGlobal, S: ByteSource, E: ByteSink>(
 }
 
 /// The program where a file is written that isn't one whose bytes are kept, as a pipe.
-fn to_file_itself<R: Files + AllocGlobal, S: ByteSource, E: ByteSink>(
+fn to_file_itself<R: Files + AllocGlobal, S: Inlet, E: ByteSink>(
     rt: &R,
     reading: Reading<'_, '_>,
     name: &str,
@@ -318,7 +325,7 @@ fn to_file_itself<R: Files + AllocGlobal, S: ByteSource, E: ByteSink>(
 
 /// The program where another file is written, which takes the place of the one of the name when all
 /// went well, and else is removed.
-fn to_file_beside<R: Files + AllocGlobal, S: ByteSource, E: ByteSink>(
+fn to_file_beside<R: Files + AllocGlobal, S: Inlet, E: ByteSink>(
     rt: &R,
     reading: Reading<'_, '_>,
     name: &str,
@@ -360,7 +367,7 @@ fn to_file_beside<R: Files + AllocGlobal, S: ByteSource, E: ByteSink>(
 }
 
 /// The program where the output is there: the database is loaded.
-fn on_reading<R: Files + AllocGlobal, S: ByteSource, W: Outlet, E: ByteSink>(
+fn on_reading<R: Files + AllocGlobal, S: Inlet, W: Outlet, E: ByteSink>(
     rt: &R,
     reading: Reading<'_, '_>,
     input: &mut S,
@@ -386,7 +393,7 @@ fn on_reading<R: Files + AllocGlobal, S: ByteSource, W: Outlet, E: ByteSink>(
 }
 
 /// The program where the database is loaded.
-fn on_database<R: Files + AllocGlobal, S: ByteSource, W: Outlet, E: ByteSink>(
+fn on_database<R: Files + AllocGlobal, S: Inlet, W: Outlet, E: ByteSink>(
     rt: &R,
     reading: Reading<'_, '_>,
     database: Plans,
@@ -432,7 +439,7 @@ fn shorts_of<'w>(reading: Reading<'_, 'w>) -> Option<&'w str>
 }
 
 /// The program where that database is loaded too.
-fn with_shorts<R: Files + AllocGlobal, S: ByteSource, W: Outlet, E: ByteSink>(
+fn with_shorts<R: Files + AllocGlobal, S: Inlet, W: Outlet, E: ByteSink>(
     rt: &R,
     reading: Reading<'_, '_>,
     database: &Plans,
@@ -480,7 +487,7 @@ fn reader_of<'d>(
 }
 
 /// The program where all databases are loaded, so that a reader reads the numbers.
-fn by_reader<R: Files + AllocGlobal, S: ByteSource, W: Outlet, E: ByteSink>(
+fn by_reader<R: Files + AllocGlobal, S: Inlet, W: Outlet, E: ByteSink>(
     rt: &R,
     reading: Reading<'_, '_>,
     database: &Plans,
@@ -522,12 +529,12 @@ fn by_reader<R: Files + AllocGlobal, S: ByteSource, W: Outlet, E: ByteSink>(
             run_lines(rt, reading, &mut taker, input, output, errors)
         }
         Command::Table => customers(rt, reading, reader, input, output, errors),
-        _ => run(rt, reading, &mut Report { reader }, input, output, errors),
+        _ => run_lines(rt, reading, &mut Report { reader }, input, output, errors),
     }
 }
 
-/// Answers the inputs, and tells of what failed.
-fn run<R: Files + AllocGlobal, S: ByteSource, W: Outlet, E: ByteSink, J: Job>(
+/// Answers the inputs, and tells of what failed, or else of what isn't UTF-8.
+fn run<R: Files + AllocGlobal, S: Inlet, W: Outlet, E: ByteSink, J: Job>(
     rt: &R,
     reading: Reading<'_, '_>,
     job: &mut J,
@@ -541,20 +548,28 @@ fn run<R: Files + AllocGlobal, S: ByteSource, W: Outlet, E: ByteSink, J: Job>(
         (W.faults output.old) (W.unflushed output.old))
         (seen (S.to_come input.new) (S.faults input.new) (W.taken output.new)
         (W.faults output.new) (W.unflushed output.new))
-        last end × (result ≡ status_of end) }
+        last end ×
+        (result ≡ status_of reading.entry.call.now.lenient (J.met last) end) }
 {
     let encoding = reading.call.encoding;
     let mut job = Encoded { job, encoding };
-    let end = on_inputs(rt, reading.files, input, output, &mut job);
+    let end = on_inputs(
+        rt,
+        reading.files,
+        encoding.is_none(),
+        input,
+        output,
+        &mut job,
+    );
     output.end_progress();
     match end {
-        Ok(()) => 0,
+        Ok(()) => say_strays(reading, job.strays(), errors),
         Err(failure) => say_failure(reading.call, &failure, output.is_closed(), errors),
     }
 }
 
-/// Answers the lines of the inputs, and tells of what failed.
-fn run_lines<R: Files + AllocGlobal, S: ByteSource, W: Outlet, E: ByteSink, T: LineTaker>(
+/// Answers the lines of the inputs, and tells of what failed, or else of those that aren't UTF-8.
+fn run_lines<R: Files + AllocGlobal, S: Inlet, W: Outlet, E: ByteSink, T: LineTaker>(
     rt: &R,
     reading: Reading<'_, '_>,
     taker: &mut T,
@@ -562,61 +577,30 @@ fn run_lines<R: Files + AllocGlobal, S: ByteSource, W: Outlet, E: ByteSink, T: L
     output: &mut W,
     errors: &mut E,
 ) -> u8
-    ensures { (end : Result ⊤ Failure) × (last : T) × AnswersInputs
+    ensures { (end : Result ⊤ Failure) × (last : T) × (tally : Tally) × AnswersInputs
         (ActsIn reading.entry.call.now.encoding (TakesLines T.begins T.gives))
         reading.entry.files.now taker.old
         (seen (S.to_come input.old) (S.faults input.old) (W.taken output.old)
         (W.faults output.old) (W.unflushed output.old))
         (seen (S.to_come input.new) (S.faults input.new) (W.taken output.new)
         (W.faults output.new) (W.unflushed output.new))
-        last end × (result ≡ status_of end) }
+        last end × AnswersInputs
+        (ActsIn reading.entry.call.now.encoding (TakesLines CountsBegin CountsLine))
+        reading.entry.files.now (no_tally reading.entry.call.now.skipped)
+        (seen (S.to_come input.old) (S.faults input.old) (W.taken output.old)
+        (W.faults output.old) (W.unflushed output.old))
+        (seen (S.to_come input.new) (S.faults input.new) (W.taken output.new)
+        (W.faults output.new) (W.unflushed output.new))
+        tally end ×
+        (result ≡ status_of reading.entry.call.now.lenient tally.strays end) }
 {
-    let mut job = ByLines { taker };
+    let tally = Tally::new(reading.call.skipped);
+    let mut job = ByLines { taker, tally };
     run(rt, reading, &mut job, input, output, errors)
 }
 
-/// What answers each line by an object.
-fn objects_of<'d>(reading: Reading<'_, '_>, reader: Reader<'d>) -> Objects<'d>
-    ensures reader { result.reader ≡ reader.entry }
-    ensures place { result.place ≡ after_one reading.entry.call.now.skipped }
-{
-    let place = reading.call.skipped.saturating_add(1);
-    Objects { reader, place }
-}
-
-/// How a command tells the numbers that it finds.
-fn found_form(command: Command) -> FoundForm
-    ensures { result ≡ found_form command }
-{
-    match command {
-        Command::FoundObjects => FoundForm::Object,
-        Command::FoundRecords => FoundForm::Record,
-        _ => FoundForm::Fields,
-    }
-}
-
-/// What finds the numbers that stand in the inputs.
-fn finder_of<'d, 'l>(reading: Reading<'l, 'l>, reader: Reader<'d>) -> Finder<'d, 'l>
-    ensures reader { result.reader ≡ reader.entry }
-    ensures form { result.form ≡ found_form reading.entry.call.now.command }
-    ensures first { result.first ≡ after_one reading.entry.call.now.skipped }
-    ensures place { result.place ≡ after_one reading.entry.call.now.skipped }
-    ensures names { result.names ≡ reading.entry.files }
-    ensures begun { result.begun ≡ 0 }
-{
-    let first = reading.call.skipped.saturating_add(1);
-    Finder {
-        reader,
-        form: found_form(reading.call.command),
-        first,
-        place: first,
-        names: reading.files,
-        begun: 0,
-    }
-}
-
 /// The first line of each number; then their counts are told.
-fn firsts<R: Files + AllocGlobal, S: ByteSource, W: Outlet, E: ByteSink>(
+fn firsts<R: Files + AllocGlobal, S: Inlet, W: Outlet, E: ByteSink>(
     rt: &R,
     reading: Reading<'_, '_>,
     database: Plans,
@@ -644,8 +628,8 @@ fn firsts<R: Files + AllocGlobal, S: ByteSource, W: Outlet, E: ByteSink>(
     }
 }
 
-/// A table of customers, with further columns where they are asked for.
-fn customers<R: Files + AllocGlobal, S: ByteSource, W: Outlet, E: ByteSink>(
+/// A table of customers, unless its summary's file is read or written as well.
+fn customers<R: Files + AllocGlobal, S: Inlet, W: Outlet, E: ByteSink>(
     rt: &R,
     reading: Reading<'_, '_>,
     reader: Reader<'_>,
@@ -658,6 +642,36 @@ fn customers<R: Files + AllocGlobal, S: ByteSource, W: Outlet, E: ByteSink>(
         reader.entry.engine.hint ≡ reading.entry.hint →
         IsLoaded (shorts_of reading.entry.call.now)
         (option_map (λ d. d.now) reader.entry.short) →
+        Does reading.entry.call.now reading.entry.hint reading.entry.files.now
+        (streams (seen (S.to_come input.old) (S.faults input.old) (W.taken output.old)
+        (W.faults output.old) (W.unflushed output.old)) (E.taken errors.old)
+        (E.faults errors.old))
+        (streams (seen (S.to_come input.new) (S.faults input.new) (W.taken output.new)
+        (W.faults output.new) (W.unflushed output.new)) (E.taken errors.new)
+        (E.faults errors.new))
+        result }
+{
+    match taken_summary(rt, reading) {
+        Some(name) => say_taken_summary(errors, name),
+        None => on_table(rt, reading, reader, input, output, errors),
+    }
+}
+
+/// A table of customers, with further columns where they are asked for.
+fn on_table<R: Files + AllocGlobal, S: Inlet, W: Outlet, E: ByteSink>(
+    rt: &R,
+    reading: Reading<'_, '_>,
+    reader: Reader<'_>,
+    input: &mut S,
+    output: &mut W,
+    errors: &mut E,
+) -> u8
+    ensures { reading.entry.call.now.command ≡ command.Table →
+        reader.entry.engine.rules ≡ reading.entry.call.now.rules →
+        reader.entry.engine.hint ≡ reading.entry.hint →
+        IsLoaded (shorts_of reading.entry.call.now)
+        (option_map (λ d. d.now) reader.entry.short) →
+        IsApart reading.entry.call.now reading.entry.files.now →
         Does reading.entry.call.now reading.entry.hint reading.entry.files.now
         (streams (seen (S.to_come input.old) (S.faults input.old) (W.taken output.old)
         (W.faults output.old) (W.unflushed output.old)) (E.taken errors.old)
@@ -682,14 +696,14 @@ fn customers<R: Files + AllocGlobal, S: ByteSource, W: Outlet, E: ByteSink>(
     let mut job = Customers {
         engine: reader.engine,
         asked: asked(table, reader, extra.as_slice(), countries.as_ref()),
-        counts: Counts::new(),
+        totals: Totals::new(rt.alloc()),
         unknown: UnknownNames::new(rt.alloc()),
     };
     run_table(rt, reading, &mut job, input, output, errors)
 }
 
 /// Answers a table, and tells what failed, or else its counts.
-fn run_table<R: Files + AllocGlobal, S: ByteSource, W: Outlet, E: ByteSink>(
+fn run_table<R: Files + AllocGlobal, S: Inlet, W: Outlet, E: ByteSink>(
     rt: &R,
     reading: Reading<'_, '_>,
     job: &mut Customers<'_, '_>,
@@ -697,44 +711,20 @@ fn run_table<R: Files + AllocGlobal, S: ByteSource, W: Outlet, E: ByteSink>(
     output: &mut W,
     errors: &mut E,
 ) -> u8
-    ensures { (end : Result ⊤ Failure) × (last : Counts) × AnswersInputs
+    ensures { (end : Result ⊤ Failure) × (last : Totals) × AnswersInputs
         (ActsIn reading.entry.call.now.encoding (Tables
         job.old.engine.rules job.old.engine.database.now job.old.engine.hint job.old.asked))
-        reading.entry.files.now job.old.counts
+        reading.entry.files.now job.old.totals
         (seen (S.to_come input.old) (S.faults input.old) (W.taken output.old)
         (W.faults output.old) (W.unflushed output.old))
         (seen (S.to_come input.new) (S.faults input.new) (W.taken output.new)
         (W.faults output.new) (W.unflushed output.new))
-        last end × (result ≡ status_of end) }
+        last end × ((result ≡ status_of reading.entry.call.now.lenient no_strays end) ⊎
+        ((status_of reading.entry.call.now.lenient no_strays end ≡ 0) × (result ≡ 1) ×
+        (is_some reading.entry.call.now.table.summary ≡ true))) }
 {
     match run(rt, reading, job, input, output, errors) {
-        0 => say_records(rt.alloc(), job, errors),
+        0 => sum_up(rt, reading.call.table.summary, job, errors),
         status => status,
-    }
-}
-
-/// What is asked of a table that this reads, with these further columns and names of regions.
-fn asked<'t>(
-    table: Table<'t>,
-    reader: Reader<'t>,
-    extra: &'t [Extra<'t>],
-    countries: Option<&'t Countries>,
-) -> Asked<'t>
-    ensures { columns.asked extra.entry.now ≡ columns.columns_for table.entry.further →
-        is_some countries.entry ≡ is_some table.entry.countries →
-        IsAsked table.entry (option_map (λ d. d.now) reader.entry.short) result }
-{
-    Asked {
-        number: table.column,
-        region: table.region_column,
-        countries,
-        delimiter: table.delimiter,
-        else_hint: table.fallback_region,
-        mark_bad: table.mark_bad,
-        is_unique: table.is_unique,
-        tells_duplicates: table.duplicates,
-        front: table.front,
-        extra,
-        short: reader.short,
     }
 }

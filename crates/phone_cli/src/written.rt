@@ -1,13 +1,14 @@
 //! The file that is written, and whether a call reads it too.
-ghost use Rattle.std.specs.Prelude.{◌≡◌, Some, false};
+ghost use Rattle.std.specs.Prelude.{◌≡◌, IsNone, IsSome, Some, false, is_some, true};
 ghost use Rattle.std.specs.List.{list_any};
 ghost use Rattle.std.specs.Str.{bytes_eq};
-ghost use Rattle.phone_cli.specs.Operands.{input_names, named_files, names_read};
+ghost use Rattle.phone_cli.specs.Operands.{IsApart, input_names, named_files, names_read};
+ghost use Rattle.phone_cli.specs.Operands.{names_taken};
 ghost use Rattle.phone_words.specs.Calls.{further_files};
 
 use crate::tool::Reading;
 use phone_commands::is_standard;
-use phone_words::Further;
+use phone_words::{Call, Further};
 use std::fs::{self, Files};
 use std::os::unix::fs::MetadataExt;
 
@@ -109,4 +110,53 @@ pub(crate) fn is_read<R: Files>(rt: &R, reading: Reading<'_, '_>, name: &str) ->
     is_input(rt, written, reading.files)
         || is_any_written(rt, written, &tables)
         || is_of_columns(rt, written, call.table.further)
+}
+
+/// Whether the file of a name is read or written by a call with a table, under that name or another
+/// one, so that the summary can't be written there.
+fn is_taken<R: Files>(rt: &R, call: &Call<'_>, files: &[&str], name: &str) -> bool
+    ensures { result ≡ false →
+        list_any (bytes_eq name.now) (names_taken call.now files.now) ≡ false }
+{
+    let written = Written {
+        name,
+        place: place_of(rt, name),
+    };
+    let tables = [
+        call.database,
+        call.short_database,
+        call.table.countries,
+        call.output,
+    ];
+    is_input(rt, written, files)
+        || is_any_written(rt, written, &tables)
+        || is_of_columns(rt, written, call.table.further)
+}
+
+/// A name, where its file is read or written by such a call.
+fn name_taken<'w, R: Files>(
+    rt: &R,
+    call: &Call<'_>,
+    files: &[&str],
+    name: &'w str,
+) -> Option<&'w str>
+    ensures { IsNone result →
+        list_any (bytes_eq name.now) (names_taken call.now files.now) ≡ false }
+{
+    if is_taken(rt, call, files, name) {
+        Some(name)
+    } else {
+        None
+    }
+}
+
+/// The name of the file of the summary, where that is read or written as well.
+pub(crate) fn taken_summary<'w, R: Files>(rt: &R, reading: Reading<'_, 'w>) -> Option<&'w str>
+    ensures apart { IsNone result → IsApart reading.entry.call.now reading.entry.files.now }
+    ensures named { IsSome result → is_some reading.entry.call.now.table.summary ≡ true }
+{
+    match reading.call.table.summary {
+        Some(name) => name_taken(rt, reading.call, reading.files, name),
+        None => None,
+    }
 }

@@ -1,3 +1,4 @@
+pub mod AskedLemmas
 pub mod FirstLemmas
 pub mod FoundLemmas
 pub mod MemoryLemmas

@@ -7,6 +7,7 @@ pub mod Jobs
 pub mod ObjectLines
 pub mod Pairs
 pub mod ShortLines
+pub mod Strays
 pub mod TableJobs
 pub mod TypedLines
 pub mod WithInputs

@@ -7,10 +7,10 @@ use Rattle.phone_commands.specs.declared.jobs.JobError.TheVariants as job
 use Rattle.phone_lines.specs.Ends.{Devices}
 use Rattle.phone_records.specs.declared.loader.Metadata.{Metadata}
 use Rattle.phone_table.specs.Runs.{RunEnds}
-use Rattle.phone_table.specs.declared.counts.Counts.{Counts}
 use Rattle.phone_table.specs.declared.run.Asked.{Asked}
 use Rattle.phone_table.specs.declared.run.TableError.{TableError}
 use Rattle.phone_table.specs.declared.run.TableError.TheVariants as table
+use Rattle.phone_table.specs.declared.summed.Totals.{Totals}
 use Rattle.phone_values.specs.declared.country.Id.{Id}
 use Rattle.phone_values.specs.declared.rules.Rules.{Rules}
 
@@ -29,13 +29,13 @@ table_error table.Delimiter = job.Table table.Delimiter
 table_error (table.NoColumn e fields) = job.Table (table.NoColumn e fields)
 table_error (table.Taken name) = job.Table (table.Taken name)
 
--- a run over a table as a job's end: its counts are told where it is whole
-pub data IsTableEnd (counts : Counts) : Result Counts TableError → Result ⊤ JobError → Type 0 where
-  whole : IsTableEnd counts (Ok counts) (Ok tt)
-  refused : (e : TableError) → IsTableEnd counts (Err e) (Err (table_error e))
+-- a run over a table as a job's end: its counts and its summary are told where it is whole
+pub data IsTableEnd (totals : Totals) : Result Totals TableError → Result ⊤ JobError → Type 0 where
+  whole : IsTableEnd totals (Ok totals) (Ok tt)
+  refused : (e : TableError) → IsTableEnd totals (Err e) (Err (table_error e))
 
 -- an input is answered as a table
-abbrev pub AnswersTable : Rules → List Metadata → Option Id → Asked → Devices → Devices → Counts →
+abbrev pub AnswersTable : Rules → List Metadata → Option Id → Asked → Devices → Devices → Totals →
     Result ⊤ JobError → Type 0
-AnswersTable rules db hint asked before after counts result = (run : Result Counts TableError) ×
-    RunEnds rules db hint asked before after run × IsTableEnd counts run result
+AnswersTable rules db hint asked before after totals result = (run : Result Totals TableError) ×
+    RunEnds rules db hint asked before after run × IsTableEnd totals run result

@@ -4,10 +4,11 @@ ghost use Rattle.phone_commands.specs.TableJobs.{AnswersTable, table_error};
 ghost use Rattle.phone_lines.specs.Ends.{seen};
 
 use crate::jobs::{Job, JobError};
+use crate::strays::Strays;
 use phone_csv::FirstError;
 use phone_device::{ByteSink, ByteSource};
 use phone_engine::Engine;
-use phone_table::{Asked, Counts, TableError, UnknownNames, write_table};
+use phone_table::{Asked, TableError, Totals, UnknownNames, write_table};
 use std::alloc::Global;
 
 /// A table of customers.
@@ -17,8 +18,9 @@ pub struct Customers<'d, 'w> {
     pub engine: Engine<'d>,
     /// What is asked of it.
     pub asked: Asked<'w>,
-    /// How many records there were, how many of them gave what, and how many were left out.
-    pub counts: Counts,
+    /// How many records there were, how many of them gave what, and how many were left out; and
+    /// the summary, where one is asked for.
+    pub totals: Totals,
     /// The texts that name no region, of the last table.
     pub unknown: UnknownNames,
 }
@@ -50,13 +52,13 @@ impl<'d, 'w> Customers<'d, 'w> {
             (W.faults sink.old) (W.unflushed sink.old))
             (seen (S.to_come source.new) (S.faults source.new) (W.taken sink.new)
             (W.faults sink.new) (W.unflushed sink.new))
-            self.new.counts result }
+            self.new.totals result }
         ensures kept { self.new ≡
-            record self.old { counts = self.new.counts; unknown = self.new.unknown } }
+            record self.old { totals = self.new.totals; unknown = self.new.unknown } }
     {
         match write_table(self.engine, self.asked, source, sink, &mut self.unknown) {
-            Ok(counts) => {
-                self.counts = counts;
+            Ok(totals) => {
+                self.totals = totals;
                 Ok(())
             }
             Err(error) => Err(table_error(error)),
@@ -66,12 +68,20 @@ impl<'d, 'w> Customers<'d, 'w> {
 
 impl<'d, 'w> Job for Customers<'d, 'w> {
     ghost use Rattle.std.specs.Prelude.{◌≡◌};
+    ghost use Rattle.phone_commands.specs.Strays.{no_strays};
     ghost use Rattle.phone_commands.specs.TableJobs.{AnswersTable};
 
-    // The answer to a table, whose counts and texts that name no region are kept anew.
+    // The answer to a table, whose totals and texts that name no region are kept anew.
     ghost acts = { λ c before after c' result. AnswersTable c.engine.rules c.engine.database.now
-        c.engine.hint c.asked before after c'.counts result ×
-        (c' ≡ record c { counts = c'.counts; unknown = c'.unknown }) };
+        c.engine.hint c.asked before after c'.totals result ×
+        (c' ≡ record c { totals = c'.totals; unknown = c'.unknown }) };
+
+    // Of a table no line is counted.
+    ghost met = { λ _. no_strays };
+
+    fn strays(&self) -> Strays {
+        Strays::none()
+    }
 
     fn answer<S: ByteSource, W: ByteSink>(
         &mut self,

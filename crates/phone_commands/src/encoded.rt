@@ -1,5 +1,6 @@
 //! Inputs in an encoding.
 use crate::jobs::{Job, JobError};
+use crate::strays::Strays;
 use phone_device::{ByteSink, ByteSource};
 use phone_encodings::{Decoded, Encoding};
 use std::alloc::Global;
@@ -15,11 +16,17 @@ pub struct Encoded<'j, J> {
 
 impl<'j, J: Job> Job for Encoded<'j, J> {
     ghost use Rattle.std.specs.Prelude.{◌≡◌};
-    ghost use Rattle.phone_commands.specs.EncodedJobs.{ActsIn};
+    ghost use Rattle.phone_commands.specs.EncodedJobs.{ActsOn};
 
     ghost acts = { λ j before after j' result.
-        ActsIn j.encoding J.acts j.job.now before after j'.job.now result ×
+        ActsOn j.encoding J.acts j.job.now before after j'.job.now result ×
         (j'.encoding ≡ j.encoding) };
+
+    ghost met = { λ j. J.met j.job.now };
+
+    fn strays(&self) -> Strays {
+        self.job.strays()
+    }
 
     fn answer<S: ByteSource, W: ByteSink>(
         &mut self,

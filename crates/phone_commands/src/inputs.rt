@@ -1,12 +1,14 @@
 //! The inputs of a call: files, one after the other, or standard input.
 
 ghost use Rattle.std.specs.Prelude.{◌≡◌, ◌↔◌, IsTrue, List, Option, [], codes, ℕ};
+ghost use Rattle.phone_commands.specs.EncodedJobs.{Asked};
 ghost use Rattle.phone_commands.specs.Inputs.{InputsEnd, IsAnswered, IsStandard, Name, failed_in};
 ghost use Rattle.phone_lines.specs.Ends.{seen};
 
 use crate::jobs::{Job, JobError};
-use phone_device::{ByteSink, ByteSource, Std};
-use std::alloc::AllocGlobal;
+use phone_device::{ByteSink, Std};
+use phone_encodings::{Ahead, Inlet};
+use std::alloc::{AllocGlobal, Global};
 use std::fs::{self, Files};
 
 /// Whether a name is standard input's.
@@ -35,34 +37,64 @@ fn failed_in<'f>(name: &'f str, end: Result<(), JobError>) -> Result<(), Failure
     }
 }
 
+/// Answers an input, unless it is asked for the mark of UTF-16 and begins with it.
+fn on_asked<S: Inlet, W: ByteSink, J: Job>(
+    alloc: Global,
+    asks: bool,
+    source: &mut S,
+    sink: &mut W,
+    job: &mut J,
+) -> Result<(), JobError>
+    ensures { Asked asks J.acts job.old
+        (seen (S.to_come source.old) (S.faults source.old) (W.taken sink.old)
+        (W.faults sink.old) (W.unflushed sink.old))
+        (seen (S.to_come source.new) (S.faults source.new) (W.taken sink.new)
+        (W.faults sink.new) (W.unflushed sink.new))
+        job.new result }
+{
+    if !asks {
+        return job.answer(alloc, source, sink);
+    }
+    match source.is_utf_16() {
+        Ok(true) => Err(JobError::Utf16),
+        Ok(false) => job.answer(alloc, source, sink),
+        Err(_) => Err(JobError::Input),
+    }
+}
+
 /// Answers the file of a name.
 fn on_file<'f, R: Files + AllocGlobal, W: ByteSink, J: Job>(
     rt: &R,
     name: &'f str,
+    asks: bool,
     sink: &mut W,
     job: &mut J,
 ) -> Result<(), Failure<'f>>
     ensures { ¬ (IsStandard name.entry) → (to_come : Option (List ℕ)) (faults : ℕ) →
-        IsAnswered J.acts name.entry job.old
+        IsAnswered (Asked asks J.acts) name.entry job.old
         (seen to_come faults (W.taken sink.old) (W.faults sink.old) (W.unflushed sink.old))
         (seen to_come faults (W.taken sink.new) (W.faults sink.new) (W.unflushed sink.new))
         job.new result }
 {
     match fs::open(rt, name) {
-        Ok(file) => failed_in(name, job.answer(rt.alloc(), &mut Std::new(file), sink)),
+        Ok(file) => {
+            let mut source = Ahead::new(Std::new(file));
+            failed_in(name, on_asked(rt.alloc(), asks, &mut source, sink, job))
+        }
         Err(_) => Err(Failure::Unopened(name)),
     }
 }
 
 /// Answers the file of a name, or standard input.
-fn on_input<'f, R: Files + AllocGlobal, S: ByteSource, W: ByteSink, J: Job>(
+fn on_input<'f, R: Files + AllocGlobal, S: Inlet, W: ByteSink, J: Job>(
     rt: &R,
     name: &'f str,
+    asks: bool,
     input: &mut S,
     sink: &mut W,
     job: &mut J,
 ) -> Result<(), Failure<'f>>
-    ensures { IsAnswered J.acts name.entry job.old
+    ensures { IsAnswered (Asked asks J.acts) name.entry job.old
         (seen (S.to_come input.old) (S.faults input.old) (W.taken sink.old)
         (W.faults sink.old) (W.unflushed sink.old))
         (seen (S.to_come input.new) (S.faults input.new) (W.taken sink.new)
@@ -70,28 +102,30 @@ fn on_input<'f, R: Files + AllocGlobal, S: ByteSource, W: ByteSink, J: Job>(
         job.new result }
 {
     if is_standard(name) {
-        return failed_in(name, job.answer(rt.alloc(), input, sink));
+        return failed_in(name, on_asked(rt.alloc(), asks, input, sink, job));
     }
-    on_file(rt, name, sink, job)
+    on_file(rt, name, asks, sink, job)
 }
 
 /// Has a job answer each file in its turn, where `-` is standard input; standard input where there
-/// is none. The first failure ends it; then what is in front was answered.
-pub fn on_inputs<'f, R: Files + AllocGlobal, S: ByteSource, W: ByteSink, J: Job>(
+/// is none. The first failure ends it; then what is in front was answered. Where it is asked for,
+/// that an input begins with the mark of UTF-16 is such a failure.
+pub fn on_inputs<'f, R: Files + AllocGlobal, S: Inlet, W: ByteSink, J: Job>(
     rt: &R,
     files: &[&'f str],
+    asks: bool,
     input: &mut S,
     sink: &mut W,
     job: &mut J,
 ) -> Result<(), Failure<'f>>
     ensures standard { files.now ≡ [] → (name : Name) × IsStandard name ×
-        IsAnswered J.acts name job.old
+        IsAnswered (Asked asks J.acts) name job.old
         (seen (S.to_come input.old) (S.faults input.old) (W.taken sink.old)
         (W.faults sink.old) (W.unflushed sink.old))
         (seen (S.to_come input.new) (S.faults input.new) (W.taken sink.new)
         (W.faults sink.new) (W.unflushed sink.new))
         job.new result }
-    ensures files { ¬ (files.now ≡ []) → InputsEnd J.acts files.now job.old
+    ensures files { ¬ (files.now ≡ []) → InputsEnd (Asked asks J.acts) files.now job.old
         (seen (S.to_come input.old) (S.faults input.old) (W.taken sink.old)
         (W.faults sink.old) (W.unflushed sink.old))
         (seen (S.to_come input.new) (S.faults input.new) (W.taken sink.new)
@@ -99,10 +133,10 @@ pub fn on_inputs<'f, R: Files + AllocGlobal, S: ByteSource, W: ByteSink, J: Job>
         job.new result }
 {
     if files.is_empty() {
-        return on_input(rt, "-", input, sink, job);
+        return on_input(rt, "-", asks, input, sink, job);
     }
     for name in files {
-        match on_input(rt, *name, input, sink, job) {
+        match on_input(rt, *name, asks, input, sink, job) {
             Ok(()) => {}
             Err(failure) => return Err(failure),
         }

@@ -5,6 +5,7 @@ pub mod Kept
 pub mod HeldLemmas
 pub mod MarkedLemmas
 pub mod SharedLemmas
+pub mod Summing
 pub mod DuplicateLaws
 pub mod NoneLost
 pub mod Numbers

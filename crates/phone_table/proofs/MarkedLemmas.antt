@@ -15,6 +15,7 @@ use Rattle.phone_csv.specs.declared.blocks.RunError.TheVariants as error
 use Rattle.phone_csv.specs.declared.cutter.Start.{Start}
 use Rattle.phone_csv.specs.declared.format.Format.{Format}
 use Rattle.phone_lines.specs.Ends.{Devices, seen}
+use Rattle.phone_summary.specs.Summaries.{IsEmpty}
 use Rattle.phone_table.specs.Answers.{IsOfOtherWidth}
 use Rattle.phone_table.specs.Counts.{no_counts}
 use Rattle.phone_table.specs.Duplicates.{marked_rows}
@@ -24,6 +25,7 @@ use Rattle.phone_table.specs.Held as held
 use Rattle.phone_table.specs.Rows.{WritesKept}
 use Rattle.phone_table.specs.Runs.{RowsEnd, WritesSomeTable, WritesTable, names_in}
 use Rattle.phone_table.specs.Runs.RowsEnd.{whole as all_written, broken_off as not_written}
+use Rattle.phone_table.specs.Summed.{IsSummed, totals_of}
 use Rattle.phone_table.specs.Tables.{IsHeader, IsTable, head_text}
 use Rattle.phone_table.specs.Unwritten.{IsUnwritten, WritesNone}
 use Rattle.phone_table.specs.Unwritten.IsUnwritten.{broken_off}
@@ -113,26 +115,26 @@ module _ (header added : Record) (writes some : Format → Writes) (refuses : Re
     sink_fault = fault;
   })
 
-module _ (first : Holder) (fresh : held.answered first.held.items ≡ []) (counts : first.table.counts ≡ no_counts) where
+module _ (first : Holder) (fresh : held.answered first.held.items ≡ []) (counts : first.table.counts ≡ no_counts) (empty : IsEmpty first.table.summary) where
   -- what is written for the records that are kept
   abbrev pub kept_text : Format → Holder → List ℕ
   kept_text format last = rows_text format (marked_rows (held.answered last.held.items) 2 (held.answered last.held.items))
 
   pub writes_marked : (format : Format) (last : Holder) (records : List Record) (text : List ℕ) → WritesRows holds format first last records text →
-      WritesKept (gives first.table) true first.table.asked.is_unique last.table.counts format records (kept_text format last)
+      WritesKept (gives first.table) true first.table.asked.is_unique (λ all. IsSummed first.table.asked all last.table.summary) last.table.counts format records (kept_text format last)
   writes_marked format last records text (rows, are, is) =
-      let s = all_held first fresh counts records rows last are in
-      (held.answered last.held.items, _, s.answers, (refl, (s.plain, s.counts)), refl)
+      let s = all_held first fresh counts empty records rows last are in
+      (held.answered last.held.items, _, s.answers, (refl, (s.plain, s.counts)), s.summed, refl)
 
   pub writes_none : (format : Format) (last : Holder) (records : List Record) (text : List ℕ) → WritesRows holds format first last records text →
       WritesNone (gives first.table) format records text
   writes_none format last records text (rows, are, is) =
-      let s = all_held first fresh counts records rows last are in
+      let s = all_held first fresh counts empty records rows last are in
       (held.answered last.held.items, s.answers, is ∙ ap (rows_text format) s.unwritten)
 
   pub same_table : (format : Format) (last : Holder) (records : List Record) (text : List ℕ) → WritesRows holds format first last records text →
-      last.table ≡ record first.table { counts = last.table.counts; unknown = last.table.unknown }
-  same_table format last records text (rows, are, is) = (all_held first fresh counts records rows last are).table
+      (last.table.columns ≡ first.table.columns) × (last.table.asked ≡ first.table.asked)
+  same_table format last records text (rows, are, is) = let s = all_held first fresh counts empty records rows last are in (s.columns, s.asked)
 
   -- a run that writes nowhere broke off
   pub unwritten_by : (last : Holder) (header added : Record) (d u : ℕ) (before after : Devices) (e : RunError) →
@@ -142,11 +144,10 @@ module _ (first : Holder) (fresh : held.answered first.held.items ≡ []) (count
   unwritten_by last header added d u before after e h = broken_off u e (ends_weaker header added d _ _ _ _ _ _
       (λ format. writes_none format last)
       (λ format records text (some, w). writes_none format some records text w)
-      (λ format records text fields w refused. let same = same_table format last records text w in
-      let columns = ap (λ t. t.columns) same in let asked = ap (λ t. t.asked) same in rw (columns, asked) at refused)
+      (λ format records text fields w refused. let same = same_table format last records text w in rw (same.0, same.1) at refused)
       _ _ _ h)
 
-module _ (first : Holder) (fresh : held.answered first.held.items ≡ []) (counts : first.table.counts ≡ no_counts) (told : first.table.asked.tells_duplicates ≡ true) where
+module _ (first : Holder) (fresh : held.answered first.held.items ≡ []) (counts : first.table.counts ≡ no_counts) (empty : IsEmpty first.table.summary) (told : first.table.asked.tells_duplicates ≡ true) where
   abbrev t : Table
   t = first.table
 
@@ -155,20 +156,20 @@ module _ (first : Holder) (fresh : held.answered first.held.items ≡ []) (count
 
   -- what is written for the records of the table
   abbrev writes : Holder → Format → Writes
-  writes last = WritesTable t.engine.rules t.engine.database.now t.engine.hint t.columns t.asked last.table.counts
+  writes last = WritesTable t.engine.rules t.engine.database.now t.engine.hint t.columns t.asked (totals_of last.table)
 
   abbrev some_writes : Format → Writes
   some_writes = WritesSomeTable t.engine.rules t.engine.database.now t.engine.hint t.columns t.asked
 
   writes_table : (format : Format) (last : Holder) (records : List Record) (text : List ℕ) → WritesRows holds format first last records text →
-      writes last format records (kept_text first fresh counts format last)
-  writes_table format last records text w = subst (λ b. WritesKept (gives t) b t.asked.is_unique last.table.counts format records (kept_text first fresh counts format last)) (sym told)
-      (writes_marked first fresh counts format last records text w)
+      writes last format records (kept_text first fresh counts empty format last)
+  writes_table format last records text w = subst (λ b. WritesKept (gives t) b t.asked.is_unique (λ all. IsSummed t.asked all last.table.summary) last.table.counts format records (kept_text first fresh counts empty format last)) (sym told)
+      (writes_marked first fresh counts empty format last records text w)
 
   module _ (last : Holder) (header : Record) (rest : Option Start) (has_mark : Bool) (s0 s1 s2 : Option (List ℕ)) where
     -- the text of the table
     abbrev pub whole_text : List ℕ
-    whole_text = head_text (format_after d (state_behind rest)) has_mark (header ++ names_in t.asked) ++ kept_text first fresh counts (format_after d (state_behind rest)) last
+    whole_text = head_text (format_after d (state_behind rest)) has_mark (header ++ names_in t.asked) ++ kept_text first fresh counts empty (format_after d (state_behind rest)) last
 
     abbrev Told : Type 0
     Told = OfRead s0 s2 (λ bytes. IsTable header (names_in t.asked) (by IsReport (writes last)) d bytes whole_text)
@@ -179,26 +180,26 @@ module _ (first : Holder) (fresh : held.answered first.held.items ≡ []) (count
       (IsNone rest → (last ≡ first) × (s2 ≡ s1)) → Told last header rest has_mark s0 s1 s2
   table_told last header (Some start) has_mark s0 s1 s2 read (rb, rp, (text, (records, all, w))) none =
       let format = format_after d (state_of start.place) in
-      table_behind d header (names_in t.asked) has_mark (by IsReport (writes last)) (kept_text first fresh counts format last) s0 s1 start s2 read
+      table_behind d header (names_in t.asked) has_mark (by IsReport (writes last)) (kept_text first fresh counts empty format last) s0 s1 start s2 read
       (rb, rp, (records, all, writes_table format last records text w))
   table_told last header None has_mark s0 s1 s2 read more none =
       let format = format_after d st.StartRecord in
       let (same, source) = none refl in
-      rw (same, source) (table_alone d header (names_in t.asked) has_mark (by IsReport (writes first)) (kept_text first fresh counts format first) s0 s1 read
-      (no_records d header (names_in t.asked) has_mark (writes first format) (kept_text first fresh counts format first) (writes_table format first [] [] (writes_nothing holds format first))))
+      rw (same, source) (table_alone d header (names_in t.asked) has_mark (by IsReport (writes first)) (kept_text first fresh counts empty format first) s0 s1 read
+      (no_records d header (names_in t.asked) has_mark (writes first format) (kept_text first fresh counts empty format first) (writes_table format first [] [] (writes_nothing holds format first))))
 
   module _ (last : Holder) (header : Record) (text : List ℕ) (s0 s2 w0 w2 : Option (List ℕ)) (f0 f2 k0 k2 u0 u2 : ℕ)
       (table : OfRead s0 s2 (λ bytes. IsTable header (names_in t.asked) (by IsReport (writes last)) d bytes text)) (end : IsAtEnd s2) where
     pub rows_whole : Takes w0 text w2 → f2 ≡ f0 → k2 ≡ k0 → u2 ≡ 0 →
-        RowsEnd t.engine.rules t.engine.database.now t.engine.hint t.columns t.asked header (seen s0 f0 w0 k0 u0) (seen s2 f2 w2 k2 u2) (Ok last.table.counts)
-    rows_whole took source sink handed = all_written last.table.counts
+        RowsEnd t.engine.rules t.engine.database.now t.engine.hint t.columns t.asked header (seen s0 f0 w0 k0 u0) (seen s2 f2 w2 k2 u2) (Ok (totals_of last.table))
+    rows_whole took source sink handed = all_written (totals_of last.table)
         (taken_whole header (names_in t.asked) (writes last) some_writes (IsOfOtherWidth t.columns t.asked) d text s0 s2 w0 w2 f0 f2 k0 k2 u0 u2 table end took source sink handed)
 
     pub rows_front : TakesFront w0 text w2 → k2 ≡ k0 + 1 →
         RowsEnd t.engine.rules t.engine.database.now t.engine.hint t.columns t.asked header (seen s0 f0 w0 k0 u0) (seen s2 f2 w2 k2 u2) (Err error.Output)
-    rows_front front fault = not_written last.table.counts error.Output
+    rows_front front fault = not_written (totals_of last.table) error.Output
         (taken_front header (names_in t.asked) (writes last) some_writes (IsOfOtherWidth t.columns t.asked) d text s0 s2 w0 w2 f0 f2 k0 k2 u0 u2 table end
-        (λ format records text w. (last.table.counts, w)) front fault)
+        (λ format records text (all, rows, answers, those, sums, is). (last.table.counts, (all, rows, answers, those, tt, is))) front fault)
 
 pub if_err : {T E : Type 0} (r : Result T E) (P : E → Type 0) → ((e : E) → r ≡ Err e → P e) → IfErr r P
 if_err (Ok x) P f = tt

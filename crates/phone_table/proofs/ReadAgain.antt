@@ -82,14 +82,14 @@ written_full : (marks once : Bool) (all : List Answered) (rows : List Record) (c
 written_full true once all rows counts (is, plain) full = rw is (marked_full all 2 all full)
 written_full false once all rows counts kept full = kept_full once all rows counts kept full
 
-pub read_back : (gives : Record → Option Reading → Record → Type 0) (told once : Bool) (counts : Counts) (header marks headings : Record) (name : List ℕ) (names : Record)
+pub read_back : (gives : Record → Option Reading → Record → Type 0) (told once : Bool) (holds : List Answered → Type 0) (counts : Counts) (header marks headings : Record) (name : List ℕ) (names : Record)
     (bytes text : List ℕ) →
     IsTable header (marks ++ (headings ++ name ∷ names))
-    (by IsReport (WritesKept gives told once counts)) 44 bytes text → IsReadAgain gives told once counts header
+    (by IsReport (WritesKept gives told once holds counts)) 44 bytes text → IsReadAgain gives told once counts header
     (marks ++ (headings ++ name ∷ names)) bytes text
-read_back gives told once counts header marks headings name names bytes text t =
+read_back gives told once holds counts header marks headings name names bytes text t =
     let first = header ++ (marks ++ (headings ++ name ∷ names)) in
-    let (records, read, (all, rows, answers, keep, is)) = t.answered in
+    let (records, read, (all, rows, answers, keep, also, is)) = t.answered in
     let full = written_full told once all rows counts keep (all_own gives records all answers (csv.all_full 44 t.after t.rest records read)) in
     let end = line_end_in t.after in
     let marked = begins_with_mark bytes in

@@ -17,9 +17,9 @@ use Rattle.phone_table.specs.Ends.{SourceFails}
 use Rattle.phone_table.specs.Runs.{NoHeader, RowsEnd}
 use Rattle.phone_table.specs.Runs.NoHeader.{absent, input, memory, quote}
 use Rattle.phone_table.specs.Tables.{IsHeader}
-use Rattle.phone_table.specs.declared.counts.Counts.{Counts}
 use Rattle.phone_table.specs.declared.header.Columns.{Columns}
 use Rattle.phone_table.specs.declared.run.Asked.{Asked}
+use Rattle.phone_table.specs.declared.summed.Totals.{Totals}
 
 caused : (before after : Devices) → (after.source_faults ≡ before.source_faults + 1) ⊎ OfRead before.to_come after.to_come (λ bytes. length bytes ≡ most_bytes) →
     SourceFails before after
@@ -50,7 +50,7 @@ header_read d header None has_mark s0 s1 ended only = only refl
 
 -- a run that begins where the reading of the header ended, which counted no fault
 pub rows_from : {rules : Rules} {db : List Metadata} {hint : Option Id} {columns : Columns} {asked : Asked} {header : Record} {to_come taken : Option (List ℕ)}
-    {n m faults held : ℕ} {after : Devices} {r : Result Counts RunError} → n ≡ m →
+    {n m faults held : ℕ} {after : Devices} {r : Result Totals RunError} → n ≡ m →
     RowsEnd rules db hint columns asked header (seen to_come n taken faults held) after r → RowsEnd rules db hint columns asked header (seen to_come m taken faults held) after r
 rows_from {rules = rules} {db = db} {hint = hint} {columns = columns} {asked = asked} {header = header} {to_come = to_come} {taken = taken} {faults = faults} {held = held} {after = after} {r = r} same h =
     subst (λ n. RowsEnd rules db hint columns asked header (seen to_come n taken faults held) after r) same h

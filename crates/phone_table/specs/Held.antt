@@ -11,6 +11,7 @@ use Rattle.phone_csv.specs.RecordReports.{Gives}
 use Rattle.phone_table.specs.Answered.{Answered, key_in}
 use Rattle.phone_table.specs.Answers.{IsAnswerOf}
 use Rattle.phone_table.specs.Counts.{counts_after}
+use Rattle.phone_table.specs.Summed.{SumsRow}
 use Rattle.phone_table.specs.Unknowns.{NotesRow}
 use Rattle.phone_table.specs.declared.duplicates.Shared.{Shared}
 use Rattle.phone_table.specs.declared.duplicates.Held.{Held}
@@ -49,8 +50,8 @@ found_after keys None number q = found keys q
 found_after keys (Some key) number q =
     cond (string_eq key q) (Some (one_more (found keys key) number)) (found keys q)
 
--- what keeps all records of a table does so with one more: it is counted and kept with its answer,
--- the text is noted that names no region, and no row is written
+-- what keeps all records of a table does so with one more: it is counted, summed and kept with its
+-- answer, the text is noted that names no region, and no row is written
 pub data Holds (before : Holder) (fields : Record) (after : Holder) : Option Record → Type 0 where
   held : (number : Option Reading) (answer : Record) →
       IsAnswerOf before.table.engine.rules before.table.engine.database.now
@@ -58,9 +59,11 @@ pub data Holds (before : Holder) (fields : Record) (after : Holder) : Option Rec
       after.table ≡ record before.table {
         counts = counts_after before.table.counts (fields ++ answer);
         unknown = after.table.unknown;
+        summary = after.table.summary;
       } →
       NotesRow before.table.columns (fields ++ answer) before.table.unknown.names.entries
       after.table.unknown.names.entries →
+      SumsRow before.table.asked (fields ++ answer) before.table.summary after.table.summary →
       answered after.held.items ≡ answered before.held.items ++
       record { own = fields; answer = answer; key = key_in number } ∷ [] →
       Holds before fields after None

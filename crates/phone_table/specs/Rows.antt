@@ -1,7 +1,7 @@
 -- The rows of a table: each record with its answer; where each number is kept once, without those
 -- whose number an earlier record has; or with columns that tell these.
 use Rattle.std.specs.Prelude.{◌≡◌, ◌⊎◌, ◌&&◌, ℕ, Bool, true, false, List, [], ◌∷◌, ◌++◌, Option}
-use Rattle.std.specs.Prelude.{Some}
+use Rattle.std.specs.Prelude.{Some, ⊤}
 use Rattle.std.specs.List.{Contains, list_any}
 use Rattle.std.specs.Option.{option_map_or}
 use Rattle.phone_csv.specs.Formats.{Record}
@@ -48,15 +48,20 @@ abbrev pub AreWritten : (marks once : Bool) → List Answered → List Record �
 AreWritten true once = AreMarked
 AreWritten false once = AreKept once
 
--- what is written for records, whose answers are such: the text of these rows
+-- what is written for records, whose answers are such, and of all of which this holds: the text of
+-- these rows
 abbrev pub WritesKept : (Record → Option Reading → Record → Type 0) → (marks once : Bool) →
-    Counts → Format → Writes
-WritesKept gives marks once counts format records text = (all : List Answered) ×
+    (List Answered → Type 0) → Counts → Format → Writes
+WritesKept gives marks once holds counts format records text = (all : List Answered) ×
     (rows : List Record) × AreAnswered gives records all × AreWritten marks once all rows counts ×
-    (text ≡ rows_text format rows)
+    holds all × (text ≡ rows_text format rows)
+
+-- nothing more holds of records
+abbrev pub anything : List Answered → Type 0
+anything all = ⊤
 
 -- the same, whatever its counts
 abbrev pub WritesSome : (Record → Option Reading → Record → Type 0) → (marks once : Bool) →
     Format → Writes
 WritesSome gives marks once format records text =
-    (counts : Counts) × WritesKept gives marks once counts format records text
+    (counts : Counts) × WritesKept gives marks once anything counts format records text

@@ -23,13 +23,14 @@ use Rattle.phone_table.specs.Duplicates.{duplicate_names}
 use Rattle.phone_table.specs.Ends.{Ends, IsUntouched, SourceFails}
 use Rattle.phone_table.specs.Extras.{added_names}
 use Rattle.phone_table.specs.Headers.{behind, columns_of, first_taken}
+use Rattle.phone_table.specs.Summed.{IsSummed}
 use Rattle.phone_table.specs.Tables.{IsHeaderAlone}
 use Rattle.phone_table.specs.Unwritten.{IsUnwritten, WritesNone}
-use Rattle.phone_table.specs.declared.counts.Counts.{Counts}
 use Rattle.phone_table.specs.declared.header.ColumnError.{ColumnError}
 use Rattle.phone_table.specs.declared.header.Columns.{Columns}
 use Rattle.phone_table.specs.declared.run.Asked.{Asked}
 use Rattle.phone_table.specs.declared.run.TableError.{TableError}
+use Rattle.phone_table.specs.declared.summed.Totals.{Totals}
 use Rattle.phone_table.specs.declared.run.TableError.TheVariants.{Delimiter, Header}
 use Rattle.phone_table.specs.declared.run.TableError.TheVariants.{NoColumn, Rows, Taken}
 
@@ -73,13 +74,14 @@ pub record ReadsHeader (delimiter : ℕ) (header : Record) (before after : Devic
 
 -- what is written for the records of a table with these columns: each with its answer, by what is
 -- asked for, those left out whose key an earlier one has, where each number is kept once, or with
--- the columns of duplicates
-abbrev pub WritesTable : Rules → List Metadata → Option Id → Columns → Asked → Counts → Format →
+-- the columns of duplicates; all are counted, and summed where a summary is asked for
+abbrev pub WritesTable : Rules → List Metadata → Option Id → Columns → Asked → Totals → Format →
     Writes
-WritesTable rules db hint columns asked =
+WritesTable rules db hint columns asked totals =
     WritesKept (IsAnswerOf rules db hint columns asked) asked.tells_duplicates asked.is_unique
+    (λ all. IsSummed asked all totals.summary) totals.counts
 
--- the same, whatever its counts
+-- the same, whatever its counts and its summary
 abbrev pub WritesSomeTable : Rules → List Metadata → Option Id → Columns → Asked → Format → Writes
 WritesSomeTable rules db hint columns asked =
     WritesSome (IsAnswerOf rules db hint columns asked) asked.tells_duplicates asked.is_unique
@@ -88,14 +90,14 @@ WritesSomeTable rules db hint columns asked =
 -- counted; with the columns of duplicates nothing is written before all is read
 pub data RowsEnd (rules : Rules) (db : List Metadata) (hint : Option Id) (columns : Columns)
     (asked : Asked) (header : Record) (before after : Devices) :
-    Result Counts RunError → Type 0 where
-  whole : (counts : Counts) →
-      Ends header (names_in asked) (WritesTable rules db hint columns asked counts)
+    Result Totals RunError → Type 0 where
+  whole : (totals : Totals) →
+      Ends header (names_in asked) (WritesTable rules db hint columns asked totals)
       (WritesSomeTable rules db hint columns asked) (IsOfOtherWidth columns asked)
       asked.delimiter before after (Ok tt) →
-      RowsEnd rules db hint columns asked header before after (Ok counts)
-  broken_off : (counts : Counts) (e : RunError) →
-      Ends header (names_in asked) (WritesTable rules db hint columns asked counts)
+      RowsEnd rules db hint columns asked header before after (Ok totals)
+  broken_off : (totals : Totals) (e : RunError) →
+      Ends header (names_in asked) (WritesTable rules db hint columns asked totals)
       (WritesSomeTable rules db hint columns asked) (IsOfOtherWidth columns asked)
       asked.delimiter before after (Err e) →
       RowsEnd rules db hint columns asked header before after (Err e)
@@ -105,8 +107,8 @@ pub data RowsEnd (rules : Rules) (db : List Metadata) (hint : Option Id) (column
       RowsEnd rules db hint columns asked header before after (Err e)
 
 -- how the run over the rows ended, as the end of that over the table
-abbrev pub rows_result : Result Counts RunError → Result Counts TableError
-rows_result (Ok counts) = Ok counts
+abbrev pub rows_result : Result Totals RunError → Result Totals TableError
+rows_result (Ok totals) = Ok totals
 rows_result (Err e) = Err (Rows e)
 
 -- a run over a table ends so, which its result tells: under a delimiter that is none nothing is
@@ -114,7 +116,7 @@ rows_result (Err e) = Err (Rows e)
 -- or where a name that is put behind the header stands there already; else as the run over its rows
 -- ends
 pub data RunEnds (rules : Rules) (db : List Metadata) (hint : Option Id) (asked : Asked)
-    (before after : Devices) : Result Counts TableError → Type 0 where
+    (before after : Devices) : Result Totals TableError → Type 0 where
   no_delimiter : is_delimiter asked.delimiter ≡ false → after ≡ before →
       RunEnds rules db hint asked before after (Err Delimiter)
   no_header : (e : FirstError) → is_delimiter asked.delimiter ≡ true →
@@ -128,7 +130,7 @@ pub data RunEnds (rules : Rules) (db : List Metadata) (hint : Option Id) (asked 
       is_delimiter asked.delimiter ≡ true →
       ReadsHeader asked.delimiter header before after → columns_in asked header ≡ Ok columns →
       IsRefused header (names_in asked) e → RunEnds rules db hint asked before after (Err e)
-  answered : (header : Record) (columns : Columns) (result : Result Counts RunError) →
+  answered : (header : Record) (columns : Columns) (result : Result Totals RunError) →
       is_delimiter asked.delimiter ≡ true → columns_in asked header ≡ Ok columns →
       first_taken header (names_in asked) ≡ None →
       RowsEnd rules db hint columns asked header before after result →

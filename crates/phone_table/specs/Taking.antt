@@ -8,6 +8,7 @@ use Rattle.phone_csv.specs.Formats.{Record}
 use Rattle.phone_table.specs.Answered.{key_in}
 use Rattle.phone_table.specs.Answers.{IsAnswerOf}
 use Rattle.phone_table.specs.Counts.{counts_after, counts_without}
+use Rattle.phone_table.specs.Summed.{SumsRow}
 use Rattle.phone_table.specs.Unknowns.{NotesRow}
 use Rattle.phone_table.specs.declared.table.Table.{Table}
 use Rattle.phone_values.specs.declared.reading.Reading.{Reading}
@@ -30,7 +31,8 @@ pub record Keeps (before : Table) (key : Option (List ℕ)) (after : Table) : Ty
       has after text ≡ (option_map_or (bytes_eq text) key false || has before text)
 
 -- what a table does with a record: its row is written, or left out where each number is kept once
--- and the key of the record's is known; it is counted, and the text noted that names no region
+-- and the key of the record's is known; it is counted and summed, and the text noted that names no
+-- region
 pub data Takes (before : Table) (fields : Record) (after : Table) : Option Record → Type 0 where
   written : (number : Option Reading) (answer : Record) →
       IsAnswerOf before.engine.rules before.engine.database.now before.engine.hint before.columns
@@ -39,7 +41,9 @@ pub data Takes (before : Table) (fields : Record) (after : Table) : Option Recor
       Keeps before (key_in number) after →
       after.counts ≡ counts_after before.counts (fields ++ answer) →
       NotesRow before.columns (fields ++ answer) before.unknown.names.entries
-      after.unknown.names.entries → Takes before fields after (Some answer)
+      after.unknown.names.entries →
+      SumsRow before.asked (fields ++ answer) before.summary after.summary →
+      Takes before fields after (Some answer)
   left_out : (number : Option Reading) (answer : Record) →
       IsAnswerOf before.engine.rules before.engine.database.now before.engine.hint before.columns
       before.asked fields number answer →
@@ -47,4 +51,6 @@ pub data Takes (before : Table) (fields : Record) (after : Table) : Option Recor
       Keeps before (key_in number) after →
       after.counts ≡ counts_without before.counts (fields ++ answer) →
       NotesRow before.columns (fields ++ answer) before.unknown.names.entries
-      after.unknown.names.entries → Takes before fields after None
+      after.unknown.names.entries →
+      SumsRow before.asked (fields ++ answer) before.summary after.summary →
+      Takes before fields after None

@@ -245,7 +245,7 @@ pub(crate) struct Subject<'a> {
 }
 
 /// Whether a column tells what is suspicious.
-fn tells_doubts(told: Told) -> bool
+pub(crate) fn tells_doubts(told: Told) -> bool
     ensures { result ≡ tells_doubts told }
 {
     matches!(told, Told::Doubts)

@@ -7,6 +7,7 @@ ghost use Rattle.phone_table.specs.Spelled.{number_in};
 
 use crate::answer::Answer;
 use crate::duplicates::Held;
+use crate::summed::sum_row;
 use crate::table::{Table, key_in};
 use crate::unknown::note_unknown;
 use csv::ByteRecord;
@@ -72,6 +73,9 @@ impl<'d> Answers for Holder<'d> {
             return Err(Refusal::Memory);
         };
         let Ok(()) = note_unknown(alloc, self.table.columns, fields, &mut self.table.unknown) else {
+            return Err(Refusal::Memory);
+        };
+        let Ok(()) = sum_row(alloc, self.table.asked, fields, &mut self.table.summary) else {
             return Err(Refusal::Memory);
         };
         self.table.counts.count(fields, true);

@@ -29,6 +29,7 @@ ghost use Rattle.phone_table.specs.Shorts.{is_number_alone, short_answer};
 ghost use Rattle.phone_table.specs.Tables.{IsReadAgain, IsTable};
 ghost use Rattle.phone_table.specs.declared.header.Columns as header;
 ghost use Rattle.phone_table.specs.declared.run.Asked as run;
+ghost use Rattle.phone_table.specs.declared.summed.Totals.{Totals};
 
 use crate::header::Columns;
 use crate::region::region_text;
@@ -133,12 +134,12 @@ pub fn some_object(line: &[u8])
 /// of the table's records, each with its answer.
 pub fn read_again()
     ensures { (rules : Rules) (db : List loader.Metadata) (hint : Option Id)
-        (columns : header.Columns) (asked : run.Asked) (counts : Counts) (header : Record)
+        (columns : header.Columns) (asked : run.Asked) (totals : Totals) (header : Record)
         (bytes text : List ℕ) →
         IsTable header (names_in asked)
-        (by IsReport (WritesTable rules db hint columns asked counts)) 44 bytes text →
+        (by IsReport (WritesTable rules db hint columns asked totals)) 44 bytes text →
         IsReadAgain (IsAnswerOf rules db hint columns asked) asked.tells_duplicates
-        asked.is_unique counts header (names_in asked) bytes text }
+        asked.is_unique totals.counts header (names_in asked) bytes text }
 {}
 
 /// A record whose `duplicate_of` has a number names an earlier one with its key, which names no

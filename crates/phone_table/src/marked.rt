@@ -7,6 +7,7 @@ ghost use Rattle.phone_csv.specs.RecordReports.{IsReport, WritesRows, WritesSome
 ghost use Rattle.phone_csv.specs.Runs.{OfRead};
 ghost use Rattle.phone_device.specs.Passing.{IsAtEnd};
 ghost use Rattle.phone_lines.specs.Ends.{seen};
+ghost use Rattle.phone_summary.specs.Summaries.{IsEmpty};
 ghost use Rattle.phone_table.specs.Answers.{IsOfOtherWidth};
 ghost use Rattle.phone_table.specs.Counts.{no_counts};
 ghost use Rattle.phone_table.specs.Ends.{Ends};
@@ -14,10 +15,10 @@ ghost use Rattle.phone_table.specs.Held.{holds};
 ghost use Rattle.phone_table.specs.Runs.{RowsEnd, names_in};
 ghost use Rattle.phone_table.specs.Tables.{IsHeader};
 
-use crate::counts::Counts;
 use crate::duplicates::marked_text;
 use crate::holder::{Holder, Nowhere};
 use crate::names::header_text;
+use crate::summed::{Totals, told_whole};
 use crate::table::Table;
 use crate::unknown::UnknownNames;
 use csv::ByteRecord;
@@ -74,12 +75,13 @@ pub(crate) fn write_marked<S: ByteSource, W: ByteSink>(
     source: &mut S,
     sink: &mut W,
     unknown: &mut UnknownNames,
-) -> Result<Counts, RunError>
+) -> Result<Totals, RunError>
     requires partial { partial_of first.fields ≡ [] }
     requires end { IsNone first.rest → IsAtEnd (S.to_come source.old) }
     requires marked { table.asked.tells_duplicates ≡ true }
     requires added { fields_of added.now ≡ names_in table.asked }
     requires counts { table.counts ≡ no_counts }
+    requires summary { IsEmpty table.summary }
     ensures ends { (before : Option (List ℕ)) → OfRead before (S.to_come source.old) (λ bytes.
         IsHeader table.entry.asked.delimiter (fields_of first.fields) first.rest first.has_mark
         bytes) → RowsEnd table.entry.engine.rules table.entry.engine.database.now
@@ -112,10 +114,7 @@ pub(crate) fn write_marked<S: ByteSource, W: ByteSink>(
         return Err(RunError::Memory);
     };
     match write_out(sink, text.as_slice()) {
-        Ok(()) => {
-            *unknown = holder.table.unknown;
-            Ok(holder.table.counts)
-        }
+        Ok(()) => Ok(told_whole(holder.table, unknown)),
         Err(_) => Err(RunError::Output),
     }
 }

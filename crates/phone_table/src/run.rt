@@ -6,17 +6,18 @@ ghost use Rattle.phone_csv.specs.Formats.{Record};
 ghost use Rattle.phone_csv.specs.Runs.{OfRead};
 ghost use Rattle.phone_device.specs.Passing.{IsAtEnd};
 ghost use Rattle.phone_lines.specs.Ends.{seen};
+ghost use Rattle.phone_summary.specs.Summaries.{IsEmpty};
 ghost use Rattle.phone_table.specs.Counts.{no_counts};
 ghost use Rattle.phone_table.specs.Headers.{first_taken};
 ghost use Rattle.phone_table.specs.Runs.{IsRefused, RowsEnd, RunEnds, names_in};
 ghost use Rattle.phone_table.specs.Tables.{IsHeader};
 
-use crate::counts::Counts;
 use crate::extra::Extra;
 use crate::header::{ColumnError, columns_of};
 use crate::marked::write_marked;
 use crate::names::{added_names, first_taken};
 use crate::rows::write_rows;
+use crate::summed::{Totals, told_whole};
 use crate::table::Table;
 use crate::unknown::UnknownNames;
 use csv::ByteRecord;
@@ -54,6 +55,8 @@ pub struct Asked<'a> {
     pub extra: &'a [Extra<'a>],
     /// The database of short numbers, where the kinds of these are told.
     pub short: Option<&'a Plans>,
+    /// Whether types, regions, refusals and words of what is suspicious are counted.
+    pub is_summed: bool,
 }
 
 impl<'a> Asked<'a> {
@@ -72,6 +75,7 @@ impl<'a> Asked<'a> {
           front = result.front;
           extra = result.extra;
           short = None;
+          is_summed = false;
         } }
         ensures front { result.front.now ≡ [] }
         ensures extra { result.extra.now ≡ [] }
@@ -88,6 +92,7 @@ impl<'a> Asked<'a> {
             front: "",
             extra: &[],
             short: None,
+            is_summed: false,
         }
     }
 }
@@ -149,7 +154,9 @@ fn names_behind(
 /// number of records, but with `is_unique`, where the keys of numbers are kept: then a record is
 /// left out where an earlier one has a number of the same E.164 text and the same extension; and
 /// with `tells_duplicates`, where all are. It gives how many records there were, how many of them
-/// were answered otherwise than by a valid number, and how many were left out.
+/// were answered otherwise than by a valid number, and how many were left out; with `is_summed`
+/// also how often each type, region, refusal and word of what is suspicious was answered, in all
+/// records, those that are left out with them.
 ///
 /// With `tells_duplicates` two columns stand before the others. `duplicate_of` has, where an
 /// earlier record has the number and its extension, the number of the first one that has, the
@@ -189,7 +196,7 @@ pub fn write_table<S: ByteSource, W: ByteSink>(
     source: &mut S,
     sink: &mut W,
     unknown: &mut UnknownNames,
-) -> Result<Counts, TableError>
+) -> Result<Totals, TableError>
     ensures ends { RunEnds engine.entry.rules engine.entry.database.now engine.entry.hint
         asked.entry
         (seen (S.to_come source.old) (S.faults source.old) (W.taken sink.old)
@@ -216,7 +223,7 @@ pub fn write_table<S: ByteSource, W: ByteSink>(
     };
     let table = Table::new(engine, asked, columns);
     match write_records(alloc, table, first, &added, source, sink, unknown) {
-        Ok(counts) => Ok(counts),
+        Ok(totals) => Ok(totals),
         Err(error) => Err(TableError::Rows(error)),
     }
 }
@@ -230,11 +237,12 @@ fn write_records<S: ByteSource, W: ByteSink>(
     source: &mut S,
     sink: &mut W,
     unknown: &mut UnknownNames,
-) -> Result<Counts, RunError>
+) -> Result<Totals, RunError>
     requires partial { partial_of first.fields ≡ [] }
     requires end { IsNone first.rest → IsAtEnd (S.to_come source.old) }
     requires added { fields_of added.now ≡ names_in table.asked }
     requires counts { table.counts ≡ no_counts }
+    requires summary { IsEmpty table.summary }
     requires keys { table.keys.keys ≡ [] }
     ensures ends { (before : Option (List ℕ)) → OfRead before (S.to_come source.old) (λ bytes.
         IsHeader table.entry.asked.delimiter (fields_of first.fields) first.rest first.has_mark
@@ -262,12 +270,13 @@ fn write_plain<S: ByteSource, W: ByteSink>(
     source: &mut S,
     sink: &mut W,
     unknown: &mut UnknownNames,
-) -> Result<Counts, RunError>
+) -> Result<Totals, RunError>
     requires partial { partial_of first.fields ≡ [] }
     requires end { IsNone first.rest → IsAtEnd (S.to_come source.old) }
     requires plain { table.asked.tells_duplicates ≡ false }
     requires added { fields_of added.now ≡ names_in table.asked }
     requires counts { table.counts ≡ no_counts }
+    requires summary { IsEmpty table.summary }
     requires keys { table.keys.keys ≡ [] }
     ensures ends { (before : Option (List ℕ)) → OfRead before (S.to_come source.old) (λ bytes.
         IsHeader table.entry.asked.delimiter (fields_of first.fields) first.rest first.has_mark
@@ -282,10 +291,7 @@ fn write_plain<S: ByteSource, W: ByteSink>(
     let mut table = table;
     let delimiter = table.asked.delimiter;
     match write_rows(alloc, &mut table, delimiter, first, added, source, sink) {
-        Ok(()) => {
-            *unknown = table.unknown;
-            Ok(table.counts)
-        }
+        Ok(()) => Ok(told_whole(table, unknown)),
         Err(error) => Err(error),
     }
 }

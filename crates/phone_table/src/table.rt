@@ -5,6 +5,7 @@ ghost use Rattle.std.specs.Str.{bytes_eq};
 ghost use Rattle.std.specs.Prelude.{Err, IfErr, IfOk, None, OnOk, option_map, string_bytes};
 ghost use Rattle.csv.specs.Records.{fields_of, partial_of};
 ghost use Rattle.phone_csv.specs.Formats.{Record};
+ghost use Rattle.phone_summary.specs.Summaries.{IsEmpty};
 ghost use Rattle.phone_table.specs.Answered.{key_in};
 ghost use Rattle.phone_table.specs.Answers.{IsAnswerUnder, IsOfOtherWidth, IsOwnAnswer};
 ghost use Rattle.phone_table.specs.Answers.{IsUnder, countries_of, refused_answer, short_of};
@@ -21,11 +22,13 @@ use crate::extra::{Subject, push_told};
 use crate::header::Columns;
 use crate::region::{hint_under, named_by, region_text};
 use crate::run::Asked;
+use crate::summed::sum_row;
 use crate::unknown::{UnknownNames, note_unknown};
 use csv::ByteRecord;
 use phone_book::key_text;
 use phone_csv::{Answers, Refusal};
 use phone_engine::Engine;
+use phone_summary::Summary;
 use phonenumber::country::Id;
 use std::alloc::{AllocError, Global};
 use std::collections::HashSet;
@@ -46,6 +49,8 @@ pub struct Table<'d> {
     pub keys: HashSet<Vec<u8>>,
     /// The texts that name no region.
     pub unknown: UnknownNames,
+    /// The summary of the rows, where one is asked for.
+    pub summary: Summary,
 }
 
 impl<'d> Table<'d> {
@@ -57,6 +62,7 @@ impl<'d> Table<'d> {
         ensures counts { result.counts ≡ no_counts }
         ensures keys { result.keys.keys ≡ [] }
         ensures unknown { result.unknown.names.entries ≡ [] }
+        ensures summary { IsEmpty result.summary }
     {
         let alloc = engine.database.allocator();
         Table {
@@ -66,6 +72,7 @@ impl<'d> Table<'d> {
             counts: Counts::new(),
             keys: HashSet::new(alloc),
             unknown: UnknownNames::new(alloc),
+            summary: Summary::new(alloc),
         }
     }
 
@@ -221,6 +228,7 @@ impl<'d> Table<'d> {
         ensures keeps { OnOk result (Keeps self.old (key_in (number_in answer.now)) self.new) }
         ensures counts { self.new.counts ≡ self.old.counts }
         ensures unknown { self.new.unknown ≡ self.old.unknown }
+        ensures summary { self.new.summary ≡ self.old.summary }
     {
         if !self.asked.is_unique {
             return Ok(true);
@@ -273,6 +281,9 @@ impl<'d> Answers for Table<'d> {
         };
         let alloc = self.engine.database.allocator();
         let Ok(()) = note_unknown(alloc, self.columns, fields, &mut self.unknown) else {
+            return Err(Refusal::Memory);
+        };
+        let Ok(()) = sum_row(alloc, self.asked, fields, &mut self.summary) else {
             return Err(Refusal::Memory);
         };
         self.counts.count(fields, is_new);

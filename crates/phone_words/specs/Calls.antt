@@ -213,6 +213,7 @@ pub record IsTable (ps : List Said) (t : Table) : Type 0 where
   pub duplicates : t.duplicates ≡ has ps (codes "--duplicates")
   pub mark_bad : t.mark_bad ≡ has ps (codes "--mark-bad-records")
   pub front : t.front.now ≡ text ps (codes "--prefix")
+  pub summary : text_in t.summary ≡ value ps (codes "--summary")
   pub further : IsFurther ps t.further
 
 -- a call says what this meaning is
@@ -222,6 +223,7 @@ pub record Says (m : Meaning) (c : Call) : Type 0 where
   pub skipped : c.skipped ≡ m.skipped
   pub delimiter : c.table.delimiter ≡ m.delimiter
   pub encoding : c.encoding ≡ m.encoding
+  pub lenient : c.lenient ≡ has m.parts (codes "--lenient")
   pub table : IsTable m.parts c.table
   pub database : text_in c.database ≡ value m.parts (codes "--database")
   pub short_database : text_in c.short_database ≡ value m.parts (codes "--short-database")

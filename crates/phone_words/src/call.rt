@@ -24,6 +24,8 @@ pub struct Call<'w> {
     pub rules: Rules,
     /// The encoding of the inputs, where that isn't UTF-8.
     pub encoding: Option<Encoding>,
+    /// Whether what isn't UTF-8 leaves the status 0.
+    pub lenient: bool,
     /// How many lines were left out before those that are read.
     pub skipped: u64,
     /// What is asked of a table.
@@ -89,6 +91,7 @@ fn call_in<'w>(alloc: Global, parts: &[Part<'w>]) -> Result<Call<'w>, WordError<
         command: command_of(parts),
         rules,
         encoding,
+        lenient: has(parts, "--lenient"),
         skipped,
         table: table_of(parts, delimiter),
         database: value(parts, "--database"),

@@ -44,7 +44,7 @@ macro_rules! rows {
 
 /// The options, each by its name, its name of one letter, what its value is, the word beside which
 /// it counts, what it needs, what it doesn't go with, and its help.
-pub(crate) const ROWS: [Cells; 37] = rows! {
+pub(crate) const ROWS: [Cells; 39] = rows! {
     "--json" "" "" "" [] ["--unique" "--typed" "--short"] "
       a JSON object a line: the line's number and text, and the fields that --csv gives; with
       --find an object for each number: line, column, text, those fields but the refusal, and
@@ -92,6 +92,10 @@ pub(crate) const ROWS: [Cells; 37] = rows! {
       two columns before the others: duplicate_of, where an earlier record has the number and its
       extension, the number of the first one that has, the header counted as 1; and duplicates, on
       that one, how many later ones there are. The input is read whole before anything is written"
+    "--summary" "" "FILE" "" ["--csv"] [] "
+      FILE gets a JSON object once the table was answered whole: how often each type, region and
+      refusal was answered, and each word of --suspicion where that is there; records that --unique
+      leaves out count too"
     "--mark-bad-records" "" "" "" ["--csv"] [] "
       a record with more or fewer fields than the first is given back as it is, and refused"
     "--prefixes" "" "FILE" "" ["--csv" "--as"] [] "
@@ -120,7 +124,8 @@ pub(crate) const ROWS: [Cells; 37] = rows! {
       one of its digits behind the calling code, leading zeros with them, national_number"
     "--suspicion" "" "" "" ["--csv"] [] "
       one of what is suspicious about the field, in words that change no answer, empty for most:
-      float, no-plus, zero-in-brackets, letters, two-numbers, date, zero-lost, other-region"
+      float, no-plus, zero-in-brackets, letters, two-numbers, date, zero-lost, other-region. How
+      many fields have each word is told on standard error"
     "--prefix" "" "NAME" "" ["--csv"] [] "
       NAME stands in front of the name of each added column, as in NAMEe164. A table that has such
       a name already is refused"
@@ -145,10 +150,13 @@ pub(crate) const ROWS: [Cells; 37] = rows! {
     "--encoding" "" "NAME" "" [] [] "
       the encoding of the inputs, in place of utf-8: utf-16 (its mark tells the order of its bytes),
       utf-16le, utf-16be, latin-1 or windows-1252. What is written is UTF-8"
+    "--lenient" "" "" "" [] [] "
+      a line that isn't UTF-8 leaves the status 0, which is 1 without this option. How many there
+      are, and where the first one stands, is told on standard error. Of a table none are counted"
     "--skipped" "" "N" "" [] [] "
       lines are counted as if N stood before them (of a table: after its header)"
     "--regions" "" "" "" [] [] "
-      lists the ids of regions"
+      lists the regions, each by its id, a tab and its English name"
     "--version" "-V" "" "" [] [] "
       tells the version of the program and of the table of the world"
     "--help" "-h" "" "" [] [] "

@@ -28,6 +28,8 @@ pub struct Table<'w> {
     pub mark_bad: bool,
     /// What stands in front of the name of each added column.
     pub front: &'w str,
+    /// The file of the summary, where there is one.
+    pub summary: Option<&'w str>,
     /// Its further columns.
     pub further: Further<'w>,
 }
@@ -116,6 +118,7 @@ pub(crate) fn table_of<'w>(parts: &[Part<'w>], delimiter: u8) -> Table<'w>
         duplicates: has(parts, "--duplicates"),
         mark_bad: has(parts, "--mark-bad-records"),
         front: text(parts, "--prefix"),
+        summary: value(parts, "--summary"),
         further: further_of(parts),
     }
 }

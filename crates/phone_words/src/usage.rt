@@ -40,8 +40,8 @@ parallel --pipepart --block -1 -k -a FILE ./phone REGION
 --prove proves and builds, once, the two programs; until then the first run compiles its program
 without proof, which takes minutes, and keeps it.
 
-Statuses: 0 all was written, 1 input, output, memory or a record of a table failed, 2 wrong words,
-3 a database or a table of prefixes was refused.
+Statuses: 0 all was written, 1 input, output, memory or a record of a table failed, or a line isn't
+UTF-8, 2 wrong words, or the input is UTF-16, 3 a database or a table of prefixes was refused.
 ";
 
 /// Puts a text at the end of another, between these, unless it is empty.

@@ -1,6 +1,7 @@
 //! The calls of programs over their words, what they read, and devices in memory: `phone` of
 //! `phone_cli`, `phone-tool` of `phone_engine::tool`.
 use anyhow::{Result, anyhow};
+use phone_cli::Ahead;
 use phone_device::{Limit, Script, Then};
 use replay_base::devices::{fault, sink};
 use replay_base::marks::{around, begin};
@@ -42,7 +43,7 @@ fn run<R: Files + AllocGlobal>(rt: &R, row: &Row) -> Result<Ended> {
     let alloc = rt.alloc();
     let words = words(alloc, row.argument(0))?;
     let bytes = Vec::from_slice(alloc, row.argument_bytes(3))?;
-    let mut source = Script::new(bytes, fault(row.argument(1))?);
+    let mut source = Ahead::new(Script::new(bytes, fault(row.argument(1))?));
     let mut written = sink(alloc, row.argument(2))?;
     let mut told = Limit::new(alloc, ROOM, Then::Fail)?;
     let begun = begin(alloc);
@@ -75,7 +76,7 @@ fn program<R: Files + AllocGlobal>(
     rt: &R,
     row: &Row,
     words: &[&str],
-    source: &mut Script,
+    source: &mut Ahead<Script>,
     written: &mut Limit,
     told: &mut Limit,
 ) -> u8 {

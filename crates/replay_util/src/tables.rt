@@ -5,7 +5,7 @@ use phone_csv::RunError;
 use phone_device::{Limit, MemorySource, Then};
 use phone_engine::Engine;
 use phone_meta::Database;
-use phone_table::{Asked, Counts, TableError, UnknownNames, write_table};
+use phone_table::{Asked, Counts, TableError, Totals, UnknownNames, write_table};
 use replay_base::marks::{around, begin};
 use replay_base::table::Row;
 use std::alloc::{AllocError, Global};
@@ -15,8 +15,8 @@ const ROOM: usize = 4096;
 
 /// How a table is given back, and what was written, parted by a tab; none for any other call. The
 /// line has the column of the numbers, that of the regions or a hyphen, the hint, `mark` where bad
-/// records are marked, `unique` where each number is kept once, and the table. An error where
-/// memory is refused.
+/// records are marked, `unique` where each number is kept once, `summary` where the summary is told
+/// behind the counts, and the table. An error where memory is refused.
 pub fn answer(alloc: Global, row: &Row, db: &Database) -> Result<Option<String>> {
     match by_rules(row) {
         (rules, "given-table") => Ok(Some(given(alloc, row, hinted(rules, db, row.argument(3))?)?)),
@@ -31,7 +31,8 @@ fn given(alloc: Global, row: &Row, engine: Engine<'_>) -> Result<String> {
     let begun = begin(alloc);
     let mut unknown = UnknownNames::new(alloc);
     let end = write_table(engine, asked(row), &mut source, &mut sink, &mut unknown);
-    end_words(alloc, around(alloc, begun, end), sink.bytes())
+    let end = around(alloc, begun, end);
+    end_words(alloc, row.argument(4) == "summary", end, sink.bytes())
 }
 
 /// What a row asks for of its table, without further columns, names of regions and short numbers.
@@ -41,6 +42,7 @@ fn asked(row: &Row) -> Asked<'_> {
         mark_bad: row.argument(4) == "mark",
         is_unique: row.argument(4) == "unique",
         tells_duplicates: row.argument(4) == "duplicates",
+        is_summed: row.argument(4) == "summary",
         ..Asked::of(row.argument(1))
     }
 }
@@ -51,24 +53,49 @@ fn region(name: &str) -> Option<&str> {
 }
 
 /// How the run ended, and what it wrote.
-fn end_words(alloc: Global, end: Result<Counts, TableError>, written: &[u8]) -> Result<String> {
+fn end_words(
+    alloc: Global,
+    is_summed: bool,
+    end: Result<Totals, TableError>,
+    written: &[u8],
+) -> Result<String> {
     let mut out = String::new(alloc);
-    push_end(&mut out, end)?;
+    push_end(alloc, &mut out, is_summed, end)?;
     let written = std::str::from_utf8(written).unwrap_or("no UTF-8");
     write!(out, "\t{written}")?;
     Ok(out)
 }
 
-/// Writes how the run ended, in a word: with its counts, or at a record that isn't answered, by the
-/// line feeds in front of it.
-fn push_end(out: &mut String, end: Result<Counts, TableError>) -> Result<()> {
+/// Writes how the run ended, in a word: with its counts and perhaps its summary, or at a record
+/// that isn't answered, by the line feeds in front of it.
+fn push_end(
+    alloc: Global,
+    out: &mut String,
+    is_summed: bool,
+    end: Result<Totals, TableError>,
+) -> Result<()> {
     let written = match end {
-        Ok(counts) => push_counts(out, &counts),
+        Ok(totals) => push_totals(alloc, out, is_summed, &totals),
         Err(TableError::Rows(RunError::Record(feeds))) => write!(out, "Record {feeds}"),
         Err(TableError::Rows(RunError::Memory)) => return Err(anyhow!("out of memory")),
         Err(_) => out.push_str("another end"),
     };
     Ok(written?)
+}
+
+/// Writes the counts of a table, and its summary behind a tab, where that is asked for.
+fn push_totals(
+    alloc: Global,
+    out: &mut String,
+    is_summed: bool,
+    totals: &Totals,
+) -> Result<(), AllocError> {
+    push_counts(out, &totals.counts)?;
+    if is_summed {
+        let summary = totals.summary.to_json(alloc)?;
+        write!(out, "\t{summary}")?;
+    }
+    Ok(())
 }
 
 /// Writes how many records there were, and how many with an unknown region, an empty field, a wrong

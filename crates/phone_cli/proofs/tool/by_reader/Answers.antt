@@ -1,52 +1,62 @@
 use Rattle.std.proofs.Common.{ap, ◌∙◌}
 use Rattle.std.specs.Prelude.{option_map}
 use Rattle.phone_commands.specs.declared.reader.Reader.{Reader}
-use Rattle.phone_cli.specs.Answers.Does.{ran}
-use Rattle.phone_cli.proofs.RunLemmas.{finds_by, found_runs, is_report, objects_runs}
-use Rattle.phone_cli.proofs.RunLemmas.{report_runs, typed_runs, with_input_runs}
+use Rattle.phone_cli.specs.Answers.{is_table}
+use Rattle.phone_cli.proofs.RunLemmas.{finds_by, finds_no_table, found_runs, is_report, lines_ran}
+use Rattle.phone_cli.proofs.RunLemmas.{objects_runs, report_runs, typed_runs, with_input_runs}
 use Rattle.phone_cli.proofs.tool.by_reader.Goals as goal
 
 pub returns-in-ReportWithInput : goal.returns-in-ReportWithInput
 returns-in-ReportWithInput g c = λ reads loaded.
     let made = c.reader_of-reader.ensures in
-    rw c.run_lines.ensures.3 (ran c.run_lines.ensures.0 (with_input_runs _ _ _
-    (record { engine = c.reader_of-reader.result.engine }) _ _ c.run_lines.ensures.1 _
-    c.in-ReportWithInput.is made.rules made.hint c.run_lines.ensures.2))
+    let run = c.run_lines.ensures in
+    rw run.5 (lines_ran _ _ _ _ _ run.2 run.0
+    (ap is_table c.in-ReportWithInput.is) run.4 (with_input_runs _ _ _
+    (record { engine = c.reader_of-reader.result.engine }) _ _ run.1 _
+    c.in-ReportWithInput.is made.rules made.hint run.3))
 
 pub returns-in-Objects : goal.returns-in-Objects
 returns-in-Objects g c = λ reads loaded.
     let made = c.objects_of-taker.ensures.reader in
-    rw c.run_lines-in-Objects.ensures.3 (ran c.run_lines-in-Objects.ensures.0 (objects_runs _ _ _
-    c.objects_of-taker.result _ _ _ c.run_lines-in-Objects.ensures.1 _ c.in-Objects.is loaded
+    let run = c.run_lines-in-Objects.ensures in
+    rw run.5 (lines_ran _ _ _ _ _ run.2 run.0
+    (ap is_table c.in-Objects.is) run.4 (objects_runs _ _ _
+    c.objects_of-taker.result _ _ _ run.1 _ c.in-Objects.is loaded
     (ap (λ (r : Reader). r.engine.rules) made ∙ c.reader_of-reader.ensures.rules)
     (ap (λ (r : Reader). r.engine.hint) made ∙ c.reader_of-reader.ensures.hint)
     (ap (λ (r : Reader). option_map (λ d. d.now) r.short) made ∙
     ap (option_map (λ d. d.now)) c.reader_of-reader.ensures.short)
-    c.objects_of-taker.ensures.place c.run_lines-in-Objects.ensures.2))
+    c.objects_of-taker.ensures.place run.3))
 
 pub returns-in-Find : goal.returns-in-Find
 returns-in-Find g c = λ reads loaded.
     let made = c.finder_of-taker.ensures in
-    rw c.run_lines-in-Find.ensures.3 (ran c.run_lines-in-Find.ensures.0 (found_runs _ _ _
-    c.finder_of-taker.result _ _ c.run_lines-in-Find.ensures.1 _ (finds_by _ c.in-Find.is)
+    let run = c.run_lines-in-Find.ensures in
+    let finds = finds_by _ c.in-Find.is in
+    rw run.5 (lines_ran _ _ _ _ _ run.2 run.0
+    (finds_no_table _ finds) run.4 (found_runs _ _ _
+    c.finder_of-taker.result _ _ run.1 _ finds
     (ap (λ (r : Reader). r.engine.rules) made.reader ∙ c.reader_of-reader.ensures.rules)
     (ap (λ (r : Reader). r.engine.hint) made.reader ∙ c.reader_of-reader.ensures.hint)
     made.form made.first made.place (ap (λ n. n.now) made.names) made.begun
-    c.run_lines-in-Find.ensures.2))
+    run.3))
 
 pub returns-in-Typed : goal.returns-in-Typed
-returns-in-Typed g c = λ reads loaded. rw c.run_lines-in-Typed.ensures.3
-    (ran c.run_lines-in-Typed.ensures.0 (typed_runs _ _ _ c.new-taker.result
-    c.reader_of-reader.result.engine.database.now _ _ c.run_lines-in-Typed.ensures.1 _
+returns-in-Typed g c = λ reads loaded.
+    let run = c.run_lines-in-Typed.ensures in
+    rw run.5 (lines_ran _ _ _ _ _ run.2 run.0
+    (ap is_table c.in-Typed.is) run.4 (typed_runs _ _ _ c.new-taker.result
+    c.reader_of-reader.result.engine.database.now _ _ run.1 _
     c.in-Typed.is (rw c.reader_of-reader.ensures.hint at c.new-taker.ensures)
-    c.run_lines-in-Typed.ensures.2))
+    run.3))
 
 pub returns-in_default : goal.returns-in_default
 returns-in_default g c = λ reads loaded.
     let other = c.in_default in
     let made = c.reader_of-reader.ensures in
-    rw c.run.ensures.3 (ran c.run.ensures.0 (report_runs _ _ _
-    (record { reader = c.reader_of-reader.result }) _ _ c.run.ensures.1 _
-    (is_report _ reads other.not-Objects other.not-Find other.not-FoundObjects
-    other.not-FoundRecords other.not-Typed other.not-Table other.not-ReportWithInput) made.rules made.hint
-    c.run.ensures.2))
+    let run = c.run_lines-in_default.ensures in
+    let is = is_report _ reads other.not-Objects other.not-Find other.not-FoundObjects
+    other.not-FoundRecords other.not-Typed other.not-Table other.not-ReportWithInput in
+    rw run.5 (lines_ran _ _ _ _ _ run.2 run.0
+    (ap is_table is) run.4 (report_runs _ _ _
+    (record { reader = c.reader_of-reader.result }) _ _ run.1 _ is made.rules made.hint run.3))

@@ -8,7 +8,7 @@ use Rattle.phone_table.proofs.ReadAgain.{read_back}
 use Rattle.phone_table.proofs.laws.read_again.Goals as goal
 
 pub returns : goal.returns
-returns c rules db hint columns asked counts header bytes text t =
+returns c rules db hint columns asked totals header bytes text t =
     let front = asked.front.now in
-    read_back (IsAnswerOf rules db hint columns asked) asked.tells_duplicates asked.is_unique counts header
+    read_back (IsAnswerOf rules db hint columns asked) asked.tells_duplicates asked.is_unique _ totals.counts header
     (behind front (if asked.tells_duplicates then duplicate_names else [])) (behind front (headings asked.extra.now)) _ _ bytes text t

@@ -26,7 +26,7 @@ returns-in-Err g c =
     record {
       ends = λ before h. let (u, ends) = c.in-Err.ensures.broken_off before header names c.args.first.has_mark h in
           unwritten c.in-Err.error c.requires.marked (record { taken = refl; unflushed = refl; sink = refl })
-          (unwritten_by first fresh c.requires.counts last header names c.args.table.asked.delimiter u _ _ c.in-Err.error ends);
+          (unwritten_by first fresh c.requires.counts c.requires.summary last header names c.args.table.asked.delimiter u _ _ c.in-Err.error ends);
     }
 
 pub returns-in_default-marked_text : goal.returns-in_default-marked_text
@@ -53,11 +53,11 @@ returns-in-Ok-write_out g c =
     let s2 = g.S.ByteSource.to_come c.hold_all.new.source in
     let front = rw (same, c.requires.added) at c.in-Ok.ensures in
     let rows = rw (same, c.as_slice.ensures.value) at c.in-Ok-marked_text.ensures in
-    let text = c.as_slice-2.ensures.value ∙ rows ∙ ap (λ f. f ++ kept_text first fresh c.requires.counts (format_after d (state_behind rest)) last) front in
+    let text = c.as_slice-2.ensures.value ∙ rows ∙ ap (λ f. f ++ kept_text first fresh c.requires.counts c.requires.summary (format_after d (state_behind rest)) last) front in
     record {
-      ends = λ before h. rows_whole first fresh c.requires.counts c.requires.marked last header (whole_text first fresh c.requires.counts c.requires.marked last header rest mark before s1 s2)
-          before _ _ _ _ _ _ _ _ _ (table_told first fresh c.requires.counts c.requires.marked last header rest mark before s1 s2 h e.read (λ none. ((e.none none).0, ap g.S.ByteSource.to_come (e.none none).1)))
-          e.end (subst (λ t. Takes (g.W.ByteSink.taken c.args.sink.now) t (g.W.ByteSink.taken c.write_out.new.sink)) text w.all) e.no_fault w.no_fault w.handed_on;
+      ends = λ before h. rw c.told_whole.ensures (rows_whole first fresh c.requires.counts c.requires.summary c.requires.marked last header (whole_text first fresh c.requires.counts c.requires.summary c.requires.marked last header rest mark before s1 s2)
+          before _ _ _ _ _ _ _ _ _ (table_told first fresh c.requires.counts c.requires.summary c.requires.marked last header rest mark before s1 s2 h e.read (λ none. ((e.none none).0, ap g.S.ByteSource.to_come (e.none none).1)))
+          e.end (subst (λ t. Takes (g.W.ByteSink.taken c.args.sink.now) t (g.W.ByteSink.taken c.write_out.new.sink)) text w.all) e.no_fault w.no_fault w.handed_on);
     }
 
 pub returns-in-Err-write_out : goal.returns-in-Err-write_out
@@ -76,9 +76,9 @@ returns-in-Err-write_out g c =
     let s2 = g.S.ByteSource.to_come c.hold_all.new.source in
     let front = rw (same, c.requires.added) at c.in-Ok.ensures in
     let rows = rw (same, c.as_slice.ensures.value) at c.in-Ok-marked_text.ensures in
-    let text = c.as_slice-2.ensures.value ∙ rows ∙ ap (λ f. f ++ kept_text first fresh c.requires.counts (format_after d (state_behind rest)) last) front in
+    let text = c.as_slice-2.ensures.value ∙ rows ∙ ap (λ f. f ++ kept_text first fresh c.requires.counts c.requires.summary (format_after d (state_behind rest)) last) front in
     record {
-      ends = λ before h. rows_front first fresh c.requires.counts c.requires.marked last header (whole_text first fresh c.requires.counts c.requires.marked last header rest mark before s1 s2)
-          before _ _ _ _ _ _ _ _ _ (table_told first fresh c.requires.counts c.requires.marked last header rest mark before s1 s2 h e.read (λ none. ((e.none none).0, ap g.S.ByteSource.to_come (e.none none).1)))
+      ends = λ before h. rows_front first fresh c.requires.counts c.requires.summary c.requires.marked last header (whole_text first fresh c.requires.counts c.requires.summary c.requires.marked last header rest mark before s1 s2)
+          before _ _ _ _ _ _ _ _ _ (table_told first fresh c.requires.counts c.requires.summary c.requires.marked last header rest mark before s1 s2 h e.read (λ none. ((e.none none).0, ap g.S.ByteSource.to_come (e.none none).1)))
           e.end (subst (λ t. TakesFront (g.W.ByteSink.taken c.args.sink.now) t (g.W.ByteSink.taken c.write_out.new.sink)) text w.front) w.fault;
     }

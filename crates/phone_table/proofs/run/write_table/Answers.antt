@@ -46,7 +46,7 @@ returns-in-Ok-write_records g c =
     let n = c.new-table.ensures in
     let read = header_read c.args.asked.delimiter (fields_of first.fields) first.rest first.has_mark _ _ f.ended f.only in
     record {
-      ends = answered (fields_of first.fields) c.in-Ok-columns_of.columns (Ok c.in-Ok-write_records.counts) (search rules) (search rules) c.in-Ok-names_behind.ensures.free
+      ends = answered (fields_of first.fields) c.in-Ok-columns_of.columns (Ok c.in-Ok-write_records.totals) (search rules) (search rules) c.in-Ok-names_behind.ensures.free
           (rows_from f.no_fault (rw (n.engine, n.columns, n.asked) at (c.in-Ok-write_records.ensures.ends (g.S.ByteSource.to_come c.args.source.now) (rw n.asked read))));
     }
 

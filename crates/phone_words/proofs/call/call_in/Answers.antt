@@ -63,6 +63,7 @@ returns-clause-call c =
         rules = refl;
         skipped = refl;
         encoding = refl;
+        lenient = c.has.ensures;
         delimiter = c.table_of.ensures.delimiter;
         table = c.table_of.ensures.table;
         database = c.value.ensures;

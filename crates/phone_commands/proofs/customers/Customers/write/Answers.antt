@@ -4,7 +4,7 @@ use Rattle.phone_commands.proofs.customers.Customers.write.Goals as goal
 
 pub returns-in-Ok : goal.returns-in-Ok
 returns-in-Ok g c = record {
-  answered = (Ok c.in-Ok.counts, c.in-Ok.ensures.ends, whole);
+  answered = (Ok c.in-Ok.totals, c.in-Ok.ensures.ends, whole);
   kept = refl;
 }
 

@@ -17,7 +17,8 @@ returns-clause-answered c e =
       written (number_in c.in-Ok-answer_or_refusal.answer) (told ++ own) (c.in-Ok.under, told, own, c.in-Ok.ensures, c.in-Ok-answer_or_refusal.ensures.answer, are, refl) (c.in-Ok-is_new.ensures.new ∙ ap not new)
           (record { engine = k.engine; asked = k.asked; columns = k.columns; keys = k.keys })
           (rw is at (c.count.ensures.written new) ∙ ap (λ n. counts_after n (fields ++ (told ++ own))) c.in-Ok-is_new.ensures.counts)
-          (rw (is, c.in-Ok-is_new.ensures.unknown, k.columns) at c.in-Ok-note_unknown.ensures),
+          (rw (is, c.in-Ok-is_new.ensures.unknown, k.columns) at c.in-Ok-note_unknown.ensures)
+          (rw (is, c.in-Ok-is_new.ensures.summary, k.asked) at c.in-Ok-sum_row.ensures),
       is,
     )
 
@@ -32,3 +33,4 @@ returns-clause-left_out c e =
     (record { engine = k.engine; asked = k.asked; columns = k.columns; keys = k.keys })
     (rw is at (c.count.ensures.left_out known) ∙ ap (λ n. counts_without n (fields ++ (told ++ own))) c.in-Ok-is_new.ensures.counts)
     (rw (is, c.in-Ok-is_new.ensures.unknown, k.columns) at c.in-Ok-note_unknown.ensures)
+    (rw (is, c.in-Ok-is_new.ensures.summary, k.asked) at c.in-Ok-sum_row.ensures)

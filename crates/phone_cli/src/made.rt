@@ -1,0 +1,86 @@
+//! What answers the inputs of a call, as its words ask for it.
+ghost use Rattle.std.specs.Prelude.{◌≡◌, ◌||◌, is_some, option_map};
+ghost use Rattle.phone_cli.specs.Answers.{IsAsked};
+ghost use Rattle.phone_cli.specs.Commands.{found_form};
+ghost use Rattle.phone_commands.specs.Columns as columns;
+ghost use Rattle.phone_commands.specs.ObjectLines.{after_one};
+
+use crate::tool::Reading;
+use phone_commands::{Finder, FoundForm, Objects, Reader};
+use phone_table::{Asked, Countries, Extra};
+use phone_words::{Command, Table};
+
+/// What answers each line by an object.
+pub(crate) fn objects_of<'d>(reading: Reading<'_, '_>, reader: Reader<'d>) -> Objects<'d>
+    ensures reader { result.reader ≡ reader.entry }
+    ensures place { result.place ≡ after_one reading.entry.call.now.skipped }
+{
+    let place = reading.call.skipped.saturating_add(1);
+    Objects { reader, place }
+}
+
+/// How a command tells the numbers that it finds.
+fn found_form(command: Command) -> FoundForm
+    ensures { result ≡ found_form command }
+{
+    match command {
+        Command::FoundObjects => FoundForm::Object,
+        Command::FoundRecords => FoundForm::Record,
+        _ => FoundForm::Fields,
+    }
+}
+
+/// What finds the numbers that stand in the inputs.
+pub(crate) fn finder_of<'d, 'l>(reading: Reading<'l, 'l>, reader: Reader<'d>) -> Finder<'d, 'l>
+    ensures reader { result.reader ≡ reader.entry }
+    ensures form { result.form ≡ found_form reading.entry.call.now.command }
+    ensures first { result.first ≡ after_one reading.entry.call.now.skipped }
+    ensures place { result.place ≡ after_one reading.entry.call.now.skipped }
+    ensures names { result.names ≡ reading.entry.files }
+    ensures begun { result.begun ≡ 0 }
+{
+    let first = reading.call.skipped.saturating_add(1);
+    Finder {
+        reader,
+        form: found_form(reading.call.command),
+        first,
+        place: first,
+        names: reading.files,
+        begun: 0,
+    }
+}
+
+/// What is asked of a table that this reads, with these further columns and names of regions.
+pub(crate) fn asked<'t>(
+    table: Table<'t>,
+    reader: Reader<'t>,
+    extra: &'t [Extra<'t>],
+    countries: Option<&'t Countries>,
+) -> Asked<'t>
+    ensures { columns.asked extra.entry.now ≡ columns.columns_for table.entry.further →
+        is_some countries.entry ≡ is_some table.entry.countries →
+        IsAsked table.entry (option_map (λ d. d.now) reader.entry.short) result }
+{
+    Asked {
+        number: table.column,
+        region: table.region_column,
+        countries,
+        delimiter: table.delimiter,
+        else_hint: table.fallback_region,
+        mark_bad: table.mark_bad,
+        is_unique: table.is_unique,
+        tells_duplicates: table.duplicates,
+        front: table.front,
+        extra,
+        short: reader.short,
+        is_summed: is_summed(table),
+    }
+}
+
+/// Whether a summary is made: where a file is named for it, or words of what is suspicious are
+/// asked for, whose counts are told.
+fn is_summed(table: Table<'_>) -> bool
+    ensures { result ≡ (is_some table.entry.summary || table.entry.further.suspicion) }
+{
+    table.summary.is_some() || table.further.suspicion
+}
