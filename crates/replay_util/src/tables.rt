@@ -60,25 +60,32 @@ fn end_words(
     written: &[u8],
 ) -> Result<String> {
     let mut out = String::new(alloc);
-    push_end(alloc, &mut out, is_summed, end)?;
+    push_end(alloc, &mut out, is_summed, &end)?;
     let written = std::str::from_utf8(written).unwrap_or("no UTF-8");
     write!(out, "\t{written}")?;
     Ok(out)
 }
 
-/// Writes how the run ended, in a word: with its counts and perhaps its summary, or at a record
-/// that isn't answered, by the line feeds in front of it.
+/// Writes how the run ended: with its counts and perhaps its summary, or in a word.
 fn push_end(
     alloc: Global,
     out: &mut String,
     is_summed: bool,
-    end: Result<Totals, TableError>,
+    end: &Result<Totals, TableError>,
 ) -> Result<()> {
-    let written = match end {
-        Ok(totals) => push_totals(alloc, out, is_summed, &totals),
-        Err(TableError::Rows(RunError::Record(feeds))) => write!(out, "Record {feeds}"),
-        Err(TableError::Rows(RunError::Memory)) => return Err(anyhow!("out of memory")),
-        Err(_) => out.push_str("another end"),
+    match end {
+        Ok(totals) => Ok(push_totals(alloc, out, is_summed, totals)?),
+        Err(error) => push_error(out, error),
+    }
+}
+
+/// Writes why a run ended before all was answered, in a word: at a record that isn't answered, by
+/// the line feeds in front of it.
+fn push_error(out: &mut String, error: &TableError) -> Result<()> {
+    let written = match error {
+        TableError::Rows(RunError::Record(feeds)) => write!(out, "Record {feeds}"),
+        TableError::Rows(RunError::Memory) => return Err(anyhow!("out of memory")),
+        _ => out.push_str("another end"),
     };
     Ok(written?)
 }
