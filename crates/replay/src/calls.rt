@@ -42,7 +42,7 @@ fn without_database<R: Files + AllocGlobal>(rt: &R, row: &Row) -> Result<Option<
     if let Some(found) = replay_numbers::without_database(rt.alloc(), row)? {
         return Ok(Some(found));
     }
-    if let Some(found) = replay_numbers::of_value(rt.alloc(), row)? {
+    if let Some(found) = replay_values::of_value(rt.alloc(), row)? {
         return Ok(Some(found));
     }
     replay_util::without_database(rt, row)

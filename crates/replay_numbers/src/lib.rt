@@ -1,15 +1,9 @@
-//! Rows of answers about numbers: how they are dialled, read, printed and read back; and about
-//! values: the forms that serde reads and writes, copies and hashes, texts of errors, and readers
-//! and writers of std as devices.
+//! Rows of answers about numbers: how they are dialled, read, printed and read back.
 #![tactic(auto)]
 
 pub mod back;
-pub mod copies;
-pub mod devices;
 pub mod dialling;
-pub mod errors;
 pub mod facts;
-pub mod forms;
 mod fronts;
 pub mod given;
 mod library;
@@ -69,18 +63,4 @@ pub fn of_number(
         return Ok(Some(found));
     }
     printing::answer(alloc, row, db, layouts)
-}
-
-/// The answer to a call on values without a database; none for any other call.
-pub fn of_value(alloc: Global, row: &Row) -> Result<Option<String>> {
-    if let Some(found) = forms::answer(alloc, row)? {
-        return Ok(Some(found));
-    }
-    if let Some(found) = copies::answer(alloc, row)? {
-        return Ok(Some(found));
-    }
-    if let Some(found) = errors::answer(alloc, row)? {
-        return Ok(Some(found));
-    }
-    devices::answer(alloc, row)
 }

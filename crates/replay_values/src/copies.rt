@@ -1,5 +1,4 @@
 //! Copies: whether a value that was copied is equal to its copy, and has the same hash.
-use crate::given::number_of_row;
 use anyhow::Result;
 use phone_values::equality::{SameValue, hash_of};
 use phone_values::{Carrier, Extension};
@@ -8,6 +7,7 @@ use phonenumber::{PhoneNumber, Texts, format_with, laws, parse_with};
 use replay_base::marks::{around, begin};
 use replay_base::table::Row;
 use replay_base::words::{hint, truth};
+use replay_numbers::given::number_of_row;
 use std::alloc::Global;
 use std::hash::Hash;
 

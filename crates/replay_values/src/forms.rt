@@ -1,5 +1,4 @@
 //! Forms of values: what serde reads of a JSON text, and what it writes.
-use crate::given::number_of_row;
 use anyhow::{Result, anyhow};
 use phone_values::country::{self, Code, Id, Source};
 use phone_values::{Carrier, Extension, NationalNumber, Type};
@@ -7,6 +6,7 @@ use phonenumber::PhoneNumber;
 use replay_base::marks::{around, begin};
 use replay_base::table::Row;
 use replay_base::words::said;
+use replay_numbers::given::number_of_row;
 use serde::{Deserialize, Serialize};
 use serde_json::Error;
 use std::alloc::{AllocError, Global};
