@@ -88,10 +88,10 @@ class Browser:
         self._ask("WebDriver:ElementClick", {"id": self.find(css)})
 
     def log(self):
-        """Errors that Firefox told of on its standard output."""
+        """Errors of pages from files that Firefox told of on its standard output; it tells of its own there too."""
         self.said.flush()
         text = Path(self.said.name).read_text(encoding="utf-8", errors="replace")
-        return [it for it in text.splitlines() if it.startswith(("JavaScript error", "console.error"))]
+        return [it for it in text.splitlines() if it.startswith("JavaScript error: file:")]
 
     def picture(self, path):
         path.write_bytes(base64.b64decode(self._ask("WebDriver:TakeScreenshot", {"full": False, "hash": False})))

@@ -83,7 +83,6 @@ def field(browser):
 def frames(browser):
     """The time of keys: of the processor in the page, and from the key's event to the end of the frame that shows it, by Chromium's trace."""
     clear(browser)
-    browser.trace()
     texts = ("033316005", "021387835", "0800123456")
     for text in texts:
         for key in text:
@@ -97,7 +96,8 @@ def frames(browser):
         return check("the trace has keys", 0, sum(map(len, texts)))
     thread = typed[0]["tid"]
     used, shown = [], []
-    downs = [it for it in typed if it["args"]["data"]["type"] == "keydown"]
+    # The trace is of all that was typed: these keys are its last ones.
+    downs = [it for it in typed if it["args"]["data"]["type"] == "keydown"][-sum(map(len, texts)):]
     for down in downs:
         after = [it for it in events if it["tid"] == thread and it["ts"] >= down["ts"]]
         frame = next((it for it in after if it["name"] in ("Commit", "Paint", "Layerize")), None)
