@@ -14,7 +14,8 @@ import urllib.request
 class Browser:
     """A session of chromedriver."""
 
-    def __init__(self, language, size="560,760"):
+    def __init__(self, language, size="560,760", traced=""):
+        """`traced` are categories of Chromium's own trace, which `trace` gives."""
         self.driver = subprocess.Popen(
             ["chromedriver", "--port=0"], stdout=subprocess.PIPE, stderr=subprocess.DEVNULL, text=True
         )
@@ -22,7 +23,10 @@ class Browser:
         self.at = f"http://127.0.0.1:{port}/session"
         arguments = ["--headless=new", "--no-sandbox", "--disable-gpu", f"--window-size={size}", f"--lang={language}"]
         options = {"args": arguments, "prefs": {"intl.accept_languages": language}, "binary": shutil.which("chromium")}
-        wanted = {"browserName": "chrome", "goog:chromeOptions": options, "goog:loggingPrefs": {"browser": "ALL"}}
+        logs = {"browser": "ALL"}
+        if traced:
+            logs["performance"], options["perfLoggingPrefs"] = "ALL", {"traceCategories": traced}
+        wanted = {"browserName": "chrome", "goog:chromeOptions": options, "goog:loggingPrefs": logs}
         told = self._ask("POST", "", {"capabilities": {"alwaysMatch": wanted}})
         self.at += "/" + told["sessionId"]
 
@@ -44,6 +48,11 @@ class Browser:
     def keys(self, text, css="#number"):
         self._ask("POST", self.find(css) + "/value", {"text": text})
 
+    def type(self, text):
+        """Presses keys, one after the other, where the focus is."""
+        presses = [{"type": kind, "value": key} for key in text for kind in ("keyDown", "keyUp")]
+        self._ask("POST", "/actions", {"actions": [{"type": "key", "id": "keyboard", "actions": presses}]})
+
     def click(self, css):
         self._ask("POST", self.find(css) + "/click", {})
 
@@ -60,6 +69,11 @@ class Browser:
 
     def command(self, name, **parameters):
         return self._ask("POST", "/goog/cdp/execute", {"cmd": name, "params": parameters})
+
+    def trace(self):
+        """The events of the trace since it was asked last."""
+        told = [json.loads(it["message"])["message"] for it in self._ask("POST", "/se/log", {"type": "performance"})]
+        return [it["params"] for it in told if it["method"] == "Tracing.dataCollected"]
 
     def log(self):
         return [it["message"] for it in self._ask("POST", "/se/log", {"type": "browser"})]

@@ -1,9 +1,10 @@
-"""Tries the page in Chromium, from a folder that has the package alone, by file://.
+"""Tries the page in Chromium or Firefox, from a folder that has the package alone, by file://.
 
-usage: python3 bindings/js/browser.py PACKAGE [--pictures FOLDER] [LINES REPORT]
+usage: python3 bindings/js/browser.py PACKAGE [--firefox] [--pictures FOLDER] [--rows N] [LINES REPORT [LINES REPORT_BY_CRATE]]
 
-Types into the field, edits, pastes, sends the form, cleans a table of 100,000 rows, and asks the report of LINES, each a region, `-`
-for none, a tab and a text. FOLDER gets pictures. Needs chromium and chromedriver. The last line is `page: ok`.
+Types into the field, edits, pastes, sends the form, cleans a table of 100,000 rows, or N, and asks the report of LINES, each a region, `-`
+for none, a tab and a text. FOLDER gets pictures. In Chromium the time of each key, from its event to the frame that shows it, is told by
+Chromium's own trace. Needs chromium and chromedriver, or with --firefox firefox-esr. The last line is `page: ok`.
 """
 
 import shutil
@@ -14,7 +15,8 @@ from pathlib import Path
 
 sys.path.insert(0, str(Path(__file__).resolve().parents[1]))
 
-from chromium import Browser  # noqa: E402
+import chromium  # noqa: E402
+import firefox  # noqa: E402
 
 LEFT, BACK = "\ue012", "\ue003"
 FIELD = "const it = document.querySelector('phone-input'), field = it.shadowRoot.querySelector('input');"
@@ -35,7 +37,7 @@ def state(browser):
 
 def keys(browser, text):
     browser.run(FIELD + " field.focus()")
-    browser.keys(text, "phone-input")
+    browser.type(text)
 
 
 def clear(browser, region="NZ"):
@@ -76,6 +78,39 @@ def field(browser):
     roles = browser.run(FIELD + " const hint = it.shadowRoot.querySelector('p'); return [field.getAttribute('aria-label'), field.type, hint.getAttribute('aria-live'), "
                         "it.shadowRoot.querySelector('select').getAttribute('aria-label'), it.form.id, it.shadowRoot.querySelectorAll('option').length]")
     check("for a screen reader", roles, ["Phone number", "tel", "polite", "Country", "form", 246])
+
+
+def frames(browser):
+    """The time of keys: of the processor in the page, and from the key's event to the end of the frame that shows it, by Chromium's trace."""
+    clear(browser)
+    texts = ("033316005", "021387835", "0800123456")
+    for text in texts:
+        for key in text:
+            keys(browser, key)
+        time.sleep(0.3)
+        clear(browser)
+    time.sleep(0.5)
+    events = sorted((it for it in browser.trace() if it.get("ph") == "X" or it["name"] in ("Commit", "DrawFrame")), key=lambda it: it["ts"])
+    typed = [it for it in events if it["name"] == "EventDispatch" and it["args"]["data"]["type"] in ("keydown", "input")]
+    if not typed:
+        return check("the trace has keys", 0, sum(map(len, texts)))
+    thread = typed[0]["tid"]
+    used, shown = [], []
+    # The trace is of all that was typed: these keys are its last ones.
+    downs = [it for it in typed if it["args"]["data"]["type"] == "keydown"][-sum(map(len, texts)):]
+    for down in downs:
+        after = [it for it in events if it["tid"] == thread and it["ts"] >= down["ts"]]
+        frame = next((it for it in after if it["name"] in ("Commit", "Paint", "Layerize")), None)
+        if frame is None:
+            continue
+        end = frame["ts"] + frame.get("dur", 0)
+        shown.append((end - down["ts"]) / 1000)
+        work = ("EventDispatch", "UpdateLayoutTree", "Layout", "PrePaint", "Paint", "Layerize", "Commit")
+        used.append(sum(it.get("tdur", it.get("dur", 0)) for it in after if it["ts"] < end and it["name"] in work) / 1000)
+    used.sort(), shown.sort()
+    check("keys in the trace", len(used), sum(map(len, texts)))
+    print(f"   a key: {used[len(used) // 2]:.1f} ms of the processor in the middle, {used[-1]:.1f} at most; to its frame {shown[len(shown) // 2]:.1f} and {shown[-1]:.1f} ms")
+    check("each key within a frame of a sixtieth of a second", used[-1] < 16.7, True)
 
 
 def table(browser, folder, rows):
@@ -119,7 +154,14 @@ def lines(browser, given, answers, rules):
 
 
 def main():
-    words, pictures = sys.argv[1:], None
+    words, pictures, in_firefox, rows = sys.argv[1:], None, False, 100000
+    if "--firefox" in words:
+        in_firefox = True
+        words.remove("--firefox")
+    if "--rows" in words:
+        at = words.index("--rows")
+        rows = int(words[at + 1])
+        del words[at : at + 2]
     if "--pictures" in words:
         at = words.index("--pictures")
         pictures = Path(words[at + 1])
@@ -131,19 +173,26 @@ def main():
         folder = Path(name)
         for it in ("demo.html", "demo.js", "phonenumber-proved.global.js"):
             shutil.copy(Path(words[0]) / it, folder)
-        browser = Browser("en-NZ", "480,900")
+        own = firefox if in_firefox else chromium
+        more = {} if in_firefox else {"traced": "devtools.timeline,disabled-by-default-devtools.timeline"}
+        browser = own.Browser("en-NZ", "480,900", **more)
         try:
             browser.go(f"file://{folder}/demo.html")
             for _ in range(400):
                 if browser.run("return document.body.dataset.ready"):
                     break
                 time.sleep(0.05)
+            opened = browser.run_async("const done = arguments[0], began = performance.now(); phonenumberProved().load().then(() => done(performance.now() - began))")
+            print(f"   open: {opened:.0f} ms")
             field(browser)
             if pictures:
                 browser.picture(pictures / "form.png")
-            table(browser, folder, 100000)
+            if not in_firefox:
+                frames(browser)
+            table(browser, folder, rows)
             if pictures:
                 browser.picture(pictures / "table.png")
+            if pictures and not in_firefox:
                 browser.command("Emulation.setEmulatedMedia", features=[{"name": "prefers-color-scheme", "value": "dark"}])
                 browser.command("Emulation.setDeviceMetricsOverride", width=360, height=740, deviceScaleFactor=2, mobile=True)
                 browser.picture(pictures / "phone-dark.png")

@@ -73,6 +73,28 @@ must(phones.report("03-331 6005", "NZ").split("\t")[1], "+6433316005", "report")
 must(phones.columns(["03-331 6005", null, "x"], { regions: "NZ", columns: ["e164", "refusal", "valid"] }),
   { e164: ["+6433316005", undefined, undefined], refusal: [undefined, undefined, "NOT_A_NUMBER"], valid: [true, undefined, undefined] }, "columns");
 must(phones.columns(["0171 1234567", "03-331 6005"], { regions: ["DE", "NZ"] }).country, ["DE", "NZ"], "columns by region");
+// A row of a column is what the calls for one text say: examples of all regions, texts that are none, under hints of each sort.
+const texts = ["", "call me", "03-331 6005 ext. 12", "\ud800 03-331 6005", "\uff0b64 3 331 6005", "0".repeat(300), null, undefined];
+for (const region of phones.getCountries()) {
+  const it = phones.getExampleNumber(region);
+  texts.push(it.number, it.formatNational(), it.formatInternational(), `${it.getURI()};ext=7`, it.number.slice(0, 6));
+}
+const names = ["e164", "international", "national", "rfc3966", "type", "country", "valid", "callingCode", "nationalNumber", "extension", "refusal"];
+for (const regions of ["", "NZ", "xx", texts.map((_, i) => ["NZ", undefined, "US", "", "ZZ", null][i % 6])]) {
+  const told = phones.columns(texts, { regions, columns: names });
+  texts.forEach((text, i) => {
+    const region = Array.isArray(regions) ? regions[i] ?? "" : regions;
+    let it, refusal;
+    if (text != null) try { it = phones.parsePhoneNumberWithError(text, region); } catch (error) { refusal = error.message; }
+    const wanted = [it?.number, it?.formatInternational(), it?.formatNational(), it?.getURI(), it?.getType(), it?.country, it?.isValid(),
+      it?.countryCallingCode, it?.nationalNumber, it?.ext, refusal];
+    must(names.map((name) => told[name][i] ?? null), wanted.map((field) => field ?? null), `column of ${text} under ${region}`);
+  });
+}
+must(phones.columns([], { regions: "NZ" }).e164, [], "no rows");
+must(thrown(() => phones.columns(["1"], { columns: ["kind"] })), ["TypeError", "no column: kind"], "no column");
+must(thrown(() => phones.columns(["1", 2])), ["TypeError", "a phone number is read of a string"], "no text in a column");
+console.log(`columns: ${4 * texts.length} rows`);
 must(phones.tableVersion().startsWith("libphonenumber "), true, "version");
 must(parsePhoneNumber("0".repeat(1000000), "NZ"), undefined, "a long text");
 must(parsePhoneNumber("\ud800 03-331 6005", "NZ")?.number, "+6433316005", "a lone surrogate");
@@ -115,6 +137,24 @@ instance.exports.phone_memory_most((1n << 64n) - 1n);
 must(ask(2).split("\t")[1], "+6433316002", "after refused memory");
 must(refused > 0, true, "memory is refused");
 console.log(`memory: refused ${refused} times`);
+
+// A column beside the calls for one text, in turn: the middle of each.
+{
+  const some = Array.from({ length: 500 }, (_, i) => `+64 3 331 ${6000 + i}`), columns = [], single = [];
+  for (let turn = 0; turn < 21; turn++) {
+    let began = performance.now();
+    phones.columns(some, { regions: "NZ" });
+    columns.push(performance.now() - began);
+    began = performance.now();
+    for (const text of some) {
+      const it = parsePhoneNumber(text, "NZ");
+      it.getType(), it.isValid();
+    }
+    single.push(performance.now() - began);
+  }
+  const [a, b] = [columns, single].map((it) => it.sort((x, y) => x - y)[10] * 1000 / some.length);
+  console.log(`a row: ${a.toFixed(1)} us in a column, ${b.toFixed(1)} by single calls`);
+}
 
 // Lines, by both rules.
 for (let i = 0; i + 1 < pairs.length; i += 2) {

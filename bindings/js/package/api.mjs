@@ -21,6 +21,74 @@ const MATCHES = ["exact", "number", "national", "end", "different"];
 const FORMATS = { "E.164": MODES.E164, E164: MODES.E164, INTERNATIONAL: MODES.INTERNATIONAL, International: MODES.INTERNATIONAL,
   NATIONAL: MODES.NATIONAL, National: MODES.NATIONAL, RFC3966: MODES.RFC3966 };
 
+// The columns of phone.h, by their numbers there.
+const NUMBER_COLUMN = { code: 4, value: 5, zeros: 6, kind: 7, region: 8, valid: 9, refusal: 11, isNumber: 12 };
+// So many rows are read by one call.
+const PIECE = 4096;
+
+/** What columns tell of some rows. */
+class Piece {
+  constructor({ bytes, view, places }, numbers, count) {
+    this.bytes = bytes;
+    this.view = view;
+    this.count = count;
+    this.places = new Map(numbers.map((number, i) => [number, places[i]]));
+    this.flags = this.places.get(NUMBER_COLUMN.isNumber)[0][0];
+  }
+  isNumber(row) { return (this.bytes[this.flags + (row >> 3)] >> (row & 7)) & 1; }
+  at(number) { return this.places.get(number)[0][0]; }
+  /** Puts what each row that is a number has into an array. */
+  put(out, from, value) {
+    for (let row = 0; row < this.count; row++) if (this.isNumber(row)) out[from + row] = value(row);
+  }
+  /** The texts of a column, row by row. */
+  texts(number) {
+    const [[offsets], [start, end]] = this.places.get(number), all = this.bytes.subarray(start, end);
+    const text = LATIN.decode(all), isAscii = !/[^\0-\x7f]/.test(text);
+    const place = (row) => Number(this.view.getBigUint64(offsets + 8 * row, true));
+    return (row) => (isAscii ? text.slice(place(row), place(row + 1)) : UTF8.decode(all.subarray(place(row), place(row + 1))));
+  }
+}
+const LATIN = new TextDecoder("latin1"), UTF8 = new TextDecoder();
+
+const textColumn = (number, of = (text) => text) => ({ of: [number], rows(piece, out, from) {
+  const text = piece.texts(number);
+  piece.put(out, from, (row) => of(text(row)));
+} });
+const byteColumn = (number, of) => ({ of: [number], rows(piece, out, from) {
+  const at = piece.at(number);
+  piece.put(out, from, (row) => of(piece.bytes[at + row]));
+} });
+// The columns of the package: which of phone.h each is of, and how it puts its rows into an array.
+const COLUMNS = {
+  e164: textColumn(MODES.E164), international: textColumn(MODES.INTERNATIONAL), national: textColumn(MODES.NATIONAL),
+  rfc3966: textColumn(MODES.RFC3966), extension: textColumn(MODES.RFC3966, (text) => text.split(";ext=")[1]),
+  type: byteColumn(NUMBER_COLUMN.kind, (kind) => KINDS[kind]), valid: byteColumn(NUMBER_COLUMN.valid, (it) => it === 1),
+  country: { of: [NUMBER_COLUMN.region], rows(piece, out, from) {
+    const at = piece.at(NUMBER_COLUMN.region), ids = new Map();
+    piece.put(out, from, (row) => {
+      const id = (piece.bytes[at + 2 * row] << 8) | piece.bytes[at + 2 * row + 1];
+      if (!ids.has(id)) ids.set(id, id ? String.fromCharCode(id >> 8, id & 0xff) : undefined);
+      return ids.get(id);
+    });
+  } },
+  callingCode: { of: [NUMBER_COLUMN.code], rows(piece, out, from) {
+    const at = piece.at(NUMBER_COLUMN.code);
+    piece.put(out, from, (row) => String(piece.view.getUint16(at + 2 * row, true)));
+  } },
+  nationalNumber: { of: [NUMBER_COLUMN.value, NUMBER_COLUMN.zeros], rows(piece, out, from) {
+    const at = piece.at(NUMBER_COLUMN.value), zeros = piece.at(NUMBER_COLUMN.zeros);
+    piece.put(out, from, (row) => "0".repeat(piece.bytes[zeros + row]) + piece.view.getBigUint64(at + 8 * row, true));
+  } },
+  refusal: { of: [NUMBER_COLUMN.refusal], rows(piece, out, from) {
+    const at = piece.at(NUMBER_COLUMN.refusal);
+    for (let row = 0; row < piece.count; row++) {
+      const status = piece.bytes[at + row];
+      if (status) out[from + row] = REASONS[status] ?? "NOT_A_NUMBER";
+    }
+  } },
+};
+
 /** The region that a call's second argument names: an id, or an object with `defaultCountry`; or a calling code. */
 function regionOf(options) {
   if (typeof options === "string") return options;
@@ -169,20 +237,15 @@ export function bind(engine) {
   const report = (line, region = "") => engine.report(textOf(line), region);
   /** What is told of each of many texts, as arrays by the names of columns. `regions` is one for all, or an array. */
   function columns(texts, { regions = "", columns: names = ["e164", "type", "country", "valid", "refusal"], progress } = {}) {
+    for (const name of names) if (!(name in COLUMNS)) throw new TypeError(`no column: ${name}`);
+    for (let row = 0; row < texts.length; row++) if (texts[row] != null) textOf(texts[row]);
     const told = Object.fromEntries(names.map((name) => [name, new Array(texts.length)]));
-    const of = { e164: (it) => it.number, international: (it) => it.formatInternational(), national: (it) => it.formatNational(),
-      rfc3966: (it) => it.getURI(), type: (it) => it.getType(), country: (it) => it.country, valid: (it) => it.isValid(),
-      callingCode: (it) => it.countryCallingCode, nationalNumber: (it) => it.nationalNumber, extension: (it) => it.ext, refusal: () => undefined };
-    for (const name of names) if (!(name in of)) throw new TypeError(`no column: ${name}`);
-    for (let row = 0; row < texts.length; row++) {
-      const number = texts[row] == null ? null : engine.parse(textOf(texts[row]), Array.isArray(regions) ? regions[row] ?? "" : regions);
-      if (number === STATUS.MEMORY) throw engine.error(number);
-      const it = number && typeof number !== "number" ? new PhoneNumber(number) : undefined;
-      for (const name of names) {
-        const refusal = typeof number === "number" && name === "refusal" ? REASONS[number] ?? "NOT_A_NUMBER" : undefined;
-        told[name][row] = it ? of[name](it) : refusal;
-      }
-      if (progress && row % 1000 === 999) progress(row + 1, texts.length);
+    const numbers = [...new Set([NUMBER_COLUMN.isNumber, ...names.flatMap((name) => COLUMNS[name].of)])];
+    for (let from = 0; from < texts.length; from += PIECE) {
+      const count = Math.min(PIECE, texts.length - from);
+      const piece = new Piece(engine.columns(texts, regions, from, count, numbers), numbers, count);
+      for (const name of names) COLUMNS[name].rows(piece, told[name], from);
+      if (progress) progress(from + count, texts.length);
     }
     return told;
   }

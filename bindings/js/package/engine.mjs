@@ -190,6 +190,14 @@ export class Engine {
   isValid(number) { return this.#lay(number), this.#plain("phone_is_valid", 1, this.#number) === 1; }
   /** Whether the count of a number's digits is possible, by its number in phone.h. */
   possibility(number) { return this.#lay(number), this.#plain("phone_possibility", 4, this.#number); }
+  /** The same of the number that a text is. */
+  possibilityOfText(text, region = "") { return this.#plain("phone_text_possibility", 4, ...this.#put(region, text)); }
+  /** What is known of a text as a short number of a region, over a table of short numbers; the cost by its number in phone.h. */
+  short(text, region) {
+    this.#asked(this.#calls.phone_short(this.#handle, ...this.#put(region, text), this.#told));
+    const view = this.#view(), at = Number(this.#told), is = (place) => view.getUint8(at + place) === 1;
+    return { cost: view.getUint32(at, true), isPossible: is(4), isValid: is(5), isCarrierSpecific: is(6), isEmergency: is(7), reachesEmergency: is(8) };
+  }
   /** How like the numbers of two texts are, by its number in phone.h. */
   compare(one, two) { return this.#plain("phone_compare", 4, ...this.#put(one, two)); }
 
@@ -223,6 +231,62 @@ export class Engine {
       found.push([start, place(Number(view.getBigUint64(base + 16 * i + 8, true)))]);
     }
     return found;
+  }
+
+  /** Lays a column of texts out from a place on, as Arrow has it: offsets, flags, bytes. One text is a hint for all; null is none. */
+  #layColumn(struct, at, texts, from, count) {
+    const view = this.#view(), all = this.#bytes(), isOne = typeof texts === "string";
+    const offsets = at, bits = at + (isOne ? 0 : 8 * (count + 1)), start = bits + (isOne ? 0 : 8 * Math.ceil(count / 64));
+    let end = start;
+    const put = (text) => { end += encoder.encodeInto(text, all.subarray(end)).written; };
+    if (isOne) put(texts);
+    else {
+      all.fill(0, bits, start);
+      for (let row = 0; row < count; row++) {
+        view.setBigUint64(offsets + 8 * row, BigInt(end - start), true);
+        const text = texts[from + row];
+        if (text == null) continue;
+        all[bits + (row >> 3)] |= 1 << (row & 7);
+        // Where all are ASCII, as numbers mostly are, their characters are their bytes.
+        let k = 0;
+        for (let code; k < text.length && (code = text.charCodeAt(k)) < 0x80; k++) all[end + k] = code;
+        if (k === text.length) end += k;
+        else put(text);
+      }
+      view.setBigUint64(offsets + 8 * count, BigInt(end - start), true);
+    }
+    const fields = [offsets, isOne ? 0 : count + 1, start, end - start, bits, isOne ? 0 : Math.ceil(count / 8), 0];
+    fields.forEach((field, i) => view.setBigUint64(struct + 8 * i, BigInt(field), true));
+    return (end + 7) & ~7;
+  }
+
+  /**
+   * What columns, by their numbers in phone.h, tell of `count` texts from one on, each read by itself under its hint or the one of all; of each
+   * the places of its buffers, offsets and bytes of texts, else values, in `bytes`, which stand until the next call.
+   */
+  columns(texts, hints, from, count, columns) {
+    let room = 64;
+    for (const all of [texts, hints])
+      if (typeof all === "string") room += 3 * all.length + 8;
+      else for (let row = from; row < from + count; row++) room += 3 * (all[row]?.length ?? 0) + 9;
+    const structs = 2 * 56, numbers = 8 * columns.length, places = 32 * columns.length;
+    this.#grow(this.#in, room + structs + numbers + places + 256);
+    const base = Number(this.#in.at), numbersAt = base + structs, placesAt = numbersAt + numbers;
+    const next = this.#layColumn(base, placesAt + places, texts, from, count);
+    this.#layColumn(base + 56, next, hints, from, count);
+    const view = this.#view();
+    columns.forEach((number, i) => view.setUint32(numbersAt + 4 * i, number, true));
+    this.#bytes().fill(0, placesAt, placesAt + places);
+    this.#asked(this.#written((...out) => this.#calls.phone_columns(this.#handle, BigInt(base), BigInt(base + 56), BigInt(numbersAt),
+      BigInt(columns.length), BigInt(placesAt), BigInt(2 * columns.length), ...out)));
+    const told = this.#view(), out = Number(this.#out.at);
+    let at = placesAt;
+    const place = () => {
+      const found = [0, 8].map((it) => out + Number(told.getBigUint64(at + it, true)));
+      at += 16;
+      return found;
+    };
+    return { bytes: this.#bytes(), view: told, places: columns.map((number) => (number <= MODES.RFC3966 ? [place(), place()] : [place()])) };
   }
 
   /** The ids of the table's regions, and its calling codes. */

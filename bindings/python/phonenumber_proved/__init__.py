@@ -45,7 +45,7 @@ from .short import Cost, ShortFacts, ShortNumbers
 from .tables import CARRIERS_TABLE, SHORT_TABLE, TABLE, TABLE_VERSION, TIME_ZONES_TABLE
 from .warming import warm
 
-__version__ = "0.2.0"
+__version__ = "0.3.0"
 
 __all__ = [
     "BadDatabase",

@@ -37,6 +37,8 @@ pub enum Error {
     NoRegion,
     /// The database has no territory of the region.
     NoTerritory,
+    /// Texts or hints are laid out as no column.
+    Layout,
     /// Memory was refused. What was open is open.
     Memory,
     /// The file can't be read.
@@ -76,6 +78,7 @@ impl Error {
             ffi::NO_REGION => Error::NoRegion,
             ffi::UNKNOWN_CODE => Error::UnknownCode,
             ffi::NO_TERRITORY => Error::NoTerritory,
+            ffi::BAD_LAYOUT => Error::Layout,
             _ => Error::Other(status),
         }
     }
@@ -117,6 +120,7 @@ impl fmt::Display for Error {
             Error::NotUtf8 => ffi::NOT_UTF8,
             Error::NoRegion => ffi::NO_REGION,
             Error::NoTerritory => ffi::NO_TERRITORY,
+            Error::Layout => ffi::BAD_LAYOUT,
             Error::UnknownCode => ffi::UNKNOWN_CODE,
             Error::Database(status) | Error::Other(status) => *status,
             Error::Line(line, fault) => return write!(f, "line {line}: {fault}"),

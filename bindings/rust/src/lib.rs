@@ -29,6 +29,7 @@
 //! not this crate: that the declarations of `phonenumber-proved-sys` fit, and that memory is given back, is
 //! tested. The module `compat` has the names of the crate `phonenumber`.
 mod call;
+mod columns;
 pub mod compat;
 mod database;
 mod error;
@@ -45,6 +46,7 @@ mod with_serde;
 
 use phonenumber_proved_sys as ffi;
 
+pub use columns::{Column, Columns, Offset, Texts, TextsBuf};
 pub use database::{By, Database, Formatter, Rules};
 pub use error::{Error, LineFault};
 pub use found::{Found, Leniency};

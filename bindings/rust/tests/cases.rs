@@ -2,9 +2,9 @@
 //! printed texts, validity, and texts that made readers panic. Then what is by libphonenumber's rules, and what
 //! belongs to neither.
 use phonenumber_proved::{
-    Cost, Database, Error, Form, Found, Leniency, LineFault, Mode, NumberMatch, PhoneNumber, Prefixes, Rules, SHORT,
-    ShortNumbers, Source, TABLE_VERSION, TIME_ZONES, Type, WORLD, has_letters, is_geographical, is_viable,
-    match_numbers, mobile_token, normalize,
+    Column, Cost, Database, Error, Form, Found, Leniency, LineFault, Mode, NumberMatch, PhoneNumber, Prefixes, Rules,
+    SHORT, ShortNumbers, Source, TABLE_VERSION, TIME_ZONES, Texts, TextsBuf, Type, WORLD, has_letters, is_geographical,
+    is_viable, match_numbers, mobile_token, normalize,
 };
 use std::collections::{BTreeSet, HashMap, HashSet};
 use std::sync::Arc;
@@ -644,4 +644,138 @@ fn further_questions_are_answered_or_refused() {
     assert_eq!(none.national_with(&left, "15").as_deref(), Ok("33316005"));
     assert_eq!((mobile_token(64).as_deref(), is_geographical(Type::Mobile, 64)), (Ok(""), Ok(false)));
     assert_eq!((normalize(Form::Digits, "").as_deref(), has_letters("")), (Ok(""), false));
+}
+
+/// All columns.
+const COLUMNS: [Column; 13] = [
+    Column::E164,
+    Column::International,
+    Column::National,
+    Column::Rfc3966,
+    Column::Code,
+    Column::Value,
+    Column::Zeros,
+    Column::Type,
+    Column::Region,
+    Column::Validity,
+    Column::Source,
+    Column::Refusal,
+    Column::IsNumber,
+];
+
+/// Examples of all regions and kinds in their modes, and texts that are none, under hints of each sort.
+fn column_of_rows(world: &Database) -> Vec<(Option<Vec<u8>>, Option<&'static str>)> {
+    let hints = [Some("NZ"), None, Some("US"), Some("ZZ"), Some("BR")];
+    let mut rows: Vec<(Option<Vec<u8>>, Option<&str>)> = Vec::new();
+    for region in world.regions().unwrap() {
+        for kind in KINDS_IN_ORDER {
+            let Some(number) = world.example(&region, kind).unwrap() else { continue };
+            for mode in [Mode::E164, Mode::International, Mode::National, Mode::Rfc3966] {
+                let text = world.format(&number).mode(mode).to_text().unwrap().into_bytes();
+                rows.push((Some(text), hints[rows.len() % 5]));
+            }
+        }
+    }
+    for text in [&b"call me"[..], b"", b"\xff", b"03-331 6005 ext. 12", b"0 31 11 2345 6789"] {
+        rows.extend(hints.map(|hint| (Some(text.to_vec()), hint)));
+    }
+    rows.extend(hints.map(|hint| (None, hint)));
+    rows
+}
+
+#[test]
+fn a_row_of_a_column_is_what_the_calls_for_one_text_say() {
+    let world = world();
+    let rows = column_of_rows(&world);
+    assert!(rows.len() > 5000, "{} rows", rows.len());
+    let texts: TextsBuf = rows.iter().map(|(text, _)| text.as_ref()).collect();
+    let hints: TextsBuf = rows.iter().map(|(_, hint)| *hint).collect();
+    for rules in [Rules::Library, Rules::Crate] {
+        let by = world.by(rules);
+        let told = by.columns(&texts.texts(), &hints.texts(), &COLUMNS).unwrap();
+        assert_eq!(told.len(), rows.len());
+        for (row, (text, hint)) in rows.iter().enumerate() {
+            let read = match text.as_ref().map(|text| std::str::from_utf8(text)) {
+                None => Ok(None),
+                // A hint that is no region's id is told first.
+                Some(Err(_)) if *hint == Some("ZZ") => Err(Error::NoRegion),
+                Some(Err(_)) => Err(Error::NotUtf8),
+                Some(Ok(text)) => by.parse(*hint, text).map(Some),
+            };
+            assert_eq!(told.refusal(row), read.as_ref().err().copied(), "{text:?} {hint:?}");
+            let number = read.unwrap_or_default();
+            assert_eq!(told.is_number(row), Some(number.is_some()));
+            for mode in [Mode::E164, Mode::International, Mode::National, Mode::Rfc3966] {
+                let text = number.as_ref().map(|it| by.format(it).mode(mode).to_text().unwrap());
+                assert_eq!(told.text(mode, row), text.as_deref());
+            }
+            let of = |number: &PhoneNumber| (number.code(), number.national_value(), number.national_zeros());
+            let parts = (told.codes()[row], told.national_values()[row], told.national_zeros()[row]);
+            assert_eq!(parts, number.as_ref().map_or((0, 0, 0), of));
+            let Some(number) = number else { continue };
+            assert_eq!(told.number_type(row), by.number_type(&number).ok());
+            assert_eq!(told.region(row).map(str::to_owned), by.region(&number).unwrap());
+            assert_eq!(told.is_valid(row), by.is_valid(&number).ok());
+        }
+    }
+}
+
+#[test]
+fn a_column_is_its_pieces_one_behind_the_other() {
+    let world = world();
+    let rows = column_of_rows(&world);
+    let texts: TextsBuf = rows.iter().map(|(text, _)| text.as_ref()).collect();
+    let (texts, hint) = (texts.texts(), Texts::one_hint("NZ"));
+    let whole = world.columns(&texts, &hint, &COLUMNS).unwrap();
+    let pieces: Vec<_> = std::thread::scope(|scope| {
+        let asked: Vec<_> = (0..rows.len())
+            .step_by(999)
+            .map(|from| (from, texts.slice(from..rows.len().min(from + 999))))
+            .map(|(from, piece)| (from, scope.spawn(move || world_columns(&piece))))
+            .collect();
+        asked.into_iter().map(|(from, told)| (from, told.join().unwrap())).collect()
+    });
+    for (from, piece) in pieces {
+        for row in 0..piece.len() {
+            assert_eq!(piece.text(Mode::International, row), whole.text(Mode::International, from + row));
+            assert_eq!((piece.region(row), piece.refusal(row)), (whole.region(from + row), whole.refusal(from + row)));
+        }
+    }
+}
+
+fn world_columns(texts: &Texts<'_>) -> phonenumber_proved::Columns {
+    Database::world().unwrap().columns(texts, &Texts::one_hint("NZ"), &COLUMNS).unwrap()
+}
+
+#[test]
+fn columns_of_each_width_of_offsets_and_none_that_are_no_columns() {
+    let world = world();
+    let bytes = b"03-331 6005call me+1 650 253 0000";
+    let (wide, narrow) = ([0u64, 11, 18, 18, 33], [0u32, 11, 18, 18, 33]);
+    let told = [
+        world.columns(&Texts::new(&wide, bytes), &Texts::one_hint("NZ"), &COLUMNS).unwrap(),
+        world.columns(&Texts::new(&narrow, bytes), &Texts::one_hint("NZ"), &COLUMNS).unwrap(),
+        world.columns(&Texts::new(&wide.map(|it| it as i64), bytes), &Texts::one_hint("NZ"), &COLUMNS).unwrap(),
+        world.columns(&Texts::new(&narrow.map(|it| it as i32), bytes), &Texts::one_hint("NZ"), &COLUMNS).unwrap(),
+    ];
+    for it in &told {
+        let texts: Vec<_> = (0..it.len()).map(|row| it.text(Mode::E164, row)).collect();
+        assert_eq!(texts, [Some("+6433316005"), None, None, Some("+16502530000")]);
+        assert_eq!((it.buffer(Column::E164, 1), it.text(Mode::E164, 4)), (&b"+6433316005+16502530000"[..], None));
+    }
+    let few = world.columns(&Texts::new(&wide, bytes), &Texts::one_hint(""), &[Column::Region, Column::Region]).unwrap();
+    assert_eq!((few.region(0), few.region(3), few.is_number(0), few.codes()), (None, Some("US"), None, &[][..]));
+    let none: [u64; 0] = [];
+    for offsets in [&none[..], &[0], &[7]] {
+        let told = world.columns(&Texts::new(offsets, bytes), &Texts::one_hint("NZ"), &COLUMNS).unwrap();
+        assert_eq!((told.len(), told.is_empty(), told.text(Mode::E164, 0)), (0, true, None));
+    }
+    for offsets in [&[1, 0][..], &[0, 34], &[0, u64::MAX], &[34]] {
+        let told = world.columns(&Texts::new(offsets, bytes), &Texts::one_hint("NZ"), &[Column::E164]);
+        assert_eq!(told.unwrap_err(), Error::Layout, "{offsets:?}");
+    }
+    let lacking = Texts::new(&wide, bytes).with_bitmap(&[7], 5);
+    assert_eq!(world.columns(&lacking, &Texts::one_hint(""), &COLUMNS).unwrap_err(), Error::Layout);
+    let behind = Texts::new(&[0i64, -1], bytes);
+    assert_eq!(world.columns(&behind, &Texts::one_hint(""), &COLUMNS).unwrap_err(), Error::Layout);
 }

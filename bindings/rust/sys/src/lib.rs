@@ -111,6 +111,7 @@ pub const UNKNOWN_CODE: u32 = 20;
 pub const NO_PREFIX: u32 = 30;
 pub const NO_EXAMPLE: u32 = 32;
 pub const NO_TERRITORY: u32 = 34;
+pub const BAD_LAYOUT: u32 = 37;
 
 // Made by `bindings/declarations.py --write` of `phone.h`: edit that.
 #[rustfmt::skip]

@@ -1,0 +1,1 @@
+-- Version 0.3.0 has what 1.1 has: from here on the extension's versions are those of all that is released with it.
