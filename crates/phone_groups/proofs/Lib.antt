@@ -1,0 +1,3 @@
+pub mod Grouped
+pub mod Lists
+pub mod Parts

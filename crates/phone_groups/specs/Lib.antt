@@ -1,0 +1,5 @@
+pub mod Exact
+pub mod Runs
+pub mod Slashes
+pub mod Strict
+pub mod Texts
