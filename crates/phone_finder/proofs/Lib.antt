@@ -1,0 +1,4 @@
+pub mod Begins
+pub mod Ones
+pub mod Searches
+pub mod Told

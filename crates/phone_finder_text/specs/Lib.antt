@@ -1,0 +1,6 @@
+pub mod Numbers
+pub mod Rules
+pub mod Sets
+pub mod Shapes
+pub mod Told
+pub mod Walks
