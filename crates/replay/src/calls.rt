@@ -12,12 +12,16 @@ use std::fs::Files;
 /// The database of short numbers.
 const SHORT: &str = "world/short";
 
-/// The databases that are at hand for the next line: the one that a line names, and the one of
-/// short numbers.
+/// The database of SMS services.
+const SMS: &str = "world/sms";
+
+/// The databases that are at hand for the next line: the one that a line names, and those of
+/// short numbers and of SMS services.
 #[derive(Drop)]
 pub struct AtHand {
     named: Option<Named>,
     short: Option<Named>,
+    sms: Option<Named>,
 }
 
 impl AtHand {
@@ -26,6 +30,7 @@ impl AtHand {
         AtHand {
             named: None,
             short: None,
+            sms: None,
         }
     }
 }
@@ -83,6 +88,10 @@ pub fn answer<R: Files + AllocGlobal>(rt: &R, row: &Row, at_hand: &mut AtHand) -
         return Ok(found);
     }
     let db = of_name(rt, &mut at_hand.named, row.argument(0))?;
+    if short::is_sms_asked(row) {
+        let sms = of_name(rt, &mut at_hand.sms, SMS)?;
+        return short::sms_answer(rt.alloc(), row, db, sms);
+    }
     if short::is_asked(row) {
         let short = of_name(rt, &mut at_hand.short, SHORT)?;
         return short::answer(rt.alloc(), row, db, short);

@@ -2,21 +2,42 @@
 use crate::given::{parts, region};
 use anyhow::Result;
 use phone_engine::{Engine, Rules};
+use phone_examples::{example_of_code, invalid_example};
 use phone_meta::Database;
 use phone_util::example;
 use phone_values::Type;
+use phonenumber::PhoneNumber;
 use replay_base::table::Row;
 use replay_base::words::{kind, said};
 use std::alloc::Global;
 
 /// The answer to a line; none for any other question.
 pub fn answer(alloc: Global, row: &Row, db: &Database) -> Result<Option<String>> {
+    let name = row.argument(2);
     let kind = match row.argument(1) {
+        "example-code" => return shown(alloc, example_of_code(db, name.parse::<u16>()?)?),
+        "example-invalid" => return shown(alloc, invalid(db, name)?),
         "example" => Type::FixedLine,
         "example-kind" => kind(row.argument(3))?,
         _ => return Ok(None),
     };
-    Ok(Some(example_of(alloc, db, row.argument(2), kind)?))
+    Ok(Some(example_of(alloc, db, name, kind)?))
+}
+
+/// The parts of a number, a hyphen where there is none.
+fn shown(alloc: Global, number: Option<PhoneNumber>) -> Result<Option<String>> {
+    match &number {
+        Some(number) => Ok(Some(parts(alloc, number)?)),
+        None => Ok(Some(said(alloc, "-")?)),
+    }
+}
+
+/// The number of a region by its name that isn't valid.
+fn invalid(db: &Database, name: &str) -> Result<Option<PhoneNumber>> {
+    match region(name) {
+        Some(id) => Ok(invalid_example(db, id)?),
+        None => Ok(None),
+    }
 }
 
 /// The parts of the example of a kind of a region by its name.

@@ -7,6 +7,7 @@ use phone_dialling::{
 };
 use phone_meta::Database;
 use phone_short::Cost;
+use phone_short_questions::is_sms_service;
 use replay_base::table::Row;
 use replay_base::words::said;
 use std::alloc::Global;
@@ -25,6 +26,20 @@ pub fn answer(alloc: Global, row: &Row, db: &Database, short: &Database) -> Resu
             example(alloc, short, row.argument(2), Some(cost))
         }
         _ => of_number(alloc, row, db, short),
+    }
+}
+
+/// Whether a line asks of SMS services.
+pub fn is_sms_asked(row: &Row) -> bool {
+    row.call() == "question" && row.argument(1) == "short-sms"
+}
+
+/// The answer to such a line, of which a third database tells.
+pub fn sms_answer(alloc: Global, row: &Row, db: &Database, sms: &Database) -> Result<String> {
+    let n = number(alloc, row, db, 2)?;
+    match region(row.argument(4)) {
+        Some(id) => yes(alloc, is_sms_service(db, sms, id, &n)?),
+        None => said(alloc, "no"),
     }
 }
 
