@@ -14,7 +14,7 @@ use Rattle.phone_commands.specs.declared.inputs.Failure.{Failure}
 use Rattle.phone_commands.specs.declared.jobs.Report.{Report}
 use Rattle.phone_commands.specs.declared.shorts.Shorts.{Shorts}
 use Rattle.phone_commands.specs.declared.takers.FirstLines.{FirstLines}
-use Rattle.phone_commands.specs.Strays.{CountsBegin, CountsLine, no_strays, no_tally}
+use Rattle.phone_commands.specs.Strays.{CountsBegin, CountsLine, no_tally, strays_of}
 use Rattle.phone_commands.specs.declared.strays.Tally.{Tally}
 use Rattle.phone_commands.specs.declared.takers.Objects.{Objects}
 use Rattle.phone_commands.specs.declared.typist.Typist.{Typist}
@@ -29,7 +29,7 @@ use Rattle.phone_values.specs.declared.rules.Rules.{Rules}
 use Rattle.phone_words.specs.declared.call.Call.{Call}
 use Rattle.phone_words.specs.declared.command.Command.{Command}
 use Rattle.phone_words.specs.declared.command.Command.TheVariants as command
-use Rattle.phone_cli.specs.Answers.{AnswersReading, Does, IsAsked, IsLoaded, Runs, finds}
+use Rattle.phone_cli.specs.Answers.{AnswersReading, Does, IsAsked, IsLoaded, IsTableRun, Runs, finds}
 use Rattle.phone_cli.specs.Answers.{is_table, reads}
 use Rattle.phone_cli.specs.Answers.Does.{ran, unsummed}
 use Rattle.phone_cli.specs.Answers.Meets.{of_lines, of_table}
@@ -229,15 +229,24 @@ pub table_runs : (c : Call) (hint : Option Id) (files : List Name) (k : Customer
     AnswersInputs (ActsIn c.encoding (Tables k.engine.rules k.engine.database.now k.engine.hint
     k.asked)) files
     k.totals before after last end →
-    Runs c hint files before after end
+    IsTableRun c hint files before after last end
 table_runs c hint files k shorts before after last end is apart loaded asked rules under act =
     let db = k.engine.database.now in
     let by_rules = subst (λ x. AnswersInputs (ActsIn c.encoding (Tables x db k.engine.hint
     k.asked)) files k.totals
     before after last end) rules act in
-    table db shorts k.asked k.totals last is apart loaded asked
-    (subst (λ x. AnswersInputs (ActsIn c.encoding (Tables c.rules db x k.asked)) files k.totals
-    before after last end) under by_rules)
+    record {
+      db = db;
+      short = shorts;
+      asked = k.asked;
+      first = k.totals;
+      is = is;
+      apart = apart;
+      loaded = loaded;
+      by_options = asked;
+      answered = subst (λ x. AnswersInputs (ActsIn c.encoding (Tables c.rules db x k.asked)) files k.totals
+          before after last end) under by_rules;
+    }
 
 -- it ran; or it ran whole, and its summary can't be written
 pub table_does : (c : Call) (hint : Option Id) (files : List Name) (k : Customers)
@@ -248,16 +257,18 @@ pub table_does : (c : Call) (hint : Option Id) (files : List Name) (k : Customer
     AnswersInputs (ActsIn c.encoding (Tables k.engine.rules k.engine.database.now k.engine.hint
     k.asked)) files
     k.totals before.devices after.devices last end →
-    ((status ≡ status_of c.lenient no_strays end) ⊎
-    ((status_of c.lenient no_strays end ≡ 0) × (status ≡ 1) ×
+    ((status ≡ status_of c.lenient (strays_of last.counts) end) ⊎
+    ((status_of c.lenient (strays_of last.counts) end ≡ 0) × (status ≡ 1) ×
     (is_some c.table.summary ≡ true))) →
     Does c hint files before after status
 table_does c hint files k shorts before after last end status is apart loaded asked rules under act
-    (inl e) = rw e (ran end no_strays (table_runs c hint files k shorts before.devices after.devices
-    last end is apart loaded asked rules under act) (of_table is))
+    (inl e) =
+    let run = table_runs c hint files k shorts before.devices after.devices last end is apart loaded asked rules under act in
+    rw e (ran end (strays_of last.counts) (table last run) (of_table last run))
 table_does c hint files k shorts before after last end status is apart loaded asked rules under act
-    (inr (whole, one, named)) = rw one (unsummed end whole is named (table_runs c hint files k
-    shorts before.devices after.devices last end is apart loaded asked rules under act))
+    (inr (whole, one, named)) =
+    let run = table_runs c hint files k shorts before.devices after.devices last end is apart loaded asked rules under act in
+    rw one (unsummed end last run whole named)
 
 -- lines are those of a command that reads no table
 pub lines_ran : (c : Call) (hint : Option Id) (files : List Name) (before after : Streams)

@@ -9,7 +9,7 @@ use Rattle.phone_commands.specs.FirstLines.{IsFirstLine}
 use Rattle.phone_commands.specs.Inputs.{IsStandard, Name}
 use Rattle.phone_commands.specs.Jobs.{TakesLines}
 use Rattle.phone_commands.specs.ObjectLines.{after_one}
-use Rattle.phone_commands.specs.Strays.{CountsBegin, CountsLine, no_strays, no_tally}
+use Rattle.phone_commands.specs.Strays.{CountsBegin, CountsLine, no_tally, strays_of}
 use Rattle.phone_commands.specs.declared.inputs.Failure.{Failure}
 use Rattle.phone_commands.specs.declared.strays.Strays.{Strays}
 use Rattle.phone_commands.specs.declared.strays.Tally.{Tally}
@@ -67,6 +67,21 @@ finds command.FoundObjects = true
 finds command.FoundRecords = true
 finds other = false
 
+-- what was written is the answer of a call to its input as a table, which has these totals, read in
+-- its encoding, over some databases, by what its options ask for; or, where that failed, its front
+pub record IsTableRun (c : Call) (hint : Option Id) (files : List Name) (before after : Devices)
+    (last : Totals) (end : Result ⊤ Failure) : Type 0 where
+  pub db : List Metadata
+  pub short : Option (List Metadata)
+  pub asked : Asked
+  pub first : Totals
+  pub is : c.command ≡ command.Table
+  pub apart : IsApart c files
+  pub loaded : IsLoaded (shorts_of c) short
+  pub by_options : IsAsked c.table short asked
+  pub answered : AnswersInputs (ActsIn c.encoding (Tables c.rules db hint asked)) files first
+      before after last end
+
 -- what was written is the answer of a call's command to its inputs, read in its encoding, under
 -- the region, over some database; or, where that failed, a beginning of it
 pub data Runs (c : Call) (hint : Option Id) (files : List Name) (before after : Devices)
@@ -102,11 +117,7 @@ pub data Runs (c : Call) (hint : Option Id) (files : List Name) (before after : 
       AnswersInputs (ActsIn c.encoding (TakesLines begins_with_nothing IsFirstLine)) files
       (no_first_lines db c.rules hint) before after last end →
       Runs c hint files before after end
-  table : (db : List Metadata) → (short : Option (List Metadata)) → (asked : Asked) →
-      (first last : Totals) → c.command ≡ command.Table → IsApart c files →
-      IsLoaded (shorts_of c) short → IsAsked c.table short asked →
-      AnswersInputs (ActsIn c.encoding (Tables c.rules db hint asked)) files first before
-      after last end →
+  table : (last : Totals) → IsTableRun c hint files before after last end →
       Runs c hint files before after end
 
 -- a command reads a table
@@ -114,13 +125,14 @@ abbrev pub is_table : Command → Bool
 is_table command.Table = true
 is_table other = false
 
--- the lines of the inputs of a call that aren't UTF-8; of a table none are counted
-pub data Meets (c : Call) (files : List Name) (before after : Devices)
+-- the lines of the inputs of a call that aren't UTF-8; of a table the records
+pub data Meets (c : Call) (hint : Option Id) (files : List Name) (before after : Devices)
     (end : Result ⊤ Failure) : Strays → Type 0 where
   of_lines : (t : Tally) → is_table c.command ≡ false →
       AnswersInputs (ActsIn c.encoding (TakesLines CountsBegin CountsLine)) files
-      (no_tally c.skipped) before after t end → Meets c files before after end t.strays
-  of_table : c.command ≡ command.Table → Meets c files before after end no_strays
+      (no_tally c.skipped) before after t end → Meets c hint files before after end t.strays
+  of_table : (last : Totals) → IsTableRun c hint files before after last end →
+      Meets c hint files before after end (strays_of last.counts)
 
 -- what a call does once it reads and writes, and its status: a database or a table of prefixes is
 -- refused; the file of a summary is read or written as well; there is no memory for further
@@ -134,11 +146,12 @@ pub data Does (c : Call) (hint : Option Id) (files : List Name) (before after : 
       Does c hint files before after 1
   ran : (end : Result ⊤ Failure) → (strays : Strays) →
       Runs c hint files before.devices after.devices end →
-      Meets c files before.devices after.devices end strays →
+      Meets c hint files before.devices after.devices end strays →
       Does c hint files before after (status_of c.lenient strays end)
-  unsummed : (end : Result ⊤ Failure) → status_of c.lenient no_strays end ≡ 0 →
-      c.command ≡ command.Table → is_some c.table.summary ≡ true →
-      Runs c hint files before.devices after.devices end → Does c hint files before after 1
+  unsummed : (end : Result ⊤ Failure) → (last : Totals) →
+      IsTableRun c hint files before.devices after.devices last end →
+      status_of c.lenient (strays_of last.counts) end ≡ 0 → is_some c.table.summary ≡ true →
+      Does c hint files before after 1
 
 -- a call reads numbers
 abbrev pub reads : Command → Bool

@@ -12,7 +12,7 @@ use phone_commands::{Customers, FirstLines, LinePlace, Strays};
 use phone_countries::Entry;
 use phone_device::{ByteSink, Fault, write_all};
 use phone_table::{Countries, Tally};
-use phone_words::{Why, WordError, value_word};
+use phone_words::{Call, Command, Why, WordError, value_word};
 use std::alloc::Global;
 
 /// Writes a text. At `Err` the sink failed, and has taken a beginning of it.
@@ -318,7 +318,7 @@ pub(crate) fn say_records<E: ByteSink>(alloc: Global, job: &Customers<'_, '_>, e
     0
 }
 
-/// What is told behind the lines that aren't UTF-8.
+/// What is told behind them.
 const NOT_TEXT: &str =
     "; --encoding NAME reads another encoding, and --lenient leaves the status 0";
 
@@ -332,9 +332,10 @@ fn name_of<'w>(files: &[&'w str], place: LinePlace) -> Option<&'w str> {
 }
 
 /// Tells that so many lines aren't UTF-8, and that the first one stands there, in the file of a
-/// name, and gives the status.
+/// name, and gives the status. Of a table they are records.
 fn say_stray_lines<'t, E: ByteSink>(
     errors: &mut E,
+    is_table: bool,
     count: &'t str,
     line: &'t str,
     of: &'t str,
@@ -345,12 +346,16 @@ fn say_stray_lines<'t, E: ByteSink>(
 {
     let more = if lenient { "" } else { NOT_TEXT };
     let status = if lenient { 0 } else { 1 };
+    let what = if is_table { "record" } else { "line" };
     say(
         errors,
         &[
-            "lines that aren't UTF-8: ",
+            what,
+            "s that aren't UTF-8: ",
             count,
-            ", the first is line ",
+            ", the first is ",
+            what,
+            " ",
             line,
             of,
             name,
@@ -360,7 +365,8 @@ fn say_stray_lines<'t, E: ByteSink>(
     )
 }
 
-/// Tells how many lines aren't UTF-8, and where the first one stands, and gives the status.
+/// Tells how many lines, or records of a table, aren't UTF-8, and where the first one stands, and
+/// gives the status.
 pub(crate) fn say_strays<E: ByteSink>(
     reading: Reading<'_, '_>,
     strays: Strays,
@@ -374,9 +380,14 @@ pub(crate) fn say_strays<E: ByteSink>(
     let (mut count, mut line) = (Buffer::new(), Buffer::new());
     let count = count.format(strays.count);
     let line = line.format(first.line);
-    let lenient = reading.call.lenient;
+    let Call {
+        command,
+        lenient,
+        ..
+    } = reading.call;
+    let is_table = *command == Command::Table;
     match name_of(reading.files, first) {
-        Some(name) => say_stray_lines(errors, count, line, " of ", name, lenient),
-        None => say_stray_lines(errors, count, line, "", "", lenient),
+        Some(name) => say_stray_lines(errors, is_table, count, line, " of ", name, *lenient),
+        None => say_stray_lines(errors, is_table, count, line, "", "", *lenient),
     }
 }

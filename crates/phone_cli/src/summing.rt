@@ -78,6 +78,18 @@ pub(crate) fn sum_up<R: Files + AllocGlobal, E: ByteSink>(
     status
 }
 
+/// Tells the counts of a table that was answered whole, but has records that aren't UTF-8. Of one
+/// that wasn't answered whole none are known.
+pub(crate) fn say_stray_records<E: ByteSink>(
+    alloc: Global,
+    job: &Customers<'_, '_>,
+    errors: &mut E,
+) {
+    if job.totals.counts.first_stray.is_some() {
+        let _told = say_records(alloc, job, errors);
+    }
+}
+
 /// Writes a summary where a file is named for it, or tells that it can't be written, and gives the
 /// status.
 fn write_if_named<R: Files + AllocGlobal, E: ByteSink>(

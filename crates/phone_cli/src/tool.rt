@@ -14,7 +14,7 @@ ghost use Rattle.phone_cli.specs.Statuses.{status_of};
 ghost use Rattle.phone_cli.specs.Streams.{Refuses, streams};
 ghost use Rattle.phone_commands.specs.EncodedJobs.{ActsIn};
 ghost use Rattle.phone_commands.specs.Jobs.{TakesLines};
-ghost use Rattle.phone_commands.specs.Strays.{CountsBegin, CountsLine, no_strays, no_tally};
+ghost use Rattle.phone_commands.specs.Strays.{CountsBegin, CountsLine, no_tally, strays_of};
 ghost use Rattle.phone_commands.specs.declared.inputs.Failure.{Failure};
 ghost use Rattle.phone_commands.specs.declared.strays.Tally.{Tally};
 ghost use Rattle.phone_lines.specs.Ends.{seen};
@@ -31,7 +31,7 @@ use crate::made::{asked, finder_of, objects_of};
 use crate::operands::{hint_and_files, say_missing};
 use crate::outlet::Outlet;
 use crate::say::{say, say_firsts, say_strays, say_taken_summary, say_word_error};
-use crate::summing::sum_up;
+use crate::summing::{say_stray_records, sum_up};
 use crate::written::{is_read, taken_summary};
 use phone_commands::{
     ByLines, Customers, Encoded, FirstLines, Job, LineTaker, Loaded, Reader, Report, Shorts, Tally,
@@ -61,8 +61,8 @@ use std::fs::{self, Files};
 ///
 /// Status 0: all was written. 1: an input, the output, the summary or memory failed, or a record of
 /// a table has another count of fields than the header; what is in front is written; or all was,
-/// and a line isn't UTF-8, where the call isn't lenient and reads no table. 2: the words are no
-/// call, a file isn't there, a file to be written is read as well, a table lacks a header or a
+/// and a line, or a record of a table, isn't UTF-8, where the call isn't lenient. 2: the words are
+/// no call, a file isn't there, a file to be written is read as well, a table lacks a header or a
 /// column, or the input begins with the mark of UTF-16 and no encoding is named; then nothing of it
 /// is written. 3: a database or a table of prefixes was refused; then nothing is written.
 pub fn program<R: Files + AllocGlobal, S: Inlet, W: Outlet, E: ByteSink>(
@@ -719,12 +719,16 @@ fn run_table<R: Files + AllocGlobal, S: Inlet, W: Outlet, E: ByteSink>(
         (W.faults output.old) (W.unflushed output.old))
         (seen (S.to_come input.new) (S.faults input.new) (W.taken output.new)
         (W.faults output.new) (W.unflushed output.new))
-        last end × ((result ≡ status_of reading.entry.call.now.lenient no_strays end) ⊎
-        ((status_of reading.entry.call.now.lenient no_strays end ≡ 0) × (result ≡ 1) ×
-        (is_some reading.entry.call.now.table.summary ≡ true))) }
+        last end ×
+        ((result ≡ status_of reading.entry.call.now.lenient (strays_of last.counts) end) ⊎
+        ((status_of reading.entry.call.now.lenient (strays_of last.counts) end ≡ 0) ×
+        (result ≡ 1) × (is_some reading.entry.call.now.table.summary ≡ true))) }
 {
     match run(rt, reading, job, input, output, errors) {
         0 => sum_up(rt, reading.call.table.summary, job, errors),
-        status => status,
+        status => {
+            say_stray_records(rt.alloc(), job, errors);
+            status
+        }
     }
 }

@@ -11,6 +11,7 @@ use phone_commands::is_standard;
 use phone_words::{Call, Further};
 use std::fs::{self, Files};
 use std::os::unix::fs::MetadataExt;
+use std::path::Path;
 
 /// The name under which the system has standard input.
 const STANDARD_INPUT: &str = "/dev/stdin";
@@ -26,6 +27,25 @@ fn place_of<R: Files>(rt: &R, name: &str) -> Option<(u64, u64)> {
     }
 }
 
+/// Where a file of a name is going to lie that isn't there yet: the device of its folder, the
+/// folder's number there, and its name in that. None where something has the name, where there is
+/// no such folder, and where the system doesn't tell.
+fn place_to_be<'n, R: Files>(rt: &R, name: &'n str) -> Option<(u64, u64, &'n str)> {
+    if fs::symlink_metadata(rt, name).is_ok() {
+        return None;
+    }
+    let path = Path::new(name);
+    let file = path.file_name()?;
+    let folder = match path.parent()?.as_str() {
+        "" => ".",
+        folder => folder,
+    };
+    match fs::metadata(rt, folder) {
+        Ok(metadata) if metadata.ino() > 0 => Some((metadata.dev(), metadata.ino(), file)),
+        _ => None,
+    }
+}
+
 /// The file that is to be written.
 #[derive(Clone, Copy)]
 struct Written<'n> {
@@ -33,10 +53,33 @@ struct Written<'n> {
     name: &'n str,
     /// Where it lies, if it is there already.
     place: Option<(u64, u64)>,
+    /// Where it is going to lie, if it isn't.
+    to_be: Option<(u64, u64, &'n str)>,
+}
+
+/// The file that is to be written under a name.
+fn written_under<'n, R: Files>(rt: &R, name: &'n str) -> Written<'n>
+    ensures { result.name ≡ name.entry }
+{
+    Written {
+        name,
+        place: place_of(rt, name),
+        to_be: place_to_be(rt, name),
+    }
+}
+
+/// Whether two files that aren't there yet are going to lie in one place.
+fn is_one_place(one: Option<(u64, u64, &str)>, other: Option<(u64, u64, &str)>) -> bool {
+    match (one, other) {
+        (Some((dev, ino, name)), Some((other_dev, other_ino, other_name))) => {
+            dev == other_dev && ino == other_ino && name == other_name
+        }
+        _ => false,
+    }
 }
 
 /// Whether a name is that of the file that is to be written, or is another name of it, as `./f` and
-/// a link are of `f`.
+/// a link are of `f`, whether or not the file is there yet.
 fn is_written<R: Files>(rt: &R, written: Written<'_>, name: &str) -> bool
     ensures { result ≡ false → bytes_eq written.entry.name.now name.now ≡ false }
 {
@@ -45,7 +88,7 @@ fn is_written<R: Files>(rt: &R, written: Written<'_>, name: &str) -> bool
     }
     match written.place {
         Some(_) => place_of(rt, name) == written.place,
-        None => false,
+        None => is_one_place(place_to_be(rt, name), written.to_be),
     }
 }
 
@@ -97,10 +140,7 @@ pub(crate) fn is_read<R: Files>(rt: &R, reading: Reading<'_, '_>, name: &str) ->
     ensures { result ≡ false → list_any (bytes_eq name.now)
         (names_read reading.entry.call.now reading.entry.path reading.entry.files.now) ≡ false }
 {
-    let written = Written {
-        name,
-        place: place_of(rt, name),
-    };
+    let written = written_under(rt, name);
     let call = reading.call;
     let tables = [
         Some(reading.path),
@@ -118,10 +158,7 @@ fn is_taken<R: Files>(rt: &R, call: &Call<'_>, files: &[&str], name: &str) -> bo
     ensures { result ≡ false →
         list_any (bytes_eq name.now) (names_taken call.now files.now) ≡ false }
 {
-    let written = Written {
-        name,
-        place: place_of(rt, name),
-    };
+    let written = written_under(rt, name);
     let tables = [
         call.database,
         call.short_database,

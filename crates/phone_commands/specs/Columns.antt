@@ -3,12 +3,15 @@ use Rattle.std.specs.Prelude.{ℕ, Bool, false, true, List, [], ◌∷◌, ◌++
 use Rattle.std.specs.Prelude.{Some, is_some}
 use Rattle.phone_commands.specs.declared.columns.LoadedColumn.{LoadedColumn}
 use Rattle.phone_commands.specs.declared.columns.Wanted.{Wanted}
-use Rattle.phone_maps.specs.declared.maps.Owner.TheVariants.{First, Today}
+use Rattle.phone_maps.specs.declared.maps.Owner.TheVariants as owner
 use Rattle.phone_table.specs.declared.extra.Extra.{Extra}
 use Rattle.phone_table.specs.declared.extra.Told.{Told}
 use Rattle.phone_table.specs.declared.extra.Told.TheVariants.{Area, CallingCode, Carrier}
 use Rattle.phone_table.specs.declared.extra.Told.TheVariants.{Doubts, Extension, NationalNumber}
-use Rattle.phone_table.specs.declared.extra.Told.TheVariants.{Prefix, TimeZones}
+use Rattle.phone_table.specs.declared.extra.Told.TheVariants.{Prefix, Split, TimeZones}
+use Rattle.phone_table.specs.declared.split.Shown.TheVariants.{E164, Kind, Region}
+use Rattle.phone_table.specs.declared.split.Which.{Which}
+use Rattle.phone_table.specs.declared.split.Which.TheVariants.{First, Second}
 use Rattle.phone_words.specs.Rows.{Lent}
 use Rattle.phone_words.specs.declared.table.Further.{Further}
 
@@ -31,8 +34,8 @@ abbrev pub tables_for : Further → List Column
 tables_for f =
     column_if f.name.now Prefix f.prefixes ++
     (column_if (codes "time_zone") TimeZones f.time_zones ++
-    (column_if (codes "carrier") (Carrier Today) f.carriers ++
-    (column_if (codes "first_carrier") (Carrier First) f.first_carriers ++
+    (column_if (codes "carrier") (Carrier owner.Today) f.carriers ++
+    (column_if (codes "first_carrier") (Carrier owner.First) f.first_carriers ++
     column_if (codes "area") Area f.areas)))
 
 -- those of parts of the number, and what is suspicious
@@ -43,9 +46,22 @@ parts_for f =
     (part_if (codes "national_number") NationalNumber f.national_number ++
     part_if (codes "suspicion") Doubts f.suspicion))
 
+-- those of one of the two numbers in a field that has two: its E.164 text, type and region, under
+-- these names
+abbrev pub number_for : Which → (e164 kind region : List ℕ) → Bool → List Column
+number_for which e164 kind region is_asked =
+    part_if e164 (Split which E164) is_asked ++
+    (part_if kind (Split which Kind) is_asked ++ part_if region (Split which Region) is_asked)
+
+-- those of the first one, and then those of the second
+abbrev pub split_for : Further → List Column
+split_for f =
+    number_for First (codes "e164_1") (codes "type_1") (codes "region_1") f.split ++
+    number_for Second (codes "e164_2") (codes "type_2") (codes "region_2") f.split
+
 -- the columns that options ask for, in their order
 abbrev pub columns_for : Further → List Column
-columns_for f = tables_for f ++ parts_for f
+columns_for f = tables_for f ++ (parts_for f ++ split_for f)
 
 -- those that are wanted
 abbrev pub wanted : List Wanted → List Column

@@ -1,5 +1,5 @@
--- The lines of a call's inputs that aren't UTF-8.
-use Rattle.std.specs.Prelude.{◌≡◌, ℕ, ◌+◌, List, Option, Some, None, if◌then◌else◌}
+-- The lines of a call's inputs that aren't UTF-8, and the records of a table that aren't.
+use Rattle.std.specs.Prelude.{◌≡◌, ℕ, ◌+◌, List, Option, Some, None, if◌then◌else◌, option_map}
 use Rattle.std.specs.Option.{option_or}
 use Rattle.std.specs.Str.{is_utf8}
 use Rattle.phone_commands.specs.ObjectLines.{after_one}
@@ -8,6 +8,7 @@ use Rattle.phone_commands.specs.declared.strays.Strays.{Strays}
 use Rattle.phone_commands.specs.declared.strays.Tally.{Tally}
 use Rattle.phone_csv.specs.Feeds.{counted}
 use Rattle.phone_lines.specs.Taken.{Begins, Gives}
+use Rattle.phone_table.specs.declared.counts.Counts.{Counts}
 
 -- none
 abbrev pub no_strays : Strays
@@ -39,9 +40,18 @@ after_line t line = record t {
   strays = if is_utf8 line then t.strays else with_stray t.strays (next_place t);
 }
 
--- inputs and lines are counted, whatever they are answered
+-- an input is counted, whatever stands in front of its lines
 abbrev pub CountsBegin : Begins Tally
 CountsBegin t head after = after ≡ after_begin t
 
+-- a line is counted, whatever it is answered
 abbrev pub CountsLine : Gives Tally
 CountsLine t line answer after = after ≡ after_line t line
+
+-- where a record of a table stands, which is one input: its number is in the place of a line's
+abbrev pub record_place : ℕ → LinePlace
+record_place number = record { input = 1; line = number }
+
+-- the records of a table that aren't UTF-8
+abbrev pub strays_of : Counts → Strays
+strays_of c = record { count = c.strays; first = option_map record_place c.first_stray }

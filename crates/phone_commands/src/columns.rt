@@ -2,7 +2,8 @@
 ghost use Rattle.std.specs.Prelude.{◌≡◌, ◌++◌, ◌∷◌, [], IfOk, Ok, OnOk, is_some};
 ghost use Rattle.phone_csv.specs.Runs.{OfRead};
 ghost use Rattle.phone_commands.specs.Columns.{asked, column_if, columns_for, loaded, part_if};
-ghost use Rattle.phone_commands.specs.Columns.{parts_for, tables_for, wanted};
+ghost use Rattle.phone_commands.specs.Columns.{number_for, parts_for, split_for, tables_for};
+ghost use Rattle.phone_commands.specs.Columns.{wanted};
 ghost use Rattle.phone_commands.specs.Pairs.{IsWithTab};
 ghost use Rattle.phone_lines.specs.LineReports.{IsReport};
 
@@ -11,7 +12,7 @@ use phone_countries::CountriesError;
 use phone_device::{ByteSource, MemorySink, Std};
 use phone_lines::{RunError, take_lines};
 use phone_prefixes::{Prefixes, PrefixesError};
-use phone_table::{Extra, Owner, Told};
+use phone_table::{Extra, Owner, Shown, Told, Which};
 use phone_words::Further;
 use std::alloc::{AllocError, AllocGlobal, Global};
 use std::fs::{self, Files};
@@ -100,6 +101,42 @@ fn push_parts<'w>(columns: &mut Vec<Wanted<'w>>, further: Further<'w>) -> Result
     push_part(columns, "suspicion", Told::Doubts, further.suspicion)
 }
 
+/// Puts those of one of the two numbers in a field that has two at the end of others, where they
+/// are asked for: its E.164 text, type and region, under these names. Refused only for memory.
+fn push_number<'w>(
+    columns: &mut Vec<Wanted<'w>>,
+    which: Which,
+    e164: &'w str,
+    kind: &'w str,
+    region: &'w str,
+    is_asked: bool,
+) -> Result<(), AllocError>
+    ensures { OnOk result (wanted columns.new.items ≡ wanted columns.old.items ++
+        number_for which e164.entry.now kind.entry.now region.entry.now is_asked) }
+{
+    push_part(columns, e164, Told::Split(which, Shown::E164), is_asked)?;
+    push_part(columns, kind, Told::Split(which, Shown::Kind), is_asked)?;
+    push_part(columns, region, Told::Split(which, Shown::Region), is_asked)
+}
+
+/// Puts those of the first number at the end of others, and then those of the second: `e164_1`,
+/// `type_1`, `region_1`, `e164_2`, `type_2`, `region_2`. Refused only for memory.
+fn push_split<'w>(columns: &mut Vec<Wanted<'w>>, further: Further<'w>) -> Result<(), AllocError>
+    ensures { OnOk result (wanted columns.new.items ≡
+        wanted columns.old.items ++ split_for further.entry) }
+{
+    let (split, first) = (further.split, Which::First);
+    push_number(columns, first, "e164_1", "type_1", "region_1", split)?;
+    push_number(
+        columns,
+        Which::Second,
+        "e164_2",
+        "type_2",
+        "region_2",
+        split,
+    )
+}
+
 /// The columns that are asked for. Refused only for memory.
 fn columns_wanted<'w>(alloc: Global, further: Further<'w>) -> Result<Vec<Wanted<'w>>, AllocError>
     ensures { IfOk result (λ v. wanted v.items ≡ columns_for further.entry) }
@@ -107,6 +144,7 @@ fn columns_wanted<'w>(alloc: Global, further: Further<'w>) -> Result<Vec<Wanted<
     let mut columns = Vec::new(alloc);
     push_tables(&mut columns, further)?;
     push_parts(&mut columns, further)?;
+    push_split(&mut columns, further)?;
     Ok(columns)
 }
 

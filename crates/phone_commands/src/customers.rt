@@ -68,7 +68,7 @@ impl<'d, 'w> Customers<'d, 'w> {
 
 impl<'d, 'w> Job for Customers<'d, 'w> {
     ghost use Rattle.std.specs.Prelude.{◌≡◌};
-    ghost use Rattle.phone_commands.specs.Strays.{no_strays};
+    ghost use Rattle.phone_commands.specs.Strays.{strays_of};
     ghost use Rattle.phone_commands.specs.TableJobs.{AnswersTable};
 
     // The answer to a table, whose totals and texts that name no region are kept anew.
@@ -76,11 +76,11 @@ impl<'d, 'w> Job for Customers<'d, 'w> {
         c.engine.hint c.asked before after c'.totals result ×
         (c' ≡ record c { totals = c'.totals; unknown = c'.unknown }) };
 
-    // Of a table no line is counted.
-    ghost met = { λ _. no_strays };
+    // The records of the last table that aren't UTF-8.
+    ghost met = { λ c. strays_of c.totals.counts };
 
     fn strays(&self) -> Strays {
-        Strays::none()
+        Strays::of(self.totals.counts)
     }
 
     fn answer<S: ByteSource, W: ByteSink>(

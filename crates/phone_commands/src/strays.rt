@@ -1,18 +1,20 @@
-//! Lines that aren't UTF-8, counted while they are answered.
+//! Lines that aren't UTF-8, counted while they are answered; and records of a table that aren't.
 ghost use Rattle.std.specs.Prelude.{◌≡◌, OnOk};
 ghost use Rattle.phone_commands.specs.Strays.{after_begin, after_line, no_strays, no_tally};
-ghost use Rattle.phone_commands.specs.Strays.{next_place, with_stray};
+ghost use Rattle.phone_commands.specs.Strays.{next_place, strays_of, with_stray};
 
-/// Where a line stands.
+use phone_table::Counts;
+
+/// Where a line stands, or a record of a table.
 #[derive(Clone, Copy, PartialEq, Eq, Debug)]
 pub struct LinePlace {
     /// Which input it is of: how many were begun, that one counted.
     pub input: u64,
-    /// Its number in that input.
+    /// Its number in that input; of a record the header is counted as 1.
     pub line: u64,
 }
 
-/// The lines that aren't UTF-8.
+/// The lines that aren't UTF-8, or the records.
 #[derive(Clone, Copy, PartialEq, Eq, Debug)]
 pub struct Strays {
     /// How many there are: 2^64 - 1 at most.
@@ -30,6 +32,18 @@ impl Strays {
             count: 0,
             first: None,
         }
+    }
+
+    /// The records of a table that aren't UTF-8.
+    pub(crate) fn of(counts: Counts) -> Strays
+        ensures { result ≡ strays_of counts }
+    {
+        let first = match counts.first_stray {
+            Some(line) => Some(LinePlace { input: 1, line }),
+            None => None,
+        };
+        let count = counts.strays;
+        Strays { count, first }
     }
 
     /// These, and one more.

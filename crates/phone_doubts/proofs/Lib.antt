@@ -1,6 +1,7 @@
 pub mod Answered
 pub mod Keys
 pub mod Parting
+pub mod PairLaws
 pub mod Places
 pub mod Reasons
 pub mod Signed

@@ -1,8 +1,8 @@
 -- Two numbers that a separator parts, looked for place by place.
-use Rattle.std.proofs.Common.{◌≡◌, inl, inr, ℕ, ◌+◌, ◌-◌, ◌<◌, Bor, true, false, List, [], ◌∷◌, ◌++◌, chars, drop, length, take, Option, Some, None, is_some, Result, Ok, Err, IfOk, MatchOption, ap, sym, subst, ◌∙◌, true≢false, arith, append-nil, length-append, IsUtf8}
+use Rattle.std.proofs.Common.{◌≡◌, inl, inr, ℕ, ◌+◌, ◌-◌, Bor, true, false, List, [], ◌∷◌, ◌++◌, chars, drop, length, take, Option, Some, None, is_some, Result, Ok, Err, IfOk, MatchOption, ap, sym, subst, ◌∙◌, true≢false, arith, append-nil, length-append, IsUtf8}
 use Rattle.std.proofs.Math.Nat.{eq-or-lt_of_le}
 use Rattle.std.proofs.Math.Seq.{drop-append_seam, take-append_seam}
-use Rattle.std.proofs.lemmas.Bool.{cond-false, cond-true}
+use Rattle.std.proofs.lemmas.Bool.{cases_lt, cond-false, cond-true}
 use Rattle.std.proofs.lemmas.List.{append_cancel_left}
 use Rattle.phone_records.specs.declared.loader.Metadata.{Metadata}
 use Rattle.phone_values.specs.declared.country.Id.{Id}
@@ -11,7 +11,7 @@ use Rattle.std.specs.Str.Pattern.{FindsTextPrefix, StripsPrefix}
 use Rattle.phone_library_text.proofs.Words.{word_found, word_lacks}
 use Rattle.phone_parts.proofs.Prefixes.{is_front-append, is_front-no}
 use Rattle.phone_parts.specs.Texts.{is_front}
-use Rattle.phone_doubts.specs.Valid.{ArePartedNumbers, AreTwoNumbers, IsNumber, before_end, behind_one_of, separators}
+use Rattle.phone_doubts.specs.Valid.{AreFirstTwo, ArePartedNumbers, IsNoPair, IsNumber, NoneBefore, before_end, behind_one_of, separators}
 
 -- a word at the front of a text, by what follows it
 pub stripped : (word text : List ℕ) → IsUtf8 word → IsUtf8 text → (o : Option (Bor (List ℕ))) →
@@ -74,16 +74,19 @@ module _ (rules : Rules) (db : List Metadata) (hint : Option Id) where
   found_so first rest a b e parted (Err x) h = h
 
   -- what is found is found in the text
-  pub found_in : (t first rest : List ℕ) → t ≡ first ++ rest → (found : Option (Bor (List ℕ) × Bor (List ℕ))) → is_some found ≡ true →
-      Found (before_end t rest) rest found →
-      MatchOption found ((a b : List ℕ) → ¬ (AreTwoNumbers rules db hint t a b)) (λ p. AreTwoNumbers rules db hint t (chars p.0.now) (chars p.1.now))
-  found_in t first rest e None is h = absurd (true≢false (sym is))
-  found_in t first rest e (Some p) is h =
+  pub found_in : (t first rest : List ℕ) → t ≡ first ++ rest → NoneBefore rules db hint t (length first) → (found : Option (Bor (List ℕ) × Bor (List ℕ))) →
+      is_some found ≡ true → Found (before_end t rest) rest found →
+      MatchOption found (IsNoPair rules db hint t) (λ p. AreFirstTwo rules db hint t (chars p.0.now) (chars p.1.now))
+  found_in t first rest e none None is h = absurd (true≢false (sym is))
+  found_in t first rest e none (Some p) is h =
       let same : chars p.0.now ≡ first = h.0 ∙ before_end-is t first rest e in
       record {
-        rest = rest;
-        whole = e ∙ ap (λ f. f ++ rest) (sym same);
-        numbers = subst (λ f. ArePartedNumbers rules db hint f rest (chars p.1.now)) (sym h.0) h.1;
+        numbers = record {
+          rest = rest;
+          whole = e ∙ ap (λ f. f ++ rest) (sym same);
+          numbers = subst (λ f. ArePartedNumbers rules db hint f rest (chars p.1.now)) (sym h.0) h.1;
+        };
+        none_before = subst (λ (n : ℕ). NoneBefore rules db hint t n) (ap length (sym same)) none;
       }
 
   -- and where nothing is found, there is nothing
@@ -92,10 +95,6 @@ module _ (rules : Rules) (db : List Metadata) (hint : Option Id) where
   none_found t first rest e None is h = subst (λ f. (second : List ℕ) → ¬ (ArePartedNumbers rules db hint f rest second)) (before_end-is t first rest e) h
   none_found t first rest e (Some p) is h = absurd (true≢false is)
 
-  -- no two numbers are parted before a place
-  abbrev pub NoneBefore : List ℕ → ℕ → Type 0
-  NoneBefore t place = (first rest second : List ℕ) → t ≡ first ++ rest → length first < place → ¬ (ArePartedNumbers rules db hint first rest second)
-
   same_front : (t first rest passed tail : List ℕ) → t ≡ first ++ rest → t ≡ passed ++ tail → length first ≡ length passed → (first ≡ passed) × (rest ≡ tail)
   same_front t first rest passed tail e f same =
       let whole : first ++ rest ≡ passed ++ tail = sym e ∙ f in
@@ -103,8 +102,8 @@ module _ (rules : Rules) (db : List Metadata) (hint : Option Id) where
       (front, append_cancel_left passed rest tail (ap (λ l. l ++ rest) (sym front) ∙ whole))
 
   -- nor at it, and so none before the next place
-  pub none_further : (t passed : List ℕ) (c : ℕ) (next : List ℕ) → t ≡ passed ++ c ∷ next → NoneBefore t (length passed) →
-      ((second : List ℕ) → ¬ (ArePartedNumbers rules db hint passed (c ∷ next) second)) → NoneBefore t (length (passed ++ c ∷ []))
+  pub none_further : (t passed : List ℕ) (c : ℕ) (next : List ℕ) → t ≡ passed ++ c ∷ next → NoneBefore rules db hint t (length passed) →
+      ((second : List ℕ) → ¬ (ArePartedNumbers rules db hint passed (c ∷ next) second)) → NoneBefore rules db hint t (length (passed ++ c ∷ []))
   none_further t passed c next whole none here first rest second e before =
       let size : length (passed ++ c ∷ []) ≡ length passed + 1 = length-append passed (c ∷ []) in
       elim (eq-or-lt_of_le (omega (arith, size, before))) [
@@ -115,11 +114,29 @@ module _ (rules : Rules) (db : List Metadata) (hint : Option Id) where
       ]
 
   -- at the end of the text no separator stands, and so there are none
-  pub none_at_all : (t passed : List ℕ) → t ≡ passed ++ [] → NoneBefore t (length passed) → (first second : List ℕ) → ¬ (AreTwoNumbers rules db hint t first second)
+  pub none_at_all : (t passed : List ℕ) → t ≡ passed ++ [] → NoneBefore rules db hint t (length passed) → IsNoPair rules db hint t
   none_at_all t passed whole none first second p =
       let size : length first + length p.rest ≡ length passed = sym (length-append first p.rest) ∙ ap length (sym p.whole ∙ whole ∙ append-nil passed) in
       elim (eq-or-lt_of_le (omega (arith, size))) [
         | inr less ↦ none first p.rest second p.whole less p.numbers
         | inl same ↦ let both = same_front t first p.rest passed [] p.whole whole same in
             no_separator first p.rest (ap (behind_one_of separators) both.1) second p.numbers
+      ]
+
+  -- a separator parts a text in one way
+  behind_same : (first rest a other tail b : List ℕ) → first ≡ other → rest ≡ tail → ArePartedNumbers rules db hint first rest a →
+      ArePartedNumbers rules db hint other tail b → a ≡ b
+  behind_same first rest a other tail b e f p q =
+      let both : Some a ≡ Some b = sym p.parted ∙ ap (behind_one_of separators) f ∙ q.parted in cc
+
+  -- the first two numbers of a text are two texts
+  pub two_same : (t a b c d : List ℕ) → AreFirstTwo rules db hint t a b → AreFirstTwo rules db hint t c d → (a ≡ c) × (b ≡ d)
+  two_same t a b c d p q =
+      elim (cases_lt (length a) (length c)) [
+        | inl less ↦ absurd (q.none_before a p.numbers.rest b p.numbers.whole less p.numbers.numbers)
+        | inr most ↦ elim (cases_lt (length c) (length a)) [
+          | inl less ↦ absurd (p.none_before c q.numbers.rest d q.numbers.whole less q.numbers.numbers)
+          | inr more ↦ let fronts = same_front t a p.numbers.rest c q.numbers.rest p.numbers.whole q.numbers.whole (omega (arith, most, more)) in
+              (fronts.0, behind_same a p.numbers.rest b c q.numbers.rest d fronts.0 fronts.1 p.numbers.numbers q.numbers.numbers)
+        ]
       ]

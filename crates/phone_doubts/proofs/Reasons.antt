@@ -15,7 +15,7 @@ use Rattle.phone_doubts.specs.Doubts.{AreDoubts, IsDoubt, IsElsewhere, IsNotVali
 use Rattle.phone_doubts.specs.Fronts.{has_zero_in_brackets, LacksPlus, LacksZero}
 use Rattle.phone_doubts.specs.Lettered.{HasLetters}
 use Rattle.phone_doubts.specs.Spreadsheets.{is_date, is_float}
-use Rattle.phone_doubts.specs.Valid.{AreTwoNumbers}
+use Rattle.phone_doubts.specs.Valid.{AreFirstTwo, AreTwoNumbers, IsNoPair}
 use Rattle.phone_doubts.specs.Words.{holds}
 use Rattle.phone_doubts.specs.declared.doubt.Doubts.{Doubts as Found}
 use Rattle.phone_doubts.specs.declared.doubt.Doubt.TheVariants as doubt
@@ -84,10 +84,10 @@ module _ (rules : Rules) (db : List Metadata) (hint : Option Id) (t : List ℕ) 
 
   -- two texts, told by whether they are there
   pub two_so : (number : Option Reading) (found : Option (Bor (List ℕ) × Bor (List ℕ))) →
-      MatchOption found ((a b : List ℕ) → ¬ (AreTwoNumbers rules db hint (chars t) a b)) (λ p. AreTwoNumbers rules db hint (chars t) (chars p.0.now) (chars p.1.now)) →
+      MatchOption found (IsNoPair rules db hint (chars t)) (λ p. AreFirstTwo rules db hint (chars t) (chars p.0.now) (chars p.1.now)) →
       (b : Bool) → b ≡ is_some found → IsTrue b ↔ IsDoubt rules db hint t number doubt.TwoNumbers
   two_so number None h b e = subst (λ (x : Bool). IsTrue x ↔ IsDoubt rules db hint t number doubt.TwoNumbers) (sym e) (not_two number h)
-  two_so number (Some p) h b e = subst (λ (x : Bool). IsTrue x ↔ IsDoubt rules db hint t number doubt.TwoNumbers) (sym e) (two number (chars p.0.now) (chars p.1.now) h)
+  two_so number (Some p) h b e = subst (λ (x : Bool). IsTrue x ↔ IsDoubt rules db hint t number doubt.TwoNumbers) (sym e) (two number (chars p.0.now) (chars p.1.now) h.numbers)
 
   pub zero_lost : (number : Option Reading) (region : Id) → hint ≡ Some region → IsNotValid rules db number →
       LacksZero rules db region t ↔ IsDoubt rules db hint t number doubt.ZeroLost

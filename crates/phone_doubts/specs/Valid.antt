@@ -1,5 +1,5 @@
 -- Texts that are read as valid numbers, and two of them in one text.
-use Rattle.std.specs.Prelude.{◌≡◌, ℕ, ◌-◌, true, if◌then◌else◌, List, [], ◌∷◌, ◌++◌, chars}
+use Rattle.std.specs.Prelude.{◌≡◌, ◌<◌, ℕ, ◌-◌, true, if◌then◌else◌, List, [], ◌∷◌, ◌++◌, chars}
 use Rattle.std.specs.Prelude.{codes, drop, length, map, take, Ok, Option, None, Some}
 use Rattle.std.specs.Borrow.{Bor}
 use Rattle.phone_engine.specs.Facts.{is_valid_by}
@@ -53,3 +53,27 @@ pub record AreTwoNumbers (rules : Rules) (db : List Metadata) (hint : Option Id)
   pub rest : List ℕ
   pub whole : t ≡ first ++ rest
   pub numbers : ArePartedNumbers rules db hint first rest second
+
+-- no such numbers are parted before a place of a text
+abbrev pub NoneBefore : Rules → List Metadata → Option Id → (t : List ℕ) → (place : ℕ) → Type 0
+NoneBefore rules db hint t place = (first rest second : List ℕ) → t ≡ first ++ rest →
+    length first < place → ¬ (ArePartedNumbers rules db hint first rest second)
+
+-- the two numbers that a text is: of several ways to part it the first one counts
+pub record AreFirstTwo (rules : Rules) (db : List Metadata) (hint : Option Id)
+    (t first second : List ℕ) : Type 0 where
+  pub numbers : AreTwoNumbers rules db hint t first second
+  pub none_before : NoneBefore rules db hint t (length first)
+
+-- these are the numbers that a text is, which has two
+pub record AreReadAsTwo (rules : Rules) (db : List Metadata) (hint : Option Id) (t : List ℕ)
+    (n k : Reading) : Type 0 where
+  pub first : List ℕ
+  pub second : List ℕ
+  pub texts : AreFirstTwo rules db hint t first second
+  pub is_first : IsValidText rules db hint first n
+  pub is_second : IsValidText rules db hint second k
+
+-- a text isn't two numbers
+abbrev pub IsNoPair : Rules → List Metadata → Option Id → List ℕ → Type 0
+IsNoPair rules db hint t = (first second : List ℕ) → ¬ (AreTwoNumbers rules db hint t first second)

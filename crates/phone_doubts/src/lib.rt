@@ -16,4 +16,4 @@ mod valid;
 
 pub use answer::{doubts, find_doubts};
 pub use doubt::{Doubt, Doubts};
-pub use pairs::parts;
+pub use pairs::{parts, two_numbers};

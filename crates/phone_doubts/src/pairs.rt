@@ -1,14 +1,16 @@
 //! Two numbers in one field.
 ghost use Rattle.std.specs.Prelude.{◌≡◌, ◌↔◌, ◌++◌, ℕ, chars, IfOk, IsTrue, List, MatchOption};
-ghost use Rattle.std.specs.Prelude.{None, Some};
+ghost use Rattle.std.specs.Prelude.{None, Ok, Some};
 ghost use Rattle.phone_chars.specs.Cuts.{IsEnd};
-ghost use Rattle.phone_doubts.specs.Valid.{ArePartedNumbers, AreTwoNumbers, IsNumber};
+ghost use Rattle.phone_doubts.specs.Valid.{AreFirstTwo, ArePartedNumbers, AreReadAsTwo};
+ghost use Rattle.phone_doubts.specs.Valid.{IsNoPair, IsNumber, IsValidText};
 ghost use Rattle.phone_doubts.specs.Valid.{before_end, behind_one_of, characters};
 ghost use Rattle.phone_doubts.specs.Valid.{separators};
 
-use crate::valid::is_number;
+use crate::valid::{is_number, valid_number};
 use phone_chars::cuts::{before, split_first};
 use phone_engine::Engine;
+use phonenumber::PhoneNumber;
 use std::alloc::AllocError;
 
 /// The two numbers in a field that has two: what stands before and behind a separator that parts
@@ -22,9 +24,9 @@ pub fn parts<'a>(
     field: &'a str,
 ) -> Result<Option<(&'a str, &'a str)>, AllocError>
     ensures { IfOk result (λ found. MatchOption found
-        ((first second : List ℕ) → ¬ (AreTwoNumbers engine.entry.rules engine.entry.database.now
-        engine.entry.hint (chars field.now) first second))
-        (λ p. AreTwoNumbers engine.entry.rules engine.entry.database.now engine.entry.hint
+        (IsNoPair engine.entry.rules engine.entry.database.now engine.entry.hint
+        (chars field.now))
+        (λ p. AreFirstTwo engine.entry.rules engine.entry.database.now engine.entry.hint
         (chars field.now) (chars p.0.now) (chars p.1.now))) }
 {
     let mut rest = field;
@@ -36,6 +38,65 @@ pub fn parts<'a>(
         rest = next;
     }
     Ok(None)
+}
+
+/// The numbers that the two parts of a field are read as, by the engine, under its hint; none where
+/// `parts` finds none. Refused only for memory.
+pub fn two_numbers(
+    engine: Engine<'_>,
+    field: &str,
+) -> Result<Option<(PhoneNumber, PhoneNumber)>, AllocError>
+    ensures { IfOk result (λ found. MatchOption found
+        (IsNoPair engine.entry.rules engine.entry.database.now engine.entry.hint
+        (chars field.now))
+        (λ p. AreReadAsTwo engine.entry.rules engine.entry.database.now engine.entry.hint
+        (chars field.now) p.0 p.1)) }
+{
+    let found = parts(engine, field)?;
+    numbers_of(engine, found)
+}
+
+/// The numbers that two texts are read as, where there are two. Refused only for memory.
+fn numbers_of(
+    engine: Engine<'_>,
+    texts: Option<(&str, &str)>,
+) -> Result<Option<(PhoneNumber, PhoneNumber)>, AllocError>
+    ensures { MatchOption texts.entry (result ≡ Ok None)
+        (λ t. IfOk result (λ found. MatchOption found
+        (¬ (IsNumber engine.entry.rules engine.entry.database.now engine.entry.hint
+        (chars t.0.now) × IsNumber engine.entry.rules engine.entry.database.now
+        engine.entry.hint (chars t.1.now)))
+        (λ p. IsValidText engine.entry.rules engine.entry.database.now engine.entry.hint
+        (chars t.0.now) p.0 × IsValidText engine.entry.rules engine.entry.database.now
+        engine.entry.hint (chars t.1.now) p.1))) }
+{
+    match texts {
+        Some((first, second)) => both_numbers(engine, first, second),
+        None => Ok(None),
+    }
+}
+
+/// The numbers that two texts are read as. Refused only for memory.
+fn both_numbers(
+    engine: Engine<'_>,
+    first: &str,
+    second: &str,
+) -> Result<Option<(PhoneNumber, PhoneNumber)>, AllocError>
+    ensures { IfOk result (λ found. MatchOption found
+        (¬ (IsNumber engine.entry.rules engine.entry.database.now engine.entry.hint
+        (chars first.now) × IsNumber engine.entry.rules engine.entry.database.now
+        engine.entry.hint (chars second.now)))
+        (λ p. IsValidText engine.entry.rules engine.entry.database.now engine.entry.hint
+        (chars first.now) p.0 × IsValidText engine.entry.rules engine.entry.database.now
+        engine.entry.hint (chars second.now) p.1)) }
+{
+    let Some(first) = valid_number(engine, first)? else {
+        return Ok(None);
+    };
+    match valid_number(engine, second)? {
+        Some(second) => Ok(Some((first, second))),
+        None => Ok(None),
+    }
 }
 
 /// The two numbers that a separator parts which stands at the front of an end of a text.

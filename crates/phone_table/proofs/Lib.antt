@@ -21,4 +21,5 @@ pub mod OneAnswers
 pub mod SomeAnswers
 pub mod OneRows
 pub mod SomeRows
+pub mod SplitLemmas
 pub mod ReadAgain

@@ -3,6 +3,7 @@ use Rattle.std.proofs.Common.{◌≡◌, inl, inr, ℕ, List, ◌∷◌, ◌++�
 use Rattle.std.proofs.Common.{Bool, true, false, length}
 use Rattle.std.proofs.Common.{Option, None, Some, refl, sym, ap, ap₂, subst, ◌∙◌, arith}
 use Rattle.std.proofs.Math.Seq.{take-append_seam}
+use Rattle.std.proofs.lemmas.Option.{same_Some}
 use Rattle.phone_values.specs.declared.country.Id.{Id}
 use Rattle.phone_values.specs.declared.reading.Reading.{Reading}
 use Rattle.phone_values.specs.declared.rules.Rules.{Rules}
@@ -12,7 +13,14 @@ use Rattle.phone_engine.specs.Facts.{kind_by, region_by}
 use Rattle.phone_prefixes.specs.Tables.{Entry}
 use Rattle.phone_records.specs.declared.loader.Metadata.{Metadata}
 use Rattle.phone_table.specs.Answers.{IsAnswer, IsAnswerUnder, IsOwnAnswer, IsUnder, countries_of, short_of}
-use Rattle.phone_table.specs.Extras.{AreTold, EachHasOneText, HaveOneText, IsFound, IsPartOrFound, IsTold, entries_in, looked_up, part_of, IsSuspicion, IsToldBy, IsToldIf, tells_doubts}
+use Rattle.phone_table.specs.Extras.{AreTold, EachHasOneText, HaveOneText, IsFound, IsPartOrFound, IsTold, entries_in, looked_up, part_of, IsSuspicion, IsToldBeside, IsToldBy, IsToldIf, split_in, tells_doubts}
+use Rattle.phone_table.specs.Splits.{IsSplit, IsSplitText, one_of, shown_of}
+use Rattle.phone_table.specs.Splits.IsSplitText.{no_pair, pair}
+use Rattle.phone_table.specs.declared.split.Shown.{Shown}
+use Rattle.phone_table.specs.declared.split.Which.{Which}
+use Rattle.phone_table.specs.declared.split.Which.TheVariants.{First, Second}
+use Rattle.phone_doubts.proofs.PairLaws.{pair_same}
+use Rattle.phone_plans.specs.CodeLookUps.{first_of, territories}
 use Rattle.phone_doubts.proofs.Answered.{answer_same as words_same}
 use Rattle.phone_table.specs.Extras.AreTold.{none as told_none, next as told_next}
 use Rattle.phone_table.specs.Regions.{RecordNames, RegionText, TextOf, field_in, hint_under, named_by}
@@ -91,10 +99,42 @@ module _ (rules : Rules) (db : List Metadata) where
   by_same under field column one (Some n) a b h g = part_same (entries_in column.table) one (part_of column.told n)
       (looked_up db column.told (kind_by rules db n) (region_by rules db n) n) a b h g
 
+  -- of one of two numbers one thing is told
+  one_same : (which : Which) (n k x y : Reading) → n ≡ x → k ≡ y → one_of which n k ≡ one_of which x y
+  one_same First n k x y e f = e
+  one_same Second n k x y e f = f
+
+  shown_same : (shown : Shown) (n k : Reading) (m l : Metadata) → n ≡ k → first_of (territories n.code.value db) ≡ Some m →
+      first_of (territories k.code.value db) ≡ Some l → shown_of rules db m n shown ≡ shown_of rules db l k shown
+  shown_same shown n k m l e f g = ap₂ (λ (x : Metadata) (y : Reading). shown_of rules db x y shown)
+      (same_Some m l (sym f ∙ ap (λ (r : Reading). first_of (territories r.code.value db)) e ∙ g)) e
+
+  split_text_same : (hint : Option Id) (t : List ℕ) (which : Which) (shown : Shown) (a b : List ℕ) →
+      IsSplitText rules db hint t which shown a → IsSplitText rules db hint t which shown b → a ≡ b
+  split_text_same hint t which shown _ _ (no_pair none) (no_pair other) = refl
+  split_text_same hint t which shown _ _ (no_pair none) (pair n k text are is) = absurd (none are.first are.second are.texts.numbers)
+  split_text_same hint t which shown _ _ (pair n k text are is) (no_pair none) = absurd (none are.first are.second are.texts.numbers)
+  split_text_same hint t which shown _ _ (pair n k a are is) (pair x y b those it) =
+      let same = pair_same rules db hint t n k x y are those in
+      is.2 ∙ shown_same shown (one_of which n k) (one_of which x y) is.0 it.0 (one_same which n k x y same.0 same.1) is.1 it.1 ∙ sym it.2
+
+  split_same : (under : Option (Option Id)) (field : List ℕ) (which : Which) (shown : Shown) (a b : List ℕ) →
+      IsSplit rules db under field which shown a → IsSplit rules db under field which shown b → a ≡ b
+  split_same None field which shown a b h g = h ∙ sym g
+  split_same (Some hint) field which shown a b (inl (u, h)) (inl (v, g)) = split_text_same hint _ which shown a b h g
+  split_same (Some hint) field which shown a b (inl (u, h)) (inr (v, g)) = absurd (v u)
+  split_same (Some hint) field which shown a b (inr (u, h)) (inl (v, g)) = absurd (u v)
+  split_same (Some hint) field which shown a b (inr (u, h)) (inr (v, g)) = h ∙ sym g
+
+  beside_same : (under : Option (Option Id)) (field : List ℕ) (column : Extra) → HaveOneText (entries_in column.table) → (number : Option Reading)
+      (split : Option (Which × Shown)) (a b : List ℕ) → IsToldBeside split rules db under field number column a → IsToldBeside split rules db under field number column b → a ≡ b
+  beside_same under field column one number (Some (which, shown)) a b h g = split_same under field which shown a b h g
+  beside_same under field column one number None a b h g = by_same under field column one number a b h g
+
   if_same : (under : Option (Option Id)) (field : List ℕ) (column : Extra) → HaveOneText (entries_in column.table) → (number : Option Reading)
       (doubts : Bool) (a b : List ℕ) → IsToldIf doubts rules db under field number column a → IsToldIf doubts rules db under field number column b → a ≡ b
   if_same under field column one number true a b h g = suspicion_same under field number a b h g
-  if_same under field column one number false a b h g = by_same under field column one number a b h g
+  if_same under field column one number false a b h g = beside_same under field column one number (split_in column.told) a b h g
 
   -- a column tells one text
   told_same : (under : Option (Option Id)) (field : List ℕ) (column : Extra) → HaveOneText (entries_in column.table) → (number : Option Reading)

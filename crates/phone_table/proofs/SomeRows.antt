@@ -2,7 +2,7 @@
 use Rattle.std.proofs.Common.{◌≡◌, ◌⊎◌, ⊎_elim, inl, inr, ℕ, Bool, true, false, List, []}
 use Rattle.std.proofs.Common.{◌∷◌, ◌++◌}
 use Rattle.std.proofs.Common.{take, drop, length, Option, None, Some, refl, sym, ap, subst, ◌∙◌}
-use Rattle.std.proofs.Common.{arith}
+use Rattle.std.proofs.Common.{arith, is_some, true≢false}
 use Rattle.std.proofs.Math.Seq.{take-append_seam}
 use Rattle.std.proofs.lemmas.Bool.{cases_eq, cases_lt, or_parts}
 use Rattle.std.proofs.lemmas.List.{take-append-drop}
@@ -22,7 +22,9 @@ use Rattle.phone_prefixes.specs.Tables.AreEntries.{none as no_entries, next as n
 use Rattle.phone_records.specs.declared.loader.Metadata.{Metadata}
 use Rattle.phone_table.specs.Answers.{IsAnswer, IsAnswerUnder, IsFieldAnswer, IsOfOtherWidth}
 use Rattle.phone_table.specs.Answers.{IsOwnAnswer, IsUnder, countries_of, short_of}
-use Rattle.phone_table.specs.Extras.{AreTold, HaveOneText, IsFound, IsPartOrFound, IsTold, entries_in, looked_up, part_of, IsToldBy, IsToldIf, ask_doubts, tells_doubts}
+use Rattle.phone_table.specs.Extras.{AreTold, HaveOneText, IsFound, IsPartOrFound, IsTold, entries_in, looked_up, part_of, IsToldBeside, IsToldBy, IsToldIf, ask_fields, split_in, tells_doubts, tells_of_field}
+use Rattle.phone_table.specs.declared.split.Shown.{Shown}
+use Rattle.phone_table.specs.declared.split.Which.{Which}
 use Rattle.phone_table.specs.Extras.AreTold.{none as told_none, next as told_next}
 use Rattle.phone_table.specs.declared.extra.Extra.{Extra}
 use Rattle.phone_table.specs.declared.header.Columns.{Columns}
@@ -171,22 +173,29 @@ module _ (rules : Rules) (db : List Metadata) where
   by_some under field column (Some n) = part_some (part_of column.told n) (entries_in column.table)
       (looked_up db column.told (kind_by rules db n) (region_by rules db n) n)
 
-  told_some : (under : Option (Option Id)) (field : List ℕ) (column : Extra) → tells_doubts column.told ≡ false → (number : Option Reading) →
+  beside_some : (under : Option (Option Id)) (field : List ℕ) (column : Extra) (number : Option Reading) (split : Option (Which × Shown)) → is_some split ≡ false →
+      (text : List ℕ) × IsToldBeside split rules db under field number column text
+  beside_some under field column number None is = by_some under field column number
+  beside_some under field column number (Some one) is = absurd (true≢false is)
+
+  told_some : (under : Option (Option Id)) (field : List ℕ) (column : Extra) → tells_of_field column.told ≡ false → (number : Option Reading) →
       (text : List ℕ) × IsTold rules db under field number column text
   told_some under field column others number =
-      subst (λ b. (text : List ℕ) × IsToldIf b rules db under field number column text) (sym others) (by_some under field column number)
+      let parts = or_parts (tells_doubts column.told) (is_some (split_in column.told)) others in
+      subst (λ b. (text : List ℕ) × IsToldIf b rules db under field number column text) (sym parts.0)
+      (beside_some under field column number (split_in column.told) parts.1)
 
   -- what columns tell of a field
-  all_told : (under : Option (Option Id)) (field : List ℕ) (number : Option Reading) (columns : List Extra) → ask_doubts columns ≡ false →
+  all_told : (under : Option (Option Id)) (field : List ℕ) (number : Option Reading) (columns : List Extra) → ask_fields columns ≡ false →
       (told : Record) × AreTold rules db under field number columns told
   all_told under field number [] others = ([], told_none)
   all_told under field number (c ∷ cs) others =
-      let parts = or_parts (tells_doubts c.told) (ask_doubts cs) others in
+      let parts = or_parts (tells_of_field c.told) (ask_fields cs) others in
       let t = told_some under field c parts.0 number in
       let ts = all_told under field number cs parts.1 in
       (t.0 ∷ ts.0, told_next c cs t.0 ts.0 t.1 ts.1)
 
-  module _ (hint : Option Id) (columns : Columns) (asked : Asked) (others : ask_doubts asked.extra.now ≡ false) (fields : Record) where
+  module _ (hint : Option Id) (columns : Columns) (asked : Asked) (others : ask_fields asked.extra.now ≡ false) (fields : Record) where
     -- under each hint the record's field has an answer
     abbrev pub HasAnswers : Type 0
     HasAnswers = (own : Option Id) → (number : Option Reading) × (answer : Record) ×

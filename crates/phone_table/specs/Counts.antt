@@ -1,8 +1,10 @@
 -- How many rows a table has, and what their last four fields say: the kind of a number, its region,
--- its validity, and the words of a refusal.
-use Rattle.std.specs.Prelude.{ℕ, ◌+◌, ◌-◌, ◌&&◌, ◌||◌, not, Bool, true, if◌then◌else◌, List}
-use Rattle.std.specs.Prelude.{codes, length}
-use Rattle.std.specs.Str.{bytes_eq}
+-- its validity, and the words of a refusal; and how many aren't UTF-8.
+use Rattle.std.specs.Prelude.{ℕ, ◌+◌, ◌-◌, ◌&&◌, ◌||◌, not, Bool, true, false, if◌then◌else◌, List}
+use Rattle.std.specs.Prelude.{codes, length, Option, None, Some}
+use Rattle.std.specs.List.{list_any}
+use Rattle.std.specs.Option.{option_or}
+use Rattle.std.specs.Str.{bytes_eq, is_utf8}
 use Rattle.phone_csv.specs.Feeds.{counted}
 use Rattle.phone_csv.specs.Formats.{Record}
 use Rattle.phone_table.specs.Regions.{field_in}
@@ -29,9 +31,18 @@ is_invalid row = tells row 2 (codes "invalid")
 abbrev pub is_short : Record → Bool
 is_short row = tells row 4 (codes "Emergency") || tells row 4 (codes "ShortNumber")
 
+-- a row isn't UTF-8: one of its fields isn't
+abbrev pub is_stray : Record → Bool
+is_stray row = list_any (λ field. not (is_utf8 field)) row
+
 -- a count, and one more where this holds
 abbrev pub counted_if : Bool → ℕ → ℕ
 counted_if holds n = if holds then counted (n + 1) else n
+
+-- the number of the first row that isn't UTF-8 after one more row, the header counted as 1
+abbrev pub first_after : Counts → (is_stray : Bool) → Option ℕ
+first_after c false = c.first_stray
+first_after c true = option_or c.first_stray (Some (counted (c.records + 2)))
 
 -- the counts after one more row
 abbrev pub counts_after : Counts → Record → Counts
@@ -44,6 +55,8 @@ counts_after c row = record {
   invalid = counted_if (is_invalid row) c.invalid;
   short = counted_if (is_short row) c.short;
   repeated = c.repeated;
+  strays = counted_if (is_stray row) c.strays;
+  first_stray = first_after c (is_stray row);
 }
 
 -- the counts after one more row that isn't written
@@ -61,4 +74,6 @@ no_counts = record {
   invalid = 0;
   short = 0;
   repeated = 0;
+  strays = 0;
+  first_stray = None;
 }

@@ -1,6 +1,6 @@
 -- The columns that are asked for beside the answer's, and what they tell of a record.
 use Rattle.std.specs.Prelude.{◌≡◌, ◌⊎◌, ◌&&◌, ◌||◌, not, Bool, true, false, ℕ, List, [], ◌∷◌}
-use Rattle.std.specs.Prelude.{◌++◌, map, if◌then◌else◌, Option, None, Some, unwrap_or}
+use Rattle.std.specs.Prelude.{◌++◌, map, if◌then◌else◌, Option, None, Some, is_some, unwrap_or}
 use Rattle.std.specs.Borrow.{Bor}
 use Rattle.std.specs.List.{AllByRecursion, Contains, list_any}
 use Rattle.std.specs.Option.{option_map_or}
@@ -24,7 +24,10 @@ use Rattle.phone_table.specs.declared.extra.Extra.{Extra}
 use Rattle.phone_table.specs.declared.extra.Told.{Told}
 use Rattle.phone_table.specs.declared.extra.Told.TheVariants.{Area, CallingCode, Carrier}
 use Rattle.phone_table.specs.declared.extra.Told.TheVariants.{Doubts, Extension, NationalNumber}
-use Rattle.phone_table.specs.declared.extra.Told.TheVariants.{Prefix, TimeZones}
+use Rattle.phone_table.specs.declared.extra.Told.TheVariants.{Prefix, Split, TimeZones}
+use Rattle.phone_table.specs.Splits.{IsSplit}
+use Rattle.phone_table.specs.declared.split.Shown.{Shown}
+use Rattle.phone_table.specs.declared.split.Which.{Which}
 
 -- their names, in their order
 abbrev pub headings : List Extra → Record
@@ -107,13 +110,30 @@ abbrev pub tells_doubts : Told → Bool
 tells_doubts Doubts = true
 tells_doubts told = false
 
--- what a column tells of such a field: what is suspicious, or something of the number
+-- what a column tells of one of two numbers, where it tells of such, and of which
+abbrev pub split_in : Told → Option (Which × Shown)
+split_in (Split which shown) = Some (which, shown)
+split_in told = None
+
+-- a column tells something of such a field itself, whether or not a number was read
+abbrev pub tells_of_field : Told → Bool
+tells_of_field told = tells_doubts told || is_some (split_in told)
+
+-- what a column tells of such a field: one of two numbers in it, or something of the number
+abbrev pub IsToldBeside : Option (Which × Shown) → Rules → List Metadata →
+    (under : Option (Option Id)) → (field : List ℕ) → Option Reading → Extra → List ℕ → Type 0
+IsToldBeside (Some (which, shown)) rules db under field number column text =
+    IsSplit rules db under field which shown text
+IsToldBeside None rules db under field number column text =
+    IsToldBy rules db under field number (entries_in column.table) column.told text
+
+-- the same, or what is suspicious
 abbrev pub IsToldIf : Bool → Rules → List Metadata → (under : Option (Option Id)) →
     (field : List ℕ) → Option Reading → Extra → List ℕ → Type 0
 IsToldIf true rules db under field number column text =
     IsSuspicion rules db under field number text
 IsToldIf false rules db under field number column text =
-    IsToldBy rules db under field number (entries_in column.table) column.told text
+    IsToldBeside (split_in column.told) rules db under field number column text
 
 -- what a column tells of such a field
 abbrev pub IsTold : Rules → List Metadata → (under : Option (Option Id)) → (field : List ℕ) →
@@ -121,9 +141,9 @@ abbrev pub IsTold : Rules → List Metadata → (under : Option (Option Id)) →
 IsTold rules db under field number column text =
     IsToldIf (tells_doubts column.told) rules db under field number column text
 
--- some column tells what is suspicious
-abbrev pub ask_doubts : List Extra → Bool
-ask_doubts extra = list_any (λ (column : Extra). tells_doubts column.told) extra
+-- some column tells something of the field itself
+abbrev pub ask_fields : List Extra → Bool
+ask_fields extra = list_any (λ (column : Extra). tells_of_field column.told) extra
 
 -- what columns tell, in their order
 pub data AreTold (rules : Rules) (db : List Metadata) (under : Option (Option Id))

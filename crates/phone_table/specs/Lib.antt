@@ -13,6 +13,7 @@ pub mod Rows
 pub mod Runs
 pub mod Shorts
 pub mod Spelled
+pub mod Splits
 pub mod Summed
 pub mod Tables
 pub mod Taking

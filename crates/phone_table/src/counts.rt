@@ -1,8 +1,10 @@
-//! How many records of a table were answered, and how.
-ghost use Rattle.std.specs.Prelude.{◌≡◌, true, false};
+//! How many records of a table were answered, and how, and how many aren't UTF-8.
+ghost use Rattle.std.specs.Prelude.{◌≡◌, not, true, false};
+ghost use Rattle.std.specs.Str.{is_utf8};
 ghost use Rattle.csv.specs.Records.{fields_of};
 ghost use Rattle.phone_table.specs.Counts.{counted_if, counts_after, counts_without, has_refusal};
-ghost use Rattle.phone_table.specs.Counts.{is_invalid, is_junk, is_short, no_counts, tells};
+ghost use Rattle.phone_table.specs.Counts.{first_after, is_invalid, is_junk, is_short, is_stray};
+ghost use Rattle.phone_table.specs.Counts.{no_counts, tells};
 
 use crate::table::field_in;
 use csv::ByteRecord;
@@ -27,6 +29,10 @@ pub struct Counts {
     pub short: u64,
     /// Those that are left out, since an earlier one has their number and extension.
     pub repeated: u64,
+    /// Those that aren't UTF-8: one of their fields isn't.
+    pub strays: u64,
+    /// The number of the first of these, the header counted as 1.
+    pub first_stray: Option<u64>,
 }
 
 impl Counts {
@@ -43,14 +49,29 @@ impl Counts {
             invalid: 0,
             short: 0,
             repeated: 0,
+            strays: 0,
+            first_stray: None,
+        }
+    }
+
+    /// The number of the first row that isn't UTF-8 after one more row.
+    fn first_after(self, is_stray: bool) -> Option<u64>
+        ensures { result ≡ first_after self is_stray }
+    {
+        if is_stray {
+            let place = self.records.saturating_add(2);
+            Some(self.first_stray.unwrap_or(place))
+        } else {
+            self.first_stray
         }
     }
 
     /// The counts after one more row, by its last four fields: the kind, the region, the validity,
-    /// and the words of a refusal.
+    /// and the words of a refusal; and whether it is UTF-8.
     fn after(self, row: &ByteRecord) -> Counts
         ensures { result ≡ counts_after self (fields_of row.now) }
     {
+        let is_stray = is_stray(row);
         Counts {
             records: counted_if(true, self.records),
             unknown_region: counted_if(has_refusal(row, "unknown region"), self.unknown_region),
@@ -60,6 +81,8 @@ impl Counts {
             invalid: counted_if(is_invalid(row), self.invalid),
             short: counted_if(is_short(row), self.short),
             repeated: self.repeated,
+            strays: counted_if(is_stray, self.strays),
+            first_stray: self.first_after(is_stray),
         }
     }
 
@@ -74,6 +97,28 @@ impl Counts {
         let counts = self.after(row);
         *self = Counts { repeated, ..counts };
     }
+}
+
+/// Whether bytes are no UTF-8.
+fn is_no_text(bytes: &[u8]) -> bool
+    ensures { result ≡ not (is_utf8 bytes.now) }
+{
+    match std::str::from_utf8(bytes) {
+        Ok(_) => false,
+        Err(_) => true,
+    }
+}
+
+/// Whether a row isn't UTF-8: one of its fields isn't.
+fn is_stray(row: &ByteRecord) -> bool
+    ensures { result ≡ is_stray (fields_of row.now) }
+{
+    'fields: for place in 0..row.len() {
+        if is_no_text(field_in(row, place)) {
+            return true;
+        }
+    }
+    false
 }
 
 /// A count, and one more where this holds; 2^64 - 1 at most.

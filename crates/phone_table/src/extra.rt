@@ -11,12 +11,15 @@ ghost use Rattle.phone_maps.specs.Maps.{code_digits, digits_of, has_carrier, is_
 ghost use Rattle.phone_maps.specs.Maps.{is_geographical};
 ghost use Rattle.phone_values.specs.Numbers.{text_of as national_text};
 ghost use Rattle.phone_table.specs.Extras.{AreTold, IsFound, IsPartOrFound, IsSuspicion, IsTold};
+ghost use Rattle.phone_table.specs.Extras.{IsToldBeside, split_in};
+ghost use Rattle.phone_table.specs.Splits.{IsSplit};
 ghost use Rattle.phone_table.specs.Extras.{IsToldBy, entries_in, is_portable, is_unknown};
 ghost use Rattle.phone_table.specs.Extras.{looked_up, part_of, tells_doubts};
 ghost use Rattle.phone_table.specs.Spelled.{IsKnownIn, number_in};
 
 use crate::answer::{Answer, Known};
 use crate::finds::extension_of;
+use crate::split::{Shown, Which, split_of};
 use csv::ByteRecord;
 use itoa::Buffer;
 use phone_doubts::doubts;
@@ -54,6 +57,9 @@ pub enum Told {
     /// The words of what is suspicious about the field, as `phone_doubts::doubts` has them; also
     /// where no number was read.
     Doubts,
+    /// Of one of the two numbers in a field that has two, as `phone_doubts::two_numbers` has them,
+    /// its E.164 text, type or region; empty where the field hasn't two.
+    Split(Which, Shown),
 }
 
 /// A column that is asked for beside the answer's.
@@ -292,6 +298,16 @@ fn suspicion_of(engine: Engine<'_>, subject: Subject<'_>) -> Result<String, Allo
     }
 }
 
+/// Of which of two numbers a column tells, and what, where it tells of such.
+fn split_in(told: Told) -> Option<(Which, Shown)>
+    ensures { result ≡ split_in told }
+{
+    match told {
+        Told::Split(which, shown) => Some((which, shown)),
+        _ => None,
+    }
+}
+
 /// What a column tells of a field. Refused only for memory.
 fn told_by<'a>(
     engine: Engine<'_>,
@@ -306,8 +322,39 @@ fn told_by<'a>(
     if tells_doubts(column.told) {
         Ok(CowStr::Owned(suspicion_of(engine, subject)?))
     } else {
-        told_of_number(engine, column, subject)
+        told_beside(engine, column, subject)
     }
+}
+
+/// What a column tells of a field that doesn't tell what is suspicious. Refused only for memory.
+fn told_beside<'a>(
+    engine: Engine<'_>,
+    column: &Extra<'a>,
+    subject: Subject<'a>,
+) -> Result<CowStr<'a>, AllocError>
+    requires { IsKnownIn engine.rules engine.database.now subject.answer.now }
+    ensures { IfOk result (λ text. IsToldBeside (split_in column.now.told) engine.entry.rules
+        engine.entry.database.now subject.entry.under subject.entry.field.now
+        (number_in subject.entry.answer.now) column.now (cow_str_bytes text)) }
+{
+    match split_in(column.told) {
+        Some((which, shown)) => told_of_split(engine, which, shown, subject),
+        None => told_of_number(engine, column, subject),
+    }
+}
+
+/// What is told of one of the two numbers in a field that has two. Refused only for memory.
+fn told_of_split<'a>(
+    engine: Engine<'_>,
+    which: Which,
+    shown: Shown,
+    subject: Subject<'a>,
+) -> Result<CowStr<'a>, AllocError>
+    ensures { IfOk result (λ text. IsSplit engine.entry.rules engine.entry.database.now
+        subject.entry.under subject.entry.field.now which shown (cow_str_bytes text)) }
+{
+    let Subject { under, field, .. } = subject;
+    Ok(CowStr::Owned(split_of(engine, under, field, which, shown)?))
 }
 
 /// What a column tells of the number of a field: nothing where none was read. Refused only for

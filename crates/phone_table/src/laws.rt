@@ -19,7 +19,7 @@ ghost use Rattle.phone_table.specs.Answered.{Answered};
 ghost use Rattle.phone_table.specs.Answers.{IsAnswer, IsAnswerOf, IsFieldAnswer, IsOfOtherWidth};
 ghost use Rattle.phone_table.specs.Answers.{IsOwnAnswer, IsUnder};
 ghost use Rattle.phone_table.specs.Duplicates.{NamesFirst, duplicate_of, shared_of};
-ghost use Rattle.phone_table.specs.Extras.{EachHasOneText, HaveOneText, ask_doubts};
+ghost use Rattle.phone_table.specs.Extras.{EachHasOneText, HaveOneText, ask_fields};
 ghost use Rattle.phone_table.specs.Objects.{IsObject, IsObjectLine};
 ghost use Rattle.phone_table.specs.Ends.{by};
 ghost use Rattle.phone_table.specs.Rows.{AreKept, IsHeldBy};
@@ -89,10 +89,10 @@ pub fn some_answer(field: &[u8])
 
 /// By either rules each record has an answer, under each database and hint, but for one that has
 /// another count of fields than the table has columns, where such aren't marked. This is told of
-/// tables without a column of what is suspicious.
+/// tables without a column of what is suspicious, or of one of two numbers.
 pub fn some_row(columns: Columns, asked: Asked<'_>, fields: &ByteRecord)
     ensures { (rules : Rules) (db : List loader.Metadata) (hint : Option Id) →
-        ask_doubts asked.entry.extra.now ≡ false → ((answer : Record) ×
+        ask_fields asked.entry.extra.now ≡ false → ((answer : Record) ×
         IsAnswer rules db hint columns asked.entry (fields_of fields.now) answer) ⊎
         IsOfOtherWidth columns asked.entry (fields_of fields.now) }
 {

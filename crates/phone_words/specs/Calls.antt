@@ -198,6 +198,7 @@ pub record IsFurther (ps : List Said) (f : Further) : Type 0 where
   pub calling_code : f.calling_code ≡ has ps (codes "--calling-code")
   pub national_number : f.national_number ≡ has ps (codes "--national-number")
   pub suspicion : f.suspicion ≡ has ps (codes "--suspicion")
+  pub split : f.split ≡ has ps (codes "--split")
 
 -- the files by which further columns tell
 abbrev pub further_files : Further → List (Option Lent)

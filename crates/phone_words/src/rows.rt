@@ -44,7 +44,7 @@ macro_rules! rows {
 
 /// The options, each by its name, its name of one letter, what its value is, the word beside which
 /// it counts, what it needs, what it doesn't go with, and its help.
-pub(crate) const ROWS: [Cells; 39] = rows! {
+pub(crate) const ROWS: [Cells; 40] = rows! {
     "--json" "" "" "" [] ["--unique" "--typed" "--short"] "
       a JSON object a line: the line's number and text, and the fields that --csv gives; with
       --find an object for each number: line, column, text, those fields but the refusal, and
@@ -60,15 +60,13 @@ pub(crate) const ROWS: [Cells; 39] = rows! {
       gives a CSV file back, its records as they are and in their order, each with seven fields
       after its own: e164, international, national, type, region, validity, refusal. COLUMN is the
       name of the column of the numbers, in the file's first record. A record with more or fewer
-      fields than the first ends the run. How many records there were, and how many had an unknown
-      region, no number or one that isn't valid, is told on standard error"
+      fields than the first ends the run"
     "--with-input" "" "" "" [] ["--csv" "--json" "--find" "--unique" "--typed" "--short"] "
       ends each report line with a tab and the line as it came"
     "--unique" "" "" "" [] ["--typed" "--short"] "
       writes in place of the report the first line of each number: its E.164 text and, behind
       ;ext=, its extension, a tab, the line as it came. With --csv it leaves out each record whose
-      number and extension were in a record before it; records without a number stay. How many lines
-      or records were left out is told on standard error"
+      number and extension were in a record before it; records without a number stay"
     "--typed" "" "" "" [] ["--short"] "
       takes each line as the keys of a number that is typed, and writes what is shown after each
       key, parted by |. In a terminal, without FILE, it shows the number in place, key by key"
@@ -81,9 +79,8 @@ pub(crate) const ROWS: [Cells; 39] = rows! {
     "--region-column" "" "COLUMN" "" ["--csv"] [] "
       a record is read under the region that stands in this column, or under REGION where nothing
       does: by its id, its three letters of ISO, a name in one of many languages, or its calling
-      code, as DE, deu, Germany, Deutschland, +49; case, accents, punctuation and spaces don't
-      count. Where anything else does, its number is refused as of an unknown region; such texts are
-      told on standard error, each once, with the nearest names"
+      code, as DE, deu, Germany, Deutschland, +49. Where anything else does, its number is refused
+      as of an unknown region, and standard error tells the nearest names"
     "--fallback-region" "" "" "" ["--csv" "--region-column"] [] "
       where anything else does, it is read under REGION too"
     "--delimiter" "-d" "D" "" ["--csv"] [] "
@@ -94,23 +91,21 @@ pub(crate) const ROWS: [Cells; 39] = rows! {
       that one, how many later ones there are. The input is read whole before anything is written"
     "--summary" "" "FILE" "" ["--csv"] [] "
       FILE gets a JSON object once the table was answered whole: how often each type, region and
-      refusal was answered, and each word of --suspicion where that is there; records that --unique
-      leaves out count too"
+      refusal was answered, and each word of --suspicion where that is there"
     "--mark-bad-records" "" "" "" ["--csv"] [] "
       a record with more or fewer fields than the first is given back as it is, and refused"
     "--prefixes" "" "FILE" "" ["--csv" "--as"] [] "
-      a column before the seven, told by the longest prefix of a table that begins the digits of
-      the E.164 text, as each of the four below: the text in this file. Each of its lines is a
-      prefix of 1 to 15 digits, a tab and a text, or both as CSV; where another line or a prefix
-      twice is there, the table is refused before anything is written. A field is empty where there
-      is no number or no such prefix"
+      a column before the seven, told by the longest prefix of a table that begins the digits of the
+      E.164 text, as each of the four below: the text in this file. Its lines are a prefix of 1 to
+      15 digits, a tab and a text, or both as CSV. A field is empty where there is no number or no
+      such prefix"
     "--as" "" "NAME" "" ["--csv" "--prefixes"] [] "
       the name of that column"
     "--time-zone" "" "" "" ["--csv" "--time-zones"] [] "
       a column of the number's time zones"
     "--carrier" "" "" "" ["--csv" "--carriers"] [] "
-      one of the company that has the number today; empty in each region where numbers can be taken
-      to another company, since no table tells then who has it"
+      one of the company that has the number today; empty in regions where numbers can be taken to
+      another company"
     "--first-carrier" "" "" "" ["--csv" "--carriers"] [] "
       one of the company that the number was first given to, which is what most people mean"
     "--area" "" "" "" ["--csv" "--areas"] [] "
@@ -124,8 +119,10 @@ pub(crate) const ROWS: [Cells; 39] = rows! {
       one of its digits behind the calling code, leading zeros with them, national_number"
     "--suspicion" "" "" "" ["--csv"] [] "
       one of what is suspicious about the field, in words that change no answer, empty for most:
-      float, no-plus, zero-in-brackets, letters, two-numbers, date, zero-lost, other-region. How
-      many fields have each word is told on standard error"
+      float, no-plus, zero-in-brackets, letters, two-numbers, date, zero-lost, other-region"
+    "--split" "" "" "" ["--csv"] [] "
+      six columns: e164_1, type_1 and region_1 of the first of two numbers in a field, e164_2,
+      type_2 and region_2 of the second; empty where a field isn't two valid numbers"
     "--prefix" "" "NAME" "" ["--csv"] [] "
       NAME stands in front of the name of each added column, as in NAMEe164. A table that has such
       a name already is refused"
@@ -136,7 +133,7 @@ pub(crate) const ROWS: [Cells; 39] = rows! {
     "--carriers" "" "FILE" "" [] [] "
       that of carriers, so too"
     "--countries" "" "FILE" "" [] [] "
-      that of the names of regions, so too: lines of a folded name, a tab and an id"
+      that of the names of regions, so too"
     "--rules" "" "RULES" "" [] [] "
       library (the default): numbers are read and described as libphonenumber does; crate: as the
       Rust crate phonenumber does, but not with --typed and --short"
@@ -151,8 +148,8 @@ pub(crate) const ROWS: [Cells; 39] = rows! {
       the encoding of the inputs, in place of utf-8: utf-16 (its mark tells the order of its bytes),
       utf-16le, utf-16be, latin-1 or windows-1252. What is written is UTF-8"
     "--lenient" "" "" "" [] [] "
-      a line that isn't UTF-8 leaves the status 0, which is 1 without this option. How many there
-      are, and where the first one stands, is told on standard error. Of a table none are counted"
+      a line, or a record of a table, that isn't UTF-8 leaves the status 0, which is 1 without this
+      option. How many there are, and where the first one stands, is told on standard error"
     "--skipped" "" "N" "" [] [] "
       lines are counted as if N stood before them (of a table: after its header)"
     "--regions" "" "" "" [] [] "

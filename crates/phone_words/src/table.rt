@@ -58,6 +58,8 @@ pub struct Further<'w> {
     pub national_number: bool,
     /// Whether words of what is suspicious are.
     pub suspicion: bool,
+    /// Whether the two numbers of a field that has two are.
+    pub split: bool,
 }
 
 impl<'w> Further<'w> {
@@ -100,6 +102,7 @@ fn further_of<'w>(parts: &[Part<'w>]) -> Further<'w>
         calling_code: has(parts, "--calling-code"),
         national_number: has(parts, "--national-number"),
         suspicion: has(parts, "--suspicion"),
+        split: has(parts, "--split"),
     }
 }
 

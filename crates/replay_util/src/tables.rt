@@ -107,7 +107,7 @@ fn push_totals(
 
 /// Writes how many records there were, and how many with an unknown region, an empty field, a wrong
 /// count of fields, without a number, with one that isn't valid, with a short number, and left out,
-/// parted by spaces.
+/// parted by spaces; where some aren't UTF-8, then how many, and the number of the first one.
 fn push_counts(out: &mut String, counts: &Counts) -> Result<(), AllocError> {
     let Counts {
         records,
@@ -118,9 +118,15 @@ fn push_counts(out: &mut String, counts: &Counts) -> Result<(), AllocError> {
         invalid,
         short,
         repeated,
+        strays,
+        first_stray,
     } = counts;
     write!(
         out,
         "{records} {unknown_region} {empty} {wrong_count} {no_number} {invalid} {short} {repeated}"
-    )
+    )?;
+    match first_stray {
+        Some(number) => write!(out, " {strays} {number}"),
+        None => Ok(()),
+    }
 }

@@ -1,4 +1,4 @@
-use Rattle.std.proofs.Common.{[], ◌∷◌, ◌++◌, sym}
+use Rattle.std.proofs.Common.{[], ◌∷◌, sym}
 use Rattle.phone_cli.proofs.WriteLemmas.{broken_more, broken_then, writes_broken, writes_then}
 use Rattle.phone_cli.proofs.about.write_region_line.Goals as goal
 

@@ -1,4 +1,4 @@
-use Rattle.std.proofs.Common.{◌≡◌, false, true, not, ap, refl, subst}
+use Rattle.std.proofs.Common.{◌≡◌, true, not, ap, refl}
 use Rattle.std.proofs.lemmas.Bool.{true_from_ne_false}
 use Rattle.phone_commands.specs.EncodedJobs.ActsUnmarked.{answered, unread, utf_16}
 use Rattle.phone_commands.proofs.AskedLemmas.{asked}

@@ -1,4 +1,4 @@
-use Rattle.std.proofs.Common.{ap, refl, ◌∙◌}
+use Rattle.std.proofs.Common.{refl}
 use Rattle.phone_commands.specs.Inputs.IsAnswered.{file, unopened}
 use Rattle.phone_commands.proofs.inputs.on_file.Goals as goal
 

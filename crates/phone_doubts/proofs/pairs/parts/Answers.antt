@@ -7,7 +7,7 @@ pub returns-then-is_some : goal.returns-then-is_some
 returns-then-is_some c =
     let engine = c.args.engine in
     let i = c.loop-next.invariant.2 in
-    found_in engine.rules engine.database.now engine.hint (chars c.args.field.now) i.0 (chars c.loop-next.rest.now) i.1
+    found_in engine.rules engine.database.now engine.hint (chars c.args.field.now) i.0 (chars c.loop-next.rest.now) i.1 i.2
     c.in_ok-found.found (search rules) c.in_ok-found.ensures
 
 pub loop-next-preserved : goal.loop-next-preserved

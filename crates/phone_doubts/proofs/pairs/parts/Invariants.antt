@@ -1,7 +1,7 @@
 use Rattle.std.proofs.Common.{◌≡◌, List, ℕ, ◌++◌, chars, length}
 use denote.Text.{Utf8}
 use denote.Shadow.{shadow}
-use Rattle.phone_doubts.proofs.Parting.{NoneBefore}
+use Rattle.phone_doubts.specs.Valid.{NoneBefore}
 use Rattle.phone_doubts.proofs.pairs.parts.Given as goal
 
 abbrev pub invariant-loop-next : goal.invariant-loop-next

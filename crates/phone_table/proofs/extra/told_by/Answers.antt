@@ -10,4 +10,4 @@ returns-in_ok-suspicion_of c =
 pub returns-else-tells_doubts : goal.returns-else-tells_doubts
 returns-else-tells_doubts c =
     let is : tells_doubts c.args.column.now.told ≡ false = sym c.tells_doubts.ensures ∙ c.if-tells_doubts.false in
-    rw is c.told_of_number.ensures
+    rw is c.told_beside.ensures
