@@ -7,11 +7,15 @@
 #include <string.h>
 
 /* What is asked of a text. SQL_REFUSAL has words where any other has nothing, for a refusal, and
- * nothing where it is a number; a number without a region has nothing as its region. */
-typedef enum { SQL_E164, SQL_FORMAT, SQL_TYPE, SQL_REGION, SQL_IS_VALID, SQL_REFUSAL } sql_question;
+ * nothing where it is a number; a number without a region has nothing as its region. SQL_POSSIBILITY has
+ * a word also where a text is refused for its length or its calling code. */
+typedef enum {
+    SQL_E164, SQL_FORMAT, SQL_TYPE, SQL_REGION, SQL_IS_VALID, SQL_REFUSAL, SQL_CODE, SQL_NATIONAL, SQL_POSSIBILITY,
+    SQL_IS_VALID_FOR, SQL_AREA_LENGTH, SQL_MATCH
+} sql_question;
 
 /* A question. `mode` is absent where `at` is NULL; SQL_FORMAT has one, and SQL_REFUSAL has one where
- * it asks why SQL_FORMAT has nothing. */
+ * it asks why SQL_FORMAT has nothing. Of SQL_IS_VALID_FOR it is the id of a territory. */
 typedef struct {
     sql_question question;
     sql_text text, region, mode;
@@ -25,11 +29,11 @@ typedef struct {
 } sql_bytes;
 
 /* An answer. A text stands in `bytes` or is a constant. SQL_NO_MEMORY says nothing of the text. */
-typedef enum { SQL_NOTHING, SQL_TEXT, SQL_TRUTH, SQL_NO_MEMORY } sql_kind;
+typedef enum { SQL_NOTHING, SQL_TEXT, SQL_TRUTH, SQL_NUMBER, SQL_NO_MEMORY } sql_kind;
 typedef struct {
     sql_kind kind;
     sql_text text;
-    int truth;
+    int truth, number;
     sql_bytes bytes;
 } sql_answer;
 
@@ -72,6 +76,52 @@ static phone_status sql_print(phone_handle *world, const phone_number *number, c
     return status;
 }
 
+/* The digits of a national number, with its leading zeros, of which there may be 255. 0: there was no room. */
+static int sql_national(const phone_number *number, sql_bytes *out) {
+    char value[24];
+    size_t len = (size_t)snprintf(value, sizeof value, "%llu", (unsigned long long)number->value);
+    phone_status status = PHONE_TOO_SMALL;
+    out->len = number->zeros + len;
+    if (out->len > out->room && !sql_again(out, &status)) return 0;
+    memset(sql_at(out), '0', number->zeros);
+    memcpy(sql_at(out) + number->zeros, value, len);
+    return 1;
+}
+
+/* Answers what one of the further questions asks of a number. */
+static phone_status sql_further(phone_handle *world, const sql_call *call, const phone_number *number, sql_answer *answer) {
+    sql_bytes *out = &answer->bytes;
+    phone_number_facts facts = {0, 0, 0, 0};
+    uint32_t told = 0;
+    uint8_t truth = 0;
+    phone_status status = PHONE_OK;
+    switch (call->question) {
+    case SQL_NATIONAL:
+        if (!sql_national(number, out)) status = PHONE_MEMORY;
+        break;
+    case SQL_POSSIBILITY: /* of a value; of a text, sql_possibility */
+        status = phone_possibility(world, number, &told);
+        if (status == PHONE_OK)
+            status = phone_word(PHONE_POSSIBILITY_WORDS, told, sql_at(out), out->room, &out->len);
+        break;
+    case SQL_IS_VALID_FOR:
+        status = phone_is_valid_for(world, phone_text(call->mode.at, call->mode.len), call->mode.len, number, &truth);
+        answer->kind = SQL_TRUTH;
+        answer->truth = truth != 0;
+        break;
+    case SQL_AREA_LENGTH:
+        status = phone_about_number(world, number, &facts);
+        answer->kind = SQL_NUMBER;
+        answer->number = (int)facts.area_length;
+        break;
+    default:
+        answer->kind = SQL_NUMBER;
+        answer->number = number->code;
+        break;
+    }
+    return status;
+}
+
 /* Answers what is asked of a number, whose texts stand in these bytes. */
 static phone_status sql_describe(phone_handle *world, const sql_call *call, const phone_number *number,
                                  const uint8_t *texts, size_t texts_len, uint32_t mode,
@@ -107,6 +157,9 @@ static phone_status sql_describe(phone_handle *world, const sql_call *call, cons
         if (call->mode.at) status = sql_print(world, number, texts, texts_len, mode, answer);
         answer->kind = SQL_NOTHING;
         break;
+    default:
+        status = sql_further(world, call, number, answer);
+        break;
     }
     answer->text = (sql_text){(const char *)sql_at(out), out->len};
     return status;
@@ -119,8 +172,9 @@ static void sql_tell(phone_handle *world, const sql_call *call, phone_status sta
                      sql_answer *answer) {
     sql_bytes *out = &answer->bytes;
     uint32_t mode = PHONE_MODE_E164;
+    int has_mode = call->mode.at && call->question != SQL_IS_VALID_FOR;
     sql_begin(out);
-    if (status == PHONE_OK && call->mode.at && !sql_mode(call->mode, &mode)) status = PHONE_NO_MODE;
+    if (status == PHONE_OK && has_mode && !sql_mode(call->mode, &mode)) status = PHONE_NO_MODE;
     if (status == PHONE_OK) status = sql_describe(world, call, number, texts, texts_len, mode, answer);
     if (status == PHONE_MEMORY) answer->kind = SQL_NO_MEMORY;
     else if (status != PHONE_OK) {
@@ -131,11 +185,45 @@ static void sql_tell(phone_handle *world, const sql_call *call, phone_status sta
     }
 }
 
+/* Answers with the word of what the count of a text's digits says, also of one that is refused for it. */
+static void sql_possibility(phone_handle *world, const sql_call *call, sql_answer *answer) {
+    const uint8_t *text = phone_text(call->text.at, call->text.len);
+    const uint8_t *region = phone_text(call->region.at, call->region.len);
+    sql_bytes *out = &answer->bytes;
+    uint32_t told = 0;
+    phone_status status = phone_text_possibility(world, region, call->region.len, text, call->text.len, &told);
+    sql_begin(out);
+    if (status == PHONE_OK) status = phone_word(PHONE_POSSIBILITY_WORDS, told, sql_at(out), out->room, &out->len);
+    answer->kind = status == PHONE_OK ? SQL_TEXT : status == PHONE_MEMORY ? SQL_NO_MEMORY : SQL_NOTHING;
+    answer->text = (sql_text){(const char *)sql_at(out), out->len};
+}
+
+/* Answers with how like the numbers of two texts are, each perhaps without its calling code: the second
+ * stands as the region of the call. Nothing for bytes that aren't UTF-8. */
+static void sql_match(phone_handle *world, const sql_call *call, sql_answer *answer) {
+    static const char *const WORDS[] = {"NotANumber", "NoMatch", "ShortNsnMatch", "NsnMatch", "ExactMatch"};
+    const uint8_t *first = phone_text(call->text.at, call->text.len);
+    const uint8_t *second = phone_text(call->region.at, call->region.len);
+    uint32_t told = 0;
+    phone_status status = phone_match_texts(world, first, call->text.len, second, call->region.len, &told);
+    sql_begin(&answer->bytes);
+    answer->kind = status == PHONE_OK ? SQL_TEXT : status == PHONE_MEMORY ? SQL_NO_MEMORY : SQL_NOTHING;
+    answer->text = (sql_text){WORDS[told], strlen(WORDS[told])};
+}
+
 /* Answers a call under an open table. sql_end gives back what the answer holds. */
 static void sql_ask(phone_handle *world, const sql_call *call, sql_answer *answer) {
     phone_number number;
     sql_bytes texts;
     phone_status status;
+    if (call->question == SQL_POSSIBILITY) {
+        sql_possibility(world, call, answer);
+        return;
+    }
+    if (call->question == SQL_MATCH) {
+        sql_match(world, call, answer);
+        return;
+    }
     memset(&number, 0, sizeof number);
     sql_begin(&texts);
     status = sql_parse(world, call, &number, &texts);

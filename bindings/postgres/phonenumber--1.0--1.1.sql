@@ -105,6 +105,40 @@ CREATE FUNCTION phone_parts(number text, region text DEFAULT NULL, OUT e164 text
 COMMENT ON FUNCTION phone_parts(text, text) IS
     'the texts, kind, region and validity of a phone number, or why the text is none; NULL where there is no text';
 
+-- The further questions, of a text and of a value.
+CREATE FUNCTION phone_calling_code(number text, region text DEFAULT NULL) RETURNS integer
+    AS 'MODULE_PATHNAME', 'sql_phone_calling_code' LANGUAGE C IMMUTABLE CALLED ON NULL INPUT PARALLEL SAFE COST 50;
+COMMENT ON FUNCTION phone_calling_code(text, text) IS 'the calling code of the phone number that a text is';
+CREATE FUNCTION phone_national_number(number text, region text DEFAULT NULL) RETURNS text
+    AS 'MODULE_PATHNAME', 'sql_phone_national_number' LANGUAGE C IMMUTABLE CALLED ON NULL INPUT PARALLEL SAFE COST 50;
+COMMENT ON FUNCTION phone_national_number(text, text) IS
+    'the national digits of the phone number that a text is, with its leading zeros';
+CREATE FUNCTION phone_possibility(number text, region text DEFAULT NULL) RETURNS text
+    AS 'MODULE_PATHNAME', 'sql_phone_possibility' LANGUAGE C IMMUTABLE CALLED ON NULL INPUT PARALLEL SAFE COST 100;
+COMMENT ON FUNCTION phone_possibility(text, text) IS
+    'possible, possible-locally, too-short, too-long, wrong-length or unknown-code; NULL where a text is none of these';
+CREATE FUNCTION phone_is_valid_for(number text, region text, id text) RETURNS boolean
+    AS 'MODULE_PATHNAME', 'sql_phone_is_valid_for' LANGUAGE C IMMUTABLE CALLED ON NULL INPUT PARALLEL SAFE COST 100;
+COMMENT ON FUNCTION phone_is_valid_for(text, text, text) IS
+    'whether a text is a valid number of the region of this id, or with 001 of a code that serves none';
+CREATE FUNCTION phone_area_length(number text, region text DEFAULT NULL) RETURNS integer
+    AS 'MODULE_PATHNAME', 'sql_phone_area_length' LANGUAGE C IMMUTABLE CALLED ON NULL INPUT PARALLEL SAFE COST 100;
+COMMENT ON FUNCTION phone_area_length(text, text) IS
+    'how many digits of the national number that a text is are the code of its area; 0 where it has none';
+CREATE FUNCTION phone_match(first text, second text) RETURNS text
+    AS 'MODULE_PATHNAME', 'sql_phone_match' LANGUAGE C IMMUTABLE STRICT PARALLEL SAFE COST 100;
+COMMENT ON FUNCTION phone_match(text, text) IS
+    'how like two texts are: NotANumber, NoMatch, ShortNsnMatch, NsnMatch or ExactMatch';
+CREATE FUNCTION phone_possibility(number phone) RETURNS text
+    AS 'MODULE_PATHNAME', 'phone_row_possibility' LANGUAGE C IMMUTABLE STRICT PARALLEL SAFE COST 50;
+COMMENT ON FUNCTION phone_possibility(phone) IS 'what the count of its digits says of a phone number';
+CREATE FUNCTION phone_is_valid_for(number phone, id text) RETURNS boolean
+    AS 'MODULE_PATHNAME', 'phone_row_is_valid_for' LANGUAGE C IMMUTABLE STRICT PARALLEL SAFE COST 50;
+COMMENT ON FUNCTION phone_is_valid_for(phone, text) IS 'whether a phone number is a valid one of the region of this id';
+CREATE FUNCTION phone_area_length(number phone) RETURNS integer
+    AS 'MODULE_PATHNAME', 'phone_row_area_length' LANGUAGE C IMMUTABLE STRICT PARALLEL SAFE COST 50;
+COMMENT ON FUNCTION phone_area_length(phone) IS 'how many of its national digits are the code of its area';
+
 CREATE FUNCTION phone_table_version() RETURNS text
     AS 'MODULE_PATHNAME', 'sql_phone_table_version' LANGUAGE C STABLE PARALLEL SAFE;
 COMMENT ON FUNCTION phone_table_version() IS 'the version of the table of phone numbers, or its file';

@@ -91,6 +91,7 @@ static Datum datum_of(sql_answer *answer, bool *is_null) {
     *is_null = answer->kind == SQL_NOTHING;
     if (answer->kind == SQL_NO_MEMORY) no_memory();
     if (answer->kind == SQL_TRUTH) result = BoolGetDatum(answer->truth != 0);
+    if (answer->kind == SQL_NUMBER) result = Int32GetDatum(answer->number);
     if (answer->kind == SQL_TEXT)
         result = PointerGetDatum(cstring_to_text_with_len(answer->text.at, (int)answer->text.len));
     sql_end(answer);
@@ -129,6 +130,15 @@ FUNCTION(sql_phone_type, ask, SQL_TYPE)
 FUNCTION(sql_phone_region, ask, SQL_REGION)
 FUNCTION(sql_phone_is_valid, ask, SQL_IS_VALID)
 FUNCTION(sql_phone_refusal, ask, SQL_REFUSAL)
+FUNCTION(sql_phone_calling_code, ask, SQL_CODE)
+FUNCTION(sql_phone_national_number, ask, SQL_NATIONAL)
+FUNCTION(sql_phone_possibility, ask, SQL_POSSIBILITY)
+FUNCTION(sql_phone_is_valid_for, ask, SQL_IS_VALID_FOR)
+FUNCTION(sql_phone_area_length, ask, SQL_AREA_LENGTH)
+FUNCTION(sql_phone_match, ask, SQL_MATCH)
+FUNCTION(phone_row_possibility, ask_row, SQL_POSSIBILITY)
+FUNCTION(phone_row_is_valid_for, ask_row, SQL_IS_VALID_FOR)
+FUNCTION(phone_row_area_length, ask_row, SQL_AREA_LENGTH)
 FUNCTION(phone_row_e164, ask_row, SQL_E164)
 FUNCTION(phone_row_format, ask_row, SQL_FORMAT)
 FUNCTION(phone_row_type, ask_row, SQL_TYPE)

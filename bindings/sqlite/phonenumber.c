@@ -88,6 +88,7 @@ static void give(sqlite3_context *context, const sql_answer *answer) {
     switch (answer->kind) {
     case SQL_NOTHING: sqlite3_result_null(context); break;
     case SQL_TRUTH: sqlite3_result_int(context, answer->truth); break;
+    case SQL_NUMBER: sqlite3_result_int(context, answer->number); break;
     case SQL_NO_MEMORY: sqlite3_result_error_nomem(context); break;
     case SQL_TEXT:
         sqlite3_result_text64(context, answer->text.at, answer->text.len, SQLITE_TRANSIENT, SQLITE_UTF8);
@@ -118,6 +119,11 @@ static void ask(sqlite3_context *context, int count, sqlite3_value **values) {
     sql_ask(mine, &call, &answer);
     give(context, &answer);
     sql_end(&answer);
+}
+
+/* phone_match(first, second): a NULL text of either gives NULL. */
+static void match(sqlite3_context *context, int count, sqlite3_value **values) {
+    if (sqlite3_value_type(values[1]) != SQLITE_NULL) ask(context, count, values);
 }
 
 /* The version of the table in the library, or the file of the one that PHONE_TABLE names. */
@@ -248,6 +254,12 @@ static const sql_function FUNCTIONS[] = {
     {"phone_region", 2, OF_TEXT, ask, SQL_REGION},     {"phone_is_valid", 1, OF_TEXT, ask, SQL_IS_VALID},
     {"phone_is_valid", 2, OF_TEXT, ask, SQL_IS_VALID}, {"phone_refusal", 1, OF_TEXT, ask, SQL_REFUSAL},
     {"phone_refusal", 2, OF_TEXT, ask, SQL_REFUSAL},   {"phone_refusal", 3, OF_TEXT, ask, SQL_REFUSAL},
+    {"phone_calling_code", 1, OF_TEXT, ask, SQL_CODE}, {"phone_calling_code", 2, OF_TEXT, ask, SQL_CODE},
+    {"phone_national_number", 1, OF_TEXT, ask, SQL_NATIONAL}, {"phone_national_number", 2, OF_TEXT, ask, SQL_NATIONAL},
+    {"phone_possibility", 1, OF_TEXT, ask, SQL_POSSIBILITY}, {"phone_possibility", 2, OF_TEXT, ask, SQL_POSSIBILITY},
+    {"phone_is_valid_for", 3, OF_TEXT, ask, SQL_IS_VALID_FOR},
+    {"phone_area_length", 1, OF_TEXT, ask, SQL_AREA_LENGTH}, {"phone_area_length", 2, OF_TEXT, ask, SQL_AREA_LENGTH},
+    {"phone_match", 2, OF_TEXT, match, SQL_MATCH},
     {"phone_table_version", 0, SQLITE_UTF8 | SQLITE_INNOCUOUS, table_version, SQL_REFUSAL}};
 
 #ifdef __GNUC__
