@@ -232,6 +232,29 @@ static void sql_ask(phone_handle *world, const sql_call *call, sql_answer *answe
 }
 static void sql_end(sql_answer *answer) { sql_forget(answer->bytes.many); }
 
+/* Where the valid numbers of a call's text stand, in bytes: so many places, which sql_forget gives back. */
+static phone_status sql_places(phone_handle *world, const sql_call *call, phone_place **places, size_t *count) {
+    const uint8_t *text = phone_text(call->text.at, call->text.len);
+    const uint8_t *region = phone_text(call->region.at, call->region.len);
+    phone_status status = PHONE_TOO_SMALL;
+    *places = NULL;
+    for (*count = 8; status == PHONE_TOO_SMALL;) {
+        size_t room = *count, size = room * sizeof **places;
+        sql_forget(*places);
+        *places = sql_memory(size);
+        if (!*places) return PHONE_MEMORY;
+        status = phone_find(world, region, call->region.len, PHONE_IF_VALID, text, call->text.len, *places, room, count);
+    }
+    return status;
+}
+
+/* How many characters a text in UTF-8 has. */
+static size_t sql_characters(const char *text, size_t len) {
+    size_t count = 0;
+    for (size_t at = 0; at < len; at++) count += (text[at] & 0xC0) != 0x80;
+    return count;
+}
+
 /* The columns of phone_parts, in their order, but for the last, the refusal. */
 static const struct { const char *name; sql_question question; const char *mode; } SQL_PARTS[] = {
     {"e164", SQL_E164, NULL},

@@ -139,6 +139,13 @@ CREATE FUNCTION phone_area_length(number phone) RETURNS integer
     AS 'MODULE_PATHNAME', 'phone_row_area_length' LANGUAGE C IMMUTABLE STRICT PARALLEL SAFE COST 50;
 COMMENT ON FUNCTION phone_area_length(phone) IS 'how many of its national digits are the code of its area';
 
+-- The numbers that stand in a text, by their places in characters.
+CREATE FUNCTION phone_find(text text, region text DEFAULT NULL, OUT start integer, OUT length integer, OUT found text, OUT e164 text)
+    RETURNS SETOF record
+    AS 'MODULE_PATHNAME', 'sql_phone_find' LANGUAGE C IMMUTABLE CALLED ON NULL INPUT PARALLEL SAFE COST 1000 ROWS 2;
+COMMENT ON FUNCTION phone_find(text, text) IS
+    'the valid phone numbers in a text: where each begins, counted from 1, its length, its piece of the text, its E.164 text';
+
 CREATE FUNCTION phone_table_version() RETURNS text
     AS 'MODULE_PATHNAME', 'sql_phone_table_version' LANGUAGE C STABLE PARALLEL SAFE;
 COMMENT ON FUNCTION phone_table_version() IS 'the version of the table of phone numbers, or its file';

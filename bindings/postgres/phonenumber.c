@@ -194,6 +194,46 @@ Datum sql_phone_parts(PG_FUNCTION_ARGS) {
     PG_RETURN_DATUM(HeapTupleGetDatum(heap_form_tuple(BlessTupleDesc(shape), values, nulls)));
 }
 
+/* phone_find(text, region): a row for each valid number that stands in a text. */
+static void put_found(ReturnSetInfo *set, const sql_call *all, const phone_place *place) {
+    sql_call call = {SQL_E164, {all->text.at + place->start, place->end - place->start}, all->region, {0}};
+    bool nulls[4] = {false, false, false, false};
+    sql_answer answer;
+    Datum values[4];
+    values[0] = Int32GetDatum(1 + (int32)sql_characters(all->text.at, place->start));
+    values[1] = Int32GetDatum((int32)sql_characters(call.text.at, call.text.len));
+    values[2] = PointerGetDatum(cstring_to_text_with_len(call.text.at, (int)call.text.len));
+    sql_ask(the_world(), &call, &answer);
+    values[3] = datum_of(&answer, &nulls[3]);
+    tuplestore_putvalues(set->setResult, set->setDesc, values, nulls);
+}
+
+PG_FUNCTION_INFO_V1(sql_phone_find);
+Datum sql_phone_find(PG_FUNCTION_ARGS) {
+    ReturnSetInfo *set = (ReturnSetInfo *)fcinfo->resultinfo;
+    sql_call call = {SQL_E164, {0}, {0}, {0}};
+    phone_place *places = NULL;
+    size_t count = 0;
+    phone_status status;
+    TupleDesc shape;
+    MemoryContext mine;
+    if (!set || !IsA(set, ReturnSetInfo) || !(set->allowedModes & SFRM_Materialize) ||
+        get_call_result_type(fcinfo, NULL, &shape) != TYPEFUNC_COMPOSITE)
+        ereport(ERROR, (errcode(ERRCODE_FEATURE_NOT_SUPPORTED), errmsg("phone_find gives rows")));
+    mine = MemoryContextSwitchTo(set->econtext->ecxt_per_query_memory);
+    set->returnMode = SFRM_Materialize;
+    set->setDesc = CreateTupleDescCopy(shape);
+    set->setResult = tuplestore_begin_heap((set->allowedModes & SFRM_Materialize_Random) != 0, false, work_mem);
+    MemoryContextSwitchTo(mine);
+    if (PG_ARGISNULL(0)) return (Datum)0;
+    take_text(fcinfo, &call);
+    status = sql_places(the_world(), &call, &places, &count);
+    if (status == PHONE_MEMORY) no_memory();
+    for (size_t i = 0; status == PHONE_OK && i < count; i++) put_found(set, &call, &places[i]);
+    sql_forget(places);
+    return (Datum)0;
+}
+
 /* The version of the table in the library, or the file of the one that was chosen. */
 PG_FUNCTION_INFO_V1(sql_phone_table_version);
 Datum sql_phone_table_version(PG_FUNCTION_ARGS) {

@@ -163,14 +163,13 @@ static int parts_connect(sqlite3 *db, void *data, int count, const char *const *
 static int parts_disconnect(sqlite3_vtab *table) { return sqlite3_free(table), SQLITE_OK; }
 
 /* The text is given, and the region perhaps; both as equalities that are the table's own business. */
-static int parts_best(sqlite3_vtab *table, sqlite3_index_info *info) {
+static int given_best(sqlite3_index_info *info, int text_column) {
     int text = -1, region = -1;
-    (void)table;
     for (int i = 0; i < info->nConstraint; i++) {
         const struct sqlite3_index_constraint *it = &info->aConstraint[i];
-        if (it->op != SQLITE_INDEX_CONSTRAINT_EQ || it->iColumn < TEXT_COLUMN) continue;
+        if (it->op != SQLITE_INDEX_CONSTRAINT_EQ || it->iColumn < text_column) continue;
         if (!it->usable) return SQLITE_CONSTRAINT;
-        *(it->iColumn == TEXT_COLUMN ? &text : &region) = i;
+        *(it->iColumn == text_column ? &text : &region) = i;
     }
     if (text < 0) return SQLITE_CONSTRAINT;
     info->aConstraintUsage[text].argvIndex = 1;
@@ -183,6 +182,7 @@ static int parts_best(sqlite3_vtab *table, sqlite3_index_info *info) {
     info->estimatedRows = 1;
     return SQLITE_OK;
 }
+static int parts_best(sqlite3_vtab *table, sqlite3_index_info *info) { return (void)table, given_best(info, TEXT_COLUMN); }
 
 static int parts_open(sqlite3_vtab *table, sqlite3_vtab_cursor **cursor) {
     parts_cursor *mine = zeroed(sizeof *mine);
@@ -240,6 +240,118 @@ static const sqlite3_module PARTS = {
     .xClose = parts_close, .xFilter = parts_filter, .xNext = parts_next, .xEof = parts_eof, .xColumn = parts_column,
     .xRowid = parts_row};
 
+/* phone_find(text, region) as a table: a row for each valid number that stands in the text, by its place in
+ * characters, as substr counts them. The cursor has copies of text and region. */
+typedef struct {
+    sqlite3_vtab_cursor base;
+    sql_text text, region;
+    phone_place *places;
+    size_t at, count;
+} find_cursor;
+enum { START_COLUMN, LENGTH_COLUMN, FOUND_COLUMN, KEY_COLUMN, SOURCE_COLUMN };
+
+static int find_connect(sqlite3 *db, void *data, int count, const char *const *words, sqlite3_vtab **table,
+                        char **error) {
+    (void)data, (void)count, (void)words, (void)error;
+    int status = sqlite3_declare_vtab(db, "create table finds(start, length, found, e164, text hidden, region hidden)");
+    if (status != SQLITE_OK) return status;
+    if (!(*table = zeroed(sizeof **table))) return SQLITE_NOMEM;
+    return sqlite3_vtab_config(db, SQLITE_VTAB_INNOCUOUS);
+}
+static int find_best(sqlite3_vtab *table, sqlite3_index_info *info) { return (void)table, given_best(info, SOURCE_COLUMN); }
+
+static int find_open(sqlite3_vtab *table, sqlite3_vtab_cursor **cursor) {
+    find_cursor *mine = zeroed(sizeof *mine);
+    (void)table;
+    if (!mine) return SQLITE_NOMEM;
+    *cursor = &mine->base;
+    return SQLITE_OK;
+}
+
+/* Gives back what a cursor has; it has no row then. */
+static void find_forget(find_cursor *mine) {
+    sql_forget((char *)mine->text.at), sql_forget((char *)mine->region.at), sql_forget(mine->places);
+    mine->text = mine->region = (sql_text){NULL, 0};
+    mine->places = NULL;
+    mine->at = mine->count = 0;
+}
+
+static int find_close(sqlite3_vtab_cursor *cursor) {
+    find_forget((find_cursor *)cursor);
+    return sqlite3_free(cursor), SQLITE_OK;
+}
+
+/* A copy of a value's text; `at` is NULL where there was no memory for it. */
+static sql_text copy_of(sqlite3_value *value) {
+    sql_text it = text_of(value);
+    char *copy = it.at ? zeroed(it.len) : NULL;
+    if (copy) memcpy(copy, it.at, it.len);
+    return (sql_text){copy, it.len};
+}
+
+static int find_filter(sqlite3_vtab_cursor *cursor, int plan, const char *name, int count, sqlite3_value **values) {
+    find_cursor *mine = (find_cursor *)cursor;
+    sql_call call = {SQL_E164, {0}, {"", 0}, {0}};
+    char why[1024] = "";
+    phone_handle *world;
+    (void)plan, (void)name;
+    find_forget(mine);
+    if (sqlite3_value_type(values[0]) == SQLITE_NULL) return SQLITE_OK;
+    call.text = mine->text = copy_of(values[0]);
+    if (!mine->text.at) return SQLITE_NOMEM;
+    if (count > 1 && sqlite3_value_type(values[1]) != SQLITE_NULL) {
+        call.region = mine->region = copy_of(values[1]);
+        if (!mine->region.at) return SQLITE_NOMEM;
+    }
+    if (!(world = world_or_why(why, sizeof why))) {
+        if (!*why) return SQLITE_NOMEM;
+        cursor->pVtab->zErrMsg = sqlite3_mprintf("%s", why);
+        return SQLITE_ERROR;
+    }
+    return sql_places(world, &call, &mine->places, &mine->count) == PHONE_MEMORY ? SQLITE_NOMEM : SQLITE_OK;
+}
+
+static int find_next(sqlite3_vtab_cursor *cursor) { return ((find_cursor *)cursor)->at++, SQLITE_OK; }
+static int find_eof(sqlite3_vtab_cursor *cursor) {
+    const find_cursor *mine = (const find_cursor *)cursor;
+    return mine->at >= mine->count;
+}
+static int find_row(sqlite3_vtab_cursor *cursor, sqlite3_int64 *row) {
+    return *row = (sqlite3_int64)((find_cursor *)cursor)->at, SQLITE_OK;
+}
+
+static int find_column(sqlite3_vtab_cursor *cursor, sqlite3_context *context, int column) {
+    const find_cursor *mine = (const find_cursor *)cursor;
+    const phone_place *it = &mine->places[mine->at];
+    sql_call call = {SQL_E164, {mine->text.at + it->start, it->end - it->start}, mine->region, {0}};
+    sql_answer answer;
+    phone_handle *world;
+    if (!call.region.at) call.region = (sql_text){"", 0};
+    switch (column) {
+    case START_COLUMN:
+        sqlite3_result_int64(context, 1 + (sqlite3_int64)sql_characters(mine->text.at, it->start));
+        break;
+    case LENGTH_COLUMN:
+        sqlite3_result_int64(context, (sqlite3_int64)sql_characters(call.text.at, call.text.len));
+        break;
+    case FOUND_COLUMN:
+        sqlite3_result_text64(context, call.text.at, call.text.len, SQLITE_TRANSIENT, SQLITE_UTF8);
+        break;
+    case KEY_COLUMN:
+        if (!(world = world_of_thread(context))) break;
+        sql_ask(world, &call, &answer);
+        give(context, &answer);
+        sql_end(&answer);
+        break;
+    }
+    return SQLITE_OK;
+}
+
+static const sqlite3_module FIND = {
+    .xConnect = find_connect, .xDisconnect = parts_disconnect, .xBestIndex = find_best, .xOpen = find_open,
+    .xClose = find_close, .xFilter = find_filter, .xNext = find_next, .xEof = find_eof, .xColumn = find_column,
+    .xRowid = find_row};
+
 #define OF_TEXT (SQLITE_UTF8 | SQLITE_DETERMINISTIC | SQLITE_INNOCUOUS)
 typedef struct {
     const char *name;
@@ -274,6 +386,7 @@ int sqlite3_phonenumber_init(sqlite3 *db, char **error, const sqlite3_api_routin
                                             NULL, NULL);
     }
     if (status == SQLITE_OK) status = sqlite3_create_module_v2(db, "phone_parts", &PARTS, NULL, NULL);
+    if (status == SQLITE_OK) status = sqlite3_create_module_v2(db, "phone_find", &FIND, NULL, NULL);
     if (status != SQLITE_OK) {
         *error = sqlite3_mprintf("phonenumber: %s", sqlite3_errmsg(db));
         return status;

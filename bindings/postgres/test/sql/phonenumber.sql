@@ -35,6 +35,9 @@ SELECT p, phone_e164(p), phone_format(p, 'international'), phone_format(p, 'RFC3
 SELECT * FROM phone_parts('03-331 6005', 'NZ');
 SELECT * FROM phone_parts('call me', 'NZ');
 SELECT (phone_parts(NULL, 'NZ')).*;
+SELECT * FROM phone_find('Añ: 03-331 6005, +64 9 887 6986.', 'NZ');
+SELECT t, f.e164 FROM (VALUES ('+64 3 331 6005 today'), ('none'), (NULL)) AS those(t) LEFT JOIN phone_find(t) AS f ON true;
+SELECT count(*) FROM phone_find('03-331 6005', 'xx');
 
 -- Order, and what stands on it.
 CREATE TEMP TABLE held(id serial, p phone);
