@@ -1,4 +1,0 @@
-pub mod Begins
-pub mod Ones
-pub mod Searches
-pub mod Told

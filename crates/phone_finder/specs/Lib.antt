@@ -1,2 +1,0 @@
-pub mod Founds
-pub mod Numbers
