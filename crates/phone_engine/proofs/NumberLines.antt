@@ -28,13 +28,6 @@ parted o e i t r w =
     (append_assoc e (9 ∷ (i ++ 9 ∷ (t ++ 9 ∷ r))) (9 ∷ w)
     ∙ ap (λ z. e ++ 9 ∷ z) (append_assoc i (9 ∷ (t ++ 9 ∷ r)) (9 ∷ w) ∙ ap (λ z. i ++ 9 ∷ z) (append_assoc t (9 ∷ r) (9 ∷ w))))
 
--- four words, given by others
-pub words_by : (s k g v s' k' g' v' : List ℕ) → s ≡ s' → k ≡ k' → g ≡ g' → v ≡ v' →
-    tabbed (s ∷ k ∷ g ∷ v ∷ []) ≡ tabbed (s' ∷ k' ∷ g' ∷ v' ∷ [])
-words_by s k g v s' k' g' v' a b c d =
-    ap (λ x. tabbed (x ∷ k ∷ g ∷ v ∷ [])) a ∙ ap (λ x. tabbed (s' ∷ x ∷ g ∷ v ∷ [])) b
-    ∙ ap (λ x. tabbed (s' ∷ k' ∷ x ∷ v ∷ [])) c ∙ ap (λ x. tabbed (s' ∷ k' ∷ g' ∷ x ∷ [])) d
-
 -- where texts were printed, there is a territory, and they are those by it
 pub by_first : (n : Reading) (o : Option Metadata) (texts before line : List ℕ) → option_map (λ m. texts_by m None n) o ≡ Some texts →
     line ≡ before ++ 9 ∷ texts → (m : Metadata) × (o ≡ Some m) × (line ≡ before ++ 9 ∷ texts_by m None n)
@@ -43,10 +36,10 @@ by_first n (Some m) texts before line h is = (m, refl, is ∙ sym (ap (λ t. bef
 
 -- the line of a number is its texts, and what is known of it
 pub number_line-parted : (rules : Rules) (db : List Metadata) (m : Metadata) (n : Reading) (before line : List ℕ) → before ≡ codes "ok" →
-    line ≡ (before ++ 9 ∷ texts_by m None (printed_as rules n)) ++ 9 ∷ known_words rules db n → line ≡ number_line rules db m n
+    line ≡ (before ++ 9 ∷ texts_by m None (printed_as rules n)) ++ 9 ∷ tabbed (known_words rules db n) → line ≡ number_line rules db m n
 number_line-parted rules db m n before line b is =
     let p = printed_as rules n in
     is
-    ∙ ap (λ x. (x ++ 9 ∷ texts_by m None p) ++ 9 ∷ known_words rules db n) b
+    ∙ ap (λ x. (x ++ 9 ∷ texts_by m None p) ++ 9 ∷ tabbed (known_words rules db n)) b
     ∙ parted (codes "ok") (text_by m E164 None p) (text_by m International None p) (text_by m National None p) (text_by m Rfc3966 None p)
-    (known_words rules db n)
+    (tabbed (known_words rules db n))

@@ -16,19 +16,18 @@ use Rattle.phone_values.specs.declared.reading.Reading.{Reading}
 use Rattle.phone_engine.specs.Words.{kind_word, refusal_line, region_word, source_word}
 use Rattle.phone_engine.specs.Words.{validity_word}
 
+-- what is known of a number, word by word: the end of its line
+abbrev pub known_words : Rules → List Metadata → Reading → List (List ℕ)
+known_words rules db n = source_word n.code.source ∷ kind_word (kind_by rules db n) ∷
+    region_word (region_by rules db n) ∷ validity_word (is_valid_by rules db n) ∷ []
+
 -- the line of a number of a listed code: its texts in the four modes, printed as these rules have
 -- it, then what is known of it by them
 abbrev pub number_line : Rules → List Metadata → Metadata → Reading → List ℕ
 number_line rules db m n = tabbed (codes "ok" ∷
     text_by m E164 None (printed_as rules n) ∷ text_by m International None (printed_as rules n) ∷
     text_by m National None (printed_as rules n) ∷ text_by m Rfc3966 None (printed_as rules n) ∷
-    source_word n.code.source ∷ kind_word (kind_by rules db n) ∷
-    region_word (region_by rules db n) ∷ validity_word (is_valid_by rules db n) ∷ [])
-
--- what is known of a number, in four words: the end of its line
-abbrev pub known_words : Rules → List Metadata → Reading → List ℕ
-known_words rules db n = tabbed (source_word n.code.source ∷ kind_word (kind_by rules db n) ∷
-    region_word (region_by rules db n) ∷ validity_word (is_valid_by rules db n) ∷ [])
+    known_words rules db n)
 
 -- what the report says of one line: bytes that are no text, a refusal, or a number
 pub data IsReportLine (rules : Rules) (db : List Metadata) (hint : Option Id)

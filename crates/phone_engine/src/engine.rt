@@ -103,10 +103,10 @@ impl<'d> Engine<'d> {
     /// The report line of a line of bytes, which is without its end: its number is read, printed
     /// and described. It has no line feed, and its fields are parted by one tab.
     ///
-    /// A number: `ok`, its E.164, international, national and RFC 3966 text, how its calling code
-    /// was found (`plus`, `idd`, `number`, `default`), its kind, the id of its region or `-`,
-    /// `valid` or `invalid`. A refusal: `error`, its number and its words. A line that isn't UTF-8:
-    /// `error`, `0`, `not UTF-8`. Refused only for memory.
+    /// A number: `ok`, its E.164, international, national and RFC 3966 text, then what is known of
+    /// it, a field for each function of the module `words` that tells of a number, in their order.
+    /// A refusal: `error`, its number and its words. A line that isn't UTF-8: `error`, `0`, `not
+    /// UTF-8`. Refused only for memory.
     pub fn report_line(self, line: &[u8]) -> Result<String, AllocError>
         ensures { IfOk result (λ text. IsReportLine self.entry.rules self.entry.database.now
             self.entry.hint line.now (string_bytes text)) }

@@ -1,15 +1,14 @@
 //! The report line of a number.
-ghost use Rattle.std.specs.Prelude.{◌≡◌, ◌∷◌, ◌++◌, [], None, Some, Err};
+ghost use Rattle.std.specs.Prelude.{◌≡◌, ◌∷◌, ◌++◌, None, Some, Err};
 ghost use Rattle.std.specs.Prelude.{IfOk, OnOk, codes, string_bytes};
 ghost use Rattle.phone_engine.specs.Facts.{printed_as};
 ghost use Rattle.phone_engine.specs.ReportLines.{known_words, number_line};
-ghost use Rattle.phone_engine.specs.Words.{validity_word};
 ghost use Rattle.phone_plans.specs.CodeLookUps.{first_of, territories};
 ghost use Rattle.phone_print.specs.Tabbed.{tabbed, texts_by};
 ghost use Rattle.phone_records.specs.declared.loader.Metadata.{Metadata};
 
 use crate::engine::Engine;
-use crate::words::{kind_word, region_word, source_word};
+use crate::words::{kind_word, region_word, source_word, validity_word};
 use phone_library::without_carrier;
 use phone_plans::Plans;
 use phone_values::Rules;
@@ -56,7 +55,7 @@ fn push_number(
         (first_of (territories number.now.code.value engine.entry.database.now) ≡ Some m) ×
         (string_bytes line.new ≡ (string_bytes line.old ++
         9 ∷ texts_by m None (printed_as engine.entry.rules number.now)) ++
-        9 ∷ known_words engine.entry.rules engine.entry.database.now number.now)) }
+        9 ∷ tabbed (known_words engine.entry.rules engine.entry.database.now number.now))) }
     ensures unknown { result ≡ Err FormatError.UnknownCode →
         first_of (territories number.now.code.value engine.entry.database.now) ≡ None }
 {
@@ -124,38 +123,13 @@ fn push_texts(line: &mut String, database: &Plans, number: &PhoneNumber) -> Resu
 /// Puts what is known of a number behind a line, each word after one tab. Refused only for memory.
 fn push_known(line: &mut String, engine: Engine<'_>, number: &PhoneNumber) -> Result<(), AllocError>
     ensures { OnOk result (string_bytes line.new ≡ string_bytes line.old ++
-        9 ∷ known_words engine.entry.rules engine.entry.database.now number.now) }
+        9 ∷ tabbed (known_words engine.entry.rules engine.entry.database.now number.now)) }
 {
     let facts = engine.facts(number)?;
-    let source = source_word(number.code().source());
-    let kind = kind_word(facts.kind);
-    let region = region_word(facts.region);
-    push_words(line, source, kind, region, facts.is_valid)
-}
-
-/// Puts four words behind a line, each after one tab: how a calling code was found, a kind, a
-/// region, and whether the number is valid. Refused only for memory.
-fn push_words(
-    line: &mut String,
-    source: &str,
-    kind: &str,
-    region: &str,
-    is_valid: bool,
-) -> Result<(), AllocError>
-    ensures { OnOk result (string_bytes line.new ≡ string_bytes line.old ++
-        9 ∷ tabbed (source.now ∷ kind.now ∷ region.now ∷ validity_word is_valid ∷ [])) }
-{
-    push_word(line, source)?;
-    push_word(line, kind)?;
-    push_word(line, region)?;
-    line.push_str(last_field(is_valid))
-}
-
-/// The line's last field with the tab in front of it.
-fn last_field(is_valid: bool) -> &'static str
-    ensures { result.now ≡ 9 ∷ validity_word is_valid }
-{
-    if is_valid { "\tvalid" } else { "\tinvalid" }
+    push_word(line, source_word(number.code().source()))?;
+    push_word(line, kind_word(facts.kind))?;
+    push_word(line, region_word(facts.region))?;
+    push_word(line, validity_word(facts.is_valid))
 }
 
 /// Puts a tab and a word behind a line. Refused only for memory.
