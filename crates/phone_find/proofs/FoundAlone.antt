@@ -1,25 +1,23 @@
--- A number that stands between a text in which none begins and one without digits is found alone.
+-- A number that stands between a text in which none begins and one in which none ends is found alone.
 use Rattle.std.proofs.Common.{◌≡◌, ℕ, ◌+◌, ◌-◌, ◌≤◌, true, List, []}
 use Rattle.std.proofs.Common.{◌∷◌, ◌++◌, length, take, drop, slice_range, Option, Ok}
 use Rattle.std.proofs.Common.{IsCharBoundary, IsUtf8, append_assoc, length-append, refl, ap, sym}
 use Rattle.std.proofs.Common.{subst, ◌∙◌, arith, true≢false}
-use Rattle.std.proofs.lemmas.Bool.{and_parts}
 use Rattle.std.proofs.lemmas.List.{drop-drop, drop_at, take_at}
 use Rattle.std.proofs.lemmas.Str.{IsCharBoundary-at_seam, IsUtf8-append, IsUtf8-take, chars-nil}
 use Rattle.std.specs.Str.{chars}
-use Rattle.phone_chars.specs.Characters.{is_digit}
 use Rattle.phone_values.specs.declared.country.Id.{Id}
-use Rattle.phone_parts.specs.Texts.{begins}
+use Rattle.phone_finder_text.specs.Sets.{is_last}
+use Rattle.phone_parts.specs.Texts.{ends}
 use Rattle.phone_records.specs.declared.loader.Metadata.{Metadata}
 use Rattle.phone_engine.proofs.OneReading.{reading_same}
 use Rattle.phone_engine.specs.Readings.{ReadsBy}
 use Rattle.phone_values.specs.declared.rules.Rules.{Rules}
 use Rattle.phone_values.specs.declared.reading.Reading.{Reading}
 use Rattle.phone_find.proofs.Alone.{alone}
-use Rattle.phone_find.proofs.Begins.{candidate_begins, candidate_digit, candidate_opening}
+use Rattle.phone_find.proofs.Begins.{begin_opening, candidate_begins, candidate_last}
 use Rattle.phone_find.proofs.Places.{piece_before, starts_behind}
-use Rattle.phone_find.specs.Alone.{IsAmong, placed}
-use Rattle.phone_find.specs.Candidates.{is_opening}
+use Rattle.phone_find.specs.Alone.{IsAmong, is_opening, placed}
 use Rattle.phone_find.specs.Founds.{Stands}
 use Rattle.phone_find.specs.Numbers.{AreNumbers, IsNumberAt, IsNumberBetween}
 use Rattle.phone_find.specs.declared.leniency.Leniency.{Leniency}
@@ -71,12 +69,12 @@ module _ (rules : Rules) (db : List Metadata) (hint : Option Id) (l : Leniency) 
       (subst (λ t. IsNumberBetween rules db hint l before t (drop end text) n) (sym piece_is)
       (subst (λ t. IsNumberBetween rules db hint l before piece t n) (sym end_is) is))
 
-  begins_some : (t : List ℕ) → begins is_opening (chars t) ≡ true → 1 ≤ length t
-  begins_some [] e = absurd (true≢false (sym e ∙ ap (begins is_opening) chars-nil))
-  begins_some (c ∷ cs) e = omega arith
+  ends_some : (t : List ℕ) → ends is_last (chars t) ≡ true → 1 ≤ length t
+  ends_some [] e = absurd (true≢false (sym e ∙ ap (ends is_last) chars-nil))
+  ends_some (c ∷ cs) e = omega arith
 
   some : 1 ≤ length piece
-  some = begins_some piece (candidate_opening (chars before) (chars piece) (chars after)
+  some = ends_some piece (candidate_last (chars before) (chars piece) (chars after)
       is.candidate)
 
   stands : Stands (IsNumberAt rules db hint l text) text place
@@ -95,14 +93,15 @@ module _ (rules : Rules) (db : List Metadata) (hint : Option Id) (l : Leniency) 
   inside g s = (
     starts_behind is_opening text before (piece ++ after) g.start refl among.before_utf8
         (IsUtf8-take text g.start text_utf8 s.from_border)
-        among.no_opening (and_parts _ _ (candidate_begins text g.start g.end text_utf8 s.some
-        s.from_border s.to_border s.accepted.candidate)).0,
+        among.no_opening (begin_opening (chars (take g.start text)) (chars (drop g.start text))
+        (candidate_begins text g.start g.end text_utf8 s.some s.from_border s.to_border
+        s.accepted.candidate)),
     subst (λ i. g.end ≤ i) up_to
-        (piece_before is_digit text (before ++ piece) after g.start g.end whole
+        (piece_before is_last text (before ++ piece) after g.start g.end whole
         (IsUtf8-append before piece among.before_utf8 among.piece_utf8) among.after_utf8
         text_utf8 s.some
-        s.from_border s.to_border among.no_digit
-        (candidate_digit (chars (take g.start text)) (chars (slice_range text g.start g.end)) (chars
+        s.from_border s.to_border among.no_last
+        (candidate_last (chars (take g.start text)) (chars (slice_range text g.start g.end)) (chars
         (drop g.end text)) s.accepted.candidate)),
   )
 

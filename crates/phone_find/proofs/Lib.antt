@@ -1,8 +1,6 @@
 pub mod Alone
 pub mod Begins
 pub mod FoundAlone
-pub mod Lasts
-pub mod Letters
 pub mod Ones
 pub mod Places
 pub mod PrintedFound

@@ -8,11 +8,12 @@ use Rattle.phone_values.specs.declared.error.ParseError.{ParseError}
 use Rattle.phone_values.specs.declared.error.ParseError.TheVariants.{Memory}
 use Rattle.phone_records.specs.declared.loader.Metadata.{Metadata}
 use Rattle.phone_engine.proofs.OneReading.{reading_same}
+use Rattle.phone_find.proofs.Begins.{candidate_end}
+use Rattle.phone_finder_text.specs.Numbers.{is_candidate, is_end}
 use Rattle.phone_engine.specs.Readings.{ReadsBy}
 use Rattle.phone_values.specs.declared.rules.Rules.{Rules}
 use Rattle.phone_values.specs.declared.reading.Reading.{Reading}
-use Rattle.phone_find.specs.Candidates.{is_candidate}
-use Rattle.phone_find.specs.Leniencies.{suffices}
+use Rattle.phone_find.specs.Leniencies.{suffices_in}
 use Rattle.phone_find.specs.Numbers.{IsNumberBetween, IsReadWell}
 use Rattle.phone_find.specs.declared.leniency.Leniency.{Leniency}
 
@@ -49,24 +50,24 @@ module _ (rules : Rules) (db : List Metadata) (hint : Option Id) (l : Leniency) 
   same_number m n reads v = let same : Ok m ≡ Ok n = reading_same rules db hint (chars t) (Ok m) (Ok n)
       reads v.read in cc
 
-  told_invalid : (m : Reading) → ReadsBy rules db hint (chars t) (Ok m) → suffices rules db l m ≡ false →
+  told_invalid : (m : Reading) → ReadsBy rules db hint (chars t) (Ok m) → suffices_in rules db l (chars t) m ≡ false →
       Told None
-  told_invalid m reads e n v = true≢false (sym v.enough ∙ subst (λ k. suffices rules db l k ≡ false)
+  told_invalid m reads e n v = true≢false (sym v.enough ∙ subst (λ k. suffices_in rules db l (chars t) k ≡ false)
       (same_number m n reads v) e)
 
-  told_from : (m : Reading) → ReadsBy rules db hint (chars t) (Ok m) → (b : Bool) → suffices rules db l m ≡ b →
+  told_from : (m : Reading) → ReadsBy rules db hint (chars t) (Ok m) → (b : Bool) → suffices_in rules db l (chars t) m ≡ b →
       Told (if b then Some m else None)
   told_from m reads true e = record { read = reads; enough = e }
   told_from m reads false e = told_invalid m reads e
 
   told_number : (m : Reading) → ReadsBy rules db hint (chars t) (Ok m) → (told : Option Reading) →
-      told ≡ (if suffices rules db l m then Some m else None) → Told told
+      told ≡ (if suffices_in rules db l (chars t) m then Some m else None) → Told told
   told_number m reads told e = subst (λ (o : Option Reading). Told o) (sym e) (told_from m reads
-      (suffices rules db l m) refl)
+      (suffices_in rules db l (chars t) m) refl)
 
   pub if_told : {E : Type 0} (m : Reading) → ReadsBy rules db hint (chars t) (Ok m) →
       (r : Result (Option Reading) E) →
-      IfOk r (λ told. told ≡ (if suffices rules db l m then Some m else None)) →
+      IfOk r (λ told. told ≡ (if suffices_in rules db l (chars t) m then Some m else None)) →
       IfOk r (λ told. Told told)
   if_told m reads (Ok told) e = told_number m reads told e
   if_told m reads (Err e) h = h
@@ -75,7 +76,7 @@ module _ (rules : Rules) (db : List Metadata) (hint : Option Id) (l : Leniency) 
   pub some_told : (r : Result Reading ParseError) → ReadsBy rules db hint (chars t) r →
       (told : Option Reading) × Told told
   some_told (Ok m) reads =
-      (if suffices rules db l m then Some m else None, told_from m reads (suffices rules db l m) refl)
+      (if suffices_in rules db l (chars t) m then Some m else None, told_from m reads (suffices_in rules db l (chars t) m) refl)
   some_told (Err e) reads = (None, told_refused e reads)
 
 module _ (rules : Rules) (db : List Metadata) (hint : Option Id) (l : Leniency) where
@@ -85,34 +86,35 @@ module _ (rules : Rules) (db : List Metadata) (hint : Option Id) (l : Leniency) 
       MatchOption told ((n : Reading) → ¬ (IsNumberBetween rules db hint l before piece after n)) (λ n.
       IsNumberBetween rules db hint l before piece after n)
 
-  pub told_none : (before piece after : List ℕ) (b : Bool) →
-      b ≡ is_candidate (chars before) (chars piece) (chars after) → b ≡ false →
+  told_none : (before piece after : List ℕ) → is_candidate (chars before) (chars piece) (chars after) ≡ false →
       ToldBetween before piece after None
-  told_none before piece after b told refused n at = true≢false (sym at.candidate ∙ sym told
-      ∙ refused)
+  told_none before piece after refused n at = true≢false (sym at.candidate ∙ refused)
 
-  told_piece : (before piece after : List ℕ) → is_candidate (chars before) (chars piece) (chars
-      after) ≡ true → (told : Option Reading) →
-      Told rules db hint l piece told → ToldBetween before piece after told
-  told_piece before piece after candidate None h = λ n at. h n at.number
-  told_piece before piece after candidate (Some n) h = record { candidate = candidate; number = h }
+  -- where it may not end it is none
+  pub told_endless : (before piece after : List ℕ) (b : Bool) → b ≡ is_end (chars piece) (chars after) → b ≡ false →
+      ToldBetween before piece after None
+  told_endless before piece after b told refused n at =
+      true≢false (sym (candidate_end (chars before) (chars piece) (chars after) at.candidate) ∙ sym told ∙ refused)
 
-  pub if_told_piece : {E : Type 0} (before piece after : List ℕ) (b : Bool) →
-      b ≡ is_candidate (chars before) (chars piece) (chars after) →
-      b ≡ true → (r : Result (Option Reading) E) → IfOk r (λ told. Told rules db hint l piece told) →
-      IfOk r (λ told. ToldBetween before piece after told)
-  if_told_piece before piece after b is passed (Ok told) h = told_piece before piece after (sym is
-      ∙ passed) told h
-  if_told_piece before piece after b is passed (Err e) h = h
+  -- nor where it isn't read as one
+  pub told_unread : (before piece after : List ℕ) → ((n : Reading) → ¬ (IsReadWell rules db hint l piece n)) → ToldBetween before piece after None
+  told_unread before piece after none n at = none n at.number
+
+  -- else its characters decide
+  pub told_read : (before piece after : List ℕ) (n : Reading) → IsReadWell rules db hint l piece n → (told : Option Reading) →
+      told ≡ (if is_candidate (chars before) (chars piece) (chars after) then Some n else None) → ToldBetween before piece after told
+  told_read before piece after n read told e = by_candidate (is_candidate (chars before) (chars piece) (chars after)) refl told e
+    where
+      by_candidate : (b : Bool) → is_candidate (chars before) (chars piece) (chars after) ≡ b → (told : Option Reading) →
+          told ≡ (if b then Some n else None) → ToldBetween before piece after told
+      by_candidate true c told e = subst (λ o. ToldBetween before piece after o) (sym e) (record { candidate = c; number = read })
+      by_candidate false c told e = subst (λ o. ToldBetween before piece after o) (sym e) (told_none before piece after c)
 
   -- what the piece alone tells, its place tells
   pub some_told_piece : (before piece after : List ℕ) →
       (told : Option Reading) × Told rules db hint l piece told →
       (told : Option Reading) × ToldBetween before piece after told
-  some_told_piece before piece after told = by_shape (is_candidate (chars before) (chars piece)
-      (chars after)) refl
-    where
-      by_shape : (b : Bool) → b ≡ is_candidate (chars before) (chars piece) (chars after) →
-          (told : Option Reading) × ToldBetween before piece after told
-      by_shape true e = (told.0, told_piece before piece after (sym e) told.0 told.1)
-      by_shape false e = (None, told_none before piece after false e refl)
+  some_told_piece before piece after (None, h) = (None, told_unread before piece after h)
+  some_told_piece before piece after (Some n, h) =
+      let told = if is_candidate (chars before) (chars piece) (chars after) then Some n else None in
+      (told, told_read before piece after n h told refl)

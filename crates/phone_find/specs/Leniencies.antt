@@ -1,12 +1,14 @@
 -- How strictly the numbers of a text are judged.
-use Rattle.std.specs.Prelude.{Bool, true, false, List}
+use Rattle.std.specs.Prelude.{ℕ, ◌&&◌, Bool, true, false, List}
 use Rattle.phone_util.specs.Possibilities.{possibility_of}
 use Rattle.phone_util.specs.declared.possibilities.Possibility.{Possibility}
 use Rattle.phone_util.specs.declared.possibilities.Possibility.TheVariants as possibility
 use Rattle.phone_values.specs.declared.reading.Reading.{Reading}
 use Rattle.phone_records.specs.declared.loader.Metadata.{Metadata}
 use Rattle.phone_engine.specs.Facts.{is_valid_by}
+use Rattle.phone_prefixed.specs.Prefixes.{has_prefix}
 use Rattle.phone_values.specs.declared.rules.Rules.{Rules}
+use Rattle.phone_values.specs.declared.rules.Rules.TheVariants.{Library}
 use Rattle.phone_find.specs.declared.leniency.Leniency.{Leniency}
 use Rattle.phone_find.specs.declared.leniency.Leniency.TheVariants.{Possible, Valid}
 
@@ -27,3 +29,14 @@ is_possible rules db n = is_possible_count (possibility_of rules db n)
 abbrev pub suffices : Rules → List Metadata → Leniency → Reading → Bool
 suffices rules db Possible n = is_possible rules db n
 suffices rules db Valid n = is_valid_by rules db n
+
+-- a number has in its text the national prefix that it should have: asked of valid numbers, by the
+-- rules of libphonenumber
+abbrev pub has_prefix_by : Rules → List Metadata → Leniency → Reading → List ℕ → Bool
+has_prefix_by Library db Valid n t = has_prefix db n t
+has_prefix_by rules db leniency n t = true
+
+-- a number that is read from a text suffices there
+abbrev pub suffices_in : Rules → List Metadata → Leniency → List ℕ → Reading → Bool
+suffices_in rules db leniency t n =
+    suffices rules db leniency n && has_prefix_by rules db leniency n t

@@ -6,20 +6,20 @@ use Rattle.phone_records.specs.declared.loader.Metadata.{Metadata}
 use Rattle.phone_engine.specs.Readings.{ReadsBy}
 use Rattle.phone_values.specs.declared.rules.Rules.{Rules}
 use Rattle.phone_values.specs.declared.reading.Reading.{Reading}
-use Rattle.phone_find.specs.Candidates.{is_candidate}
+use Rattle.phone_finder_text.specs.Numbers.{is_candidate}
 use Rattle.phone_find.specs.Founds.{AreFound}
-use Rattle.phone_find.specs.Leniencies.{suffices}
+use Rattle.phone_find.specs.Leniencies.{suffices_in}
 use Rattle.phone_find.specs.declared.leniency.Leniency.{Leniency}
 use Rattle.phone_find.specs.declared.search.Found.{Found}
 
--- a text, by itself, is read as this number, and the number suffices
+-- a text, by itself, is read as this number, which suffices there
 pub record IsReadWell (rules : Rules) (db : List Metadata) (hint : Option Id)
     (leniency : Leniency) (piece : List ℕ) (n : Reading) : Type 0 where
   pub read : ReadsBy rules db hint (chars piece) (Ok n)
-  pub enough : suffices rules db leniency n ≡ true
+  pub enough : suffices_in rules db leniency (chars piece) n ≡ true
 
--- a piece between what stands before it and after it may be a number by its characters, and is
--- read as this number, which suffices
+-- a piece between what stands before it and after it may be a number by the characters, and is
+-- read as this number, which suffices there
 pub record IsNumberBetween (rules : Rules) (db : List Metadata) (hint : Option Id)
     (leniency : Leniency) (before piece after : List ℕ) (n : Reading) : Type 0 where
   pub candidate : is_candidate (chars before) (chars piece) (chars after) ≡ true

@@ -1,7 +1,7 @@
 //! What holds of the numbers of a text. The contracts of these functions are the statements; the
 //! functions do nothing, but for those that run the readers to show that each text has an answer.
 ghost use Rattle.std.specs.Prelude.{◌≡◌, ◌<◌, ◌≤◌, ◌+◌, ◌++◌, ◌∷◌, [], ℕ, List, Option, None};
-ghost use Rattle.std.specs.Prelude.{Some, IsUtf8, length, true};
+ghost use Rattle.std.specs.Prelude.{Some, IsUtf8, chars, length, true};
 ghost use Rattle.phone_values.specs.declared.country.Id.{Id};
 ghost use Rattle.phone_values.specs.declared.mode.Mode.TheVariants as mode;
 ghost use Rattle.phonenumber.specs.Bounds.{IsBounded};
@@ -12,7 +12,8 @@ ghost use Rattle.phone_library_laws.specs.Again.{IsSettled, e164_reading};
 ghost use Rattle.phone_print.specs.Texts.{e164_text};
 ghost use Rattle.phonenumber.specs.RoundTrips.{IsSame};
 ghost use Rattle.phonenumber.specs.Plain.{IsPlainInternational};
-ghost use Rattle.phone_find.specs.Alone.{EndsInDigits, IsAmong, IsPlainEnough, IsShaped, placed};
+ghost use Rattle.phone_find.specs.Alone.{EndsInDigits, IsAmong, IsNothingElse, IsPlainEnough};
+ghost use Rattle.phone_find.specs.Alone.{IsShaped, placed};
 ghost use Rattle.phone_find.specs.Founds.{IsDecided, IsOrdered, most_bytes};
 ghost use Rattle.phone_find.specs.Leniencies.{suffices};
 ghost use Rattle.phone_find.specs.Numbers.{AreNumbers, IsNumberAt, IsNumberBetween};
@@ -76,7 +77,7 @@ pub fn in_order()
 {}
 
 /// A number is found, at its place, and alone, where no piece begins in the text before it and the
-/// text behind it has no digit, whatever rules, database, hint and leniency.
+/// text behind it has neither digit nor number sign, whatever rules, database, hint and leniency.
 pub fn found_alone()
     ensures { (rules : Rules) (db : List loader.Metadata) (hint : Option Id) (l : Leniency)
         (before piece after : List ℕ) (n : Reading) (all : List (Found Reading)) →
@@ -90,38 +91,42 @@ pub fn found_alone()
 /// stripping leaves alone, printed in international form between two spaces, is found without a
 /// hint, at its place, and alone: with its code, its national number and its extension. Before the
 /// spaces no piece begins, as where there is no digit, plus sign and opening bracket; after them is
-/// no digit. The printed text has the shape of a number.
+/// neither digit nor number sign. The printed text may be a number by its characters and what
+/// follows, which makes no price of it, say.
 ///
 /// The bounds, and that a text is UTF-8, every `PhoneNumber` and every `String` keeps.
 pub fn printed_is_found()
     ensures { (db : List loader.Metadata) (l : Leniency) (n : Reading) (before text after : List ℕ)
         (all : List (Found Reading)) → IsBounded n → IsPlainEnough db l n →
-        printed db mode.International None n ≡ Some text → IsShaped text →
+        printed db mode.International None n ≡ Some text → IsShaped text after →
         IsAmong before text after →
         AreNumbers rules.Crate db None l ((before ++ 32 ∷ []) ++ (text ++ 32 ∷ after)) all →
         (m : Reading) × IsSame n n.extension m × (all ≡ placed (before ++ 32 ∷ []) text m ∷ []) }
 {}
 
-/// The international text of a plain number has that shape if it has at most 250 bytes, the
-/// laid-out number ends in a digit, and there is no extension, or one of digits that ` ext. `
-/// announces.
+/// The international text of a plain number may be a number so if it has at most 250 bytes, the
+/// laid-out number ends in a digit, there is no extension, or one of digits that ` ext. ` announces,
+/// and it is taken for nothing else: its brackets stand as they may in a number, no date stands in
+/// it, and what follows makes no longer number, price or time of it.
 pub fn plain_is_shaped()
-    ensures { (db : List loader.Metadata) (n : Reading) (text : List ℕ) → IsBounded n →
+    ensures { (db : List loader.Metadata) (n : Reading) (text after : List ℕ) → IsBounded n →
         IsUtf8 text → (plain : IsPlainInternational db n) → EndsInDigits plain.territory n →
         printed db mode.International None n ≡ Some text → length text ≤ most_bytes →
-        IsShaped text }
+        IsNothingElse (chars text) (32 ∷ chars after) → IsShaped text after }
 {}
 
 /// By the rules of libphonenumber the E.164 text of a number that suffices, between two spaces, is
 /// found under any hint, at its place, and alone: as the number without extension and carrier, its
 /// code told by the plus sign. The number is settled: its code is listed and has at most three
 /// digits, no listed code begins another, its national number has 2 to 17 digits, and the code's
-/// first territory strips nothing off them. Before the spaces no piece begins; after them is no
-/// digit.
+/// first territory strips nothing off them. Before the spaces no piece begins; after them is neither
+/// digit nor number sign, and the text is taken for nothing else.
 pub fn e164_is_found()
     ensures { (db : List loader.Metadata) (hint : Option Id) (l : Leniency) (n : Reading)
         (before after : List ℕ) (all : List (Found Reading)) → IsSettled db n →
-        suffices rules.Library db l n ≡ true → IsAmong before (e164_text n) after →
+        suffices rules.Library db l n ≡ true →
+        IsNothingElse (chars (e164_text n)) (32 ∷ chars after) →
+        IsAmong before (e164_text n) after →
         AreNumbers rules.Library db hint l
         ((before ++ 32 ∷ []) ++ (e164_text n ++ 32 ∷ after)) all →
         all ≡ placed (before ++ 32 ∷ []) (e164_text n) (e164_reading n) ∷ [] }

@@ -1,8 +1,9 @@
 //! How strictly the numbers of a text are judged.
-ghost use Rattle.std.specs.Prelude.{◌≡◌, IfOk};
-ghost use Rattle.phone_find.specs.Leniencies.{is_possible, suffices};
+ghost use Rattle.std.specs.Prelude.{◌≡◌, IfOk, chars};
+ghost use Rattle.phone_find.specs.Leniencies.{has_prefix_by, is_possible, suffices, suffices_in};
 
-use phone_engine::Engine;
+use phone_engine::{Engine, Rules};
+use phone_prefixed::has_prefix;
 use phone_util::{Possibility, possibility_of};
 use phonenumber::PhoneNumber;
 use std::alloc::AllocError;
@@ -13,7 +14,8 @@ pub enum Leniency {
     /// It is possible by the count of its digits, perhaps only inside its area.
     Possible,
 
-    /// It is valid.
+    /// It is valid; by the rules of libphonenumber it has the national prefix that its layout
+    /// writes, too.
     Valid,
 }
 
@@ -29,7 +31,7 @@ fn is_possible(engine: Engine<'_>, number: &PhoneNumber) -> Result<bool, AllocEr
 }
 
 /// Whether a number suffices. Refused only for memory.
-pub(crate) fn suffices(
+fn suffices(
     engine: Engine<'_>,
     leniency: Leniency,
     number: &PhoneNumber,
@@ -41,4 +43,37 @@ pub(crate) fn suffices(
         Leniency::Possible => is_possible(engine, number),
         Leniency::Valid => engine.is_valid(number),
     }
+}
+
+/// Whether a number has in its text the national prefix that it should have. Refused only for
+/// memory.
+fn has_prefix_by(
+    engine: Engine<'_>,
+    leniency: Leniency,
+    number: &PhoneNumber,
+    text: &str,
+) -> Result<bool, AllocError>
+    ensures { IfOk result (λ b. b ≡ has_prefix_by engine.entry.rules engine.entry.database.now
+        leniency number.now (chars text.now)) }
+{
+    match (engine.rules, leniency) {
+        (Rules::Library, Leniency::Valid) => has_prefix(engine.database, number, text),
+        _ => Ok(true),
+    }
+}
+
+/// Whether a number that is read from a text suffices there. Refused only for memory.
+pub(crate) fn suffices_in(
+    engine: Engine<'_>,
+    leniency: Leniency,
+    number: &PhoneNumber,
+    text: &str,
+) -> Result<bool, AllocError>
+    ensures { IfOk result (λ b. b ≡ suffices_in engine.entry.rules engine.entry.database.now
+        leniency (chars text.now) number.now) }
+{
+    if !suffices(engine, leniency, number)? {
+        return Ok(false);
+    }
+    has_prefix_by(engine, leniency, number, text)
 }

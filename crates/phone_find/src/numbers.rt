@@ -1,14 +1,16 @@
 //! The numbers of a running text.
-ghost use Rattle.std.specs.Prelude.{◌≡◌, IfOk, MatchOption, None, Some, if◌then◌else◌};
+ghost use Rattle.std.specs.Prelude.{◌≡◌, ◌<◌, IfOk, MatchOption, None, Some, if◌then◌else◌, true};
+ghost use Rattle.std.specs.Prelude.{IsCharBoundary, chars, drop, slice_range, take};
 ghost use Rattle.phone_values.specs.declared.reading.Reading.{Reading};
-ghost use Rattle.phone_find.specs.Leniencies.{suffices};
+ghost use Rattle.phone_find.specs.Leniencies.{suffices_in};
+ghost use Rattle.phone_finder_text.specs.Numbers.{is_candidate, is_end};
 ghost use Rattle.phone_find.specs.declared.leniency.Leniency.TheVariants as leniency;
-ghost use Rattle.phone_find.specs.Numbers.{AreNumbers, IsNumberBetween, IsReadWell};
+ghost use Rattle.phone_find.specs.Numbers.{AreNumbers, IsNumberAt, IsReadWell};
 
-use crate::candidates::{is_candidate, may_begin};
-use crate::leniency::{Leniency, suffices};
+use crate::leniency::{Leniency, suffices_in};
 use crate::search::{Found, Judge, all_accepted};
 use phone_engine::Engine;
+use phone_finder_text::{is_shaped, may_begin, may_end};
 use phone_values::ParseError;
 use phonenumber::PhoneNumber;
 use std::alloc::{AllocError, Global};
@@ -37,34 +39,71 @@ impl<'d> Judge<PhoneNumber> for Sufficient<'d> {
         start: usize,
         end: usize,
     ) -> Result<Option<PhoneNumber>, AllocError> {
-        let before = &text[..start];
-        let piece = &text[start..end];
-        let after = &text[end..];
-        number_between(self.engine, self.leniency, before, piece, after)
+        number_at(self.engine, self.leniency, text, start, end)
     }
 }
 
-/// The number that suffices and that a piece of a text is read as, where it may be a number between
-/// what stands before it and after it. Refused only for memory.
-fn number_between(
+/// Whether a piece of a text, which may end where it does, may be a number, by the characters alone.
+fn is_candidate(text: &str, start: usize, end: usize) -> bool
+    requires from_border { IsCharBoundary text.now start }
+    requires to_border { IsCharBoundary text.now end }
+    requires some { start < end }
+    requires ended { is_end (chars (slice_range text.now start end)) (chars (drop end text.now)) ≡
+        true }
+    ensures { result ≡ is_candidate (chars (take start text.now))
+        (chars (slice_range text.now start end)) (chars (drop end text.now)) }
+{
+    if !is_shaped(&text[start..end]) {
+        return false;
+    }
+    may_begin(&text[..start], &text[start..])
+}
+
+/// The number that a piece of a text is, where it may be one by the characters, and is read as one
+/// that suffices. It is read before its characters are looked at, since most pieces are no number
+/// at once. Refused only for memory.
+fn number_at(
     engine: Engine<'_>,
     leniency: Leniency,
-    before: &str,
-    piece: &str,
-    after: &str,
+    text: &str,
+    start: usize,
+    end: usize,
 ) -> Result<Option<PhoneNumber>, AllocError>
+    requires from_border { IsCharBoundary text.now start }
+    requires to_border { IsCharBoundary text.now end }
+    requires some { start < end }
     ensures { IfOk result (λ told. MatchOption told
-        ((n : Reading) → ¬ (IsNumberBetween
-        engine.entry.rules engine.entry.database.now engine.entry.hint leniency
-        before.now piece.now after.now n))
-        (λ n. IsNumberBetween
-        engine.entry.rules engine.entry.database.now engine.entry.hint leniency
-        before.now piece.now after.now n)) }
+        ((n : Reading) → ¬ (IsNumberAt engine.entry.rules engine.entry.database.now
+        engine.entry.hint leniency text.now start end n))
+        (λ n. IsNumberAt engine.entry.rules engine.entry.database.now
+        engine.entry.hint leniency text.now start end n)) }
 {
-    if !is_candidate(before, piece, after) {
+    if !may_end(&text[start..end], &text[end..]) {
         return Ok(None);
     }
-    number_in(engine, leniency, piece)
+    match number_in(engine, leniency, &text[start..end])? {
+        Some(number) => Ok(where_candidate(text, start, end, number)),
+        None => Ok(None),
+    }
+}
+
+/// The number that a piece of a text, which may end where it does, is read as, where the piece may
+/// be one by the characters.
+fn where_candidate(text: &str, start: usize, end: usize, number: PhoneNumber) -> Option<PhoneNumber>
+    requires from_border { IsCharBoundary text.now start }
+    requires to_border { IsCharBoundary text.now end }
+    requires some { start < end }
+    requires ended { is_end (chars (slice_range text.now start end)) (chars (drop end text.now)) ≡
+        true }
+    ensures { result ≡ (if is_candidate (chars (take start text.now))
+        (chars (slice_range text.now start end)) (chars (drop end text.now))
+        then Some number else None) }
+{
+    if is_candidate(text, start, end) {
+        Some(number)
+    } else {
+        None
+    }
 }
 
 /// The number that a text is read as, where it is read as one that suffices. Refused only for
@@ -81,7 +120,7 @@ fn number_in(
         engine.entry.rules engine.entry.database.now engine.entry.hint leniency text.now n)) }
 {
     match engine.parse(text) {
-        Ok(number) => where_sufficient(engine, leniency, number),
+        Ok(number) => where_sufficient(engine, leniency, number, text),
         Err(error) => without_number(error),
     }
 }
@@ -96,17 +135,17 @@ fn without_number(error: ParseError) -> Result<Option<PhoneNumber>, AllocError>
     }
 }
 
-/// The number, where it suffices. Refused only for memory.
+/// The number that is read from a text, where it suffices there. Refused only for memory.
 fn where_sufficient(
     engine: Engine<'_>,
     leniency: Leniency,
     number: PhoneNumber,
+    text: &str,
 ) -> Result<Option<PhoneNumber>, AllocError>
-    ensures { IfOk result
-        (λ told. told ≡ (if suffices engine.entry.rules engine.entry.database.now leniency number
-        then Some number else None)) }
+    ensures { IfOk result (λ told. told ≡ (if suffices_in engine.entry.rules
+        engine.entry.database.now leniency (chars text.now) number then Some number else None)) }
 {
-    if suffices(engine, leniency, &number)? {
+    if suffices_in(engine, leniency, &number, text)? {
         Ok(Some(number))
     } else {
         Ok(None)
@@ -115,10 +154,13 @@ fn where_sufficient(
 
 /// The numbers that stand in a running text, such as a mail or a page, each with the place of its
 /// first byte and that behind its last, both between characters. A number is a piece of at most 250
-/// bytes that no letter or digit touches; that begins at a plus sign, an opening bracket or a
-/// digit, and ends in a digit; that is digits, plus signs, and punctuation, and behind them perhaps
-/// an announced extension, as in ` ext. 12`; and that the engine reads, by itself, as a number that
-/// suffices by its rules.
+/// bytes that begins at a plus sign, an opening bracket or a digit, and ends in a digit, or in the
+/// number sign of an extension; that is digits, plus signs and what may stand between groups, and
+/// behind them perhaps an announced extension, as in ` ext. 12`; that is neither a part of something
+/// longer nor taken for something else, such as a date, a price, an account number or a time, by the
+/// rules of `phone_finder_text`; and that the engine reads, by itself, as a number that suffices.
+/// Of a valid one libphonenumber's rules ask, too, that it has the national prefix that its layout
+/// writes, unless a plus sign, an international prefix or the calling code leads it.
 ///
 /// The numbers come in their order and don't overlap: the piece that begins first counts, and of
 /// those that begin there the longest. The time is linear in the text: at each place at most 250

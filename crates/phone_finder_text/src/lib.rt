@@ -10,4 +10,4 @@ mod sets;
 mod signs;
 mod walks;
 
-pub use numbers::{may_be_number, may_begin};
+pub use numbers::{is_shaped, may_begin, may_end};

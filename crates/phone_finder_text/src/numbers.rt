@@ -1,8 +1,7 @@
 //! Where a number may begin and end in a text, and what it is made of.
 ghost use Rattle.std.specs.Prelude.{◌≡◌, chars, reverse};
 ghost use Rattle.std.specs.List.{list_any};
-ghost use Rattle.phone_finder_text.specs.Numbers.{is_begin, is_end, is_inside, is_piece};
-ghost use Rattle.phone_finder_text.specs.Numbers.{is_shaped};
+ghost use Rattle.phone_finder_text.specs.Numbers.{is_begin, is_end, is_inside, is_shaped};
 ghost use Rattle.phone_finder_text.specs.Shapes.{are_extension_digits, is_bracketed};
 ghost use Rattle.phone_finder_text.specs.Shapes.{is_extension, is_labelled, is_made};
 ghost use Rattle.phone_finder_text.specs.Shapes.{is_sign_or_end};
@@ -41,8 +40,10 @@ pub fn may_begin(before: &str, from: &str) -> bool
             && (fits_some(before, from, links()) || !is_inside(before, from)))
 }
 
-/// Whether a number may end between its piece and what follows.
-fn is_end(piece: &str, after: &str) -> bool
+/// Whether a number may end between its piece and what follows: the piece ends in a digit, or in a
+/// number sign behind an extension, and isn't the front of a longer number, a price, or a date with
+/// its time. The time is bounded, whatever the lengths.
+pub fn may_end(piece: &str, after: &str) -> bool
     ensures { result ≡ is_end (chars piece.now) (chars after.now) }
 {
     ends_in(piece, &Last)
@@ -112,20 +113,11 @@ fn is_bracketed(text: &str) -> bool
     !begins_in(after_run(text, &Unbracketed), &Closing) && has_good_brackets(text)
 }
 
-/// Whether a piece is made as a number is: of its characters, with good brackets, without a date.
-fn is_shaped(piece: &str) -> bool
+/// Whether a piece is made as a number is: it is digits, plus signs and what may stand between
+/// groups, perhaps with an extension; its brackets stand as they may in a number; no date stands in
+/// it. The time is linear in the piece.
+pub fn is_shaped(piece: &str) -> bool
     ensures { result ≡ is_shaped (chars piece.now) }
 {
     is_made(piece) && is_bracketed(piece) && !has_date(piece)
-}
-
-/// Whether a piece of a text may be a number, by its characters and what follows it: it ends in a
-/// digit, or in a number sign behind an extension; it isn't the front of a longer number, a price,
-/// or a date with its time; it is digits, plus signs and what may stand between groups, perhaps
-/// with an extension; its brackets stand as they may in a number; no date stands in it. The time
-/// is linear in the piece.
-pub fn may_be_number(piece: &str, after: &str) -> bool
-    ensures { result ≡ is_piece (chars piece.now) (chars after.now) }
-{
-    is_end(piece, after) && is_shaped(piece)
 }

@@ -5,7 +5,7 @@ use Rattle.phone_matches.proofs.Same.{not_true}
 use Rattle.phone_matches.specs.Leniencies
 use Rattle.phone_matches.specs.Leniencies.{Suffices, is_possible}
 use Rattle.phone_matches.specs.Marks.{HasGoodMarks}
-use Rattle.phone_matches.specs.Prefixes.{has_prefix}
+use Rattle.phone_prefixed.specs.Prefixes.{has_prefix}
 use Rattle.phone_matches.specs.declared.leniency.Leniency.{Leniency}
 use Rattle.phone_matches.specs.declared.leniency.Leniency.TheVariants.{Possible, Valid}
 use Rattle.phone_records.specs.declared.loader.Metadata.{Metadata}

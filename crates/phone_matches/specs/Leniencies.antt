@@ -3,7 +3,7 @@ use Rattle.std.specs.Prelude.{◌≡◌, ℕ, Bool, true, false, List}
 use Rattle.phone_library.specs.Facts.{is_valid_number}
 use Rattle.phone_matches_text.specs.Neighbours.{stands_free}
 use Rattle.phone_matches.specs.Marks.{HasGoodMarks}
-use Rattle.phone_matches.specs.Prefixes.{has_prefix}
+use Rattle.phone_prefixed.specs.Prefixes.{has_prefix}
 use Rattle.phone_matches.specs.declared.leniency.Leniency.{Leniency}
 use Rattle.phone_matches.specs.declared.leniency.Leniency.TheVariants.{Possible, Valid}
 use Rattle.phone_questions.specs.Possible.{possibility_as}

@@ -2,4 +2,3 @@ pub mod Leniencies
 pub mod Marks
 pub mod Numbers
 pub mod Orders
-pub mod Prefixes

@@ -4,14 +4,14 @@ ghost use Rattle.phone_library.specs.Facts.{is_valid_number};
 ghost use Rattle.phone_matches.specs.Leniencies.{Suffices, is_free, is_possible};
 ghost use Rattle.phone_matches.specs.Leniencies.{is_possible_count};
 ghost use Rattle.phone_matches.specs.Marks.{HasGoodMarks};
-ghost use Rattle.phone_matches.specs.Prefixes.{has_prefix};
+ghost use Rattle.phone_prefixed.specs.Prefixes.{has_prefix};
 ghost use Rattle.phone_matches.specs.declared.leniency.Leniency.TheVariants as leniency;
 
 use crate::marks::has_good_marks;
-use crate::prefixes::has_prefix;
 use phone_library::is_valid;
 use phone_matches_text::stands_free;
 use phone_plans::Plans;
+use phone_prefixed::has_prefix;
 use phone_questions::possibility_as;
 use phone_values::{Type, Validation};
 use phonenumber::PhoneNumber;

@@ -6,7 +6,6 @@ pub mod laws;
 mod leniency;
 mod marks;
 mod numbers;
-mod prefixes;
 
 pub use leniency::Leniency;
 pub use numbers::{find_matches, find_matches_within};

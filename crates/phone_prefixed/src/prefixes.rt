@@ -4,12 +4,12 @@ ghost use Rattle.std.specs.List.{find, list_any};
 ghost use Rattle.std.specs.Option.{option_copied, option_map_or};
 ghost use Rattle.phone_library.specs.Kinds.{matches_whole};
 ghost use Rattle.phone_library.specs.Stripping.{left_by_match, left_by_pattern, left_by_prefix};
-ghost use Rattle.phone_matches.specs.Prefixes.{asked, is_bare};
+ghost use Rattle.phone_prefixed.specs.Prefixes.{asked, is_bare};
 ghost use Rattle.phone_plans.specs.CodeLookUps.{first_of, territories};
 ghost use Rattle.phone_questions.specs.Letters.{digits_only};
-ghost use Rattle.phone_matches.specs.Prefixes.{begins_prefixed, fits, has_prefix, is_kept};
-ghost use Rattle.phone_matches.specs.Prefixes.{is_prefixed, is_prefixing, wants_prefix};
-ghost use Rattle.phone_matches.specs.Prefixes.{writes_prefix};
+ghost use Rattle.phone_prefixed.specs.Prefixes.{begins_prefixed, fits, has_prefix, is_kept};
+ghost use Rattle.phone_prefixed.specs.Prefixes.{is_prefixed, is_prefixing, wants_prefix};
+ghost use Rattle.phone_prefixed.specs.Prefixes.{writes_prefix};
 ghost use Rattle.phone_territory.specs.First.{AreCuts};
 ghost use Rattle.phone_values.specs.Numbers.{text_of};
 ghost use Rattle.phone_parts.specs.Texts.{is_front, without_front};
@@ -33,8 +33,12 @@ fn fits(layout: &Format, digits: &str) -> Result<bool, AllocError>
     layout.whole_pattern().is_whole_match(digits)
 }
 
-/// The first of these layouts that is that of digits. Refused only for memory.
-fn first_fitting<'a>(layouts: &'a [Format], digits: &str) -> Result<Option<&'a Format>, AllocError>
+/// The first of these layouts that is that of digits: its last leading pattern matches at their
+/// front, or it has none, and its pattern matches them as a whole. Refused only for memory.
+pub fn first_fitting<'a>(
+    layouts: &'a [Format],
+    digits: &str,
+) -> Result<Option<&'a Format>, AllocError>
     ensures { IfOk result (λ f. option_copied f ≡ find (fits digits.now) layouts.entry.now) }
 {
     for layout in layouts {
@@ -206,9 +210,10 @@ fn asked<'d>(db: &'d Plans, number: &PhoneNumber) -> Option<&'d Territory>
     }
 }
 
-/// Whether a number that is read from a text has the national prefix that it should have. Refused
-/// only for memory.
-pub(crate) fn has_prefix(db: &Plans, number: &PhoneNumber, text: &str) -> Result<bool, AllocError>
+/// Whether a number that is read from a text has the national prefix that it should have: where its
+/// calling code is the hint's own, and its main territory writes a prefix before such numbers, the
+/// text's digits begin with it. Refused only for memory.
+pub fn has_prefix(db: &Plans, number: &PhoneNumber, text: &str) -> Result<bool, AllocError>
     ensures { IfOk result (λ b. b ≡ has_prefix db.now number.now (chars text.now)) }
 {
     let Some(m) = asked(db, number) else {
