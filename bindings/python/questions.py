@@ -16,7 +16,7 @@ ROWS = TOP / "crates" / "replay" / "data" / "questions.tsv"
 # The questions that are answered in Rattle alone.
 LEFT = {
     "mobile", "original", "by-layouts", "short-example", "short-example-cost", "short-sms", "example-code",
-    "example-invalid",
+    "example-invalid", "example-any",
 }
 
 # The escapes of rows: of characters, of a tab, of a line feed, of a backslash.
