@@ -27,9 +27,9 @@ areas =
 -- nor behind a calling code that a plus sign or two zeros lead
 unfoldable pub codes_before : List (List ℕ)
 codes_before =
-    codes "-9+^" ∷ codes "-900!^" ∷ codes "--9+^" ∷ codes "--900!^" ∷ codes "-99+^" ∷
-    codes "-9900!^" ∷ codes "--99+^" ∷ codes "--9900!^" ∷ codes "-999+^" ∷ codes "-99900!^" ∷
-    codes "--999+^" ∷ codes "--99900!^" ∷ []
+    codes "-9+^" ∷ codes "-500!^" ∷ codes "--9+^" ∷ codes "--500!^" ∷ codes "-99+^" ∷
+    codes "-9500!^" ∷ codes "--99+^" ∷ codes "--9500!^" ∷ codes "-999+^" ∷ codes "-99500!^" ∷
+    codes "--999+^" ∷ codes "--99500!^" ∷ []
 
 -- nor behind what begins an account number: two capital letters, two digits, groups of four
 unfoldable pub accounts : List (List ℕ)

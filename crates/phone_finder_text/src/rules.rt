@@ -65,17 +65,17 @@ pub(crate) fn areas() -> &'static [&'static str]
 /// Nor behind a calling code that a plus sign or two zeros lead.
 const CODES_BEFORE: [&str; 12] = [
     "-9+^",
-    "-900!^",
+    "-500!^",
     "--9+^",
-    "--900!^",
+    "--500!^",
     "-99+^",
-    "-9900!^",
+    "-9500!^",
     "--99+^",
-    "--9900!^",
+    "--9500!^",
     "-999+^",
-    "-99900!^",
+    "-99500!^",
     "--999+^",
-    "--99900!^",
+    "--99500!^",
 ];
 
 /// These rules.
