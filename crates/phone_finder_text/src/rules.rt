@@ -118,9 +118,9 @@ pub(crate) fn cards() -> &'static [&'static str]
 }
 
 /// A number doesn't end before a digit; money, or a currency's letters; what joins digits and a
-/// digit; cents; a slash and a digit; what announces an extension and a digit; behind the first of
-/// two coordinates.
-const FOLLOWERS: [&str; 15] = [
+/// digit; cents; a slash and digits, but where these are a short first group; what announces an
+/// extension and a digit; behind the first of two coordinates.
+const FOLLOWERS: [&str; 19] = [
     "^9",
     "^$",
     "^_$",
@@ -129,7 +129,11 @@ const FOLLOWERS: [&str; 15] = [
     "^&9",
     "^&&9",
     "^,99!",
-    "^/9",
+    "^/9?",
+    "^/99?",
+    "^/999?",
+    "^/9999?",
+    "^/99999",
     "^x9",
     "^_x9",
     "^#9",
