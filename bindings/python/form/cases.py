@@ -68,7 +68,7 @@ LANGUAGES = [
 
 # Region, text, what stands on the page that is sent.
 SENT = [
-    ("NZ", "03 331 6005", ["<dd>+6433316005</dd>", "<dd>fixed line</dd>", "<dd>NZ</dd>", '<option value="NZ" selected>']),
+    ("NZ", "03 331 6005", ["<dd>+6433316005</dd>", "<dd>fixed line</dd>", "<dd>NZ</dd>", 'value="NZ" selected>']),
     ("", "+44 7912 345678", ["<dd>+447912345678</dd>", "<dd>mobile</dd>", "<dd>GB</dd>", 'role="status"></p>']),
     ("NZ", "call me", ['role="status">not a number</p>', 'value="call me"']),
     ("NZ", " ", ['role="status">a number is wanted</p>']),
