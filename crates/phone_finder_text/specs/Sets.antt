@@ -49,8 +49,8 @@ abbrev pub is_capital : ℕ → Bool
 is_capital c = nat_le 65 c && nat_le c 90
 
 -- the signs that stand for a set of one kind of character: `9` a digit, `3` one but `4` to `9`, `5`
--- one but `0`, `_` a space, `$` money, `+` a plus sign, `<` an opening bracket, `>` a closing one, `|` what parts a
--- date; each other character stands for itself, whatever its case
+-- one but `0`, `_` a space, `$` money, `+` a plus sign, `<` an opening bracket, `>` a closing one,
+-- `|` what parts a date; each other character stands for itself, whatever its case
 unfoldable pub stands_plainly : (sign c : ℕ) → Bool
 stands_plainly sign c =
     if sign == 57 then is_nd c
