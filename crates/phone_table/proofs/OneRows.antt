@@ -67,5 +67,5 @@ module _ (rules : Rules) (db : List Metadata) where
         let read = field_in fields columns.number in
         let under = hint_same db hint columns asked fields u v by by' in
         let same = own_same v n k own own' (subst (λ x. IsOwnAnswer rules db columns asked fields x n own) under is) is' in
-        e ∙ ap₂ (λ x y. x ++ y) (all_told_same v read k asked.extra.now told told' one
+        e ∙ ap₂ (λ x y. x ++ y) (all_told_same rules db v read k asked.extra.now told told' one
         (subst (λ x. AreTold rules db v read x asked.extra.now told) same.0 (subst (λ x. AreTold rules db x read n asked.extra.now told) under are)) are') same.1 ∙ sym f

@@ -34,7 +34,7 @@ module _ (rules : Rules) (db : List Metadata) where
         IsOwnAnswer rules db columns asked fields under n own →
         (answer : Record) × IsAnswer rules db hint columns asked fields answer
     with_told under by n own is =
-        let t = all_told under (field_in fields columns.number) n asked.extra.now others in
+        let t = all_told rules db under (field_in fields columns.number) n asked.extra.now others in
         (t.0 ++ own, (n, (under, t.0, own, by, is, t.1, refl)))
 
     -- a record of other width is marked, or isn't answered
