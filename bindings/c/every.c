@@ -174,6 +174,8 @@ int main(void) {
     VALUE("phone_version", PHONE_OK, phone_version() == PHONE_VERSION);
     text("phone_table_version", phone_table_version(out, sizeof out, &wrote) == PHONE_OK ? (wrote = 14, PHONE_OK) : 99);
     VALUE("phone_world_text", PHONE_OK, len > 100000 && table[0] == '[');
+    VALUE("phone_open_newest", phone_open_newest(&second, PHONE_LIBRARY, TEXT(""), out, sizeof out, &wrote), wrote > 14);
+    phone_close(&second);
     VALUE("phone_open_world", phone_open_world(&world, PHONE_LIBRARY), 0);
     VALUE("phone_share", phone_share(&world, &mine), 0);
     of_number(&world);

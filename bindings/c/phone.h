@@ -306,6 +306,17 @@ phone_status phone_open_world(phone_handle *handle, uint32_t rules);
  * its length. It is C, and takes no memory. */
 const uint8_t *phone_world_text(size_t *text_len);
 
+/* Opens the newest database of all regions that is here, to be asked by these rules: that of the file
+ * world.compact in a folder, where the file VERSION beside it names a later version than
+ * phone_table_version does, and phone_open takes it; else the one in the library. Writes the version of
+ * the one that it took to the front of `out`, and its length to `wrote`. The folder is a path; length 0
+ * means the folder that the environment variable PHONE_TABLES names, or where there is no such variable,
+ * share/phonenumber-proved of the prefix that the library is installed under. PHONE_OK, PHONE_NO_RULES,
+ * PHONE_TOO_SMALL as phone_report has it, PHONE_MEMORY. For each but PHONE_OK the handle is closed. It is
+ * C over the two calls, and loads files. */
+phone_status phone_open_newest(phone_handle *handle, uint32_t rules, const uint8_t *folder, size_t folder_len,
+    uint8_t *out, size_t out_len, size_t *wrote);
+
 /* Opens behind `mine` the database that is open behind `world`, to be asked by the same rules: a second
  * handle on one database, for a part of a program that closes it when it likes, say. It takes a few
  * bytes and copies no database. The handles are two variables. What `mine` had open is closed first,

@@ -136,6 +136,7 @@ def _declare(lib: Library) -> None:
         "open": [u32, text, size, u32, handle],
         "open_world": [u32, handle, u32],
         "world_text": [address, pointer(size)],
+        "open_newest": [u32, handle, u32, text, size, text, size, pointer(size)],
         "share": [u32, handle, handle],
         "share_by": [u32, handle, u32, handle],
         "close": [None, handle],

@@ -119,6 +119,15 @@ unsafe extern "C" {
     pub fn phone_open(text: *const u8, text_len: usize, rules: u32, handle: *mut Handle) -> u32;
     pub fn phone_open_world(handle: *mut Handle, rules: u32) -> u32;
     pub fn phone_world_text(text_len: *mut usize) -> *const u8;
+    pub fn phone_open_newest(
+        handle: *mut Handle,
+        rules: u32,
+        folder: *const u8,
+        folder_len: usize,
+        out: *mut u8,
+        out_len: usize,
+        wrote: *mut usize,
+    ) -> u32;
     pub fn phone_share(world: *mut Handle, mine: *mut Handle) -> u32;
     pub fn phone_share_by(world: *mut Handle, rules: u32, mine: *mut Handle) -> u32;
     pub fn phone_close(handle: *mut Handle);
