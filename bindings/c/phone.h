@@ -73,7 +73,7 @@ enum {
     PHONE_NO_PREFIX = 30,            /* phone_prefixes_longest: no prefix begins the digits */
     PHONE_NO_KIND = 31,              /* the kind is none of the 17 */
     PHONE_NO_EXAMPLE = 32,           /* the table has no example of the region and kind */
-    PHONE_NO_WORD = 33,              /* phone_word: no value of the set has the number; no status has it */
+    PHONE_NO_WORD = 33,              /* no value of the set has the number; no status, no cost has it */
     PHONE_NO_TERRITORY = 34,         /* the table has no territory of the region */
     PHONE_NO_LENIENCY = 35,          /* the leniency is neither of the two */
     PHONE_NO_COLUMN = 36,            /* phone_columns: no column has one of the numbers */
@@ -625,6 +625,109 @@ uint32_t phone_version(void);
  * the front of `out`, and its length to `wrote`; a caller may open another table. It needs no database
  * and takes no memory. PHONE_OK, or PHONE_TOO_SMALL as phone_report has it. */
 phone_status phone_table_version(uint8_t *out, size_t out_len, size_t *wrote);
+
+/* How a number is written so that it can be dialled, or as it was written, and what it is as a short number
+ * where its region isn't told: by libphonenumber's rules, whatever those of the handle. `raw` is the text that
+ * the number was read from, of which it keeps nothing, and has no byte where it isn't known. `number` and
+ * `bytes` are as phone_format takes them. */
+
+/* Writes the text of a number in a mode, as phone_format does: but `raw` stands for a number whose value is 0,
+ * and one whose calling code the table lacks is written in E.164, or as its digits in the other modes.
+ * PHONE_IS_CLOSED exactly where nothing is open, else PHONE_NO_MODE exactly where the mode is above 3, else
+ * PHONE_NOT_UTF8 exactly where `raw` isn't UTF-8, else PHONE_BAD_NUMBER as phone_format has it;
+ * PHONE_TOO_SMALL, PHONE_MEMORY. */
+phone_status phone_format_read(phone_handle *handle, uint32_t mode, const uint8_t *raw, size_t raw_len,
+                               const phone_number *number, const uint8_t *bytes, size_t bytes_len,
+                               uint8_t *out, size_t out_len, size_t *wrote);
+
+/* Writes what a mobile phone dials to reach a number where a region's id is `id`, or "001" for the whole
+ * world: without its extension; no byte where the number can't be dialled there. Where `with_symbols` is 0
+ * only digits from 0 to 9, plus signs, stars and number signs are written. PHONE_IS_CLOSED exactly where
+ * nothing is open, else PHONE_NOT_UTF8 exactly where `id` or `raw` isn't UTF-8, else PHONE_BAD_NUMBER as
+ * phone_format has it; PHONE_TOO_SMALL, PHONE_MEMORY. */
+phone_status phone_mobile_text(phone_handle *handle, const uint8_t *id, size_t id_len, uint8_t with_symbols,
+                               const uint8_t *raw, size_t raw_len, const phone_number *number,
+                               const uint8_t *bytes, size_t bytes_len, uint8_t *out, size_t out_len,
+                               size_t *wrote);
+
+/* Writes how a number is dialled from a region; from none, where the region has no byte, and from one that the
+ * table lacks, as international text. Between regions of the code 1 a "1 " stands in front of its national
+ * text, which phone_dialled_from leaves out. PHONE_IS_CLOSED exactly where nothing is open, else
+ * PHONE_NO_REGION exactly where the region has a byte and is no region's id, else PHONE_NOT_UTF8 exactly where
+ * `raw` isn't UTF-8, else PHONE_BAD_NUMBER as phone_format has it; PHONE_TOO_SMALL, PHONE_MEMORY. */
+phone_status phone_text_from(phone_handle *handle, const uint8_t *region, size_t region_len,
+                             const uint8_t *raw, size_t raw_len, const phone_number *number,
+                             const uint8_t *bytes, size_t bytes_len, uint8_t *out, size_t out_len,
+                             size_t *wrote);
+
+/* Writes a number in the way in which `raw` was written, of which no digit is lost and to which none is added;
+ * without it, as national text. The region is where the number would be dialled from. How the calling code was
+ * found counts: the number is that of phone_parse. Its statuses are those of phone_text_from. */
+phone_status phone_original_text(phone_handle *handle, const uint8_t *region, size_t region_len,
+                                 const uint8_t *raw, size_t raw_len, const phone_number *number,
+                                 const uint8_t *bytes, size_t bytes_len, uint8_t *out, size_t out_len,
+                                 size_t *wrote);
+
+/* Writes the text of a number in a mode by layouts of the caller's: those of the record "001" of the table
+ * behind `layouts`, of which the first counts that suits the digits. phone_open reads such a table, as
+ *   [{"id": "001", "country_code": 1, "general": {"national_number": "1"}, "formats":
+ *     [{"pattern": "(\\d)(\\d+)", "format": "$1 $2", "national_prefix_formatting_rule": "($NP$FG)"}]}]
+ * PHONE_IS_CLOSED exactly where nothing is open behind one of the handles, which are two, else PHONE_NO_MODE
+ * exactly where the mode is above 3, else PHONE_BAD_NUMBER as phone_format has it; PHONE_TOO_SMALL,
+ * PHONE_MEMORY. */
+phone_status phone_format_by(phone_handle *handle, phone_handle *layouts, uint32_t mode,
+                             const phone_number *number, const uint8_t *bytes, size_t bytes_len,
+                             uint8_t *out, size_t out_len, size_t *wrote);
+
+/* What is known of a number as a short number of the regions of its calling code. Each but the cost is 1,
+ * else 0. */
+typedef struct {
+    uint32_t cost;               /* PHONE_COST_PREMIUM_RATE, .._UNKNOWN, .._STANDARD_RATE, .._TOLL_FREE: the
+                                  * first that it costs in one of them */
+    uint8_t is_possible;         /* the count of its digits is possible in one */
+    uint8_t is_valid;            /* it is a short number of one */
+    uint8_t is_carrier_specific; /* only some carriers connect it in the first whose short number it is */
+} phone_facts_anywhere;
+
+/* Tells what is known of a number as a short number, where its region isn't told. `shorts` is a second handle,
+ * opened on a table of short numbers. Its texts are not looked at. PHONE_IS_CLOSED exactly where nothing is
+ * open behind one of the handles, else PHONE_BAD_NUMBER as phone_kind has it; PHONE_MEMORY. For each but
+ * PHONE_OK `facts` is as it was. */
+phone_status phone_short_anywhere(phone_handle *handle, phone_handle *shorts, const phone_number *number,
+                                  phone_facts_anywhere *facts);
+
+/* Any cost, of phone_short_example. */
+enum { PHONE_COST_ANY = 4 };
+
+/* Writes the example of a region's short numbers of a cost, PHONE_COST_TOLL_FREE .., PHONE_COST_ANY. The
+ * handle is one that was opened on a table of short numbers. PHONE_IS_CLOSED exactly where nothing is open,
+ * else PHONE_NO_REGION exactly where the region is no region's id, else PHONE_NO_WORD exactly where the cost is
+ * above 4, else PHONE_NO_EXAMPLE exactly where the table gives none, as of PHONE_COST_UNKNOWN;
+ * PHONE_TOO_SMALL. It takes no memory. */
+phone_status phone_short_example(phone_handle *handle, const uint8_t *region, size_t region_len,
+                                 uint32_t cost, uint8_t *out, size_t out_len, size_t *wrote);
+
+/* Tells whether a number is an SMS service of a region, a short number that messages are sent to: 1, else 0.
+ * `services` is a second handle, opened on a table of these services (data/sms.json is one). Its texts are not
+ * looked at. PHONE_IS_CLOSED exactly where nothing is open behind one of the handles, else PHONE_NO_REGION
+ * exactly where the region is no region's id, else PHONE_BAD_NUMBER as phone_kind has it; PHONE_MEMORY. For
+ * each but PHONE_OK `told` is as it was. */
+phone_status phone_is_sms_service(phone_handle *handle, phone_handle *services, const uint8_t *region,
+                                  size_t region_len, const phone_number *number, uint8_t *told);
+
+/* Writes the example of a calling code that serves no region, as 800, as phone_parse writes a number, by
+ * libphonenumber's rules, whatever those of the handle. PHONE_IS_CLOSED exactly where nothing is open;
+ * PHONE_NO_EXAMPLE only where the code serves a region, isn't listed or has no example; 1 to 6: why the example
+ * is no number; PHONE_TOO_SMALL, PHONE_MEMORY. */
+phone_status phone_example_of_code(phone_handle *handle, uint16_t code, phone_number *number, uint8_t *out,
+                                   size_t out_len, size_t *wrote);
+
+/* Writes a number of a region that isn't valid, as phone_parse writes a number, by the same rules: the first that
+ * is read of the example of its fixed lines without its last digit, its last two and so on. PHONE_IS_CLOSED
+ * exactly where nothing is open, else PHONE_NO_REGION exactly where the region is no region's id;
+ * PHONE_NO_EXAMPLE only where there is no such number; PHONE_TOO_SMALL, PHONE_MEMORY. */
+phone_status phone_invalid_example(phone_handle *handle, const uint8_t *region, size_t region_len,
+                                   phone_number *number, uint8_t *out, size_t out_len, size_t *wrote);
 
 #ifdef __cplusplus
 }

@@ -25,6 +25,9 @@ _BESIDE = Path(TABLE).parent if TABLE else _DATA
 #: The table of short numbers; that beside the table of the world.
 SHORT_TABLE = str(_BESIDE / "short.json")
 
+#: That of SMS services, short numbers that messages are sent to.
+SMS_TABLE = str(_BESIDE / "sms.json")
+
 #: The tables of prefixes beside it, for `Prefixes.load`: the time zones, parted by `&`, and the
 #: English names of carriers.
 TIME_ZONES_TABLE = str(_BESIDE / "timezones.tsv")
