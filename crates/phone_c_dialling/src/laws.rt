@@ -1,8 +1,10 @@
 //! What a call says is said of one answer alone. These functions do nothing; their contracts are
 //! the statements.
 ghost use Rattle.std.specs.Prelude.{◌≡◌, ℕ, List, Option};
+ghost use Rattle.phone_values.specs.declared.reading.Reading.{Reading};
 ghost use Rattle.phone_records.specs.declared.loader.Metadata as loader;
 ghost use Rattle.phone_c_base.specs.declared.number.Number as plain;
+ghost use Rattle.phone_c_dialling.specs.Examples.{IsOfCode};
 ghost use Rattle.phone_c_dialling.specs.Formats.{IsMobileText, IsTextAsWritten, IsTextFrom};
 ghost use Rattle.phone_c_dialling.specs.Formats.{IsTextIn};
 ghost use Rattle.phone_c_dialling.specs.Layouts.{IsTextBy};
@@ -12,7 +14,8 @@ ghost use Rattle.phone_c_dialling.specs.declared.short.FactsAnywhere.{FactsAnywh
 
 /// A number has one text in a mode; it is dialled in one way on a mobile phone, and in one from a
 /// region; by layouts it has one text; one thing is known of it as a short number; a region has one
-/// example of a cost; and a number is an SMS service of it or isn't.
+/// example of a cost; a number is an SMS service of it or isn't; and a calling code that serves no
+/// region has one example.
 pub fn one_answer()
     ensures text { (db : List loader.Metadata) (mode : ℕ) (raw : List ℕ) (x : plain.Number)
         (bytes t u : List ℕ) → IsTextIn db mode raw x bytes t → IsTextIn db mode raw x bytes u →
@@ -35,6 +38,8 @@ pub fn one_answer()
         t ≡ u }
     ensures service { (db sms : List loader.Metadata) (region : List ℕ) (x : plain.Number)
         (a b : ℕ) → IsServiceOf db sms region x a → IsServiceOf db sms region x b → a ≡ b }
+    ensures of_code { (db : List loader.Metadata) (code : ℕ) (m n : Reading) →
+        IsOfCode db code m → IsOfCode db code n → m ≡ n }
 {}
 
 /// A number that was read from a text is printed in one way as that was written.

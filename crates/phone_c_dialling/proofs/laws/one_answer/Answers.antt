@@ -1,4 +1,5 @@
 use Rattle.phone_c_dialling.proofs.OneAnswers
+use Rattle.phone_c_dialling.proofs.OneExamples
 use Rattle.phone_c_dialling.proofs.laws.one_answer.Goals as goal
 
 pub returns-clause-text : goal.returns-clause-text
@@ -21,3 +22,6 @@ returns-clause-example c = OneAnswers.one_example
 
 pub returns-clause-service : goal.returns-clause-service
 returns-clause-service c = OneAnswers.one_service
+
+pub returns-clause-of_code : goal.returns-clause-of_code
+returns-clause-of_code c = OneExamples.one_of_code
