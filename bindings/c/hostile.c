@@ -532,7 +532,8 @@ static int dialling(void) {
     CHECK(1820, phone_original_text(&h, B("xx"), B("\xff"), &bad, B(""), out, 9, &wrote) == PHONE_NO_REGION);
     CHECK(1821, phone_original_text(&h, B("NZ"), B("\xff"), &bad, B(""), out, 9, &wrote) == PHONE_NOT_UTF8);
     CHECK(1822, phone_original_text(&h, B("NZ"), B(""), &bad, B(""), out, 9, &wrote) == PHONE_BAD_NUMBER && is_untouched(0));
-    CHECK(1823, phone_mobile_text(&h, B("US"), 0, B(""), &n, B(""), out, 9, &wrote) == PHONE_OK && is_untouched(wrote));
+    CHECK(1823, phone_mobile_text(&h, B("US"), 0, B(""), &n, B(""), out, 10, &wrote) == PHONE_OK && is_untouched(wrote)
+        && !memcmp(out, "+642345678", 10));
     fill();
     CHECK(1824, phone_original_text(&h, B(""), B("call me"), &n, B(""), out, 9, &wrote) == PHONE_OK && wrote == 7
         && !memcmp(out, "call me", 7) && is_untouched(7));
@@ -562,8 +563,8 @@ static int dialling(void) {
     phone_close(&h);
     CHECK(1844, phone_example_of_code(&h, 800, &bad, out, 9, &wrote) == PHONE_IS_CLOSED && wrote == 0);
     CHECK(1845, phone_invalid_example(&h, B("xx"), &bad, out, 9, &wrote) == PHONE_IS_CLOSED && wrote == 0);
-    CHECK(1846, phone_is_sms_service(&h, &own, B("xx"), &bad, &flag) == PHONE_IS_CLOSED && flag == 1);
-    CHECK(1847, phone_is_sms_service(&own, &h, B("xx"), &bad, &flag) == PHONE_IS_CLOSED && flag == 1);
+    CHECK(1846, phone_is_sms_service(&h, &own, B("xx"), &bad, &flag) == PHONE_IS_CLOSED && flag == 0);
+    CHECK(1847, phone_is_sms_service(&own, &h, B("xx"), &bad, &flag) == PHONE_IS_CLOSED && flag == 0);
     phone_close(&own);
     CHECK(1848, blocks == 0);
     return 0;
