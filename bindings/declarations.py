@@ -23,7 +23,7 @@ PYTHON = BINDINGS / "python" / "phonenumber_proved" / "_calls.py"
 STRUCTS = {
     "Handle": "handle", "PrefixTable": "prefixes", "Prefixes": "prefixes", "PrefixesHandle": "prefixes", "Part": "part", "Number": "number",
     "PlainFacts": "short_facts", "ShortFacts": "short_facts", "Facts": "short_facts", "Place": "place",
-    "RegionFacts": "region_facts", "NumberFacts": "number_facts",
+    "RegionFacts": "region_facts", "NumberFacts": "number_facts", "FactsAnywhere": "facts_anywhere",
     "Layout": "texts", "Texts": "texts", "Narrow": "narrow_texts", "NarrowTexts": "narrow_texts",
 }
 # What the names of a set's values begin with in phone.h.

@@ -7,7 +7,10 @@
 static const char SHORT[] =
     "[{\"id\": \"NZ\", \"country_code\": 64, \"general\": {\"national_number\": \"1\\\\d\\\\d\", \"possible_length\": [3]}, "
     "\"emergency\": {\"national_number\": \"111\", \"possible_length\": [3]}, "
-    "\"short_code\": {\"national_number\": \"1\\\\d\\\\d\", \"possible_length\": [3]}}]";
+    "\"short_code\": {\"national_number\": \"1\\\\d\\\\d\", \"possible_length\": [3], \"example\": \"111\"}}]";
+static const char LAYOUTS[] =
+    "[{\"id\": \"001\", \"country_code\": 1, \"general\": {\"national_number\": \"1\"}, "
+    "\"formats\": [{\"pattern\": \"(\\\\d)(\\\\d+)\", \"format\": \"$1 $2\", \"national_prefix_formatting_rule\": \"($NP$FG)\"}]}]";
 static uint8_t out[256];
 static size_t wrote;
 
@@ -146,6 +149,33 @@ static void of_questions(phone_handle *world) {
     VALUE("phone_has_letters", phone_has_letters(TEXT("1-800-FLOWERS"), &flag), flag);
 }
 
+/* How a number is dialled, and what it is as a short number. */
+static void of_dialling(phone_handle *world) {
+    const char *line = "03-331-6005";
+    uint8_t texts[64], flag = 9;
+    size_t len = 0;
+    phone_handle layouts = PHONE_CLOSED, shorts = PHONE_CLOSED;
+    phone_facts_anywhere facts = {9, 9, 9, 9};
+    phone_number number = number_of(world, "phone_parse", line, texts, &len);
+    text("phone_format_read",
+         phone_format_read(world, PHONE_MODE_NATIONAL, TEXT(line), &number, texts, len, out, sizeof out, &wrote));
+    text("phone_mobile_text", phone_mobile_text(world, TEXT("US"), 0, TEXT(line), &number, texts, len, out, sizeof out, &wrote));
+    text("phone_text_from", phone_text_from(world, TEXT("UA"), TEXT(line), &number, texts, len, out, sizeof out, &wrote));
+    text("phone_original_text", phone_original_text(world, TEXT("NZ"), TEXT(line), &number, texts, len, out, sizeof out, &wrote));
+    VALUE("phone_open", phone_open(TEXT(LAYOUTS), PHONE_LIBRARY, &layouts), 0);
+    text("phone_format_by", phone_format_by(world, &layouts, PHONE_MODE_NATIONAL, &number, texts, len, out, sizeof out, &wrote));
+    VALUE("phone_open", phone_open(TEXT(SHORT), PHONE_LIBRARY, &shorts), 0);
+    number.value = 111;
+    VALUE("phone_short_anywhere", phone_short_anywhere(world, &shorts, &number, &facts), facts.cost);
+    printf("%u%u%u\n", facts.is_possible, facts.is_valid, facts.is_carrier_specific);
+    text("phone_short_example", phone_short_example(&shorts, TEXT("NZ"), PHONE_COST_ANY, out, sizeof out, &wrote));
+    VALUE("phone_is_sms_service", phone_is_sms_service(world, &shorts, TEXT("NZ"), &number, &flag), flag);
+    VALUE("phone_example_of_code", phone_example_of_code(world, 800, &number, texts, sizeof texts, &len), number.value);
+    VALUE("phone_invalid_example", phone_invalid_example(world, TEXT("NZ"), &number, texts, sizeof texts, &len), number.value);
+    phone_close(&layouts);
+    phone_close(&shorts);
+}
+
 /* The calls of tables of their own. */
 static void of_tables(void) {
     phone_handle numbers = PHONE_CLOSED;
@@ -186,6 +216,7 @@ int main(void) {
     of_more(&mine);
     of_columns(&mine);
     of_questions(&mine);
+    of_dialling(&mine);
     phone_close(&mine);
     of_tables();
     return 0;

@@ -162,6 +162,41 @@ def regions_are_told():
     check("dialled", dialled, ["1 (650) 253-0000", "00 1 650-253-0000", "1 (650) 253-0000", "+1 650-253-0000"])
 
 
+# Region, text: the region where it is dialled, and how it is printed as it was written.
+ORIGINALS = [
+    ("NZ", "3 331 6005", "NZ", "3 331 6005"), ("NZ", "03-331-6005", "NZ", "03 331 6005"), ("GB", "020 7946 0018 #5", "GB", "020 7946 0018 #5"),
+    (None, "+64 33316005", "NZ", "+64 3 331 6005"), ("NZ", "0064 33316005", "NZ", "0064 33316005"), ("US", "011 64 33316005", "US", "011 64 3 331 6005"),
+    ("NZ", "64 33316005", "NZ", "64 3 331 6005"),
+]
+
+# Region, text: the region where it is dialled on a mobile phone, whether with symbols, and what is dialled.
+MOBILES = [
+    ("BR", "0 31 21 2128 6979", "BR", False, "0312121286979"), ("BR", "21 2128 6979", "BR", True, ""), (None, "+61 1300 123456", "AU", True, "1300 123 456"),
+    (None, "+61 1300 123456", "CX", True, ""), (None, "+64 3 331 6005 ext. 5", "US", True, "+64 3 331 6005"), (None, "+64 3 331 6005", None, False, "+6433316005"),
+]
+
+
+def numbers_are_dialled():
+    for hint, text, region, wanted in ORIGINALS:
+        number = names.parse(text, hint, keep_raw_input=True)
+        check(text, names.format_in_original_format(number, region), wanted)
+    check("no text", names.format_in_original_format(PhoneNumber(64, 33316005), "NZ"), "03 331 6005")
+    for hint, text, region, symbols, wanted in MOBILES:
+        number = names.parse(text, hint, keep_raw_input=True)
+        check(text, names.format_number_for_mobile_dialing(number, region, symbols), wanted)
+    own = names.NumberFormat(pattern=r"(\d)(\d+)", format=r"\1 \2", national_prefix_formatting_rule="($NP$FG)")
+    told = [names.format_by_pattern(PhoneNumber(64, 33316005), it, [own]) for it in range(4)]
+    check("layouts", told, ["+643 3316005", "+64 3 3316005", "(03) 3316005", "tel:+64-3-3316005"])
+    check("layouts", names.format_by_pattern(PhoneNumber(999, 33316005), PhoneNumberFormat.NATIONAL, [own]), "33316005")
+    zeros = names.parse("000", "IT", keep_raw_input=True)
+    check("zeros", [names.format_number(zeros, it) for it in range(4)], ["+39000", "000", "000", "000"])
+    short, of = names.shortnumberinfo, PhoneNumber(1, 911)
+    told = names.is_possible_short_number(of), names.is_valid_short_number(of), names.expected_cost(of), names.is_carrier_specific(of)
+    check("911", told, (True, True, names.ShortNumberCost.UNKNOWN_COST, False))
+    told = short._example_short_number("FR"), short._example_short_number("XX"), short._example_short_number_for_cost("FR", 3)
+    check("examples", told, ("15", "", ""))
+
+
 # Number: what `truncate_too_long_number` answers, and what it leaves.
 TRUNCATED = [((64, 333160059), True, 33316005), ((64, 33316005), True, 33316005), ((64, 12), False, 12), ((999, 12), False, 12)]
 
@@ -286,13 +321,13 @@ def readme():
 
 def main():
     for case in (numbers_are_read, numbers_are_told, numbers_are_compared_and_found, regions_are_told, short_numbers_are_told,
-                 further_questions_are_answered, numbers_are_data, numbers_have_classes_made_of_them, package_is_installed,
+                 numbers_are_dialled, further_questions_are_answered, numbers_are_data, numbers_have_classes_made_of_them, package_is_installed,
                  records_are_told, readme):
         case()
     missing = [name for name in names.__all__ if not hasattr(names, name)]
     check("names", missing, [])
-    told = [doctest.testmod(sys.modules[it]).failed for it in (names.__name__, names.is_number_match.__module__)]
-    check("docstrings", told, [0, 0])
+    told = [doctest.testmod(sys.modules[it]).failed for it in (names.__name__, names.is_number_match.__module__, names.format_number.__module__)]
+    check("docstrings", told, [0, 0, 0])
     print(f"names: {len(failed)} failed" if failed else "names: ok")
     return 1 if failed else 0
 

@@ -1,7 +1,7 @@
 """The further questions of libphonenumber over the package, by the rows of crates/replay/data/questions.tsv.
 
-tools/answers --as-libphonenumber answers them, but for those that the package has no call for, which are LEFT. The last line is
-`questions: ok`, with the count of rows; else a line tells each that is answered otherwise.
+tools/answers --as-libphonenumber answers them. The last line is `questions: ok`, with the count of rows; else a line tells each that is
+answered otherwise.
 """
 
 import re
@@ -12,12 +12,6 @@ from pathlib import Path
 
 TOP = Path(__file__).resolve().parents[2]
 ROWS = TOP / "crates" / "replay" / "data" / "questions.tsv"
-
-# The questions that are answered in Rattle alone.
-LEFT = {
-    "mobile", "original", "by-layouts", "short-example", "short-example-cost", "short-sms", "example-code",
-    "example-invalid",
-}
 
 # The escapes of rows: of characters, of a tab, of a line feed, of a backslash.
 ESCAPE = re.compile(r"\\(?:u([0-9A-Fa-f]{4})|U([0-9A-Fa-f]{8})|([tn\\]))")
@@ -30,7 +24,7 @@ def plain(text):
 
 def main():
     lines = [line.split("\t")[2:-1] for line in ROWS.read_text(encoding="utf-8").split("\n") if line.startswith("question\t")]
-    rows = [[plain(it) for it in line] for line in lines if line[0] not in LEFT]
+    rows = [[plain(it) for it in line] for line in lines]
     with tempfile.NamedTemporaryFile("w", encoding="utf-8", newline="\n", suffix=".tsv") as file:
         file.write("".join("\t".join(row) + "\n" for row in rows))
         file.flush()

@@ -20,6 +20,9 @@ VERSION = 3
 OK, MEMORY, IS_CLOSED, TOO_SMALL, NOT_UTF8, NO_REGION, UNKNOWN_CODE = 0, 7, 16, 17, 18, 19, 20
 NO_PREFIX, NO_EXAMPLE, NO_TERRITORY = 30, 32, 34
 
+#: Any cost, of an example of short numbers.
+COST_ANY = 4
+
 #: The errors of statuses that any call may give; 1 to 6 are those of a text that is no number.
 _ERRORS = {
     IS_CLOSED: Closed, NOT_UTF8: NoNumber, NO_REGION: UnknownRegion, UNKNOWN_CODE: UnknownCode,
@@ -97,6 +100,17 @@ class NumberFacts(ctypes.Structure):
     ]
 
 
+class FactsAnywhere(ctypes.Structure):
+    """What is known of a number as a short number of any region of its calling code."""
+
+    _fields_ = [
+        ("cost", ctypes.c_uint32),
+        ("is_possible", ctypes.c_uint8),
+        ("is_valid", ctypes.c_uint8),
+        ("is_carrier_specific", ctypes.c_uint8),
+    ]
+
+
 class Place(ctypes.Structure):
     """Where a number stands in a text, in bytes."""
 
@@ -130,6 +144,7 @@ def _declare(lib: Library) -> None:
     handle, prefixes, number = pointer(Handle), pointer(PrefixesHandle), pointer(Number)
     short_facts, place = pointer(Facts), pointer(Place)
     region_facts, number_facts = pointer(RegionFacts), pointer(NumberFacts)
+    facts_anywhere = pointer(FactsAnywhere)
     texts, narrow_texts = pointer(Texts), pointer(NarrowTexts)
     # Made by `bindings/declarations.py --write` of `phone.h`: edit that.
     calls: dict[str, list[Any]] = {
@@ -193,6 +208,24 @@ def _declare(lib: Library) -> None:
         "word": [u32, u32, u32, text, size, pointer(size)],
         "version": [u32],
         "table_version": [u32, text, size, pointer(size)],
+        "format_read": [
+            u32, handle, u32, text, size, number, text, size, text, size, pointer(size),
+        ],
+        "mobile_text": [
+            u32, handle, text, size, u8, text, size, number, text, size, text, size, pointer(size),
+        ],
+        "text_from": [
+            u32, handle, text, size, text, size, number, text, size, text, size, pointer(size),
+        ],
+        "original_text": [
+            u32, handle, text, size, text, size, number, text, size, text, size, pointer(size),
+        ],
+        "format_by": [u32, handle, handle, u32, number, text, size, text, size, pointer(size)],
+        "short_anywhere": [u32, handle, handle, number, facts_anywhere],
+        "short_example": [u32, handle, text, size, u32, text, size, pointer(size)],
+        "is_sms_service": [u32, handle, handle, text, size, number, pointer(u8)],
+        "example_of_code": [u32, handle, u16, number, text, size, pointer(size)],
+        "invalid_example": [u32, handle, text, size, number, text, size, pointer(size)],
     }
     for name, (answer, *arguments) in calls.items():
         call = getattr(lib, "phone_" + name)

@@ -273,13 +273,39 @@ class Database(Asked, Records):
         ...     world.example("NZ", Kind.MOBILE).kind.name, world.example("NZ", Kind.UNKNOWN)
         ('MOBILE', None)
         """
-        at, number, by = hint_of(region or ""), Number(), Rules(rules)
-        is_there, of_kind = [], Kind(kind)
+        at = hint_of(region or "")
+        return self._example(lib.phone_example, at, len(at), Kind(kind), region=region, rules=rules)
+
+    def example_of_code(self, code: int) -> Optional[PhoneNumber]:
+        """An example of a calling code that serves no region; `None` for any other code.
+
+        >>> from phonenumber_proved import Database
+        >>> with Database.load() as world:
+        ...     world.example_of_code(800).e164, world.example_of_code(64)
+        ('+80012345678', None)
+        """
+        return self._example(lib.phone_example_of_code, code) if 0 <= code < 1 << 16 else None
+
+    def invalid_example(self, region: str) -> Optional[PhoneNumber]:
+        """A number of a region that isn't valid, for tests; `None` where there is none.
+
+        >>> from phonenumber_proved import Database
+        >>> with Database.load() as world:
+        ...     world.invalid_example("NZ").is_valid
+        False
+        """
+        at = hint_of(region or "")
+        return self._example(lib.phone_invalid_example, at, len(at), region=region)
+
+    def _example(
+        self, ask: Callable[..., int], *front: Any, region: Optional[str] = None,
+        rules: Rules = Rules.LIBRARY,
+    ) -> Optional[PhoneNumber]:
+        """The number that a call writes behind these arguments; `None` where there is none."""
+        number, by, is_there = Number(), Rules(rules), []
 
         def call(*out: Any) -> int:
-            into = ctypes.byref(number)
-            args = at, len(at), of_kind, into
-            status: int = self._call(lib.phone_example, *args, *out, rules=by)
+            status: int = self._call(ask, *front, ctypes.byref(number), *out, rules=by)
             is_there.append(status != NO_EXAMPLE)
             return status if is_there[-1] else OK
 

@@ -66,6 +66,9 @@ def _beside(name: str) -> str:
 #: The metadata of short numbers, beside that file.
 SHORT_TABLE = _beside("short.json")
 
+#: Those of SMS services, short numbers that messages are sent to.
+SMS_TABLE = _beside("sms.json")
+
 #: The files of prefixes beside it, for `Prefixes.load`: the time zones, parted by `&`, and the
 #: English names of carriers.
 TIME_ZONES_TABLE = _beside("timezones.tsv")

@@ -126,16 +126,25 @@ impl By<'_> {
 
     /// The example number of a region and a kind; none where the database has none.
     pub fn example(&self, region: &str, kind: Type) -> Result<Option<PhoneNumber>, Error> {
-        let (mut number, mut is_there) = (ffi::Number::default(), true);
-        let texts = bytes_of(64, |out, len, wrote| {
+        example_of(|number, out, len, wrote| {
             let (id, id_len) = (region.as_ptr(), region.len());
             // SAFETY: as in `find`.
-            let status = self.records().with(|handle| unsafe {
-                ffi::phone_example(handle, id, id_len, kind as u32, &mut number, out, len, wrote)
-            });
-            is_there = status != ffi::NO_EXAMPLE;
-            if is_there { status } else { ffi::OK }
-        })?;
-        Ok(is_there.then(|| PhoneNumber::of(&number, &texts)))
+            self.records().with(|handle| unsafe {
+                ffi::phone_example(handle, id, id_len, kind as u32, number, out, len, wrote)
+            })
+        })
     }
+}
+
+/// The number that a call writes; none where it says that there is none.
+pub(crate) fn example_of(
+    mut call: impl FnMut(&mut ffi::Number, *mut u8, usize, *mut usize) -> u32,
+) -> Result<Option<PhoneNumber>, Error> {
+    let (mut number, mut is_there) = (ffi::Number::default(), true);
+    let texts = bytes_of(64, |out, len, wrote| {
+        let status = call(&mut number, out, len, wrote);
+        is_there = status != ffi::NO_EXAMPLE;
+        if is_there { status } else { ffi::OK }
+    })?;
+    Ok(is_there.then(|| PhoneNumber::of(&number, &texts)))
 }

@@ -20,6 +20,8 @@ mod about;
 mod alike;
 mod calls;
 mod columns;
+mod dialling;
+mod examples;
 mod find;
 mod listed;
 mod prefixes;

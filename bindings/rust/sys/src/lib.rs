@@ -68,6 +68,16 @@ pub struct NumberFacts {
     pub is_dialled_from_abroad: u8,
 }
 
+/// What is known of a number as a short number of any region of its calling code: each but the cost is 1, else 0.
+#[repr(C)]
+#[derive(Clone, Copy, Default)]
+pub struct FactsAnywhere {
+    pub cost: u32,
+    pub is_possible: u8,
+    pub is_valid: u8,
+    pub is_carrier_specific: u8,
+}
+
 /// Where a number stands in a text, in bytes.
 #[repr(C)]
 #[derive(Clone, Copy, Default)]
@@ -375,7 +385,113 @@ unsafe extern "C" {
     pub fn phone_word(set: u32, value: u32, out: *mut u8, out_len: usize, wrote: *mut usize) -> u32;
     pub fn phone_version() -> u32;
     pub fn phone_table_version(out: *mut u8, out_len: usize, wrote: *mut usize) -> u32;
+    pub fn phone_format_read(
+        handle: *mut Handle,
+        mode: u32,
+        raw: *const u8,
+        raw_len: usize,
+        number: *const Number,
+        bytes: *const u8,
+        bytes_len: usize,
+        out: *mut u8,
+        out_len: usize,
+        wrote: *mut usize,
+    ) -> u32;
+    pub fn phone_mobile_text(
+        handle: *mut Handle,
+        id: *const u8,
+        id_len: usize,
+        with_symbols: u8,
+        raw: *const u8,
+        raw_len: usize,
+        number: *const Number,
+        bytes: *const u8,
+        bytes_len: usize,
+        out: *mut u8,
+        out_len: usize,
+        wrote: *mut usize,
+    ) -> u32;
+    pub fn phone_text_from(
+        handle: *mut Handle,
+        region: *const u8,
+        region_len: usize,
+        raw: *const u8,
+        raw_len: usize,
+        number: *const Number,
+        bytes: *const u8,
+        bytes_len: usize,
+        out: *mut u8,
+        out_len: usize,
+        wrote: *mut usize,
+    ) -> u32;
+    pub fn phone_original_text(
+        handle: *mut Handle,
+        region: *const u8,
+        region_len: usize,
+        raw: *const u8,
+        raw_len: usize,
+        number: *const Number,
+        bytes: *const u8,
+        bytes_len: usize,
+        out: *mut u8,
+        out_len: usize,
+        wrote: *mut usize,
+    ) -> u32;
+    pub fn phone_format_by(
+        handle: *mut Handle,
+        layouts: *mut Handle,
+        mode: u32,
+        number: *const Number,
+        bytes: *const u8,
+        bytes_len: usize,
+        out: *mut u8,
+        out_len: usize,
+        wrote: *mut usize,
+    ) -> u32;
+    pub fn phone_short_anywhere(
+        handle: *mut Handle,
+        shorts: *mut Handle,
+        number: *const Number,
+        facts: *mut FactsAnywhere,
+    ) -> u32;
+    pub fn phone_short_example(
+        handle: *mut Handle,
+        region: *const u8,
+        region_len: usize,
+        cost: u32,
+        out: *mut u8,
+        out_len: usize,
+        wrote: *mut usize,
+    ) -> u32;
+    pub fn phone_is_sms_service(
+        handle: *mut Handle,
+        services: *mut Handle,
+        region: *const u8,
+        region_len: usize,
+        number: *const Number,
+        told: *mut u8,
+    ) -> u32;
+    pub fn phone_example_of_code(
+        handle: *mut Handle,
+        code: u16,
+        number: *mut Number,
+        out: *mut u8,
+        out_len: usize,
+        wrote: *mut usize,
+    ) -> u32;
+    pub fn phone_invalid_example(
+        handle: *mut Handle,
+        region: *const u8,
+        region_len: usize,
+        number: *mut Number,
+        out: *mut u8,
+        out_len: usize,
+        wrote: *mut usize,
+    ) -> u32;
 }
+
+/// Any cost, of `phone_short_example`.
+pub const COST_ANY: u32 = 4;
 
 /// The version of the calls that is declared here.
 pub const VERSION: u32 = 3;
