@@ -36,18 +36,23 @@ from .errors import (
 )
 from .field import Typing
 from .number import Kind, Mode, PhoneNumber, Possibility, Rules, Source
+from .places import Atlas
 from .prefixes import Prefixes
 from .questions import (
     Form, NumberFacts, NumberMatch, RegionFacts, has_letters, is_geographical, mobile_token,
     normalize,
 )
 from .short import Cost, ShortFacts, ShortNumbers
-from .tables import CARRIERS_TABLE, SHORT_TABLE, TABLE, TABLE_VERSION, TIME_ZONES_TABLE
+from .tables import (
+    AREAS_TABLE, CARRIERS_TABLE, PLACES, SHORT_TABLE, TABLE, TABLE_VERSION, TIME_ZONES_TABLE,
+)
 from .warming import warm
 
 __version__ = "0.3.0"
 
 __all__ = [
+    "AREAS_TABLE",
+    "Atlas",
     "BadDatabase",
     "BadPrefixes",
     "CARRIERS_TABLE",
@@ -64,6 +69,7 @@ __all__ = [
     "NoNumber",
     "NumberFacts",
     "NumberMatch",
+    "PLACES",
     "PhoneNumber",
     "Possibility",
     "Prefixes",

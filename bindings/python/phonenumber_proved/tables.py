@@ -30,6 +30,11 @@ SHORT_TABLE = str(_BESIDE / "short.json")
 TIME_ZONES_TABLE = str(_BESIDE / "timezones.tsv")
 CARRIERS_TABLE = str(_BESIDE / "carriers.tsv")
 
+#: The English names of areas, and the folder of areas, carriers and names of regions in other
+#: languages, as `tools/places` writes them.
+AREAS_TABLE = str(_BESIDE / "areas.tsv")
+PLACES = os.environ.get("PHONE_PLACES") or str(_BESIDE / "places")
+
 
 def table_json() -> bytes:
     """The records of the table of the world as JSON: of its file or that beside it, or of the library."""

@@ -35,6 +35,7 @@ mod database;
 mod error;
 mod found;
 mod number;
+mod places;
 mod possible;
 mod prefixes;
 mod questions;
@@ -51,6 +52,7 @@ pub use database::{By, Database, Formatter, Rules};
 pub use error::{Error, LineFault};
 pub use found::{Found, Leniency};
 pub use number::{Mode, PhoneNumber, Source, Type};
+pub use places::{Atlas, AtlasTables};
 pub use possible::{Possibility, Sameness};
 pub use prefixes::Prefixes;
 pub use questions::{

@@ -22,6 +22,8 @@ mod calls;
 mod columns;
 mod find;
 mod listed;
+mod matches;
+mod places;
 mod prefixes;
 mod short;
 mod typing;
