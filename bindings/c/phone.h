@@ -1,4 +1,4 @@
-/* Phone numbers, read and printed as crates/phone_c proves it. Written by hand. Of these calls
+/* Phone numbers, parsed and formatted as crates/phone_c proves it. Written by hand. Of these calls
  * bindings/declarations.py makes Rust's and Python's, and compares all of it with crates/phone_c.
  *
  * What a caller owes, and nothing checks:
@@ -6,8 +6,8 @@
  *     would own one thing; phone_share makes a second. So with a table of prefixes.
  *   - One call at a time on a handle, which each call writes: those that ask leave it as it was. It is of
  *     no thread: one thread opens it, others use it in turn, any closes it, with a lock or a join between
- *     two calls. Threads that read at once have handles of their own: those made by phone_share stand on
- *     one table, of the world some 6 MB, and calls on different handles may run at once, any number of
+ *     two calls. Threads that parse at once have handles of their own: those made by phone_share share
+ *     one database, of all regions some 6 MB, and calls on different handles may run at once, any number of
  *     them. No call is made from a signal handler, nor in a forked child on a handle that another
  *     thread's call was on at the fork.
  *   - A length is not past its buffer. A buffer that is written is memory that may be read: what was
@@ -58,7 +58,7 @@ enum {
     PHONE_TOO_SHORT_NSN = 4,         /* phone_parse: too few digits for a national number */
     PHONE_TOO_LONG = 5,              /* phone_parse: too many */
     PHONE_MALFORMED_INTEGER = 6,     /* phone_parse: digits that are no number, as zeros alone */
-    PHONE_MEMORY = 7,                /* memory was refused; the handle may be used as before */
+    PHONE_MEMORY = 7,                /* there was no memory; the handle may be used as before */
     PHONE_MISSING_VALUE = 8,         /* phone_open: a record lacks a value that it must have */
     PHONE_UNHANDLED_ELEMENT = 9,     /* phone_open: a record has a key that it may not have */
     PHONE_MALFORMED_JSON = 10,       /* phone_open: the text is no JSON */
@@ -67,7 +67,7 @@ enum {
     PHONE_IS_CLOSED = 16,            /* nothing is open behind the handle */
     PHONE_TOO_SMALL = 17,            /* the buffer is too short; `wrote` is the length that is needed */
     PHONE_NOT_UTF8 = 18,             /* the text is not UTF-8 */
-    PHONE_NO_REGION = 19,            /* the hint is no region's id */
+    PHONE_NO_REGION = 19,            /* the default region is no region's id */
     PHONE_UNKNOWN_CODE = 20,         /* no territory of the database has the number's calling code */
     PHONE_BAD_NUMBER = 21,           /* the plain numbers and bytes are no phone number */
     PHONE_NO_MODE = 22,              /* the mode is none of the four, the form none of the three */
@@ -79,16 +79,16 @@ enum {
     PHONE_LINE_TWICE = 29,           /* phone_prefixes_open: an earlier line has the prefix */
     PHONE_NO_PREFIX = 30,            /* phone_prefixes_longest: no prefix begins the digits */
     PHONE_NO_KIND = 31,              /* the kind is none of the 17 */
-    PHONE_NO_EXAMPLE = 32,           /* the table has no example of the region and kind */
+    PHONE_NO_EXAMPLE = 32,           /* the database has no example of the region and kind */
     PHONE_NO_WORD = 33,              /* phone_word: no value of the set has the number; no status has it */
-    PHONE_NO_TERRITORY = 34,         /* the table has no territory of the region */
+    PHONE_NO_TERRITORY = 34,         /* the database has no territory of the region */
     PHONE_NO_LENIENCY = 35,          /* the leniency is neither of the two */
     PHONE_NO_COLUMN = 36,            /* phone_columns: no column has one of the numbers */
-    PHONE_BAD_LAYOUT = 37            /* phone_columns: texts or hints are laid out as no column */
+    PHONE_BAD_LAYOUT = 37            /* phone_columns: texts or default regions are no column */
 };
 
-/* By whose rules a text is read and a number printed and described: those of libphonenumber, or those of
- * the Rust crate phonenumber 0.3.10. They are chosen where a table is opened, and are the handle's. */
+/* By whose rules a text is parsed and a number formatted and described: those of libphonenumber, or those of
+ * the Rust crate phonenumber 0.3.10. They are chosen where a database is opened, and are the handle's. */
 enum { PHONE_LIBRARY = 0, PHONE_CRATE = 1 };
 
 /* Where a text stands that may be absent, in bytes beside the number. */
@@ -112,7 +112,7 @@ enum {
     PHONE_SOURCE_PLUS = 0, PHONE_SOURCE_IDD = 1, PHONE_SOURCE_NUMBER = 2, PHONE_SOURCE_DEFAULT = 3
 };
 
-/* How a number is printed: +6433316005, +64 3 331 6005, 03 331 6005, tel:+64-3-331-6005 */
+/* The format of a number: +6433316005, +64 3 331 6005, 03 331 6005, tel:+64-3-331-6005 */
 enum {
     PHONE_MODE_E164 = 0, PHONE_MODE_INTERNATIONAL = 1, PHONE_MODE_NATIONAL = 2, PHONE_MODE_RFC3966 = 3
 };
@@ -189,7 +189,7 @@ enum {
     PHONE_FORM_DIALLABLE = 2 /* its digits from 0 to 9, plus signs, stars and number signs; nothing else */
 };
 
-/* What is found in a text: what is read as a possible number, or as a valid one. */
+/* What is found in a text: what is parsed as a possible number, or as a valid one. */
 enum { PHONE_IF_POSSIBLE = 0, PHONE_IF_VALID = 1 };
 
 /* Where a number stands in a text, in bytes: from `start` to before `end`. */
@@ -198,8 +198,8 @@ typedef struct { size_t start; size_t end; } phone_place;
 /* A column of texts as Arrow lays it out: the i-th stands in `bytes` from offsets[i] to before
  * offsets[i + 1], and there is one offset more than texts; without an offset there is no text. The bitmap
  * says which texts are there: eight flags a byte, the first of a byte its lowest bit, the first text's at
- * place `first`; it may have no byte, where each is there. Of hints without an offset `bytes` is the one
- * of all texts. Arrow's offsets, which have a sign and are never negative, are the same in memory. */
+ * place `first`; it may have no byte, where each is there. Of default regions without an offset `bytes` is
+ * the one of all texts. Arrow's offsets, which have a sign and are never negative, are the same in memory. */
 typedef struct {
     const uint64_t *offsets;
     size_t offsets_len;
@@ -222,7 +222,7 @@ typedef struct {
 } phone_narrow_texts;
 
 /* The columns that phone_columns writes: each is one buffer with a value a row, but for texts and the last.
- * A row has no number where its text isn't there or is refused: then its value is 0, its text empty. */
+ * A row has no number where its text isn't there or is none: then its value is 0, its text empty. */
 enum {
     PHONE_COLUMN_E164 = 0,           /* texts, as two buffers: offsets of 64 bits, one more than rows; bytes */
     PHONE_COLUMN_INTERNATIONAL = 1,
@@ -278,7 +278,7 @@ static inline phone_narrow_texts phone_narrow_texts_of(const uint32_t *offsets, 
     return texts;
 }
 
-/* One hint for all texts, as "NZ"; of length 0, none. */
+/* One default region for all texts, as "NZ"; of length 0, none. */
 static inline phone_texts phone_one_hint(const void *hint, size_t hint_len) {
     phone_texts hints = phone_texts_of(0, 0, hint, 0, 0);
     hints.offsets_len = 0;
@@ -304,12 +304,12 @@ static inline phone_narrow_texts phone_narrow_one_hint(const void *hint, size_t 
  * handle is closed. */
 phone_status phone_open(const uint8_t *text, size_t text_len, uint32_t rules, phone_handle *handle);
 
-/* Opens the table of the world that stands in the library, of the version that phone_table_version
- * tells, to be asked by these rules: phone_open of phone_world_text. PHONE_OK, PHONE_NO_RULES or
+/* Opens the database of all regions that is in the library, of the version that phone_table_version
+ * writes, to be asked by these rules: phone_open of phone_world_text. PHONE_OK, PHONE_NO_RULES or
  * PHONE_MEMORY. It is C over phone_open. */
 phone_status phone_open_world(phone_handle *handle, uint32_t rules);
 
-/* The records of that table as JSON, of which phone_open makes the same: a text that is never freed, and
+/* The records of that database as JSON, of which phone_open makes the same: a text that is never freed, and
  * its length. It is C, and takes no memory. */
 const uint8_t *phone_world_text(size_t *text_len);
 
@@ -328,9 +328,9 @@ void phone_close(phone_handle *handle);
 
 /* Writes the report line of a line, without a line feed, to the front of `out`, and its length to
  * `wrote`. The line is any bytes without their end: the program drops a line feed and one carriage
- * return before it, a caller does so where lines have them. The hint is the id of the region in which
- * the line was written, as "NZ", or has length 0 for none. PHONE_IS_CLOSED exactly where nothing is
- * open, else PHONE_NO_REGION exactly where the hint has a byte and is no id; PHONE_TOO_SMALL only
+ * return before it, a caller does so where lines have them. `hint` is the default region: the id of the
+ * region in which the line was written, as "NZ"; of length 0, none. PHONE_IS_CLOSED exactly where nothing
+ * is open, else PHONE_NO_REGION exactly where `hint` has a byte and is no id; PHONE_TOO_SMALL only
  * where `out` is shorter than the answer: `wrote` is then the length that it needs; PHONE_MEMORY.
  * For each but PHONE_OK `out` is as it was, and for each but PHONE_OK and PHONE_TOO_SMALL `wrote` is
  * 0. */
@@ -338,7 +338,7 @@ phone_status phone_report(phone_handle *handle, const uint8_t *hint, size_t hint
                           const uint8_t *line, size_t line_len, uint8_t *out, size_t out_len,
                           size_t *wrote);
 
-/* Reads a text as a phone number, under a hint as phone_report takes it, into `number`; its texts,
+/* Parses a text as a phone number, with a default region as phone_report, into `number`; its texts,
  * extension and then carrier, go to the front of `out`, and their length to `wrote`. A buffer as long
  * as the text is seldom too short; PHONE_TOO_SMALL tells the length. PHONE_IS_CLOSED, PHONE_NO_REGION
  * and PHONE_MEMORY as phone_report has them; else PHONE_NOT_UTF8 exactly where the text isn't UTF-8;
@@ -352,8 +352,8 @@ phone_status phone_parse(phone_handle *handle, const uint8_t *hint, size_t hint_
  * PHONE_NO_MODE exactly where the mode is above 3, then PHONE_BAD_NUMBER exactly where it is no
  * number: a source above 3, a value of 2^56 or more, a text outside `bytes` or not UTF-8.
  * PHONE_UNKNOWN_CODE only where no territory has the calling code. PHONE_TOO_SMALL and PHONE_MEMORY as
- * phone_report has them. By the rules of libphonenumber a number is printed without its carrier's code;
- * its texts are looked at all the same. */
+ * phone_report has them. By the rules of libphonenumber the text leaves out the carrier's code;
+ * the number's texts are looked at all the same. */
 phone_status phone_format(phone_handle *handle, const phone_number *number, const uint8_t *bytes,
                           size_t bytes_len, uint32_t mode, uint8_t *out, size_t out_len, size_t *wrote);
 
@@ -374,8 +374,8 @@ phone_status phone_is_valid(phone_handle *handle, const phone_number *number, ui
  * statuses are those of phone_kind. */
 phone_status phone_possibility(phone_handle *handle, const phone_number *number, uint32_t *told);
 
-/* The same of a text, which may not be whole yet, under a hint as phone_report takes it. A text that is
- * refused for its length or its calling code is told of by PHONE_LENGTH_TOO_SHORT and its like.
+/* The same of a text, which may not be whole yet, with a default region as phone_report. A text that is no
+ * number for its length or its calling code has PHONE_LENGTH_TOO_SHORT and the like.
  * PHONE_IS_CLOSED, PHONE_NO_REGION and PHONE_NOT_UTF8 as phone_parse has them; else
  * PHONE_NO_NUMBER or PHONE_MALFORMED_INTEGER; PHONE_MEMORY. */
 phone_status phone_text_possibility(phone_handle *handle, const uint8_t *hint, size_t hint_len,
@@ -391,13 +391,13 @@ phone_status phone_compare(phone_handle *handle, const uint8_t *first, size_t fi
  * an international prefix, its calling code and its digits. `number` and `bytes` are as phone_format
  * takes them. PHONE_IS_CLOSED exactly where nothing is open, else PHONE_NO_REGION exactly where the
  * region is no id, else PHONE_BAD_NUMBER as phone_format has it. PHONE_NO_TERRITORY only where the
- * table has no territory of the region, PHONE_UNKNOWN_CODE only where none has the calling code;
+ * database has no territory of the region, PHONE_UNKNOWN_CODE only where none has the calling code;
  * PHONE_TOO_SMALL, PHONE_MEMORY. */
 phone_status phone_dialled_from(phone_handle *handle, const uint8_t *region, size_t region_len,
                                 const phone_number *number, const uint8_t *bytes, size_t bytes_len,
                                 uint8_t *out, size_t out_len, size_t *wrote);
 
-/* Writes the example number of a region and a kind, read with the region as hint, as phone_parse
+/* Writes the example number of a region and a kind, parsed with that default region, as phone_parse
  * writes a number. PHONE_IS_CLOSED, PHONE_NO_REGION, PHONE_NO_KIND, and
  * PHONE_NO_EXAMPLE exactly where so, in this order; 1 to 6: why the example is no number;
  * PHONE_TOO_SMALL, PHONE_MEMORY. */
@@ -405,16 +405,16 @@ phone_status phone_example(phone_handle *handle, const uint8_t *region, size_t r
                            uint32_t kind, phone_number *number, uint8_t *out, size_t out_len,
                            size_t *wrote);
 
-/* Writes the ids of the table's regions, by the alphabet, two bytes each with nothing between them.
+/* Writes the ids of the database's regions, by the alphabet, two bytes each with nothing between them.
  * PHONE_IS_CLOSED exactly where nothing is open; PHONE_TOO_SMALL, PHONE_MEMORY. */
 phone_status phone_regions(phone_handle *handle, uint8_t *out, size_t out_len, size_t *wrote);
 
-/* Writes the table's calling codes, ascending. Its statuses are those of phone_regions. Here `out_len`
+/* Writes the database's calling codes, ascending. Its statuses are those of phone_regions. Here `out_len`
  * and `wrote` count codes, and not bytes. */
 phone_status phone_codes(phone_handle *handle, uint16_t *out, size_t out_len, size_t *wrote);
 
-/* Writes where numbers stand in a text, from its front on; they don't overlap. phone_parse reads each of
- * these pieces, under the same handle and hint, as the number that was found. `out_len` and `wrote`
+/* Writes where numbers are in a text, from its front on; they don't overlap. phone_parse parses each of
+ * these pieces, with the same handle and default region, as the number that was found. `out_len` and `wrote`
  * count places: no text has more than bytes. PHONE_IS_CLOSED,
  * PHONE_NO_LENIENCY, PHONE_NO_REGION, PHONE_NOT_UTF8 exactly where so, in this order; PHONE_TOO_SMALL,
  * PHONE_MEMORY. */
@@ -422,16 +422,17 @@ phone_status phone_find(phone_handle *handle, const uint8_t *hint, size_t hint_l
                         uint32_t leniency, const uint8_t *text, size_t text_len, phone_place *out,
                         size_t out_len, size_t *wrote);
 
-/* Reads each text of a column by itself, under the hint at its place or the one of all, as phone_parse does,
- * and writes what columns, PHONE_COLUMN_E164 .., tell of it. Their buffers go to the front of `out`, in the
+/* Parses each text of a column by itself, with the default region at its place or the one of all, as
+ * phone_parse does, and writes what columns, PHONE_COLUMN_E164 .., tell of it. Their buffers go to the front of `out`, in the
  * order of `columns`, each at a multiple of eight bytes with zeros between; where each begins and ends goes
  * to the front of `places`, two for a column of texts, else one; the length of all goes to `wrote`. Row i of
  * a column is what phone_parse and the calls over its number tell of text i alone, so a column may be cut
- * into pieces, and each given to a thread with a handle of its own. A hint that is no region's id refuses
- * its row by PHONE_NO_REGION, a text that isn't UTF-8 by PHONE_NOT_UTF8; a hint that isn't there is none.
+ * into pieces, and each given to a thread with a handle of its own. A row has PHONE_NO_REGION where its
+ * default region is no region's id, PHONE_NOT_UTF8 where its text isn't UTF-8; a default region that isn't
+ * there is none.
  * PHONE_IS_CLOSED exactly where nothing is open, else PHONE_BAD_LAYOUT exactly where an offset of the texts
- * is below the one before it or past the bytes, or the bitmap lacks a flag, or the hints, if there are
- * offsets, are so or not as many as the texts; else PHONE_NO_COLUMN exactly where no column has one of the
+ * is below the one before it or past the bytes, or the bitmap lacks a flag, or the default regions, if there
+ * are offsets, are so or not as many as the texts; else PHONE_NO_COLUMN exactly where no column has one of the
  * numbers. PHONE_TOO_SMALL only where `out` or `places` is too short: `wrote` is then the length that `out`
  * needs; PHONE_MEMORY. For each but PHONE_OK `out` and `places` are as they were, and for each but PHONE_OK
  * and PHONE_TOO_SMALL `wrote` is 0. While it works it takes some 100 bytes a row, and a few times what it
@@ -446,12 +447,12 @@ phone_status phone_narrow_columns(phone_handle *handle, const phone_narrow_texts
                                   size_t columns_len, phone_place *places, size_t places_len,
                                   uint8_t *out, size_t out_len, size_t *wrote);
 
-/* Writes what is shown of a number while it is typed, by libphonenumber's layouts, to the front of
+/* Writes what is shown of a number while it is typed, by libphonenumber's formats, to the front of
  * `out`, and its length to `wrote`: of the keys of all that was typed so far. `keys` is a text in
  * UTF-8, whose keys are its digits of any script and a plus sign before all of them; its other
  * characters are no keys and change nothing. What is shown is these keys, the digits as 0 to 9, with
- * spaces, round brackets, hyphens and full stops between them. The hint is the region that digits
- * without a plus sign are dialled in, as phone_report takes it. A handle holds nothing of what is
+ * spaces, round brackets, hyphens and full stops between them. `hint` is the default region, as of
+ * phone_report, in which digits without a plus sign are dialled. A handle holds nothing of what is
  * typed: each call is given all of it. PHONE_IS_CLOSED, PHONE_NO_REGION, PHONE_TOO_SMALL and
  * PHONE_MEMORY as phone_report has them; else PHONE_NOT_UTF8 exactly where the keys aren't UTF-8. */
 phone_status phone_typing_shown(phone_handle *handle, const uint8_t *hint, size_t hint_len,
@@ -466,7 +467,7 @@ phone_status phone_typing_caret(phone_handle *handle, const uint8_t *hint, size_
                                 const uint8_t *keys, size_t keys_len, size_t n, size_t *told);
 
 /* Tells what is known of a text as a short number of a region, under a handle that was opened on a
- * table of short numbers (data/short.json is one); `region` is the region's id, as "NZ".
+ * database of short numbers (data/short.json is one); `region` is the region's id, as "NZ".
  * PHONE_IS_CLOSED exactly where nothing is open, else PHONE_NO_REGION exactly where the region is no
  * id, else PHONE_NOT_UTF8 exactly where the text isn't UTF-8; PHONE_MEMORY. For each but PHONE_OK
  * `facts` is as it was. */
@@ -477,7 +478,7 @@ phone_status phone_short(phone_handle *handle, const uint8_t *region, size_t reg
  * the rules of the handle.
  *
  * Tells what is known of a region, whose id is as "NZ". PHONE_IS_CLOSED exactly where nothing is open, else
- * PHONE_NO_REGION exactly where the region is no id, else PHONE_NO_TERRITORY exactly where the table has no
+ * PHONE_NO_REGION exactly where the region is no id, else PHONE_NO_TERRITORY exactly where the database has no
  * territory of it. It takes no memory. For each but PHONE_OK `facts` is as it was. */
 phone_status phone_about_region(phone_handle *handle, const uint8_t *region, size_t region_len,
                                 phone_region_facts *facts);
@@ -490,7 +491,7 @@ phone_status phone_national_prefix(phone_handle *handle, const uint8_t *region, 
 
 /* Writes the kinds of number that a region has, PHONE_KIND_FIXED_LINE .., in libphonenumber's order: fixed
  * line, mobile, toll free, premium rate, shared cost, over the internet, personal, pager, company's,
- * voicemail; none where the table has no territory of it. `out_len` and `wrote` count kinds. Its statuses
+ * voicemail; none where the database has no territory of it. `out_len` and `wrote` count kinds. Its statuses
  * are those of phone_national_prefix. */
 phone_status phone_region_kinds(phone_handle *handle, const uint8_t *region, size_t region_len,
                                 uint32_t *out, size_t out_len, size_t *wrote);
@@ -548,7 +549,7 @@ phone_status phone_match_numbers(const phone_number *first, const uint8_t *first
                                  size_t first_bytes_len, const phone_number *second,
                                  const uint8_t *second_bytes, size_t second_bytes_len, uint32_t *told);
 
-/* The same of a number and a text, perhaps without its calling code, which is then read in the main region of
+/* The same of a number and a text, perhaps without its calling code, which is then parsed in the main region of
  * the number's. PHONE_IS_CLOSED exactly where nothing is open, else PHONE_NOT_UTF8 exactly where the text
  * isn't UTF-8, else PHONE_BAD_NUMBER exactly where `number` and `bytes` are no number; PHONE_MEMORY. */
 phone_status phone_match_text(phone_handle *handle, const phone_number *number, const uint8_t *bytes,
@@ -562,7 +563,7 @@ phone_status phone_match_texts(phone_handle *handle, const uint8_t *first, size_
 
 /* Writes the national text of a number as it is dialled with the selection code of a carrier; where
  * `prefers_own` isn't 0, with the number's own, if it has one. `number` and `bytes` are as phone_format takes
- * them. No byte is no carrier. A number whose calling code the table lacks is written as its digits.
+ * them. No byte is no carrier. A number whose calling code the database lacks is written as its digits.
  * PHONE_IS_CLOSED exactly where nothing is open, else PHONE_NOT_UTF8 exactly where the carrier isn't UTF-8,
  * else PHONE_BAD_NUMBER as phone_format has it; PHONE_TOO_SMALL, PHONE_MEMORY. */
 phone_status phone_national_with(phone_handle *handle, const phone_number *number, const uint8_t *bytes,
@@ -667,9 +668,9 @@ phone_status phone_matches(phone_handle *handle, const uint8_t *hint, size_t hin
                            uint64_t tries, const uint8_t *text, size_t text_len, phone_place *out,
                            size_t out_len, size_t *wrote);
 
-/* Writes the E.164 text of a number, by which tables are keyed. It needs no database. Equal texts mean
+/* Writes the E.164 text of a number, a key for tables. It needs no database. Equal texts mean
  * equal calling code and national number where no calling code of the database begins another, as in
- * the table of the world. PHONE_BAD_NUMBER as phone_kind has it, PHONE_TOO_SMALL, PHONE_MEMORY. */
+ * that of the library. PHONE_BAD_NUMBER as phone_kind has it, PHONE_TOO_SMALL, PHONE_MEMORY. */
 phone_status phone_key(const phone_number *number, uint8_t *out, size_t out_len, size_t *wrote);
 
 /* Tells whether a text may be a number at all: 1, else 0. It needs no database and takes no memory.
@@ -691,8 +692,8 @@ phone_status phone_word(uint32_t set, uint32_t value, uint8_t *out, size_t out_l
 uint32_t phone_version(void);
 #define PHONE_VERSION 3u
 
-/* Writes the version of the table that this library was released with, as "libphonenumber 9.0.35", to
- * the front of `out`, and its length to `wrote`; a caller may open another table. It needs no database
+/* Writes the version of the database that this library was released with, as "libphonenumber 9.0.35", to
+ * the front of `out`, and its length to `wrote`; a caller may open another. It needs no database
  * and takes no memory. PHONE_OK, or PHONE_TOO_SMALL as phone_report has it. */
 phone_status phone_table_version(uint8_t *out, size_t out_len, size_t *wrote);
 

@@ -1,7 +1,7 @@
 /* Phone numbers for C++17, over phone.h: what is open closes itself, texts are std::string and
- * std::string_view, and a call that may be refused gives a `result`. All texts are UTF-8, and all
- * lengths and places count bytes. Memory that the library is refused is the status PHONE_MEMORY;
- * memory that a std::string is refused throws std::bad_alloc.
+ * std::string_view, and a call that may fail gives a `result`. All texts are UTF-8, and all
+ * lengths and places count bytes. Memory that the library lacks is the status PHONE_MEMORY;
+ * memory that a std::string lacks throws std::bad_alloc.
  *
  *     using namespace phonenumber_proved;
  *     world phones = world::open().value();
@@ -20,10 +20,10 @@
 
 namespace phonenumber_proved {
 
-/* By whose rules texts are read: those of libphonenumber, or of the Rust crate phonenumber 0.3.10. */
+/* By whose rules texts are parsed: those of libphonenumber, or of the Rust crate phonenumber 0.3.10. */
 enum class rules : std::uint32_t { library = PHONE_LIBRARY, crate = PHONE_CRATE };
 
-/* How a number is printed. */
+/* The format of a number. */
 enum class mode : std::uint32_t {
     e164 = PHONE_MODE_E164,
     international = PHONE_MODE_INTERNATIONAL,
@@ -170,7 +170,7 @@ public:
     /* The carrier's selection code, where the text had one. */
     std::optional<std::string_view> carrier() const { return part(plain_.carrier); }
 
-    /* The E.164 text, by which tables are keyed: it has no extension. */
+    /* The E.164 text, a key for tables: it has no extension. */
     result<std::string> e164() const {
         return inside::text_of([&](std::uint8_t *out, std::size_t room, std::size_t *wrote) {
             return phone_key(&plain_, out, room, wrote);
@@ -199,21 +199,21 @@ private:
     std::string texts_;
 };
 
-/* An open table, by whose rules. One call at a time on it: `share` gives other threads theirs. */
+/* Open metadata, by whose rules. One call at a time on it: `share` gives other threads theirs. */
 class world {
 public:
-    /* The table of the world that stands in the library. */
+    /* The library's own metadata, of all regions. */
     static result<world> open(rules by = rules::library) {
         world it;
         return it.opened(phone_open_world(&it.handle_, static_cast<std::uint32_t>(by)));
     }
-    /* The table that these bytes are: JSON, or the compact form. */
+    /* The metadata that these bytes are: JSON, or the compact form. */
     static result<world> open(std::string_view bytes, rules by = rules::library) {
         world it;
         return it.opened(
             phone_open(inside::bytes(bytes), bytes.size(), static_cast<std::uint32_t>(by), &it.handle_));
     }
-    /* A second handle on the same table, which copies nothing. */
+    /* A second handle on the same metadata, which copies nothing. */
     result<world> share() {
         world it;
         return it.opened(phone_share(&handle_, &it.handle_));
@@ -318,7 +318,7 @@ public:
         });
     }
 
-    /* The ids of the table's regions, by the alphabet. */
+    /* The ids of the metadata's regions, by the alphabet. */
     result<std::vector<std::string>> regions() {
         result<std::string> all = inside::text_of([&](std::uint8_t *out, std::size_t room, std::size_t *wrote) {
             return phone_regions(&handle_, out, room, wrote);
@@ -328,7 +328,7 @@ public:
         for (std::size_t at = 0; at + 1 < all->size(); at += 2) ids.push_back(all->substr(at, 2));
         return ids;
     }
-    /* The table's calling codes, ascending. */
+    /* The metadata's calling codes, ascending. */
     result<std::vector<std::uint16_t>> calling_codes() {
         return inside::items_of<std::uint16_t>([&](std::uint16_t *out, std::size_t room, std::size_t *wrote) {
             return phone_codes(&handle_, out, room, wrote);
@@ -380,7 +380,7 @@ inline std::string name(kind of) {
         .value();
 }
 
-/* The version of the table in the library, as "libphonenumber 9.0.35". */
+/* The version of the metadata in the library, as "libphonenumber 9.0.35". */
 inline std::string table_version() {
     return inside::text_of([](std::uint8_t *out, std::size_t room, std::size_t *wrote) {
                return phone_table_version(out, room, wrote);

@@ -2,9 +2,10 @@
 
 usage: python3 bindings/js/browser.py PACKAGE [--firefox] [--pictures FOLDER] [--rows N] [LINES REPORT [LINES REPORT_BY_CRATE]]
 
-Types into the field, edits, pastes, sends the form, cleans a table of 100,000 rows, or N, and asks the report of LINES, each a region, `-`
-for none, a tab and a text. FOLDER gets pictures. In Chromium the time of each key, from its event to the frame that shows it, is told by
-Chromium's own trace. Needs chromium and chromedriver, or with --firefox firefox-esr. The last line is `page: ok`.
+Types into the field, edits, pastes, sends the form, by the keyboard too, cleans a table of 100,000 rows, or N, and asks the report of LINES,
+each a region, `-` for none, a tab and a text. FOLDER gets pictures. In Chromium the page's accessibility tree is compared, the contrast of
+its colours, light and dark, is measured, and the time of each key, from its event to the frame that shows it, is told by Chromium's own
+trace. Needs chromium and chromedriver, or with --firefox firefox-esr. The last line is `page: ok`.
 """
 
 import shutil
@@ -18,7 +19,7 @@ sys.path.insert(0, str(Path(__file__).resolve().parents[1]))
 import chromium  # noqa: E402
 import firefox  # noqa: E402
 
-LEFT, BACK = "\ue012", "\ue003"
+LEFT, BACK, TAB, ENTER = "\ue012", "\ue003", "\ue004", "\ue007"
 FIELD = "const it = document.querySelector('phone-input'), field = it.shadowRoot.querySelector('input');"
 failed = []
 
@@ -78,6 +79,94 @@ def field(browser):
     roles = browser.run(FIELD + " const hint = it.shadowRoot.querySelector('p'); return [field.getAttribute('aria-label'), field.type, hint.getAttribute('aria-live'), "
                         "it.shadowRoot.querySelector('select').getAttribute('aria-label'), it.form.id, it.shadowRoot.querySelectorAll('option').length]")
     check("for a screen reader", roles, ["Phone number", "tel", "polite", "Country", "form", 246])
+
+
+def at_work(browser):
+    """What has the focus: an element of the page, of the field's own those in small letters."""
+    return browser.run(FIELD + " return it.shadowRoot.activeElement?.localName ?? document.activeElement.tagName")
+
+
+def keyboard(browser):
+    """Without a mouse: the order of the focus, and the key Enter. A form that lacks something says what, and has the focus there."""
+    clear(browser)
+    browser.run(FIELD + " field.blur()")
+    browser.click("h1")
+    order = []
+    for _ in range(3):
+        browser.type(TAB)
+        order.append(at_work(browser))
+    check("the order of the focus", order, ["select", "input", "BUTTON"])
+    browser.run("document.activeElement.blur()")
+    browser.click("form label")
+    check("a click on the label", at_work(browser), "input")
+    browser.run("document.activeElement.blur(); document.getElementById('sent').textContent = ''")
+    browser.click("form button")
+    time.sleep(0.3)
+    check("nothing is typed", (at_work(browser), state(browser)[1]), ("input", "Please fill in a phone number."))
+    browser.type("033")
+    check("no words once one types", state(browser)[1], "")
+    browser.type(ENTER)
+    time.sleep(0.3)
+    check("Enter at a short number", (at_work(browser), state(browser)[1]), ("input", "The number is too short."))
+    browser.type("316005" + ENTER)
+    check("Enter", browser.run("return document.getElementById('sent').textContent"), "phone=+6433316005")
+
+
+def tree(browser):
+    """What a screen reader is told of the form: role, name, value, description, and what else counts."""
+    told = {}
+    for node in browser.command("Accessibility.getFullAXTree")["nodes"]:
+        if not node.get("ignored"):
+            more = {it["name"]: it["value"].get("value") for it in node.get("properties", [])}
+            role, name, value, words = (node.get(it, {}).get("value") or "" for it in ("role", "name", "value", "description"))
+            told.setdefault(role, []).append((name, value, words, more.get("required", False), more.get("invalid", "false"), more.get("live", "")))
+    return told
+
+
+def accessible(browser):
+    """The accessibility tree, with a number that is too short, and then with one that is valid."""
+    clear(browser)
+    browser.type("033" + ENTER)
+    time.sleep(0.3)
+    told = tree(browser)
+    check("the field", told["textbox"], [("Phone number", "033", "The number is too short.", True, "true", "")])
+    check("the countries", told["combobox"], [("Country", "New Zealand +64", "", False, "false", "")])
+    check("the button of the form, and of the file", [it[0] for it in told["button"]], ["Save", "Choose a CSV file"])
+    check("live regions", {it[5] for it in told["status"]}, {"polite"})
+    check("parts of the page", (len(told["main"]), [it[0] for it in told["heading"]]), (1, ["Phone numbers", "Clean a file"]))
+    browser.type("316005")
+    check("once it is valid", tree(browser)["textbox"], [("Phone number", "03 331 6005", "+64 3 331 6005", True, "false", "")])
+
+
+CONTRAST = FIELD + """
+    const canvas = document.createElement("canvas").getContext("2d", { willReadFrequently: true });
+    const rgb = (color) => (canvas.fillStyle = color, canvas.fillRect(0, 0, 1, 1), [...canvas.getImageData(0, 0, 1, 1).data]);
+    const linear = (c) => c <= 0.04045 ? c / 12.92 : ((c + 0.055) / 1.055) ** 2.4;
+    const light = (color) => rgb(color).slice(0, 3).reduce((sum, c, i) => sum + linear(c / 255) * [0.2126, 0.7152, 0.0722][i], 0.05);
+    const ratio = (a, b) => Math.max(light(a), light(b)) / Math.min(light(a), light(b));
+    const [box, hint] = ["div", "p"].map((it_) => it.shadowRoot.querySelector(it_)), was = hint.className;
+    const probe = document.body.appendChild(document.createElement("i"));
+    probe.style.background = "Canvas";
+    const page = getComputedStyle(probe).backgroundColor, within = getComputedStyle(box).backgroundColor, color = (it_, part) => getComputedStyle(it_, part).color;
+    probe.remove();
+    hint.className = "";
+    const words = color(hint);
+    hint.className = "wrong";
+    const texts = [ratio(color(field), within), ratio(color(field, "::placeholder"), within), ratio(words, page), ratio(color(hint), page)];
+    hint.className = was;
+    return [Math.min(...texts), Math.min(ratio(getComputedStyle(box).borderTopColor, page), ratio(getComputedStyle(box).outlineColor, page))];
+"""
+
+
+def contrast(browser):
+    """The least contrast of the field's texts, and that of its border and of its mark of the focus, in both schemes of colours."""
+    for scheme in ("light", "dark"):
+        browser.command("Emulation.setEmulatedMedia", features=[{"name": "prefers-color-scheme", "value": scheme}])
+        clear(browser)
+        texts, marks = browser.run(CONTRAST)
+        check(f"{scheme}: texts by 4.5 to 1, border and focus by 3 to 1", (texts >= 4.5, marks >= 3), (True, True))
+        print(f"   {texts:.1f}, {marks:.1f}")
+    browser.command("Emulation.setEmulatedMedia", features=[])
 
 
 def frames(browser):
@@ -187,7 +276,10 @@ def main():
             field(browser)
             if pictures:
                 browser.picture(pictures / "form.png")
+            keyboard(browser)
             if not in_firefox:
+                accessible(browser)
+                contrast(browser)
                 frames(browser)
             table(browser, folder, rows)
             if pictures:

@@ -36,9 +36,10 @@ worker.onmessage = ({ data }) => {
   at("bar").hidden = true;
   if (data.error) return void (at("result").textContent = data.error);
   const { counts, text } = data, link = document.createElement("a"), table = document.createElement("table");
-  const row = (...fields) => {
-    const it = table.insertRow();
-    for (const field of fields) it.insertCell().textContent = field;
+  const row = (title, count) => {
+    const it = table.insertRow(), head = it.appendChild(document.createElement("th"));
+    [head.scope, head.textContent] = ["row", title];
+    it.insertCell().textContent = count;
   };
   row("records", counts.records);
   row("valid", counts.valid);

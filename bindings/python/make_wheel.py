@@ -74,7 +74,7 @@ def about():
     return f"""Metadata-Version: 2.1
 Name: phonenumber-proved
 Version: {version()}
-Summary: Phone numbers, read and printed by a proved library
+Summary: Phone numbers, parsed and formatted by a proved library
 License: Apache-2.0
 Keywords: phone,telephone,phonenumbers,libphonenumber,E.164
 {classifiers}

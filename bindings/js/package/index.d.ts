@@ -1,4 +1,4 @@
-/** Phone numbers, read, checked and printed by a proved library in WebAssembly. */
+/** Phone numbers, parsed, validated and formatted by a proved library in WebAssembly. */
 
 /** The id of a region, as "NZ". */
 export type CountryCode = string;
@@ -43,7 +43,7 @@ export interface PhoneNumber {
 export class ParseError extends Error {
   readonly status: number;
 }
-/** A call was refused otherwise, as for memory. */
+/** A call failed otherwise, as for memory. */
 export class PhoneError extends Error {
   readonly status: number;
 }
@@ -103,7 +103,7 @@ export interface Phones {
 }
 
 export interface LoadOptions {
-  /** The bytes of the module and of the table, gzip or not; else the files beside the package's. */
+  /** The bytes of the module and of the metadata, gzip or not; else the files beside the package's. */
   module?: Uint8Array;
   table?: Uint8Array;
   rules?: "library" | "crate";

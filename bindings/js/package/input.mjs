@@ -2,7 +2,8 @@
 //
 //   <phone-input name="phone" region="NZ" required></phone-input>
 //
-// In a form its value is the E.164 text of a number that is valid, or empty. It tells of each change by the events `input` and `change`.
+// In a form its value is the E.164 text of a number that is valid, or empty. It tells of each change by the events `input` and `change`;
+// the key Enter submits the form. Its name for a screen reader is that of `aria-label`, else of its `<label>`.
 // Attributes: name, value (a text), region (an id; else the browser's), required, disabled, placeholder (else an example of the region).
 // Properties: value (what is typed), number (the PhoneNumber, or undefined), e164, region. Parts for styles: region, field, hint.
 const WORDS = { TOO_SHORT: "The number is too short.", TOO_LONG: "The number is too long.", INVALID_LENGTH: "No number there has so many digits.",
@@ -10,14 +11,16 @@ const WORDS = { TOO_SHORT: "The number is too short.", TOO_LONG: "The number is 
 const SHEET = `
   :host { display: inline-block; position: relative; font: inherit; color-scheme: light dark; max-width: 100%; }
   :host([hidden]) { display: none; }
-  div { display: flex; border: 1px solid GrayText; border-radius: .4em; background: Field; color: FieldText; }
-  div:focus-within { outline: 2px solid Highlight; outline-offset: 1px; }
-  label { position: relative; display: flex; align-items: center; padding: 0 .5em; gap: .3em; border-inline-end: 1px solid GrayText; }
+  div { display: flex; border: 1px solid light-dark(#767676, #9a9a9a); border-radius: .4em; background: Field; color: FieldText; }
+  div:focus-within { outline: 2px solid light-dark(#0a5cd6, #8ab4f8); outline-offset: 1px; }
+  label { position: relative; display: flex; align-items: center; padding: 0 .5em; gap: .3em; border-inline-end: 1px solid light-dark(#767676, #9a9a9a); }
   select { position: absolute; inset: 0; opacity: 0; font: inherit; width: 100%; cursor: pointer; }
   input { font: inherit; border: 0; outline: 0; padding: .5em; min-width: 0; flex: 1 12em; background: transparent; color: inherit; }
-  label:focus-within { outline: 2px solid Highlight; outline-offset: -2px; border-radius: .4em; }
-  p { margin: .2em 0 0; min-height: 1.2em; font-size: .85em; color: FieldText; }
-  :host(:state(wrong)) p, p.wrong { color: light-dark(#b00020, #ff9a9a); }
+  input::placeholder { color: light-dark(#666, #b4b4b4); opacity: 1; }
+  label:focus-within { outline: 2px solid light-dark(#0a5cd6, #8ab4f8); outline-offset: -2px; border-radius: .4em; }
+  p { margin: .2em 0 0; min-height: 1.2em; font-size: .85em; color: CanvasText; }
+  p.wrong { color: light-dark(#b00020, #ff9a9a); }
+  :host(:state(wrong)) div { border-color: light-dark(#b00020, #ff9a9a); }
 `;
 
 /** A region's flag, of two letters that stand for it. */
@@ -59,17 +62,22 @@ export function define(phones, name = "phone-input") {
       [this.#select, this.#field, this.#hint] = ["select", "input", "p"].map((it) => root.querySelector(it));
       this.#flag = root.querySelectorAll("label span");
       const options = phones.getCountries().map((region) => [names.of(region), region]).sort((a, b) => a[0].localeCompare(b[0]));
-      this.#select.append(new Option("", ""), ...options.map(([text, region]) => new Option(`${text} +${phones.getCountryCallingCode(region)}`, region)));
+      this.#select.append(new Option("No country", ""), ...options.map(([text, region]) => new Option(`${text} +${phones.getCountryCallingCode(region)}`, region)));
       this.#field.addEventListener("input", (event) => this.#typed(event));
       this.#field.addEventListener("change", () => this.dispatchEvent(new Event("change", { bubbles: true })));
       this.#field.addEventListener("blur", () => this.#show(true));
+      this.#field.addEventListener("keydown", (event) => event.key === "Enter" && !event.isComposing && this.#submit());
       this.#select.addEventListener("change", () => this.#chosen());
+      this.addEventListener("invalid", () => this.#refused());
+      // (a click on its `<label>` comes here, and is meant for the number)
+      this.addEventListener("click", (event) => event.composedPath()[0] === this && this.#field.focus());
     }
 
     connectedCallback() {
       if (!this.#select.value) this.#take(this.getAttribute("region") || regionOfBrowser(phones));
       if (this.hasAttribute("value") && !this.#field.value) this.value = this.getAttribute("value");
-      this.#field.setAttribute("aria-label", this.getAttribute("aria-label") ?? "Phone number");
+      const labels = [...this.#form.labels ?? []].map((it) => it.textContent.trim()).join(" ");
+      this.#field.setAttribute("aria-label", this.getAttribute("aria-label") || labels || "Phone number");
       this.#show(false);
     }
     attributeChangedCallback(attribute, _, to) {
@@ -145,20 +153,32 @@ export function define(phones, name = "phone-input") {
       this.#show(false);
       this.dispatchEvent(new Event("input", { bubbles: true }));
     }
-    /** Tells the form what stands there, and the user what is lacking: of a short number only once it is left. */
-    #show(isLeft) {
-      const text = this.#field.value, number = this.number, isEmpty = !text.trim();
+    /** Sends the form, as Enter in a field does: by its first button that sends, unless that is disabled. */
+    #submit() {
+      const button = [...this.form?.elements ?? []].find((it) => it.type === "submit");
+      if (!button?.disabled) this.form?.requestSubmit(button);
+    }
+    /** Says what is lacking, and takes the focus to the number, where the form can't be sent. */
+    #refused() {
+      this.#show(true, true);
+      setTimeout(() => this.shadowRoot.activeElement === this.#select && this.#field.focus());
+    }
+    /** Tells the form what stands there, and the user what is lacking: of a short number only once it is left, of none once it is sent. */
+    #show(isLeft, isSent = false) {
+      const text = this.#field.value, number = this.number, isEmpty = !text.trim(), isRequired = this.hasAttribute("required");
       this.#was = text;
       const reason = isEmpty ? undefined : phones.validatePhoneNumberLength(text, this.region);
       const isValid = number?.isValid() ?? false;
-      const words = isEmpty ? "" : isValid ? "" : WORDS[reason] ?? "No such number is given out.";
-      const isTold = !isEmpty && !isValid && (isLeft || reason === "TOO_LONG");
+      const lacking = isRequired ? "Please fill in a phone number." : "";
+      const words = isEmpty ? lacking : isValid ? "" : WORDS[reason] ?? "No such number is given out.";
+      const isTold = words !== "" && (isSent || isLeft && !isEmpty || reason === "TOO_LONG");
       this.#hint.textContent = isValid ? `${number.formatInternational()}` : isTold ? words : "";
       this.#hint.classList.toggle("wrong", isTold);
+      this.#form.states[isTold ? "add" : "delete"]("wrong");
       this.#field.setAttribute("aria-invalid", String(isTold));
+      this.#field.setAttribute("aria-required", String(isRequired));
       this.#form.setFormValue(isValid ? number.number : "", text);
-      if (isEmpty && this.hasAttribute("required")) this.#form.setValidity({ valueMissing: true }, "Please fill in a phone number.", this.#field);
-      else if (!isEmpty && !isValid) this.#form.setValidity({ customError: true }, words, this.#field);
+      if (words) this.#form.setValidity(isEmpty ? { valueMissing: true } : { customError: true }, words, this.#field);
       else this.#form.setValidity({});
     }
   }

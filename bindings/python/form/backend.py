@@ -5,7 +5,7 @@ from __future__ import annotations
 import unicodedata
 from typing import List, NamedTuple, Optional, Tuple, Union
 
-from phonenumber_proved import TABLE, Database, Mode, NoNumber, PhoneNumber
+from phonenumber_proved import TABLE, Database, Kind, Mode, NoNumber, PhoneNumber
 
 #: What is told of a valid number: names with their texts.
 Facts = List[Tuple[str, str]]
@@ -21,13 +21,28 @@ class Told(NamedTuple):
     words: str
 
 
+class Choice(NamedTuple):
+    """A region that one can choose: its id, its calling code, and an example of how a number is written there."""
+
+    region: str
+    code: int
+    example: str
+
+
 class Backend:
-    """The form's answers by a table of the world. A region is an id, as `NZ`, or `None`."""
+    """The form's answers, by the metadata of all regions. A region is an id, as `NZ`, or `None`."""
 
     def __init__(self, table: Optional[str] = TABLE) -> None:
         self._world = Database.load(table)
         #: The ids of the regions that one can choose.
         self.regions: List[str] = self._world.regions()
+        #: The same, with what is shown beside them.
+        self.choices: List[Choice] = [self._choice(it) for it in self.regions]
+
+    def _choice(self, region: str) -> Choice:
+        found = (self._world.example(region, it) for it in (Kind.MOBILE, Kind.FIXED_LINE))
+        example = next((it.format(Mode.NATIONAL) for it in found if it is not None), "")
+        return Choice(region, self._world.about_region(region).code, example)
 
     def typed(self, region: Optional[str], text: str, caret: int) -> Optional[Tuple[str, int]]:
         """What the field shows of a text that is typed, and where the caret stands in it.

@@ -52,7 +52,8 @@ def paste(browser, text):
 def typing(browser, address):
     browser.go(address)
     check("region by the language", browser.run("return region.value"), "NZ")
-    check("regions by their names", browser.run("return region.selectedOptions[0].textContent"), "New Zealand (NZ)")
+    check("regions by their names", browser.run("return region.selectedOptions[0].textContent"), "\U0001f1f3\U0001f1ff New Zealand +64")
+    check("an example", browser.run("return field.placeholder.startsWith('02')"), True)
     for key, shown in (("0", "0|"), ("3", "03|"), ("3", "033|"), ("3", "03 33|"), ("1", "03 331|"), ("6", "03 331 6|")):
         browser.keys(key)
         check("typed " + key, state(browser), shown)
@@ -200,7 +201,7 @@ def main(args):
         editing(browser, address)
         pasting(browser, address)
         slowly(browser)
-        for check_more in (long_texts, sending):
+        for check_more in (accessible, long_texts, sending):
             check_more(browser, address, folder)
         check("console", browser.log(), [])
     finally:
@@ -225,6 +226,27 @@ def long_texts(browser, address, folder):
         check("sent", browser.run("return document.querySelectorAll('b, #sent').length"), 0)
     if folder:
         browser.picture(folder / "long.png")
+
+
+def accessible(browser, address, folder):
+    """What a screen reader is told of the page, and the page in dark colours."""
+    browser.go(address)
+    browser.keys("0333")
+    state(browser)
+    told = {}
+    for node in browser.command("Accessibility.getFullAXTree")["nodes"]:
+        if not node.get("ignored"):
+            more = {it["name"]: it["value"].get("value") for it in node.get("properties", [])}
+            name, words = (node.get(it, {}).get("value") or "" for it in ("name", "description"))
+            told.setdefault(node["role"]["value"], []).append((name, words, more.get("invalid"), more.get("live")))
+    check("the field", told["textbox"], [("Number", SHORT, "true", None)])
+    check("the regions", [it[0] for it in told["combobox"]], ["Region"])
+    check("the live region", [it[3] for it in told["status"]], ["polite"])
+    check("the button", [it[0] for it in told["button"]], ["Send"])
+    if folder:
+        browser.command("Emulation.setEmulatedMedia", features=[{"name": "prefers-color-scheme", "value": "dark"}])
+        browser.picture(folder / "dark.png")
+        browser.command("Emulation.setEmulatedMedia", features=[])
 
 
 def sending(browser, address, folder):

@@ -1,7 +1,7 @@
 """A web form with one field, in which a phone number is formatted while one types.
 
 `FormServer` is given what makes its backend: `backend.Backend`, or anything with the same `regions`,
-`typed`, `pasted` and `told`. All calls of the backend are on one thread, which made it. The server
+`choices`, `typed`, `pasted` and `told`. All calls of the backend are on one thread, which made it. The server
 keeps nothing of what is typed and logs nothing of it.
 """
 
@@ -139,11 +139,12 @@ class Handler(BaseHTTPRequestHandler):
         return region if isinstance(region, str) and region in regions else None
 
     def _give_page(self, region: Optional[str], text: str, words: str, number: str) -> None:
-        regions: List[str] = self.server.ask(lambda backend: backend.regions)
+        choices: List[Any] = self.server.ask(lambda backend: backend.choices)
         options = "".join(
-            f'<option value="{html.escape(it)}"{" selected" if it == region else ""}>'
-            f"{html.escape(it)}</option>"
-            for it in regions
+            f'<option data-code="{it.code}" data-example="{html.escape(it.example)}" '
+            f'value="{html.escape(it.region)}"{" selected" if it.region == region else ""}>'
+            f"{html.escape(it.region)} +{it.code}</option>"
+            for it in choices
         )
         page = self.server.page.substitute(
             options=options, text=html.escape(text), words=html.escape(words), number=number,

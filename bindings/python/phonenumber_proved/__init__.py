@@ -1,4 +1,4 @@
-"""Phone numbers, read and printed as crates/phone_c proves it. Over one shared library, by ctypes.
+"""Phone numbers, parsed and formatted as crates/phone_c proves it. Over a shared library, by ctypes.
 
     >>> from phonenumber_proved import Database, Kind, Mode
     >>> with Database.load() as world:
@@ -16,14 +16,14 @@
     (False, True)
 
 Any number of threads may use a `Database`, `ShortNumbers` or `Prefixes` at once, any of them may
-close it, and the child of a fork has it too. Threads share its table; that of the world takes some
-6 MB. `close`, or `with`, frees it. Other threads of Python run while something is opened or
+close it, and the child of a fork has it too. Threads share its metadata; those of all regions take
+some 6 MB. `close`, or `with`, frees them. Other threads of Python run while something is opened or
 closed, and while a long text is searched; each other call is shorter than the wait for them. A text
-is `str` or UTF-8 in `bytes`; a lone surrogate, or bytes that aren't UTF-8, are refused.
+is `str` or UTF-8 in `bytes`; a lone surrogate, or bytes that aren't UTF-8, are an error.
 PHONE_LIBRARY names the shared library, else `libphone.so` beside these files is taken, and else the
-one that `make` leaves in bindings/c/out. The table of the world is a file beside these, or else the
-one in the library; PHONE_TABLE names another file.
-`Database.columns` reads a column of texts at once, with any number of threads; the module
+one that `make` leaves in bindings/c/out. The metadata are a file beside these, or else in the
+library; PHONE_TABLE names another file.
+`Database.columns` parses a column of texts at once, with any number of threads; the module
 `phonenumber_proved.pandas` has it as the accessor `phone` of pandas' `Series`.
 The module `phonenumber_proved.phonenumbers` has the names of the package `phonenumbers`.
 """

@@ -110,7 +110,7 @@ class Place(ctypes.Structure):
 
 
 class Texts(ctypes.Structure):
-    """A column of texts as Arrow lays it out; or one hint for all texts, without an offset."""
+    """A column of texts in Arrow's layout; or one default region for all texts, without an offset."""
 
     _fields_ = [
         ("offsets", ctypes.POINTER(ctypes.c_uint64)),
@@ -244,7 +244,7 @@ long_lib: ctypes.CDLL = _library(ctypes.CDLL)
 
 
 def bytes_of(text: Text) -> bytes:
-    """A text in UTF-8. A lone surrogate, which has none, gives bytes that the calls refuse."""
+    """A text in UTF-8. A lone surrogate, which has none, gives bytes that are an error."""
     if isinstance(text, str):
         try:
             return text.encode("utf-8", "surrogateescape")
@@ -256,7 +256,7 @@ def bytes_of(text: Text) -> bytes:
 
 
 def hint_of(hint: Union[str, bytes, None]) -> bytes:
-    """A region's id for a call. The empty text is none, though for a call it stands for no hint."""
+    """A region's id for a call. The empty text is none; for a call it means no default region."""
     if hint is None:
         return b""
     return bytes_of(hint) or refuse(NO_REGION, hint)

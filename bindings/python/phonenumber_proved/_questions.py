@@ -135,7 +135,7 @@ def format_national_number_with_preferred_carrier_code(
 def is_number_match(num1: Union[PhoneNumber, str], num2: Union[PhoneNumber, str]) -> int:
     """How like two numbers or texts are, of `MatchType`. A text may lack its calling code.
 
-    Where one has a calling code, a text without it is read in the main region of that code. A
+    Where one has a calling code, a text without it is parsed in the main region of that code. A
     number with a field past what the library takes is none.
 
     >>> from phonenumber_proved import phonenumbers

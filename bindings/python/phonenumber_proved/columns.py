@@ -1,7 +1,7 @@
-"""Columns of texts, read at once: what is told of them stands in columns too.
+"""Columns of texts, parsed at once into columns of answers.
 
-Each row is answered as the calls for one text answer it. A column is cut into pieces, which threads
-read beside each other, without Python's lock, on one table.
+Each row has the answers that the calls for one text give. A column is cut into pieces, which threads
+parse beside each other, without Python's lock, by the same metadata.
 """
 
 from __future__ import annotations
@@ -222,7 +222,7 @@ _EMPTY = Piece(0, bytearray(8), (Place * 17)(*[Place(0, 8)] + [Place(0, 0)] * 16
 
 
 class _Texts:
-    """Texts or hints: from which row on, and for how many, a chunk is made of them."""
+    """Texts or default regions: from which row on, and for how many, a chunk is made of them."""
 
     def __init__(self, given: Any) -> None:
         if _is_pandas(given) and not _is_arrow_backed(given):
@@ -309,7 +309,7 @@ def read_columns(
     world: "Database", texts: Any, hints: Any, columns: Sequence[Column], threads: Optional[int],
     rules: Rules, progress: Optional[Progress],
 ) -> Told:
-    """What columns tell of the rows of texts."""
+    """These columns of the rows of texts."""
     own = _Texts(texts)
     under: Union[_Texts, bytes]
     if hints is None or isinstance(hints, (str, bytes)):
@@ -335,7 +335,7 @@ def _all(
     read: Callable[[Tuple[int, int]], Piece], pieces: Sequence[Tuple[int, int]], count: int,
     threads: Optional[int], progress: Optional[Progress],
 ) -> Iterator[Piece]:
-    """All pieces, in their order, read by so many threads; after each it is told how far it is."""
+    """All pieces, in their order, parsed by so many threads; after each `progress` is called."""
     if threads is None:
         threads = len(os.sched_getaffinity(0))
     if threads < 1:

@@ -44,9 +44,9 @@ class Leniency(enum.IntEnum):
     """Which pieces of a text are found."""
 
     POSSIBLE = 0
-    """Those that are read as a number of which the count of digits is possible."""
+    """Those that are parsed as a number with a possible count of digits."""
     VALID = 1
-    """Those that are read as a valid number."""
+    """Those that are parsed as a valid number."""
 
 
 class Found(NamedTuple):
@@ -82,20 +82,20 @@ class Records(Held):
 
 
 class Database(Asked, Records):
-    """A database: which numbers there are, and how they are written.
+    """A database: the metadata, which numbers there are, and how they are formatted.
 
-    A hint is the id of the region in which a text was written, as `NZ`; `UnknownRegion` where it is
-    none. Rules are libphonenumber's where no others are given.
+    `hint` is the default region: the id of the region in which a text was written, as `NZ`;
+    `UnknownRegion` where it is none. Rules are libphonenumber's where no others are given.
     """
 
     @classmethod
     def load(cls, path: Optional[PathText] = TABLE) -> "Database":
-        """Opens the database that a file is; without a path, the table of the world."""
+        """Opens the database that a file is; without a path, that of all regions."""
         return cls.world() if path is None else super().load(path)
 
     @classmethod
     def world(cls) -> "Database":
-        """Opens the table of the world that stands in the library, and needs no file."""
+        """Opens the library's own database, of all regions, and needs no file."""
         database = cls.__new__(cls)
         database._opened(lambda handle: long_lib.phone_open_world(handle, Rules.LIBRARY))
         return database
@@ -211,7 +211,7 @@ class Database(Asked, Records):
         self, text: Text, hint: Optional[str] = None, leniency: Leniency = Leniency.VALID,
         rules: Rules = Rules.LIBRARY,
     ) -> List[Found]:
-        """The numbers that stand in a text, from its front on; they don't overlap.
+        """The numbers in a text, from its front on; they don't overlap.
 
         >>> from phonenumber_proved import Database
         >>> with Database.load() as world:
@@ -274,18 +274,19 @@ class Database(Asked, Records):
         threads: Optional[int] = None, rules: Rules = Rules.LIBRARY,
         progress: Optional[Progress] = None,
     ) -> Any:
-        """What these columns tell of a column of texts, each row by itself as `parse` reads it.
+        """These columns of a column of texts, each row parsed by itself as by `parse`.
 
-        Texts are a list, an array of NumPy, a `Series` of pandas, or what speaks Arrow's protocol
-        of capsules, whose texts aren't copied where they are strings or large strings. Hints are
-        one for all, or such a column of as many. Where a text is none, all is none; what is no
-        number is told by the column `refusal`. What is told comes as the texts do: as a dictionary
-        of lists or of arrays, a data frame over the same index, or a `Told`, which speaks Arrow's
+        Texts are a list, an array of NumPy, a `Series` of pandas, or data with Arrow's capsule
+        protocol, whose texts aren't copied where they are strings or large strings. Default regions
+        are one for all, or such a column of as many. Where a text is none, all is none; the column
+        `refusal` says why a text is no number. Answers come as the texts do: as a dictionary of
+        lists or of arrays, a data frame over the same index, or a `Told`, which has Arrow's
         protocol.
 
         Threads are as many as there are processors where none are named; each has its pieces of the
         texts. After each piece `progress` is called, with how many rows are done and how many there
-        are. `UnknownRegion` where the one hint of all is none; a row's own hint refuses the row.
+        are. `UnknownRegion` where the one default region is none; a row's own makes an error of the
+        row.
 
         >>> from phonenumber_proved import Database
         >>> with Database.load() as world:

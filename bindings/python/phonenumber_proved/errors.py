@@ -1,4 +1,4 @@
-"""Why a call was refused."""
+"""Why a call fails."""
 
 from __future__ import annotations
 
@@ -8,7 +8,7 @@ from typing import Any, Tuple
 
 @functools.total_ordering
 class Error(Exception):
-    """A call was refused: `status` is its number in `phone.h`, and `words` say why.
+    """A call failed: `status` is its number in `phone.h`, and `words` say why.
 
     Errors are equal where class, status and words are. They can be ordered, pickled and copied.
     """
@@ -62,4 +62,4 @@ class UnknownRegion(Error):
 
 
 class Closed(Error):
-    """The database or the table was closed, or a number has none."""
+    """The database or the prefixes were closed, or a number has no database."""

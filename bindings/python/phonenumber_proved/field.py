@@ -38,7 +38,7 @@ class Typing:
         """Types a character, or several, as one pastes them; returns what is shown.
 
         A digit of any script is the key of its value, and a plus sign is one before all others; any
-        other character changes nothing. Where the call is refused, the field stays as it was.
+        other character changes nothing. Where the call fails, the field stays as it was.
         """
         return self._show(self._keys + text)
 

@@ -102,7 +102,7 @@ class Held:
         return handle
 
     def close(self) -> None:
-        """Frees it, once no call is on it; nothing where that was done. A later call is refused."""
+        """Frees it, once no call is on it; nothing where that was done. A later call fails."""
         self._first = self._kind()
         self._idle = ([], [])
 

@@ -1,4 +1,4 @@
-"""Columns of texts in Arrow's layout: made of values, cut into pieces, and read as values."""
+"""Columns of texts in Arrow's layout: made of values, cut into pieces, and turned to values."""
 
 from __future__ import annotations
 
@@ -92,7 +92,7 @@ class Chunk(NamedTuple):
 
 
 def one_hint(hint: bytes, width: int) -> Union[Texts, NarrowTexts]:
-    """One hint for all texts, as a call takes it: it is held by what it is given to."""
+    """One default region for all texts, as a call takes it: it is held by what it is given to."""
     kind, word = (NarrowTexts, ctypes.c_uint32) if width == 4 else (Texts, ctypes.c_uint64)
     at = ctypes.cast(ctypes.c_char_p(hint), ctypes.c_void_p)
     made = kind(

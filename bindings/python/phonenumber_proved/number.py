@@ -1,4 +1,4 @@
-"""A phone number, and what is told of it."""
+"""A phone number, and its facts."""
 
 from __future__ import annotations
 
@@ -17,7 +17,7 @@ if TYPE_CHECKING:
 
 
 class Rules(enum.IntEnum):
-    """By whose rules a text is read and a number described."""
+    """By whose rules a text is parsed and a number described."""
 
     LIBRARY = 0
     """Those of libphonenumber."""
@@ -26,7 +26,7 @@ class Rules(enum.IntEnum):
 
 
 class Mode(enum.IntEnum):
-    """How a number is printed."""
+    """The format of a number."""
 
     E164 = 0
     INTERNATIONAL = 1
@@ -84,9 +84,9 @@ class Possibility(enum.IntEnum):
 
 @functools.total_ordering
 class PhoneNumber:
-    """A phone number that a database read. It never changes, and asks its database.
+    """A phone number that a database parsed. It never changes, and asks its database.
 
-    Kind, region, validity and printed texts are told by the rules by which it was read; `by` gives
+    Kind, region, validity and formatted texts follow the rules by which it was parsed; `by` gives
     the same number under the others. Numbers are equal where calling code, national number,
     extension, carrier and source are, whatever the database and the rules; in this order they are
     ordered, the national number by its value and then by its leading zeros. A number is copied as
@@ -367,7 +367,7 @@ class PhoneNumber:
     def match(self, other: "Union[PhoneNumber, Text]") -> NumberMatch:
         """How like it and another number, or the number of a text, are by libphonenumber's rules.
 
-        A number of the calling code 0 is one whose code isn't known; a text without one is read in
+        A number of the calling code 0 is one whose code isn't known; a text without one is parsed in
         the main region of this number's code.
 
         >>> from phonenumber_proved import Database

@@ -23,7 +23,7 @@ _database: Optional[Database] = None
 
 
 def use(database: Optional[Database]) -> None:
-    """Names the database that is asked from now on; `None`: the table of the world."""
+    """Names the database that is asked from now on; `None`: that of all regions."""
     global _database
     _database = database
 
@@ -38,7 +38,7 @@ def _world() -> Database:
 
 @pandas.api.extensions.register_series_accessor("phone")
 class Phone:
-    """What is told of the texts of a series, under one hint or a hint for each."""
+    """Answers on the texts of a series, with one default region or one for each."""
 
     def __init__(self, series: Any) -> None:
         self._series = series

@@ -39,7 +39,7 @@ class ShortFacts(NamedTuple):
 
 
 class ShortNumbers(Records):
-    """A table of short numbers.
+    """Metadata of short numbers.
 
     >>> from phonenumber_proved import ShortNumbers
     >>> with ShortNumbers.load() as table:
@@ -50,7 +50,7 @@ class ShortNumbers(Records):
 
     @classmethod
     def load(cls, path: PathText = SHORT_TABLE) -> "ShortNumbers":
-        """Opens the table that a file is; without a path, the world's short numbers."""
+        """Opens the metadata that a file has; without a path, those of all regions."""
         return super().load(path)
 
     def short(self, region: str, text: Text) -> ShortFacts:

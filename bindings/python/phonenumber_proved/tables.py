@@ -1,4 +1,4 @@
-"""The tables that go with this package."""
+"""The data that go with this package."""
 
 from __future__ import annotations
 
@@ -14,18 +14,18 @@ _HERE = Path(__file__).resolve().parent
 # Beside these files where they were put there, else in the repository.
 _DATA = _HERE / "data" if (_HERE / "data").is_dir() else _HERE.parents[2] / "data"
 
-#: The file of the table of the world, in the compact form, which opens sooner, or as JSON; `None`
-#: where there is none, and the library's is meant.
+#: The file of the metadata, in the compact form, which opens sooner, or as JSON; `None` where there
+#: is none, and the library's own are meant.
 TABLE: Optional[str] = os.environ.get("PHONE_TABLE") or (
     str(_DATA / "world.compact") if (_DATA / "world.compact").is_file() else None
 )
 
 _BESIDE = Path(TABLE).parent if TABLE else _DATA
 
-#: The table of short numbers; that beside the table of the world.
+#: The metadata of short numbers, beside that file.
 SHORT_TABLE = str(_BESIDE / "short.json")
 
-#: The tables of prefixes beside it, for `Prefixes.load`: the time zones, parted by `&`, and the
+#: The files of prefixes beside it, for `Prefixes.load`: the time zones, parted by `&`, and the
 #: English names of carriers.
 TIME_ZONES_TABLE = str(_BESIDE / "timezones.tsv")
 CARRIERS_TABLE = str(_BESIDE / "carriers.tsv")
@@ -37,7 +37,7 @@ PLACES = os.environ.get("PHONE_PLACES") or str(_BESIDE / "places")
 
 
 def table_json() -> bytes:
-    """The records of the table of the world as JSON: of its file or that beside it, or of the library."""
+    """The metadata as JSON: of their file or that beside it, or of the library."""
     if TABLE:
         return Path(TABLE).with_suffix(".json").read_bytes()
     length = ctypes.c_size_t()
@@ -53,6 +53,6 @@ def _version() -> Optional[str]:
         return None
 
 
-#: Where the tables are from, by name and version, as `libphonenumber 9.0.35`; the file VERSION
+#: Where the data are from, by name and version, as `libphonenumber 9.0.35`; the file VERSION
 #: beside them has it.
 TABLE_VERSION = _version()

@@ -8,10 +8,10 @@ from . import _regions
 
 
 def warm() -> threading.Thread:
-    """Opens the table that `phonenumber_proved.phonenumbers` asks, in a thread of its own.
+    """Opens the metadata that `phonenumber_proved.phonenumbers` asks, in a thread of its own.
 
-    The first call of a program then needn't wait for it: it waits for the thread at most. The table
-    that `Database.load` opens is another's, and isn't kept.
+    The first call of a program then needn't wait for it: it waits for the thread at most. What
+    `Database.load` opens is separate, and isn't kept.
 
     >>> warm().join()
     """

@@ -36,7 +36,7 @@ pub(crate) fn check(status: u32) -> Result<(), Error> {
     if status == ffi::OK { Ok(()) } else { Err(Error::of(status)) }
 }
 
-/// The bytes of a hint. The empty text is no region's id, though for the calls it stands for no hint.
+/// The bytes of a default region. The empty text is no region's id, though for the calls it means none.
 pub(crate) fn hint_of(hint: Option<&str>) -> Result<&[u8], Error> {
     match hint {
         Some("") => Err(Error::NoRegion),

@@ -1,4 +1,4 @@
-//! Columns of texts, each row read by itself.
+//! Columns of texts, each row parsed by itself.
 use crate::database::{By, Database};
 use crate::error::Error;
 use crate::ffi;
@@ -67,7 +67,7 @@ mod sealed {
 }
 
 /// A column of texts, of which nothing is copied: the i-th stands in `bytes` from `offsets[i]` to before `offsets[i + 1]`, as
-/// Arrow lays it out. Of hints there may be one for all texts.
+/// Arrow's layout has it. There may be one default region for all texts.
 #[derive(Clone, Copy, Debug)]
 pub struct Texts<'a, O = u64> {
     offsets: &'a [O],
@@ -88,12 +88,12 @@ impl<'a, O: Offset> Texts<'a, O> {
         Texts { bits, first, ..self }
     }
 
-    /// One hint for all texts: the id of the region in which they were written; the empty text is none.
+    /// One default region for all texts: the id of the region in which they were written; the empty text is none.
     pub fn one_hint(id: &'a str) -> Self {
         Texts { offsets: &[], bytes: id.as_bytes(), bits: &[], first: 0 }
     }
 
-    /// How many texts there are; 0 of one hint for all.
+    /// How many texts there are; 0 of one default region for all.
     pub fn len(&self) -> usize {
         self.offsets.len().saturating_sub(1)
     }
@@ -103,7 +103,7 @@ impl<'a, O: Offset> Texts<'a, O> {
         self.len() == 0
     }
 
-    /// The rows of a range, as a column; one hint for all stays so. It panics where the range isn't within the column.
+    /// The rows of a range, as a column; one default region for all stays so. It panics where the range isn't within the column.
     ///
     /// A column is cut so for threads: its answers are those of its pieces, one behind the other.
     pub fn slice(&self, rows: Range<usize>) -> Self {
@@ -152,7 +152,7 @@ impl<T: AsRef<[u8]>> FromIterator<Option<T>> for TextsBuf {
     }
 }
 
-/// What is told of each text, by its number in `phone.h`.
+/// An answer on each text, by its number in `phone.h`.
 #[derive(Clone, Copy, Debug, PartialEq, Eq, Hash, PartialOrd, Ord)]
 pub enum Column {
     /// Its E.164 text.
@@ -190,7 +190,7 @@ impl Column {
     }
 }
 
-/// What is told of a column of texts. A column that wasn't asked for is empty, and its rows are `None`.
+/// The answers on a column of texts. A column that wasn't asked for is empty, and its rows are `None`.
 pub struct Columns {
     len: usize,
     /// Of each column, where its buffers stand in `out`.
@@ -216,7 +216,7 @@ impl Columns {
     }
 
     /// The bytes of a column's buffer as they were written: of texts 0 has the offsets and 1 the bytes; of the others 0 has
-    /// the values, of the width that `phone.h` tells.
+    /// the values, of the width that `phone.h` has.
     pub fn buffer(&self, column: Column, which: usize) -> &[u8] {
         self.places[column as usize].get(which).map_or(&[], |place| &self.bytes()[place.clone()])
     }
@@ -258,7 +258,7 @@ impl Columns {
         self.values(Column::Zeros)
     }
 
-    /// The kind of a row's number; what it is of no number, [`Columns::is_number`] tells.
+    /// The kind of a row's number; it means nothing where [`Columns::is_number`] is false.
     pub fn number_type(&self, row: usize) -> Option<Type> {
         TYPES.get(*self.values::<u8>(Column::Type).get(row)? as usize).copied()
     }
@@ -290,10 +290,10 @@ impl Columns {
 }
 
 impl Database {
-    /// What these columns tell of each text, read by itself under the hint at its place, or under the one for all, as
-    /// [`Database::parse`] reads it. A hint that isn't there, or is empty, is none; one that is no region's id refuses its row,
-    /// and so does a text that isn't UTF-8. `Error::Layout` where offsets go back or past the bytes, the bitmap lacks a flag, or
-    /// hints and texts aren't as many.
+    /// These columns of each text, parsed by itself with the default region at its place, or the one for all, as
+    /// [`Database::parse`] parses it. A default region that isn't there, or is empty, is none; one that is no region's id is an
+    /// error of its row, and so is a text that isn't UTF-8. `Error::Layout` where offsets go back or past the bytes, the bitmap
+    /// lacks a flag, or default regions and texts aren't as many.
     ///
     /// ```
     /// use phonenumber_proved::{Column, Database, Error, Mode, Texts, TextsBuf};
@@ -316,7 +316,7 @@ impl Database {
 }
 
 impl By<'_> {
-    /// What these columns tell of each text, by the rules: see [`Database::columns`].
+    /// These columns of each text, by the rules: see [`Database::columns`].
     pub fn columns<O: Offset>(
         &self,
         texts: &Texts<'_, O>,

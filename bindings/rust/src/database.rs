@@ -9,7 +9,7 @@ use std::fmt;
 use std::path::Path;
 use std::sync::{Mutex, OnceLock, PoisonError};
 
-/// By whose rules a text is read and a number described.
+/// By whose rules a text is parsed and a number described.
 #[derive(Clone, Copy, Debug, Default, PartialEq, Eq, Hash, PartialOrd, Ord)]
 pub enum Rules {
     /// By those of libphonenumber.
@@ -19,11 +19,11 @@ pub enum Rules {
     Crate,
 }
 
-/// A database. Any number of threads may use it at once: no call waits for another. A clone shares its
-/// table, which is given back with the last of them.
+/// A database: the metadata of numbering plans. Any number of threads may use it at once: no call waits for
+/// another. A clone shares them; they are freed with the last of the clones.
 ///
-/// A hint is the id of the region in which a text was written, as `NZ`; `Error::NoRegion` where it is
-/// none. What has no rules of its own is by libphonenumber's.
+/// `hint` is the default region: the id of the region in which a text was written, as `NZ`;
+/// `Error::NoRegion` where it is none. Calls without rules follow libphonenumber's.
 ///
 /// ```
 /// use phonenumber_proved::{Database, Prefixes, ShortNumbers, Typing};
@@ -37,7 +37,7 @@ pub enum Rules {
 /// ```
 #[derive(Clone)]
 pub struct Database {
-    /// One table, by the rules of each number.
+    /// The same metadata, by the rules of each number.
     by_rules: [Records; 2],
 }
 
@@ -47,7 +47,7 @@ impl fmt::Debug for Database {
     }
 }
 
-/// The table of the world that the first call opens, for all threads.
+/// The library's own metadata, which the first call opens, for all threads.
 pub(crate) fn world() -> Result<&'static Database, Error> {
     static WORLD: OnceLock<Database> = OnceLock::new();
     static OPENING: Mutex<()> = Mutex::new(());
@@ -63,7 +63,7 @@ pub(crate) fn world() -> Result<&'static Database, Error> {
 }
 
 impl Database {
-    /// The table of the world that stands in the library.
+    /// The library's own metadata, of all regions.
     ///
     /// ```
     /// use phonenumber_proved::Database;
@@ -140,14 +140,14 @@ impl Database {
         self.by(Rules::Library).is_valid(number)
     }
 
-    /// The printer of a number, by E.164 until `mode` asks for another.
+    /// The formatter of a number, by E.164 until `mode` sets another.
     pub fn format<'a>(&'a self, number: &'a PhoneNumber) -> Formatter<'a> {
         self.by(Rules::Library).format(number)
     }
 
     /// What is shown of a number while it is typed, once these keys are: digits of any script, and a plus
-    /// sign before all of them. All else in the text is dropped. The hint is the region that digits
-    /// without a plus sign are dialled in.
+    /// sign before all of them. All else in the text is dropped. `hint` is the default region, in which
+    /// digits without a plus sign are dialled.
     ///
     /// ```
     /// use phonenumber_proved::Database;
@@ -200,7 +200,7 @@ impl<'d> By<'d> {
         self.rules
     }
 
-    /// The number that a text is. The hint is the id of the region in which it was written.
+    /// The number that a text is. `hint` is the default region: the id of the region in which it was written.
     pub fn parse(&self, hint: Option<&str>, text: impl AsRef<str>) -> Result<PhoneNumber, Error> {
         let (hint, text) = (hint_of(hint)?, text.as_ref());
         let mut number = ffi::Number::default();
@@ -251,7 +251,7 @@ impl<'d> By<'d> {
         Ok(told == 1)
     }
 
-    /// The printer of a number, by E.164 until `mode` asks for another.
+    /// The formatter of a number, by E.164 until `mode` sets another.
     pub fn format<'a>(&self, number: &'a PhoneNumber) -> Formatter<'a>
     where
         'd: 'a,

@@ -1,8 +1,8 @@
-//! Why a call was refused.
+//! Why a call fails.
 use crate::ffi;
 use std::fmt;
 
-/// Why a call was refused. Its text is the refusal's words.
+/// Why a call fails. Its text has the error's words.
 ///
 /// ```
 /// use phonenumber_proved::{Database, Error};
@@ -13,9 +13,9 @@ use std::fmt;
 #[derive(Clone, Copy, Debug, PartialEq, Eq, Hash, PartialOrd, Ord)]
 #[non_exhaustive]
 pub enum Error {
-    /// No reader takes the text, or its national part is not viable.
+    /// No parser takes the text, or its national part is not viable.
     NoNumber,
-    /// The calling code is listed nowhere, or there is none and the hint gives none.
+    /// The calling code is listed nowhere, or there is none and no default region gives one.
     InvalidCountryCode,
     /// Too few digits follow a plus sign or an international prefix; not given by the crate's rules.
     TooShortAfterIdd,
@@ -33,13 +33,13 @@ pub enum Error {
     Line(usize, LineFault),
     /// The text is not UTF-8.
     NotUtf8,
-    /// The hint is no region's id.
+    /// The default region is no region's id.
     NoRegion,
     /// The database has no territory of the region.
     NoTerritory,
-    /// Texts or hints are laid out as no column.
+    /// Texts or default regions have the layout of no column.
     Layout,
-    /// Memory was refused. What was open is open.
+    /// There was no memory. What was open is open.
     Memory,
     /// The file can't be read.
     Io(std::io::ErrorKind),

@@ -1,4 +1,4 @@
-//! Numbers in a text, and what a table lists.
+//! Numbers in a text, and what the metadata list.
 use crate::call::{bytes_of, hint_of, items_of, text_of};
 use crate::database::{By, Database};
 use crate::error::Error;
@@ -9,9 +9,9 @@ use std::ops::Range;
 /// Which pieces of a text are found.
 #[derive(Clone, Copy, Debug, PartialEq, Eq, Hash, PartialOrd, Ord)]
 pub enum Leniency {
-    /// Those that are read as a number of which the count of digits is possible.
+    /// Those that are parsed as a number with a possible count of digits.
     Possible,
-    /// Those that are read as a valid number.
+    /// Those that are parsed as a valid number.
     Valid,
 }
 
@@ -25,7 +25,7 @@ pub struct Found {
 }
 
 impl Database {
-    /// The valid numbers that stand in a text, from its front on. The hint is the region in which it was
+    /// The valid numbers in a text, from its front on. `hint` is the default region, in which it was
     /// written.
     ///
     /// ```

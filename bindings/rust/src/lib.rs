@@ -1,4 +1,4 @@
-//! Phone numbers, read and printed as crates/phone_c proves it.
+//! Phone numbers, parsed and formatted as crates/phone_c proves it.
 //!
 //! ```
 //! use phonenumber_proved::{Database, Mode, Type};
@@ -12,7 +12,7 @@
 //! # Ok::<(), Box<dyn std::error::Error>>(())
 //! ```
 //!
-//! Texts are read and numbers described by libphonenumber's rules; [`Database::by`] takes those of the
+//! Texts are parsed and numbers described by libphonenumber's rules; [`Database::by`] takes those of the
 //! crate `phonenumber` 0.3.10.
 //!
 //! ```
@@ -24,10 +24,10 @@
 //! # Ok::<(), phonenumber_proved::Error>(())
 //! ```
 //!
-//! A [`PhoneNumber`] is plain data. A [`Database`] is used by any number of threads at once, and so are its
-//! clones: they share one table, and that of the world takes some 6 MB. It is the calls that are proved,
-//! not this crate: that the declarations of `phonenumber-proved-sys` fit, and that memory is given back, is
-//! tested. The module `compat` has the names of the crate `phonenumber`.
+//! A [`PhoneNumber`] is plain data. Any number of threads may use a [`Database`] and its clones at once: they
+//! share the metadata, which take some 6 MB. The calls are proved. This crate over them is tested: that the
+//! declarations of `phonenumber-proved-sys` fit, and that memory is given back. The module `compat` has the
+//! names of the crate `phonenumber`.
 mod call;
 mod columns;
 pub mod compat;
@@ -61,20 +61,20 @@ pub use questions::{
 pub use short::{Cost, ShortFacts, ShortNumbers};
 pub use typing::Typing;
 
-/// The records of the table that [`Database::world`] opens, as JSON, which a program that names it holds besides.
+/// The metadata that [`Database::world`] opens, as JSON, which a program that names it holds besides.
 #[cfg(feature = "table")]
 pub const WORLD: &str = include_str!(concat!(env!("PHONE_TABLES"), "/world.json"));
 
-/// The path at which it lay when this crate was built, in the compact form, which opens sooner, for programs that read it
+/// The path at which it lay when this crate was built, in the compact form, which opens sooner, for programs that load it
 /// when they run.
 #[cfg(feature = "table")]
 pub const WORLD_PATH: &str = concat!(env!("PHONE_TABLES"), "/world.compact");
 
-/// The table of short numbers that goes with this crate.
+/// The metadata of short numbers that go with this crate.
 #[cfg(feature = "table")]
 pub const SHORT: &str = include_str!(concat!(env!("PHONE_TABLES"), "/short.json"));
 
-/// The table of time zones that goes with this crate, for [`Prefixes::of`]; those of a prefix are parted by `&`.
+/// The time zones by prefix that go with this crate, for [`Prefixes::of`]; those of a prefix are parted by `&`.
 ///
 /// ```
 /// use phonenumber_proved::{Prefixes, TIME_ZONES};
@@ -85,11 +85,11 @@ pub const SHORT: &str = include_str!(concat!(env!("PHONE_TABLES"), "/short.json"
 #[cfg(feature = "table")]
 pub const TIME_ZONES: &str = include_str!(concat!(env!("PHONE_TABLES"), "/timezones.tsv"));
 
-/// The table of the English names of carriers that goes with this crate, for [`Prefixes::of`].
+/// The English names of carriers by prefix that go with this crate, for [`Prefixes::of`].
 #[cfg(feature = "table")]
 pub const CARRIERS: &str = include_str!(concat!(env!("PHONE_TABLES"), "/carriers.tsv"));
 
-/// Where these tables are from, by name and version, as `libphonenumber 9.0.35`.
+/// Where these data are from, by name and version, as `libphonenumber 9.0.35`.
 #[cfg(feature = "table")]
 pub const TABLE_VERSION: &str = include_str!(concat!(env!("PHONE_TABLES"), "/VERSION")).trim_ascii_end();
 

@@ -6,7 +6,7 @@ use crate::ffi;
 use std::fmt;
 use std::str::FromStr;
 
-/// How a number is printed.
+/// The format of a number.
 #[derive(Clone, Copy, Debug, PartialEq, Eq, Hash, PartialOrd, Ord)]
 pub enum Mode {
     /// `+6433316005`
@@ -28,7 +28,7 @@ pub enum Source {
     Idd,
     /// At the front of the digits.
     Number,
-    /// From the hint.
+    /// From the default region.
     Default,
 }
 
@@ -78,12 +78,12 @@ pub(crate) const TYPES: [Type; 17] = [
 /// The sources in the order of their numbers there.
 const SOURCES: [Source; 4] = [Source::Plus, Source::Idd, Source::Number, Source::Default];
 
-/// A phone number that a database read: plain data of its own, which outlives the database and goes to
+/// A phone number that a database parsed: plain data of its own, which outlives the database and goes to
 /// any thread.
 ///
 /// Two are equal where calling code, national number, extension, carrier and source are; in this order
 /// they are ordered, the national number by its value and then by its leading zeros. The text of a
-/// number is its E.164 text, whatever the code. With the feature `serde` it is written and read by serde,
+/// number is its E.164 text, whatever the code. With the feature `serde` serde writes and reads it,
 /// as `{"code":64,"national":"33316005","extension":null,"carrier":null,"source":"default"}`.
 ///
 /// ```
@@ -218,8 +218,8 @@ impl PhoneNumber {
 impl FromStr for PhoneNumber {
     type Err = Error;
 
-    /// The number that a text is without a hint, by libphonenumber's rules, under the table of the world,
-    /// which the first call opens.
+    /// The number that a text is without a default region, by libphonenumber's rules and the library's own
+    /// metadata, which the first call opens.
     ///
     /// ```
     /// let number: phonenumber_proved::PhoneNumber = "+64 3 331 6005".parse()?;

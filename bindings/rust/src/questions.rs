@@ -6,7 +6,7 @@ use crate::ffi;
 use crate::number::{PhoneNumber, TYPES, Type};
 use crate::possible::{POSSIBILITIES, Possibility};
 
-/// How like two numbers are by libphonenumber's rules; [`Sameness`](crate::Sameness) is told by other ones.
+/// How like two numbers are by libphonenumber's rules; [`Sameness`](crate::Sameness) has rules of its own.
 #[derive(Clone, Copy, Debug, PartialEq, Eq, Hash, PartialOrd, Ord)]
 pub enum NumberMatch {
     /// One of two texts is no number.
@@ -227,7 +227,7 @@ impl Database {
         Ok((told == 1).then(|| PhoneNumber::of(&left, texts.as_bytes())))
     }
 
-    /// How like a number and a text are; a text without a calling code is read in the main region of the number's.
+    /// How like a number and a text are; a text without a calling code is parsed in the main region of the number's.
     ///
     /// ```
     /// use phonenumber_proved::{Database, NumberMatch};

@@ -138,7 +138,7 @@ impl Records {
         Shared::by(|handle| unsafe { ffi::phone_open(at, len, rules, handle) }).map_err(Error::of)
     }
 
-    /// The table of the world that stands in the library.
+    /// The library's own metadata, of all regions.
     pub(crate) fn world() -> Result<Records, Error> {
         // SAFETY: the handle is closed and lent to the call alone.
         Shared::by(|handle| unsafe { ffi::phone_open_world(handle, Rules::Library as u32) }).map_err(Error::of)

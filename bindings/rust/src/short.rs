@@ -34,7 +34,7 @@ pub struct ShortFacts {
     pub reaches_emergency: bool,
 }
 
-/// A table of short numbers. Threads use it at once, and clones share it, as with a [`Database`](crate::Database).
+/// Metadata of short numbers. Threads use it at once, and clones share it, as with a [`Database`](crate::Database).
 ///
 /// ```
 /// use phonenumber_proved::{Cost, Error, SHORT, ShortNumbers};
@@ -56,12 +56,12 @@ impl fmt::Debug for ShortNumbers {
 }
 
 impl ShortNumbers {
-    /// The table that a JSON text is.
+    /// The metadata of a JSON text.
     pub fn from_json(text: impl AsRef<[u8]>) -> Result<ShortNumbers, Error> {
         Ok(ShortNumbers { records: Records::open(text.as_ref())? })
     }
 
-    /// The table that a file is.
+    /// The metadata of a file.
     pub fn load(path: impl AsRef<Path>) -> Result<ShortNumbers, Error> {
         ShortNumbers::from_json(std::fs::read(path)?)
     }

@@ -27,8 +27,8 @@ pub struct Typing<'d> {
 }
 
 impl<'d> Typing<'d> {
-    /// A field in which nothing is typed yet. The hint is the region that digits without a plus sign are
-    /// dialled in.
+    /// A field in which nothing is typed yet. `hint` is the default region, in which digits without a plus
+    /// sign are dialled.
     pub fn new(database: &'d Database, hint: Option<&str>) -> Result<Typing<'d>, Error> {
         database.typed(hint, "")?;
         Ok(Typing { database, hint: hint.map(str::to_owned), keys: String::new(), shown: String::new() })
@@ -45,7 +45,7 @@ impl<'d> Typing<'d> {
     }
 
     /// Types a character. A digit of any script is the key of its value, and a plus sign is one before all
-    /// others; any other character changes nothing. Where the call is refused, the field stays as it was.
+    /// others; any other character changes nothing. Where the call fails, the field stays as it was.
     pub fn push(&mut self, key: char) -> Result<(), Error> {
         self.show(format!("{}{key}", self.keys))
     }
@@ -55,7 +55,7 @@ impl<'d> Typing<'d> {
         self.show(format!("{}{text}", self.keys))
     }
 
-    /// Takes the last key away, where there is one. Where the call is refused, the field stays as it was.
+    /// Takes the last key away, where there is one. Where the call fails, the field stays as it was.
     pub fn back(&mut self) -> Result<(), Error> {
         self.show(self.keys[..self.keys.len().saturating_sub(1)].to_owned())
     }

@@ -4,14 +4,14 @@ use Rattle.std.specs.Prelude.{Some, is_some}
 use Rattle.phone_commands.specs.declared.columns.LoadedColumn.{LoadedColumn}
 use Rattle.phone_commands.specs.declared.columns.Wanted.{Wanted}
 use Rattle.phone_maps.specs.declared.maps.Owner.TheVariants as owner
-use Rattle.phone_table.specs.declared.extra.Extra.{Extra}
-use Rattle.phone_table.specs.declared.extra.Told.{Told}
-use Rattle.phone_table.specs.declared.extra.Told.TheVariants.{Area, CallingCode, Carrier}
-use Rattle.phone_table.specs.declared.extra.Told.TheVariants.{Doubts, Extension, NationalNumber}
-use Rattle.phone_table.specs.declared.extra.Told.TheVariants.{Prefix, Split, TimeZones}
-use Rattle.phone_table.specs.declared.split.Shown.TheVariants.{E164, Kind, Region}
-use Rattle.phone_table.specs.declared.split.Which.{Which}
-use Rattle.phone_table.specs.declared.split.Which.TheVariants.{First, Second}
+use Rattle.phone_answers.specs.declared.extra.Extra.{Extra}
+use Rattle.phone_answers.specs.declared.extra.Told.{Told}
+use Rattle.phone_answers.specs.declared.extra.Told.TheVariants.{Area, CallingCode, Carrier}
+use Rattle.phone_answers.specs.declared.extra.Told.TheVariants.{Doubts, Extension, NationalNumber}
+use Rattle.phone_answers.specs.declared.extra.Told.TheVariants.{Prefix, Split, TimeZones}
+use Rattle.phone_answers.specs.declared.split.Shown.TheVariants.{E164, Kind, Region}
+use Rattle.phone_answers.specs.declared.split.Which.{Which}
+use Rattle.phone_answers.specs.declared.split.Which.TheVariants.{First, Second}
 use Rattle.phone_words.specs.Rows.{Lent}
 use Rattle.phone_words.specs.declared.table.Further.{Further}
 

@@ -20,8 +20,8 @@ use Rattle.phone_plans.specs.CodeLookUps.{first_of, territories}
 use Rattle.phone_print.specs.Tabbed.{tabbed}
 use Rattle.phone_print.specs.Texts.{e164_text}
 use Rattle.phone_records.specs.declared.loader.Metadata.{Metadata}
-use Rattle.phone_table.specs.Finds.{IsFoundObject, IsFoundRecord, found_names}
-use Rattle.phone_table.specs.declared.finds.Spot.{Spot}
+use Rattle.phone_answers.specs.Finds.{IsFoundObject, IsFoundRecord, found_names}
+use Rattle.phone_answers.specs.declared.finds.Spot.{Spot}
 use Rattle.phone_values.specs.declared.country.Id.{Id}
 use Rattle.phone_values.specs.declared.reading.Reading.{Reading}
 use Rattle.phone_values.specs.declared.rules.Rules.{Rules}

@@ -31,8 +31,8 @@ placed before piece n =
 abbrev pub is_opening : ℕ → Bool
 is_opening c = is_plus c || is_first c
 
--- between two texts: no piece begins in the one before, and the one behind has neither a digit nor a
--- number sign
+-- between two texts: no piece begins in the one before, and the one behind has neither a digit nor
+-- a number sign
 pub record IsAmong (before piece after : List ℕ) : Type 0 where
   pub before_utf8 : IsUtf8 before
   pub piece_utf8 : IsUtf8 piece
@@ -46,8 +46,9 @@ pub record IsShaped (text after : List ℕ) : Type 0 where
   pub short : length text ≤ most_bytes
   pub piece : is_piece (chars text) (32 ∷ chars after) ≡ true
 
--- characters before others are taken for nothing else: their brackets stand as they may in a number,
--- no date stands in them, and they are no front of a longer number, a price, or a date with its time
+-- characters before others are taken for nothing else: their brackets stand as they may in a
+-- number, no date stands in them, and they are no front of a longer number, a price, or a date with
+-- its time
 pub record IsNothingElse (text after : List ℕ) : Type 0 where
   pub bracketed : is_bracketed text ≡ true
   pub dateless : has_date text ≡ false

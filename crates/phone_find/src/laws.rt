@@ -105,9 +105,9 @@ pub fn printed_is_found()
 {}
 
 /// The international text of a plain number may be a number so if it has at most 250 bytes, the
-/// laid-out number ends in a digit, there is no extension, or one of digits that ` ext. ` announces,
-/// and it is taken for nothing else: its brackets stand as they may in a number, no date stands in
-/// it, and what follows makes no longer number, price or time of it.
+/// laid-out number ends in a digit, there is no extension, or one of digits that ` ext. `
+/// announces, and it is taken for nothing else: its brackets stand as they may in a number, no date
+/// stands in it, and what follows makes no longer number, price or time of it.
 pub fn plain_is_shaped()
     ensures { (db : List loader.Metadata) (n : Reading) (text after : List ℕ) → IsBounded n →
         IsUtf8 text → (plain : IsPlainInternational db n) → EndsInDigits plain.territory n →
@@ -119,8 +119,8 @@ pub fn plain_is_shaped()
 /// found under any hint, at its place, and alone: as the number without extension and carrier, its
 /// code told by the plus sign. The number is settled: its code is listed and has at most three
 /// digits, no listed code begins another, its national number has 2 to 17 digits, and the code's
-/// first territory strips nothing off them. Before the spaces no piece begins; after them is neither
-/// digit nor number sign, and the text is taken for nothing else.
+/// first territory strips nothing off them. Before the spaces no piece begins; after them is
+/// neither digit nor number sign, and the text is taken for nothing else.
 pub fn e164_is_found()
     ensures { (db : List loader.Metadata) (hint : Option Id) (l : Leniency) (n : Reading)
         (before after : List ℕ) (all : List (Found Reading)) → IsSettled db n →

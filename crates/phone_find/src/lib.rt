@@ -1,6 +1,6 @@
 //! Which numbers stand in a running text, by rules of our own: its pieces that may be a number by
-//! their characters and what stands beside them (`phone_finder_text`), and of those that are read as
-//! a valid or possible one the first and longest ones, which don't overlap.
+//! their characters and what stands beside them (`phone_finder_text`), and of those that are read
+//! as a valid or possible one the first and longest ones, which don't overlap.
 #![tactic(auto)]
 
 pub mod laws;

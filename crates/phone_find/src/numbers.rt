@@ -43,7 +43,7 @@ impl<'d> Judge<PhoneNumber> for Sufficient<'d> {
     }
 }
 
-/// Whether a piece of a text, which may end where it does, may be a number, by the characters alone.
+/// Whether a piece of a text, which may end where it does, may be a number, by its characters.
 fn is_candidate(text: &str, start: usize, end: usize) -> bool
     requires from_border { IsCharBoundary text.now start }
     requires to_border { IsCharBoundary text.now end }
@@ -156,11 +156,12 @@ fn where_sufficient(
 /// first byte and that behind its last, both between characters. A number is a piece of at most 250
 /// bytes that begins at a plus sign, an opening bracket or a digit, and ends in a digit, or in the
 /// number sign of an extension; that is digits, plus signs and what may stand between groups, and
-/// behind them perhaps an announced extension, as in ` ext. 12`; that is neither a part of something
-/// longer nor taken for something else, such as a date, a price, an account number or a time, by the
-/// rules of `phone_finder_text`; and that the engine reads, by itself, as a number that suffices.
-/// Of a valid one libphonenumber's rules ask, too, that it has the national prefix that its layout
-/// writes, unless a plus sign, an international prefix or the calling code leads it.
+/// behind them perhaps an announced extension, as in ` ext. 12`; that is neither a part of
+/// something longer nor taken for something else, such as a date, a price, an account number or a
+/// time, by the rules of `phone_finder_text`; and that the engine reads, by itself, as a number
+/// that suffices. Of a valid one libphonenumber's rules ask, too, that it has the national prefix
+/// that its layout writes, unless a plus sign, an international prefix or the calling code leads
+/// it.
 ///
 /// The numbers come in their order and don't overlap: the piece that begins first counts, and of
 /// those that begin there the longest. The time is linear in the text: at each place at most 250

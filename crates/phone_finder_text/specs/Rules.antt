@@ -27,9 +27,9 @@ areas =
 -- nor behind a calling code that a plus sign or two zeros lead
 unfoldable pub codes_before : List (List ℕ)
 codes_before =
-    codes "-9+^" ∷ codes "-900!^" ∷ codes "--9+^" ∷ codes "--900!^" ∷ codes "-99+^" ∷
-    codes "-9900!^" ∷ codes "--99+^" ∷ codes "--9900!^" ∷ codes "-999+^" ∷ codes "-99900!^" ∷
-    codes "--999+^" ∷ codes "--99900!^" ∷ []
+    codes "-9+^" ∷ codes "-500!^" ∷ codes "--9+^" ∷ codes "--500!^" ∷ codes "-99+^" ∷
+    codes "-9500!^" ∷ codes "--99+^" ∷ codes "--9500!^" ∷ codes "-999+^" ∷ codes "-99500!^" ∷
+    codes "--999+^" ∷ codes "--99500!^" ∷ []
 
 -- nor behind what begins an account number: two capital letters, two digits, groups of four
 unfoldable pub accounts : List (List ℕ)
@@ -45,12 +45,13 @@ cards =
     codes "_9999_9999!^9999_9999!" ∷ codes "_9999_9999_9999!^9999!" ∷ []
 
 -- a number doesn't end before a digit; money, or a currency's letters; what joins digits and a
--- digit; cents; a slash and a digit; what announces an extension and a digit; behind the first of
--- two coordinates
+-- digit; cents; a slash and digits, but where these are a short first group, as another number's;
+-- what announces an extension and a digit; behind the first of two coordinates
 unfoldable pub followers : List (List ℕ)
 followers =
     codes "^9" ∷ codes "^$" ∷ codes "^_$" ∷ codes "^_eur" ∷ codes "^_usd" ∷ codes "^&9" ∷
-    codes "^&&9" ∷ codes "^,99!" ∷ codes "^/9" ∷ codes "^x9" ∷ codes "^_x9" ∷ codes "^#9" ∷
+    codes "^&&9" ∷ codes "^,99!" ∷ codes "^/9?" ∷ codes "^/99?" ∷ codes "^/999?" ∷
+    codes "^/9999?" ∷ codes "^/99999" ∷ codes "^x9" ∷ codes "^_x9" ∷ codes "^#9" ∷
     codes "^_#9" ∷ codes "^_~9" ∷ codes "999999.^,_" ∷ []
 
 -- nor, where it ends in year, month and day, before a time

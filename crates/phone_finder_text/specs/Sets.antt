@@ -24,6 +24,10 @@ is_unbracketed c = not (is_opening c || is_closing c)
 abbrev pub is_low_digit : ℕ → Bool
 is_low_digit c = is_nd c && not (nat_le 52 c && nat_le c 57)
 
+-- digits of any script but `0`: what a calling code begins with
+abbrev pub is_high_digit : ℕ → Bool
+is_high_digit c = is_nd c && not (c == 48)
+
 -- the spaces of all scripts: category Z
 abbrev pub is_space : ℕ → Bool
 is_space c = in_group Separator (general_category c)
@@ -44,13 +48,14 @@ is_date_mark c = is_one_of (45 ∷ 46 ∷ 47 ∷ []) c
 abbrev pub is_capital : ℕ → Bool
 is_capital c = nat_le 65 c && nat_le c 90
 
--- the signs that stand for a set of one kind of character: `9` a digit, `3` one but `4` to `9`, `_`
--- a space, `$` money, `+` a plus sign, `<` an opening bracket, `>` a closing one, `|` what parts a
--- date; each other character stands for itself, whatever its case
+-- the signs that stand for a set of one kind of character: `9` a digit, `3` one but `4` to `9`, `5`
+-- one but `0`, `_` a space, `$` money, `+` a plus sign, `<` an opening bracket, `>` a closing one,
+-- `|` what parts a date; each other character stands for itself, whatever its case
 unfoldable pub stands_plainly : (sign c : ℕ) → Bool
 stands_plainly sign c =
     if sign == 57 then is_nd c
     else if sign == 51 then is_low_digit c
+    else if sign == 53 then is_high_digit c
     else if sign == 95 then is_space c
     else if sign == 36 then is_money c
     else if sign == 43 then is_plus c

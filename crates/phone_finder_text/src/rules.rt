@@ -65,17 +65,17 @@ pub(crate) fn areas() -> &'static [&'static str]
 /// Nor behind a calling code that a plus sign or two zeros lead.
 const CODES_BEFORE: [&str; 12] = [
     "-9+^",
-    "-900!^",
+    "-500!^",
     "--9+^",
-    "--900!^",
+    "--500!^",
     "-99+^",
-    "-9900!^",
+    "-9500!^",
     "--99+^",
-    "--9900!^",
+    "--9500!^",
     "-999+^",
-    "-99900!^",
+    "-99500!^",
     "--999+^",
-    "--99900!^",
+    "--99500!^",
 ];
 
 /// These rules.
@@ -118,9 +118,9 @@ pub(crate) fn cards() -> &'static [&'static str]
 }
 
 /// A number doesn't end before a digit; money, or a currency's letters; what joins digits and a
-/// digit; cents; a slash and a digit; what announces an extension and a digit; behind the first of
-/// two coordinates.
-const FOLLOWERS: [&str; 15] = [
+/// digit; cents; a slash and digits, but where these are a short first group; what announces an
+/// extension and a digit; behind the first of two coordinates.
+const FOLLOWERS: [&str; 19] = [
     "^9",
     "^$",
     "^_$",
@@ -129,7 +129,11 @@ const FOLLOWERS: [&str; 15] = [
     "^&9",
     "^&&9",
     "^,99!",
-    "^/9",
+    "^/9?",
+    "^/99?",
+    "^/999?",
+    "^/9999?",
+    "^/99999",
     "^x9",
     "^_x9",
     "^#9",

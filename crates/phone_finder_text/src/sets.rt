@@ -1,8 +1,8 @@
 //! The sets of characters that numbers in a text are told by.
 ghost use Rattle.std.specs.Prelude.{◌≡◌};
 ghost use Rattle.phone_finder_text.specs.Sets.{is_capital, is_closing, is_date_mark};
-ghost use Rattle.phone_finder_text.specs.Sets.{is_joiner, is_low_digit, is_money, is_opening};
-ghost use Rattle.phone_finder_text.specs.Sets.{is_space};
+ghost use Rattle.phone_finder_text.specs.Sets.{is_high_digit, is_joiner, is_low_digit, is_money};
+ghost use Rattle.phone_finder_text.specs.Sets.{is_opening, is_space};
 
 use phone_chars::chars::{is_nd, is_plus, is_separator};
 use phone_chars::cuts::CharSet;
@@ -27,6 +27,13 @@ pub(crate) fn is_low_digit(c: char) -> bool
     ensures { result ≡ is_low_digit c }
 {
     is_nd(c) && !('4' <= c && c <= '9')
+}
+
+/// Whether it is a digit of any script but `0`.
+pub(crate) fn is_high_digit(c: char) -> bool
+    ensures { result ≡ is_high_digit c }
+{
+    is_nd(c) && c != '0'
 }
 
 /// Whether it is a space of some script.

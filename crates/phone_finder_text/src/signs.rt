@@ -3,7 +3,8 @@ ghost use Rattle.std.specs.Prelude.{◌≡◌};
 ghost use Rattle.phone_finder_text.specs.Sets.{is_absent, is_free, stands_for, stands_plainly};
 
 use crate::sets::{
-    is_capital, is_closing, is_date_mark, is_joiner, is_low_digit, is_money, is_opening, is_space,
+    is_capital, is_closing, is_date_mark, is_high_digit, is_joiner, is_low_digit, is_money,
+    is_opening, is_space,
 };
 use phone_chars::chars::{is_letter, is_nd, is_plus, is_separator, same_fold};
 
@@ -16,6 +17,8 @@ fn stands_plainly(sign: char, c: char) -> bool
         is_nd(c)
     } else if sign == '3' {
         is_low_digit(c)
+    } else if sign == '5' {
+        is_high_digit(c)
     } else if sign == '_' {
         is_space(c)
     } else if sign == '$' {

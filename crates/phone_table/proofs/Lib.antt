@@ -1,5 +1,4 @@
 pub mod ColumnLemmas
-pub mod AnswerLemmas
 pub mod EndsWeaker
 pub mod Kept
 pub mod HeldLemmas
@@ -12,14 +11,8 @@ pub mod Numbers
 pub mod TableLemmas
 pub mod Writing
 pub mod EndLemmas
-pub mod ExtraLemmas
 pub mod RunLemmas
-pub mod ObjectLemmas
 pub mod KeyLemmas
-pub mod ShortLemmas
-pub mod OneAnswers
-pub mod SomeAnswers
 pub mod OneRows
 pub mod SomeRows
-pub mod SplitLemmas
 pub mod ReadAgain

@@ -1,200 +1,23 @@
--- Each record has an answer, and in each table of prefixes a text is found, or none.
-use Rattle.std.proofs.Common.{◌≡◌, ◌⊎◌, ⊎_elim, inl, inr, ℕ, Bool, true, false, List, []}
-use Rattle.std.proofs.Common.{◌∷◌, ◌++◌}
-use Rattle.std.proofs.Common.{take, drop, length, Option, None, Some, refl, sym, ap, subst, ◌∙◌}
-use Rattle.std.proofs.Common.{arith, is_some, true≢false}
-use Rattle.std.proofs.Math.Seq.{take-append_seam}
-use Rattle.std.proofs.lemmas.Bool.{cases_eq, cases_lt, or_parts}
-use Rattle.std.proofs.lemmas.List.{take-append-drop}
-use Rattle.std.proofs.lemmas.List.Elements.{Contains-append_left, Contains-append_cases}
-use Rattle.std.proofs.lemmas.List.Elements.{Contains-append_right, Contains-push}
-use Rattle.std.proofs.lemmas.List.Elements.{Contains-push_cases}
-use Rattle.std.specs.List.{Contains}
+-- Each record has an answer.
+use Rattle.std.proofs.Common.{◌≡◌, ◌⊎◌, ⊎_elim, inl, inr, ℕ, Bool, true, false, List}
+use Rattle.std.proofs.Common.{◌++◌}
+use Rattle.std.proofs.Common.{length, Option, None, Some, refl}
+use Rattle.std.proofs.lemmas.Bool.{cases_eq}
 use Rattle.phone_values.specs.declared.country.Id.{Id}
 use Rattle.phone_values.specs.declared.reading.Reading.{Reading}
 use Rattle.phone_values.specs.declared.rules.Rules.{Rules}
 use Rattle.phone_csv.specs.Formats.{Record}
-use Rattle.phone_engine.specs.Facts.{kind_by, region_by}
-use Rattle.phone_prefixes.proofs.Entries.{cases_text}
-use Rattle.phone_prefixes.specs.Marks.{Begins}
-use Rattle.phone_prefixes.specs.Tables.{AreEntries, Entry, IsLongest, IsTable, NoneBegins}
-use Rattle.phone_prefixes.specs.Tables.AreEntries.{none as no_entries, next as next_entry}
 use Rattle.phone_records.specs.declared.loader.Metadata.{Metadata}
-use Rattle.phone_table.specs.Answers.{IsAnswer, IsAnswerUnder, IsFieldAnswer, IsOfOtherWidth}
+use Rattle.phone_answers.specs.Answers.{IsFieldAnswer}
+use Rattle.phone_table.specs.Answers.{IsAnswer, IsAnswerUnder, IsOfOtherWidth}
 use Rattle.phone_table.specs.Answers.{IsOwnAnswer, IsUnder, countries_of, short_of}
-use Rattle.phone_table.specs.Extras.{AreTold, HaveOneText, IsFound, IsPartOrFound, IsTold, entries_in, looked_up, part_of, IsToldBeside, IsToldBy, IsToldIf, ask_fields, split_in, tells_doubts, tells_of_field}
-use Rattle.phone_table.specs.declared.split.Shown.{Shown}
-use Rattle.phone_table.specs.declared.split.Which.{Which}
-use Rattle.phone_table.specs.Extras.AreTold.{none as told_none, next as told_next}
-use Rattle.phone_table.specs.declared.extra.Extra.{Extra}
+use Rattle.phone_answers.specs.Extras.{ask_fields}
 use Rattle.phone_table.specs.declared.header.Columns.{Columns}
 use Rattle.phone_table.specs.declared.run.Asked.{Asked}
 use Rattle.phone_table.specs.Regions.{RegionText, field_in, hint_under, named_by}
-use Rattle.phone_table.specs.declared.region.Named.{Named}
-
--- a prefix begins a text, or it doesn't
-begins_or_not : (prefix text : List ℕ) → Begins prefix text ⊎ (Begins prefix text → ⊥)
-begins_or_not prefix text = ⊎_elim
-    (λ e. inl (
-      drop (length prefix) text,
-      sym (take-append-drop (length prefix) text)
-          ∙ ap (λ front. front ++ drop (length prefix) text) e,
-    ))
-    (λ other. inr (λ b. other (ap (take (length prefix)) b.1 ∙ take-append_seam prefix b.0)))
-    (cases_text (take (length prefix) text) prefix)
-
-pub nothing_in : (x : Entry) → Contains [] x → ⊥
-nothing_in x h = absurd (omega (arith, h.1))
-
-first_in : (e : Entry) (es : List Entry) → Contains (e ∷ es) e
-first_in e es = Contains-append_left (e ∷ []) es e (Contains-push [] e)
-
-later_in : (e : Entry) (es : List Entry) (x : Entry) → Contains es x → Contains (e ∷ es) x
-later_in e es x h = Contains-append_right (e ∷ []) es x h
-
--- an entry of a list is the first one, or one of the others
-first_or : (e : Entry) (es : List Entry) (x : Entry) → Contains (e ∷ es) x → (e ≡ x) ⊎ Contains es x
-first_or e es x h = ⊎_elim
-    (λ first. ⊎_elim (λ none. absurd (nothing_in x none)) (λ is. inl is)
-    (Contains-push_cases [] e x first))
-    (λ later. inr later)
-    (Contains-append_cases (e ∷ []) es x h)
-
--- the longest prefix that begins a text, or none
-abbrev HasLongest : List Entry → List ℕ → Type 0
-HasLongest entries text = ((e : Entry) × IsLongest entries text e) ⊎ NoneBegins entries text
-
--- the first entry begins the text, and of the others this one is the longest
-longer : (e : Entry) (es : List Entry) (text : List ℕ) → Begins e.prefix text →
-    (l : Entry) → IsLongest es text l → HasLongest (e ∷ es) text
-longer e es text b l h = ⊎_elim
-    (λ less. inl (
-      e,
-      record {
-        is = first_in e es;
-        begins = b;
-        longest = λ x is begins. ⊎_elim
-            (λ same. omega (arith, ap (λ (y : Entry). length y.prefix) same))
-            (λ later. omega (arith, less, h.longest x later begins)) (first_or e es x is);
-      },
-    ))
-    (λ more. inl (
-      l,
-      record {
-        is = later_in e es l h.is;
-        begins = h.begins;
-        longest = λ x is begins. ⊎_elim
-            (λ same. omega (arith, more, ap (λ (y : Entry). length y.prefix) same))
-            (λ later. h.longest x later begins) (first_or e es x is);
-      },
-    ))
-    (cases_lt (length l.prefix) (length e.prefix))
-
--- it alone begins the text
-alone : (e : Entry) (es : List Entry) (text : List ℕ) → Begins e.prefix text →
-    NoneBegins es text → HasLongest (e ∷ es) text
-alone e es text b none = inl (
-  e,
-  record {
-    is = first_in e es;
-    begins = b;
-    longest = λ x is begins. ⊎_elim
-        (λ same. omega (arith, ap (λ (y : Entry). length y.prefix) same))
-        (λ later. absurd (none x later begins)) (first_or e es x is);
-  },
-)
-
--- it doesn't begin the text
-passed : (e : Entry) (es : List Entry) (text : List ℕ) → (Begins e.prefix text → ⊥) →
-    HasLongest es text → HasLongest (e ∷ es) text
-passed e es text other (inl (l, h)) = inl (
-  l,
-  record {
-    is = later_in e es l h.is;
-    begins = h.begins;
-    longest = λ x is begins. ⊎_elim
-        (λ same. absurd (other (subst (λ (y : Entry). Begins y.prefix text) (sym same) begins)))
-        (λ later. h.longest x later begins) (first_or e es x is);
-  },
-)
-passed e es text other (inr none) = inr (λ x is begins. ⊎_elim
-    (λ same. other (subst (λ (y : Entry). Begins y.prefix text) (sym same) begins))
-    (λ later. none x later begins) (first_or e es x is))
-
-has_longest : (entries : List Entry) (text : List ℕ) → HasLongest entries text
-has_longest [] text = inr (λ x is begins. nothing_in x is)
-has_longest (e ∷ es) text = by (begins_or_not e.prefix text) (has_longest es text)
-  where
-    by : Begins e.prefix text ⊎ (Begins e.prefix text → ⊥) → HasLongest es text →
-        HasLongest (e ∷ es) text
-    by (inl b) (inl (l, h)) = longer e es text b l h
-    by (inl b) (inr none) = alone e es text b none
-    by (inr other) h = passed e es text other h
-
--- what a table has for digits, or for none
-found_some : (entries : List Entry) (o : Option (List ℕ)) → (text : List ℕ) × IsFound entries o text
-found_some entries None = ([], refl)
-found_some entries (Some digits) = by (has_longest entries digits)
-  where
-    by : HasLongest entries digits → (text : List ℕ) × IsFound entries (Some digits) text
-    by (inl (e, h)) = (e.text, inl (e.prefix, h))
-    by (inr none) = ([], inr (none, refl))
-
--- where entries come one after the other, each with another prefix, a prefix has one text
-entries_one : (lines : List (List ℕ)) (entries : List Entry) → AreEntries lines entries →
-    HaveOneText entries
-entries_one _ _ no_entries a b h g e = absurd (nothing_in a h)
-entries_one _ _ (next_entry lines entries all line are more) a b h g e =
-    ⊎_elim (λ in_a. ⊎_elim (λ in_b. entries_one lines entries are a b in_a in_b e)
-    (λ is_b. absurd (more.other (a, in_a, e ∙ sym (ap (λ (x : Entry). x.prefix) is_b)))) (last b g))
-    (λ is_a. ⊎_elim
-    (λ in_b. absurd (more.other (b, in_b, sym e ∙ sym (ap (λ (x : Entry). x.prefix) is_a))))
-    (λ is_b. sym (ap (λ (x : Entry). x.text) is_a) ∙ ap (λ (x : Entry). x.text) is_b) (last b g))
-    (last a h)
-  where
-    last : (x : Entry) → Contains all x → Contains entries x ⊎ (more.entry ≡ x)
-    last x is = Contains-push_cases entries more.entry x (subst (λ xs. Contains xs x) more.all is)
-
--- so in each table that was loaded
-pub loaded_one : (bytes : List ℕ) (entries : List Entry) → IsTable bytes entries →
-    HaveOneText entries
-loaded_one bytes entries (lines, cut, are) = entries_one lines entries are
-
--- a part, or what a table has
-part_some : (part : Option (List ℕ)) (entries : List Entry) (digits : Option (List ℕ)) →
-    (text : List ℕ) × IsPartOrFound part entries digits text
-part_some (Some part) entries digits = (part, refl)
-part_some None entries digits = found_some entries digits
+use Rattle.phone_answers.proofs.SomeTold.{all_told}
 
 module _ (rules : Rules) (db : List Metadata) where
-  by_some : (under : Option (Option Id)) (field : List ℕ) (column : Extra) (number : Option Reading) →
-      (text : List ℕ) × IsToldBy rules db under field number (entries_in column.table) column.told text
-  by_some under field column None = ([], refl)
-  by_some under field column (Some n) = part_some (part_of column.told n) (entries_in column.table)
-      (looked_up db column.told (kind_by rules db n) (region_by rules db n) n)
-
-  beside_some : (under : Option (Option Id)) (field : List ℕ) (column : Extra) (number : Option Reading) (split : Option (Which × Shown)) → is_some split ≡ false →
-      (text : List ℕ) × IsToldBeside split rules db under field number column text
-  beside_some under field column number None is = by_some under field column number
-  beside_some under field column number (Some one) is = absurd (true≢false is)
-
-  told_some : (under : Option (Option Id)) (field : List ℕ) (column : Extra) → tells_of_field column.told ≡ false → (number : Option Reading) →
-      (text : List ℕ) × IsTold rules db under field number column text
-  told_some under field column others number =
-      let parts = or_parts (tells_doubts column.told) (is_some (split_in column.told)) others in
-      subst (λ b. (text : List ℕ) × IsToldIf b rules db under field number column text) (sym parts.0)
-      (beside_some under field column number (split_in column.told) parts.1)
-
-  -- what columns tell of a field
-  all_told : (under : Option (Option Id)) (field : List ℕ) (number : Option Reading) (columns : List Extra) → ask_fields columns ≡ false →
-      (told : Record) × AreTold rules db under field number columns told
-  all_told under field number [] others = ([], told_none)
-  all_told under field number (c ∷ cs) others =
-      let parts = or_parts (tells_of_field c.told) (ask_fields cs) others in
-      let t = told_some under field c parts.0 number in
-      let ts = all_told under field number cs parts.1 in
-      (t.0 ∷ ts.0, told_next c cs t.0 ts.0 t.1 ts.1)
-
   module _ (hint : Option Id) (columns : Columns) (asked : Asked) (others : ask_fields asked.extra.now ≡ false) (fields : Record) where
     -- under each hint the record's field has an answer
     abbrev pub HasAnswers : Type 0
@@ -211,7 +34,7 @@ module _ (rules : Rules) (db : List Metadata) where
         IsOwnAnswer rules db columns asked fields under n own →
         (answer : Record) × IsAnswer rules db hint columns asked fields answer
     with_told under by n own is =
-        let t = all_told under (field_in fields columns.number) n asked.extra.now others in
+        let t = all_told rules db under (field_in fields columns.number) n asked.extra.now others in
         (t.0 ++ own, (n, (under, t.0, own, by, is, t.1, refl)))
 
     -- a record of other width is marked, or isn't answered

@@ -1,5 +1,5 @@
--- How many rows a table has, and what their last four fields say: the kind of a number, its region,
--- its validity, and the words of a refusal; and how many aren't UTF-8.
+-- How many rows a table has, and what their answers say: the kind of a number, its validity, and
+-- the words of a refusal; and how many aren't UTF-8.
 use Rattle.std.specs.Prelude.{ℕ, ◌+◌, ◌-◌, ◌&&◌, ◌||◌, not, Bool, true, false, if◌then◌else◌, List}
 use Rattle.std.specs.Prelude.{codes, length, Option, None, Some}
 use Rattle.std.specs.List.{list_any}
@@ -7,16 +7,23 @@ use Rattle.std.specs.Option.{option_or}
 use Rattle.std.specs.Str.{bytes_eq, is_utf8}
 use Rattle.phone_csv.specs.Feeds.{counted}
 use Rattle.phone_csv.specs.Formats.{Record}
+use Rattle.phone_answers.specs.Fields.{from_end}
+use Rattle.phone_answers.specs.declared.field.Field.{Field}
+use Rattle.phone_answers.specs.declared.field.Field.TheVariants.{Kind, Refusal, Validity}
 use Rattle.phone_table.specs.Regions.{field_in}
 use Rattle.phone_table.specs.declared.counts.Counts.{Counts}
 
--- a row has this word so many fields from its end
-abbrev pub tells : Record → ℕ → List ℕ → Bool
-tells row place word = bytes_eq (field_in row (length row - place)) word
+-- the field of a row's answer, which stands behind all others
+abbrev pub answer_field : Record → Field → List ℕ
+answer_field row field = field_in row (length row - from_end field)
+
+-- a field of a row's answer is this word
+abbrev pub tells : Record → Field → List ℕ → Bool
+tells row field word = bytes_eq (answer_field row field) word
 
 -- a row is refused with these words; with none, where it isn't refused
 abbrev pub has_refusal : List ℕ → Record → Bool
-has_refusal words row = tells row 1 words
+has_refusal words row = tells row Refusal words
 
 -- a row is refused with other words than those for a region, an empty field and a count of fields
 abbrev pub is_junk : Record → Bool
@@ -25,11 +32,11 @@ is_junk row = not (has_refusal (codes "") row) && not (has_refusal (codes "unkno
 
 -- a row's number isn't valid
 abbrev pub is_invalid : Record → Bool
-is_invalid row = tells row 2 (codes "invalid")
+is_invalid row = tells row Validity (codes "invalid")
 
 -- a row's number is a short number
 abbrev pub is_short : Record → Bool
-is_short row = tells row 4 (codes "Emergency") || tells row 4 (codes "ShortNumber")
+is_short row = tells row Kind (codes "Emergency") || tells row Kind (codes "ShortNumber")
 
 -- a row isn't UTF-8: one of its fields isn't
 abbrev pub is_stray : Record → Bool

@@ -1,7 +1,6 @@
 -- Which columns a header has, and which names are put behind it.
-use Rattle.std.specs.Prelude.{ℕ, Bool, nat_lt, List, [], ◌∷◌, ◌+◌, ◌++◌, codes, length, map}
+use Rattle.std.specs.Prelude.{ℕ, Bool, nat_lt, List, [], ◌∷◌, ◌+◌, ◌++◌, length, map}
 use Rattle.std.specs.Prelude.{if◌then◌else◌, Option, Some, None, option_map, Result, Ok, Err}
-use Rattle.std.specs.Borrow.{Bor}
 use Rattle.std.specs.List.{find}
 use Rattle.std.specs.Option.{option_map_or}
 use Rattle.std.specs.Result.{result_map_both}
@@ -12,15 +11,8 @@ use Rattle.phone_table.specs.declared.header.Column.TheVariants.{Number, Region}
 use Rattle.phone_table.specs.declared.header.ColumnError.{ColumnError}
 use Rattle.phone_table.specs.declared.header.ColumnError.TheVariants.{Absent, Twice}
 use Rattle.phone_table.specs.declared.header.Columns.{Columns}
-
--- texts that are lent, as fields
-abbrev pub texts_of : List (Bor (List ℕ)) → Record
-texts_of texts = map (λ (t : Bor (List ℕ)). t.now) texts
-
--- the names of an answer's fields
-abbrev pub names : Record
-names = codes "e164" ∷ codes "international" ∷ codes "national" ∷ codes "type" ∷
-    codes "region" ∷ codes "validity" ∷ codes "refusal" ∷ []
+use Rattle.phone_answers.specs.Fields.{names}
+use Rattle.phone_answers.specs.declared.extra.Extra.{Extra}
 
 -- the column of a name: the first field of the header that is equal to it
 abbrev pub column_of : Record → List ℕ → Option ℕ
@@ -63,6 +55,14 @@ columns_of header number region =
 -- names, each behind these letters
 abbrev pub behind : (front : List ℕ) → Record → Record
 behind front texts = map (λ text. front ++ text) texts
+
+-- the names of columns that are asked for, in their order
+abbrev pub headings : List Extra → Record
+headings extra = map (λ e. e.heading.now) extra
+
+-- the names that are put behind a header: theirs, and the answer's, each behind these letters
+abbrev pub added_names : (front : List ℕ) → List Extra → Record
+added_names front extra = behind front (headings extra) ++ behind front names
 
 -- a name stands more than once among those of a header and those that are put behind it
 abbrev pub is_taken : (header added : Record) → List ℕ → Bool

@@ -3,17 +3,11 @@ pub mod Answers
 pub mod Counts
 pub mod Duplicates
 pub mod Ends
-pub mod Extras
-pub mod Finds
 pub mod Headers
 pub mod Held
-pub mod Objects
 pub mod Regions
 pub mod Rows
 pub mod Runs
-pub mod Shorts
-pub mod Spelled
-pub mod Splits
 pub mod Summed
 pub mod Tables
 pub mod Taking

@@ -21,7 +21,7 @@ use Rattle.phone_table.specs.Answers.{IsAnswerOf, IsOfOtherWidth}
 use Rattle.phone_table.specs.Rows.{WritesKept, WritesSome}
 use Rattle.phone_table.specs.Duplicates.{duplicate_names}
 use Rattle.phone_table.specs.Ends.{Ends, IsUntouched, SourceFails}
-use Rattle.phone_table.specs.Extras.{added_names}
+use Rattle.phone_table.specs.Headers.{added_names}
 use Rattle.phone_table.specs.Headers.{behind, columns_of, first_taken}
 use Rattle.phone_table.specs.Summed.{IsSummed}
 use Rattle.phone_table.specs.Tables.{IsHeaderAlone}

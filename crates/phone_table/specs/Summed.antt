@@ -5,11 +5,14 @@ use Rattle.phone_csv.specs.Formats.{Record}
 use Rattle.phone_summary.specs.Summaries.{CountsRow, IsSummary, Row}
 use Rattle.phone_summary.specs.declared.summary.Summary.{Summary}
 use Rattle.phone_table.specs.Answered.{Answered}
-use Rattle.phone_table.specs.Extras.{tells_doubts}
+use Rattle.phone_answers.specs.Extras.{tells_doubts}
+use Rattle.phone_answers.specs.Fields.{fields}
+use Rattle.phone_answers.specs.declared.field.Field.TheVariants.{Kind, Refusal, Region}
+use Rattle.phone_table.specs.Counts.{answer_field}
 use Rattle.phone_table.specs.Regions.{field_in}
 use Rattle.phone_table.specs.Rows.{row_of}
 use Rattle.phone_table.specs.declared.counts.Counts.{Counts}
-use Rattle.phone_table.specs.declared.extra.Extra.{Extra}
+use Rattle.phone_answers.specs.declared.extra.Extra.{Extra}
 use Rattle.phone_table.specs.declared.run.Asked.{Asked}
 use Rattle.phone_table.specs.declared.summed.Totals.{Totals}
 use Rattle.phone_table.specs.declared.table.Table.{Table}
@@ -18,18 +21,19 @@ use Rattle.phone_table.specs.declared.table.Table.{Table}
 abbrev pub doubts_place : List Extra → Option ℕ
 doubts_place extra = position (λ (column : Extra). tells_doubts column.told) extra
 
--- the field of a row in a column that is asked for: all these stand before the seven of the answer
+-- the field of a row in a column that is asked for: all these stand before the answer
 abbrev pub extra_field : List Extra → Record → Option ℕ → List ℕ
 extra_field extra row None = []
-extra_field extra row (Some place) = field_in row (length row - 7 - (length extra - place))
+extra_field extra row (Some place) =
+    field_in row (length row - length fields - (length extra - place))
 
 -- what a summary tells of a row: the type, the region and the refusal of its answer, and what is
 -- suspicious
 abbrev pub told_of : List Extra → Record → Row
 told_of extra row = record {
-  kind = field_in row (length row - 4);
-  region = field_in row (length row - 3);
-  refusal = field_in row (length row - 1);
+  kind = answer_field row Kind;
+  region = answer_field row Region;
+  refusal = answer_field row Refusal;
   suspicion = extra_field extra row (doubts_place extra);
 }
 

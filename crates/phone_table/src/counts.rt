@@ -4,10 +4,11 @@ ghost use Rattle.std.specs.Str.{is_utf8};
 ghost use Rattle.csv.specs.Records.{fields_of};
 ghost use Rattle.phone_table.specs.Counts.{counted_if, counts_after, counts_without, has_refusal};
 ghost use Rattle.phone_table.specs.Counts.{first_after, is_invalid, is_junk, is_short, is_stray};
-ghost use Rattle.phone_table.specs.Counts.{no_counts, tells};
+ghost use Rattle.phone_table.specs.Counts.{answer_field, no_counts, tells};
 
 use crate::table::field_in;
 use csv::ByteRecord;
+use phone_answers::Field;
 
 /// How many records of a table were answered, and how many of them not as a valid number of a
 /// calling code: each at most 2^64 - 1.
@@ -66,8 +67,8 @@ impl Counts {
         }
     }
 
-    /// The counts after one more row, by its last four fields: the kind, the region, the validity,
-    /// and the words of a refusal; and whether it is UTF-8.
+    /// The counts after one more row, by the kind, the validity and the refusal of its answer; and
+    /// whether it is UTF-8.
     fn after(self, row: &ByteRecord) -> Counts
         ensures { result ≡ counts_after self (fields_of row.now) }
     {
@@ -132,18 +133,25 @@ pub(crate) fn counted_if(holds: bool, count: u64) -> u64
     }
 }
 
-/// Whether a row has this word so many fields from its end.
-fn tells(row: &ByteRecord, place: usize, word: &str) -> bool
-    ensures { result ≡ tells (fields_of row.now) place word.now }
+/// The field of a row's answer.
+pub(crate) fn answer_field(row: &ByteRecord, field: Field) -> &[u8]
+    ensures { result.now ≡ answer_field (fields_of row.now) field }
 {
-    field_in(row, row.len().saturating_sub(place)) == word.as_bytes()
+    field_in(row, row.len().saturating_sub(field.from_end()))
+}
+
+/// Whether a field of a row's answer is this word.
+fn tells(row: &ByteRecord, field: Field, word: &str) -> bool
+    ensures { result ≡ tells (fields_of row.now) field word.now }
+{
+    answer_field(row, field) == word.as_bytes()
 }
 
 /// Whether a row is refused with these words.
 pub(crate) fn has_refusal(row: &ByteRecord, words: &str) -> bool
     ensures { result ≡ has_refusal words.now (fields_of row.now) }
 {
-    tells(row, 1, words)
+    tells(row, Field::Refusal, words)
 }
 
 /// Whether a row is refused since no number was read.
@@ -160,12 +168,12 @@ fn is_junk(row: &ByteRecord) -> bool
 fn is_invalid(row: &ByteRecord) -> bool
     ensures { result ≡ is_invalid (fields_of row.now) }
 {
-    tells(row, 2, "invalid")
+    tells(row, Field::Validity, "invalid")
 }
 
 /// Whether a row's number is a short number.
 fn is_short(row: &ByteRecord) -> bool
     ensures { result ≡ is_short (fields_of row.now) }
 {
-    tells(row, 4, "Emergency") || tells(row, 4, "ShortNumber")
+    tells(row, Field::Kind, "Emergency") || tells(row, Field::Kind, "ShortNumber")
 }

@@ -3,14 +3,14 @@ ghost use Rattle.std.specs.Prelude.{◌≡◌, ◌++◌, ◌∷◌, [], OnOk, dr
 ghost use Rattle.csv.specs.Records.{fields_of};
 ghost use Rattle.phone_table.specs.Answered.{key_in};
 ghost use Rattle.phone_table.specs.Held.{answered};
-ghost use Rattle.phone_table.specs.Spelled.{number_in};
+ghost use Rattle.phone_answers.specs.Spelled.{number_in};
 
-use crate::answer::Answer;
 use crate::duplicates::Held;
 use crate::summed::sum_row;
 use crate::table::{Table, key_in};
 use crate::unknown::note_unknown;
 use csv::ByteRecord;
+use phone_answers::Answer;
 use phone_csv::{Answers, Refusal};
 use phone_device::{ByteSink, Count, Fault};
 use std::alloc::{AllocError, Global};

@@ -2,13 +2,11 @@
 ghost use Rattle.std.specs.Prelude.{◌≡◌, ◌++◌, ◌⊎◌, ◌<◌, [], length, get_or};
 ghost use Rattle.csv.specs.Records.{fields_of};
 ghost use Rattle.phone_csv.specs.Formats.{Record};
-ghost use Rattle.phone_table.specs.Headers.{names};
+ghost use Rattle.phone_answers.specs.Fields.{names};
 
 use crate::table::field_in;
 use csv::ByteRecord;
-
-/// How many fields an answer has.
-pub const ANSWER_WIDTH: usize = 7;
+use phone_answers::ANSWER_WIDTH;
 
 /// The E.164 text of a record that has an answer after its own fields, or of the header: the first
 /// field of the answer. Empty where the record has fewer fields than an answer.

@@ -1,31 +1,24 @@
 //! What holds of answers. These functions do nothing, but for those that read a text to show that
 //! it has an answer; their contracts are the statements.
-ghost use Rattle.std.specs.Prelude.{◌≡◌, ◌⊎◌, ◌+◌, ℕ, List, None, Option, Some, chars, false};
+ghost use Rattle.std.specs.Prelude.{◌≡◌, ◌⊎◌, ◌+◌, ℕ, List, None, Option, Some, false};
 ghost use Rattle.std.specs.Prelude.{slice_get, true};
 ghost use Rattle.std.specs.List.{Contains};
-ghost use Rattle.std.specs.Str.{IsUtf8};
 ghost use Rattle.csv.specs.Records.{fields_of};
-ghost use Rattle.serde_json.specs.Data.{Data};
 ghost use Rattle.phone_values.specs.declared.country.Id.{Id};
 ghost use Rattle.phone_values.specs.declared.reading.Reading.{Reading};
 ghost use Rattle.phone_csv.specs.Formats.{Record};
 ghost use Rattle.phone_csv.specs.RecordReports.{IsReport};
 ghost use Rattle.phone_values.specs.declared.rules.Rules.{Rules};
 ghost use Rattle.phone_records.specs.declared.loader.Metadata as loader;
-ghost use Rattle.phone_short.specs.Regions.{short_kind};
-ghost use Rattle.phone_short.specs.declared.kind.ShortKind.TheVariants as kind;
-ghost use Rattle.phone_prefixes.specs.Tables as prefixes;
 ghost use Rattle.phone_table.specs.Answered.{Answered};
-ghost use Rattle.phone_table.specs.Answers.{IsAnswer, IsAnswerOf, IsFieldAnswer, IsOfOtherWidth};
+ghost use Rattle.phone_table.specs.Answers.{IsAnswer, IsAnswerOf, IsOfOtherWidth};
 ghost use Rattle.phone_table.specs.Answers.{IsOwnAnswer, IsUnder};
 ghost use Rattle.phone_table.specs.Duplicates.{NamesFirst, duplicate_of, shared_of};
-ghost use Rattle.phone_table.specs.Extras.{EachHasOneText, HaveOneText, ask_fields};
-ghost use Rattle.phone_table.specs.Objects.{IsObject, IsObjectLine};
+ghost use Rattle.phone_answers.specs.Extras.{EachHasOneText, ask_fields};
 ghost use Rattle.phone_table.specs.Ends.{by};
 ghost use Rattle.phone_table.specs.Rows.{AreKept, IsHeldBy};
 ghost use Rattle.phone_table.specs.Runs.{WritesTable, names_in};
 ghost use Rattle.phone_table.specs.declared.counts.Counts.{Counts};
-ghost use Rattle.phone_table.specs.Shorts.{is_number_alone, short_answer};
 ghost use Rattle.phone_table.specs.Tables.{IsReadAgain, IsTable};
 ghost use Rattle.phone_table.specs.declared.header.Columns as header;
 ghost use Rattle.phone_table.specs.declared.run.Asked as run;
@@ -36,26 +29,7 @@ use crate::region::region_text;
 use crate::run::Asked;
 use crate::table::field_in;
 use csv::ByteRecord;
-use phone_engine::laws::some_reading;
-
-/// A field that is nothing but an emergency number of the hint's region is answered as one,
-/// whatever number could be read in it.
-pub fn emergency_alone()
-    ensures { (rules : Rules) (db short : List loader.Metadata) (region : Id) (field : List ℕ)
-        (number : Option Reading) (answer : Record) → IsUtf8 field →
-        is_number_alone field ≡ true → short_kind short region (chars field) ≡ Some kind.Emergency →
-        IsFieldAnswer rules db (Some short) (Some region) field number answer →
-        (number ≡ None) × (answer ≡ short_answer region kind.Emergency) }
-{}
-
-/// By either rules a field has one answer at most, which is of one number or of none, under each
-/// database, database of short numbers and hint.
-pub fn one_answer()
-    ensures { (rules : Rules) (db : List loader.Metadata) (short : Option (List loader.Metadata))
-        (hint : Option Id) (field : List ℕ) (n k : Option Reading) (a b : Record) →
-        IsFieldAnswer rules db short hint field n a →
-        IsFieldAnswer rules db short hint field k b → (n ≡ k) × (a ≡ b) }
-{}
+use phone_answers::laws::some_answer;
 
 /// By either rules a record is read under one hint, if it is, and has one answer at most: its
 /// fields, which are of one number or of none, and, where in the table of each column that is asked
@@ -75,18 +49,6 @@ pub fn one_row()
         IsAnswer rules db hint columns asked fields b → a ≡ b }
 {}
 
-/// By either rules each field has an answer, under each database, database of short numbers and
-/// hint. The body reads the text, since the contract of reading shows that the text has a reading.
-pub fn some_answer(field: &[u8])
-    ensures { (rules : Rules) (db : List loader.Metadata) (short : Option (List loader.Metadata))
-        (hint : Option Id) → (number : Option Reading) × (answer : Record) ×
-        IsFieldAnswer rules db short hint field.now number answer }
-{
-    if let Ok(text) = std::str::from_utf8(field) {
-        some_reading(text);
-    }
-}
-
 /// By either rules each record has an answer, under each database and hint, but for one that has
 /// another count of fields than the table has columns, where such aren't marked. This is told of
 /// tables without a column of what is suspicious, or of one of two numbers.
@@ -98,35 +60,6 @@ pub fn some_row(columns: Columns, asked: Asked<'_>, fields: &ByteRecord)
 {
     let _text = region_text(columns, fields);
     some_answer(field_in(fields, columns.number));
-}
-
-/// In each table of prefixes that was loaded a prefix has one text.
-pub fn loaded_tables()
-    ensures { (bytes : List ℕ) (entries : List prefixes.Entry) →
-        prefixes.IsTable bytes entries → HaveOneText entries }
-{}
-
-/// By either rules a line has one object at most, and one text of it, under each database, database
-/// of short numbers and hint.
-pub fn one_object()
-    ensures object { (rules : Rules) (db : List loader.Metadata)
-        (short : Option (List loader.Metadata)) (hint : Option Id) (place : ℕ) (line : List ℕ)
-        (d e : Data) → IsObject rules db short hint place line d →
-        IsObject rules db short hint place line e → d ≡ e }
-    ensures text { (rules : Rules) (db : List loader.Metadata)
-        (short : Option (List loader.Metadata)) (hint : Option Id) (place : ℕ)
-        (line a b : List ℕ) → IsObjectLine rules db short hint place line a →
-        IsObjectLine rules db short hint place line b → a ≡ b }
-{}
-
-/// By either rules each line has an object, whatever its number, under each database, database of
-/// short numbers and hint.
-pub fn some_object(line: &[u8])
-    ensures { (rules : Rules) (db : List loader.Metadata) (short : Option (List loader.Metadata))
-        (hint : Option Id) (place : ℕ) →
-        (d : Data) × IsObject rules db short hint place line.now d }
-{
-    some_answer(line);
 }
 
 /// What a run writes for a whole table with commas, read again, is the byte-order mark that the

@@ -1,18 +1,19 @@
 //! The names that are put behind a header, and the header that is written.
-ghost use Rattle.std.specs.Prelude.{◌≡◌, ◌+◌, ◌++◌, ◌∷◌, [], Err, IfOk, OnOk, option_map};
+ghost use Rattle.std.specs.Prelude.{◌≡◌, ◌+◌, ◌++◌, ◌∷◌, [], Err, IfOk, OnOk, map, option_map};
 ghost use Rattle.std.specs.Prelude.{if◌then◌else◌, string_bytes};
 ghost use Rattle.csv.specs.Records.{fields_of, partial_of};
 ghost use Rattle.phone_device.specs.Passing.{Takes, TakesFront};
 ghost use Rattle.phone_table.specs.Duplicates.{duplicate_names};
-ghost use Rattle.phone_table.specs.Extras.{added_names, headings};
-ghost use Rattle.phone_table.specs.Headers.{behind, first_taken, is_taken, names, texts_of};
+ghost use Rattle.phone_table.specs.Headers.{added_names, headings};
+ghost use Rattle.phone_answers.specs.Fields.{name_of, texts_of};
+ghost use Rattle.phone_table.specs.Headers.{behind, first_taken, is_taken};
 ghost use Rattle.phone_table.specs.Tables.{head_text, mark_text};
 ghost use Rattle.phone_table.specs.declared.names.HeaderError.TheVariants as error;
 
-use crate::extra::Extra;
 use crate::header::times;
 use crate::table::field_in;
 use csv::ByteRecord;
+use phone_answers::{Extra, Field};
 use phone_csv::{Format, add_record};
 use phone_device::{ByteSink, write_all};
 use std::alloc::{AllocError, Global};
@@ -24,19 +25,6 @@ pub(crate) enum HeaderError {
     Output,
     /// There was no memory.
     Memory,
-}
-
-/// Puts texts behind the fields of a record. Refused only for memory.
-pub(crate) fn push_texts(fields: &mut ByteRecord, texts: &[&str]) -> Result<(), AllocError>
-    requires { partial_of fields.old ≡ [] }
-    ensures fields { OnOk result (fields_of fields.new ≡
-        fields_of fields.old ++ texts_of texts.now) }
-    ensures partial { OnOk result (partial_of fields.new ≡ []) }
-{
-    'texts: for text in texts {
-        fields.push_field(text.as_bytes())?;
-    }
-    Ok(())
 }
 
 /// A name behind these letters. Refused only for memory.
@@ -101,6 +89,25 @@ fn push_headings(
     Ok(())
 }
 
+/// Puts the names of an answer's fields behind others, each behind these letters. Refused only for
+/// memory.
+fn push_field_names(
+    alloc: Global,
+    names: &mut ByteRecord,
+    front: &str,
+    fields: &[Field],
+) -> Result<(), AllocError>
+    requires { partial_of names.old ≡ [] }
+    ensures fields { OnOk result (fields_of names.new ≡
+        fields_of names.old ++ behind front.now (map name_of fields.now)) }
+    ensures partial { OnOk result (partial_of names.new ≡ []) }
+{
+    'fields: for field in fields {
+        push_name(alloc, names, front, field.name())?;
+    }
+    Ok(())
+}
+
 /// The names of the columns of duplicates, where these are told, each behind these letters. Refused
 /// only for memory.
 fn first_names(alloc: Global, front: &str, tells_duplicates: bool) -> Result<ByteRecord, AllocError>
@@ -131,20 +138,7 @@ pub(crate) fn added_names(
 {
     let mut names = first_names(alloc, front, tells_duplicates)?;
     push_headings(alloc, &mut names, front, extra)?;
-    push_names(
-        alloc,
-        &mut names,
-        front,
-        &[
-            "e164",
-            "international",
-            "national",
-            "type",
-            "region",
-            "validity",
-            "refusal",
-        ],
-    )?;
+    push_field_names(alloc, &mut names, front, &Field::ALL)?;
     Ok(names)
 }
 

@@ -12,7 +12,6 @@ ghost use Rattle.phone_table.specs.Headers.{first_taken};
 ghost use Rattle.phone_table.specs.Runs.{IsRefused, RowsEnd, RunEnds, names_in};
 ghost use Rattle.phone_table.specs.Tables.{IsHeader};
 
-use crate::extra::Extra;
 use crate::header::{ColumnError, columns_of};
 use crate::marked::write_marked;
 use crate::names::{added_names, first_taken};
@@ -21,6 +20,7 @@ use crate::summed::{Totals, told_whole};
 use crate::table::Table;
 use crate::unknown::UnknownNames;
 use csv::ByteRecord;
+use phone_answers::Extra;
 use phone_countries::Countries;
 use phone_csv::{First, FirstError, RunError, first_record, is_delimiter};
 use phone_device::{ByteSink, ByteSource};
@@ -145,18 +145,18 @@ fn names_behind(
 }
 
 /// Gives a table back: its header with names behind its own, those of the columns that are asked
-/// for and then `e164`, `international`, `national`, `type`, `region`, `validity` and `refusal`;
-/// and its records in their order, unchanged, each with its answer behind its fields. The first
-/// record is the header. Where a UTF-8 byte-order mark stands in front of it, that is no part of
-/// its first name, and the output begins with one too. Each record is ended by a carriage return
-/// and a line feed where a carriage return ended the header, else by a line feed. What is read and
-/// written is CSV as the kit's `csv` has it, with this delimiter. Nothing in memory grows with the
-/// number of records, but with `is_unique`, where the keys of numbers are kept: then a record is
-/// left out where an earlier one has a number of the same E.164 text and the same extension; and
-/// with `tells_duplicates`, where all are. It gives how many records there were, how many of them
-/// were answered otherwise than by a valid number, and how many were left out; with `is_summed`
-/// also how often each type, region, refusal and word of what is suspicious was answered, in all
-/// records, those that are left out with them.
+/// for and then those of an answer, as [`phone_answers::Field`] has them; and its records in their
+/// order, unchanged, each with its answer behind its fields. The first record is the header. Where
+/// a UTF-8 byte-order mark stands in front of it, that is no part of its first name, and the output
+/// begins with one too. Each record is ended by a carriage return and a line feed where a carriage
+/// return ended the header, else by a line feed. What is read and written is CSV as the kit's `csv`
+/// has it, with this delimiter. Nothing in memory grows with the number of records, but with
+/// `is_unique`, where the keys of numbers are kept: then a record is left out where an earlier one
+/// has a number of the same E.164 text and the same extension; and with `tells_duplicates`, where
+/// all are. It gives how many records there were, how many of them were answered otherwise than by
+/// a valid number, and how many were left out; with `is_summed` also how often each type, region,
+/// refusal and word of what is suspicious was answered, in all records, those that are left out
+/// with them.
 ///
 /// With `tells_duplicates` two columns stand before the others. `duplicate_of` has, where an
 /// earlier record has the number and its extension, the number of the first one that has, the
@@ -165,13 +165,12 @@ fn names_behind(
 /// off.
 ///
 /// The answer to a number, which is read and described by the engine: what each column that is
-/// asked for tells of it, empty where its table has nothing; its texts in three modes, its kind,
-/// the id of its region or `-`, `valid` or `invalid`, and an empty field. That to a refusal has its
-/// words in the last field alone: to bytes that aren't UTF-8 `not UTF-8`, to a field that is empty,
-/// or white space alone, `empty`. Where there is a database of short numbers, that to an emergency
-/// number of the region under which the record is read has `Emergency` for the kind, that region,
-/// `valid`, and nothing else; and that to another short number `ShortNumber`, where no valid number
-/// is read.
+/// asked for tells of it, empty where its table has nothing; what each [`phone_answers::Field`]
+/// tells of it, the refusal being empty. That to a refusal has its words in the last field alone:
+/// to bytes that aren't UTF-8 `not UTF-8`, to a field that is empty, or white space alone, `empty`.
+/// Where there is a database of short numbers, that to an emergency number of the region under
+/// which the record is read has `Emergency` for the kind, that region, `valid`, and nothing else;
+/// and that to another short number `ShortNumber`, where no valid number is read.
 ///
 /// A record is read under the region whose id stands in its column of regions, in capital or small
 /// letters, with or without white space around; under the engine's hint where that field is empty.

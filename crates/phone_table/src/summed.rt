@@ -4,13 +4,12 @@ ghost use Rattle.csv.specs.Records.{fields_of};
 ghost use Rattle.phone_summary.specs.Summaries.{row_of};
 ghost use Rattle.phone_table.specs.Summed.{SumsRow, doubts_place, extra_field, told_of, totals_of};
 
-use crate::counts::Counts;
-use crate::extra::{Extra, tells_doubts};
-use crate::key::ANSWER_WIDTH;
+use crate::counts::{Counts, answer_field};
 use crate::run::Asked;
 use crate::table::{Table, field_in};
 use crate::unknown::UnknownNames;
 use csv::ByteRecord;
+use phone_answers::{ANSWER_WIDTH, Extra, Field, tells_doubts};
 use phone_summary::{Answered, Summary};
 use std::alloc::{AllocError, Global};
 
@@ -57,11 +56,10 @@ fn extra_field<'a>(extra: &[Extra<'_>], row: &'a ByteRecord, place: Option<usize
 fn told_of<'a>(extra: &[Extra<'_>], row: &'a ByteRecord) -> Answered<'a>
     ensures { row_of result ≡ told_of extra.now (fields_of row.now) }
 {
-    let width = row.len();
     Answered {
-        kind: field_in(row, width.saturating_sub(4)),
-        region: field_in(row, width.saturating_sub(3)),
-        refusal: field_in(row, width.saturating_sub(1)),
+        kind: answer_field(row, Field::Kind),
+        region: answer_field(row, Field::Region),
+        refusal: answer_field(row, Field::Refusal),
         suspicion: extra_field(extra, row, doubts_place(extra)),
     }
 }

@@ -1,4 +1,4 @@
-//! The names of the crate `phonenumber` 0.3.10, over the table of the world that stands in the library.
+//! The names of the crate `phonenumber` 0.3.10, over the library's own metadata.
 //!
 //! A program that uses them alone changes its import, and is answered by that crate's rules:
 //!
@@ -12,8 +12,8 @@
 //! assert_eq!(number.country().id(), Some(phonenumber::country::DE));
 //! ```
 //!
-//! There is one table, [`metadata::DATABASE`]; what it has of a region isn't shown. The first call opens it,
-//! for all threads, and it takes some 6 MB. A call ends the program where memory is refused.
+//! The metadata are [`metadata::DATABASE`]; what they have of a region isn't shown. The first call opens them,
+//! for all threads, and they take some 6 MB. A call ends the program where memory is lacking.
 use crate::Rules;
 use crate::database::{By, world};
 use crate::number::PhoneNumber as Read;
@@ -28,17 +28,17 @@ pub mod country;
 #[cfg(feature = "serde")]
 mod with_serde;
 
-/// The table.
+/// The metadata.
 pub mod metadata {
-    /// The table of the world, which the first call opens.
+    /// The library's own metadata, which the first call opens.
     #[derive(Debug)]
     pub struct Database(());
 
-    /// The table of the world.
+    /// The metadata of all regions.
     pub static DATABASE: Database = Database(());
 }
 
-/// What the table answers by the rules of the crate.
+/// The answers by the rules of the crate.
 fn asked<T>(call: impl FnOnce(By<'_>) -> T) -> T {
     call(world().expect("memory is given").by(Rules::Crate))
 }

@@ -2,7 +2,7 @@ use Rattle.std.proofs.Common.{[]}
 use Rattle.std.specs.Prelude.{if◌then◌else◌}
 use Rattle.phone_table.specs.Answers.{IsAnswerOf}
 use Rattle.phone_table.specs.Duplicates.{duplicate_names}
-use Rattle.phone_table.specs.Extras.{headings}
+use Rattle.phone_table.specs.Headers.{headings}
 use Rattle.phone_table.specs.Headers.{behind}
 use Rattle.phone_table.proofs.ReadAgain.{read_back}
 use Rattle.phone_table.proofs.laws.read_again.Goals as goal

@@ -1,6 +1,6 @@
 use Rattle.std.proofs.Common.{◌≡◌, ◌++◌, [], drop}
 use Rattle.csv.specs.Records.{fields_of, partial_of}
-use Rattle.phone_table.specs.Extras.{headings}
+use Rattle.phone_table.specs.Headers.{headings}
 use Rattle.phone_table.specs.Headers.{behind}
 use Rattle.phone_table.proofs.names.push_headings.Given as goal
 

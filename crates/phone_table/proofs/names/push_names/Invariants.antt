@@ -1,6 +1,7 @@
 use Rattle.std.proofs.Common.{◌≡◌, ◌++◌, [], drop}
 use Rattle.csv.specs.Records.{fields_of, partial_of}
-use Rattle.phone_table.specs.Headers.{behind, texts_of}
+use Rattle.phone_answers.specs.Fields.{texts_of}
+use Rattle.phone_table.specs.Headers.{behind}
 use Rattle.phone_table.proofs.names.push_names.Given as goal
 
 abbrev pub invariant-texts : goal.invariant-texts

@@ -4,7 +4,7 @@ use Rattle.std.proofs.lemmas.Str.{IsCharBoundary-start, chars-nil}
 use Rattle.phone_csv.specs.Feeds.{counted}
 use Rattle.phone_commands.specs.FoundLines.{IsSpot}
 use Rattle.phone_commands.specs.FoundLines.AreTold.{none, next}
-use Rattle.phone_table.specs.declared.finds.Spot.{Spot}
+use Rattle.phone_answers.specs.declared.finds.Spot.{Spot}
 use Rattle.phone_commands.proofs.FoundLemmas.{IsOrdered-earlier}
 use Rattle.phone_commands.proofs.finder.Finder.push_all.Goals as goal
 

@@ -4,7 +4,7 @@ use Rattle.phone_table.specs.Answered.{key_in}
 use Rattle.phone_table.specs.Counts.{counts_after}
 use Rattle.phone_table.specs.Held.{answered}
 use Rattle.phone_table.specs.Held.Holds.{held}
-use Rattle.phone_table.specs.Spelled.{number_in, spelled}
+use Rattle.phone_answers.specs.Spelled.{number_in, spelled}
 use Rattle.phone_table.specs.Summed.{SumsRow}
 use Rattle.phone_table.specs.Unknowns.{NotesRow}
 use Rattle.phone_table.proofs.SharedLemmas.{row_parts}

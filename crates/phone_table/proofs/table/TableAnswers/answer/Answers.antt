@@ -1,7 +1,7 @@
 use Rattle.std.proofs.Common.{◌++◌, not, ap, refl, ◌∙◌}
 use Rattle.csv.specs.Records.{fields_of}
 use Rattle.phone_table.specs.Counts.{counts_after, counts_without}
-use Rattle.phone_table.specs.Spelled.{number_in, spelled}
+use Rattle.phone_answers.specs.Spelled.{number_in, spelled}
 use Rattle.phone_table.specs.Taking.Takes.{written, left_out}
 use Rattle.phone_table.proofs.Numbers.{same_ok}
 use Rattle.phone_table.proofs.table.TableAnswers.answer.Goals as goal

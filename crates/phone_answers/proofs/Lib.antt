@@ -1,0 +1,10 @@
+pub mod AnswerLemmas
+pub mod ExtraLemmas
+pub mod FieldLemmas
+pub mod ObjectLemmas
+pub mod OneAnswers
+pub mod OneTold
+pub mod ShortLemmas
+pub mod SomeAnswers
+pub mod SomeTold
+pub mod SplitLemmas

@@ -1,0 +1,4 @@
+use Rattle.phone_answers.proofs.objects.with_number.Goals as goal
+
+pub returns : goal.returns
+returns c ms h = c.with_value.ensures ms _ h c.from.ensures

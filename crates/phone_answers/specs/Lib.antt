@@ -1,0 +1,9 @@
+pub mod Answers
+pub mod Cells
+pub mod Extras
+pub mod Fields
+pub mod Finds
+pub mod Objects
+pub mod Shorts
+pub mod Spelled
+pub mod Splits

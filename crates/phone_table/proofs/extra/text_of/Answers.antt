@@ -1,4 +1,0 @@
-use Rattle.phone_table.proofs.extra.text_of.Goals as goal
-
-pub returns-in-Some : goal.returns-in-Some
-returns-in-Some c = rw c.in-Some.is c.longest_text.ensures

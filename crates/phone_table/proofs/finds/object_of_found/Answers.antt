@@ -1,9 +1,0 @@
-use Rattle.std.proofs.Common.{ap}
-use Rattle.serde_json.specs.Data.{no_members}
-use Rattle.serde_json.specs.View.{members_view}
-use Rattle.phone_table.proofs.finds.object_of_found.Goals as goal
-
-pub returns : goal.returns
-returns c =
-    c.object_with.ensures _ (c.with_text.ensures _ (c.with_answer-members.ensures _
-    (c.with_text-members.ensures _ (c.with_number-members-2.ensures _ (c.with_number-members.ensures no_members (ap members_view c.new.ensures.empty))))))

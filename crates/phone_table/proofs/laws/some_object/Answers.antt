@@ -1,7 +1,0 @@
-use Rattle.phone_table.proofs.SomeAnswers.{object_of_answer}
-use Rattle.phone_table.proofs.laws.some_object.Goals as goal
-
-pub returns : goal.returns
-returns c rules db short hint place =
-    let a = c.some_answer.ensures rules db short hint in
-    object_of_answer rules db short hint place c.args.line.now a.0 a.1 a.2
