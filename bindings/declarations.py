@@ -22,6 +22,7 @@ PYTHON = BINDINGS / "python" / "phonenumber_proved" / "_calls.py"
 # The names of a struct in the four places, each by its name in phone.h.
 STRUCTS = {
     "Handle": "handle", "PrefixTable": "prefixes", "Prefixes": "prefixes", "PrefixesHandle": "prefixes", "Part": "part", "Number": "number",
+    "AtlasHandle": "atlas", "Atlas": "atlas",
     "PlainFacts": "short_facts", "ShortFacts": "short_facts", "Facts": "short_facts", "Place": "place",
     "RegionFacts": "region_facts", "NumberFacts": "number_facts", "FactsAnywhere": "facts_anywhere",
     "Layout": "texts", "Texts": "texts", "Narrow": "narrow_texts", "NarrowTexts": "narrow_texts",

@@ -176,6 +176,38 @@ static void of_dialling(phone_handle *world) {
     phone_close(&shorts);
 }
 
+/* Where a number is, and the numbers in a text as libphonenumber finds them. */
+static void of_places(phone_handle *world) {
+    phone_prefixes areas = PHONE_CLOSED, english = PHONE_CLOSED, carriers = PHONE_CLOSED, none = PHONE_CLOSED, zones = PHONE_CLOSED;
+    phone_atlas german = PHONE_CLOSED;
+    phone_place places[2] = {{0, 0}, {0, 0}};
+    uint8_t texts[64];
+    size_t len = 0, line = 99;
+    phone_number number = number_of(world, "phone_parse", "+41 44 668 1800", texts, &len);
+    VALUE("phone_prefixes_open", phone_prefixes_open(TEXT("4144\tZ\xc3\xbcrich"), &areas, &line), 0);
+    VALUE("phone_prefixes_open", phone_prefixes_open(TEXT("4122\tGeneva"), &english, &line), 0);
+    VALUE("phone_prefixes_open", phone_prefixes_open(TEXT("41\tA carrier"), &carriers, &line), 0);
+    VALUE("phone_prefixes_open", phone_prefixes_open(TEXT("41\tEurope/Zurich"), &zones, &line), 0);
+    VALUE("phone_atlas_open, refused", phone_atlas_open(TEXT("de"), &areas, &english, &carriers, &none, TEXT("CH Schweiz"), &german, &line), 0);
+    printf("line %u\n", (unsigned)line);
+    VALUE("phone_atlas_open", phone_atlas_open(TEXT("de-AT"), &areas, &english, &carriers, &none, TEXT("CH\tSchweiz"), &german, &line), line);
+    phone_prefixes_close(&areas);
+    phone_prefixes_close(&english);
+    phone_prefixes_close(&carriers);
+    text("phone_description", phone_description(world, &german, &number, texts, len, TEXT("CH"), 0, out, sizeof out, &wrote));
+    text("phone_description", phone_description(world, &german, &number, texts, len, TEXT("DE"), 0, out, sizeof out, &wrote));
+    text("phone_carrier", phone_carrier(world, &german, &number, texts, len, 0, out, sizeof out, &wrote));
+    text("phone_carrier", phone_carrier(world, &german, &number, texts, len, 1, out, sizeof out, &wrote));
+    text("phone_safe_carrier", phone_safe_carrier(world, &german, &number, texts, len, out, sizeof out, &wrote));
+    text("phone_country_name", phone_country_name(world, &german, &number, texts, len, out, sizeof out, &wrote));
+    text("phone_time_zones", phone_time_zones(world, &zones, &number, texts, len, 0, out, sizeof out, &wrote));
+    phone_prefixes_close(&zones);
+    phone_atlas_close(&german);
+    text("phone_atlas_close", phone_country_name(world, &german, &number, texts, len, out, sizeof out, &wrote));
+    VALUE("phone_matches", phone_matches(world, TEXT("NZ"), PHONE_IF_VALID, 99, TEXT("3/10/2011: 03-331 6005"), places, 2, &len), len);
+    printf("%u to %u\n", (unsigned)places[0].start, (unsigned)places[0].end);
+}
+
 /* The calls of tables of their own. */
 static void of_tables(void) {
     phone_handle numbers = PHONE_CLOSED;
@@ -217,6 +249,7 @@ int main(void) {
     of_columns(&mine);
     of_questions(&mine);
     of_dialling(&mine);
+    of_places(&mine);
     phone_close(&mine);
     of_tables();
     return 0;

@@ -688,12 +688,67 @@ static int shared(void) {
     CHECK(976, blocks == 0);
     return 0;
 }
+/* An atlas: closed handles, refusals, each request refused in turn; it outlives the handles of its tables. */
+static phone_status carrier(phone_handle *h, phone_atlas *atlas, size_t room) {
+    fill();
+    return phone_carrier(h, atlas, &number, phone_text(NULL, 0), 0, 1, out, room, &wrote);
+}
+static int atlases(void) {
+    phone_handle h = PHONE_CLOSED;
+    phone_prefixes p[4] = {PHONE_CLOSED, PHONE_CLOSED, PHONE_CLOSED, PHONE_CLOSED}, zones = PHONE_CLOSED;
+    phone_atlas atlas = PHONE_CLOSED;
+    size_t line = 9;
+    phone_number none;
+    CHECK(1200, phone_open(B(SMALL), PHONE_LIBRARY, &h) == PHONE_OK && parse(&h, "", "+999 234", 8, sizeof out) == PHONE_OK);
+    long held = blocks;
+    memset(&none, 0xFF, sizeof none);
+    phone_atlas_close(&atlas);
+    CHECK(1201, carrier(&h, &atlas, 9) == PHONE_IS_CLOSED && wrote == 0 && is_untouched(0));
+    CHECK(1202, phone_atlas_open(B("e\xff"), &p[0], &p[1], &p[2], &p[3], B(""), &atlas, &line) == PHONE_NOT_UTF8 && line == 0 && !atlas.at);
+    CHECK(1203, phone_atlas_open(B("en"), &p[0], &p[1], &p[2], &p[3], B("A\t\xff"), &atlas, &line) == PHONE_NOT_UTF8 && line == 0);
+    CHECK(1204, phone_atlas_open(B("en"), &p[0], &p[1], &p[2], &p[3], B("A\ta\nB"), &atlas, &line) == PHONE_LINE_NO_TAB && line == 2);
+    CHECK(1205, !atlas.at && blocks == held && !p[0].at && !p[3].at);
+    CHECK(1206, phone_prefixes_open(B("999\ta carrier"), &p[2], &line) == PHONE_OK && phone_prefixes_open(B(PREFIXES), &zones, &line) == PHONE_OK);
+    held = blocks;
+    for (long k = 0;; k++) {
+        requests = 0, refuse_at = k;
+        phone_status status = phone_atlas_open(B("en"), &p[0], &p[1], &p[2], &p[3], B("NZ\tNew Zealand"), &atlas, &line);
+        refuse_at = -1;
+        CHECK(1207, line == 0 && p[2].at && (status == PHONE_OK ? atlas.at != NULL : requests > k && status == PHONE_MEMORY && !atlas.at));
+        CHECK(1208, status == PHONE_OK || blocks == held);
+        if (requests <= k) { printf("requests of opening an atlas: %ld\n", k); break; }
+    }
+    phone_prefixes_close(&p[2]);
+    for (long k = 0;; k++) {
+        requests = 0, refuse_at = k;
+        phone_status status = carrier(&h, &atlas, sizeof out);
+        refuse_at = -1;
+        CHECK(1209, h.at && atlas.at && (status == PHONE_OK ? wrote == 9 : requests > k && status == PHONE_MEMORY && wrote == 0 && is_untouched(0)));
+        if (requests <= k) break;
+    }
+    CHECK(1210, carrier(&h, &atlas, 9) == PHONE_OK && !memcmp(out, "a carrier", 9) && is_untouched(9));
+    CHECK(1211, carrier(&h, &atlas, 8) == PHONE_TOO_SMALL && wrote == 9 && is_untouched(0));
+    CHECK(1212, phone_description(&h, &atlas, &number, out, 0, B("\xff"), 0, out, 9, &wrote) == PHONE_NOT_UTF8);
+    CHECK(1213, phone_description(&h, &atlas, &none, out, 0, B(""), 0, out, 9, &wrote) == PHONE_BAD_NUMBER && wrote == 0);
+    CHECK(1214, phone_time_zones(&h, &zones, &number, out, 0, 0, out, sizeof out, &wrote) == PHONE_OK && wrote == 11);
+    phone_prefixes_close(&zones);
+    CHECK(1215, phone_time_zones(&h, &zones, &number, out, 0, 0, out, sizeof out, &wrote) == PHONE_IS_CLOSED && wrote == 0);
+    CHECK(1216, phone_matches(&h, B("zz"), 0, 9, B("+999 234"), places, PLACES, &wrote) == PHONE_NO_REGION && wrote == 0);
+    CHECK(1217, phone_matches(&h, B(""), 9, 9, B("+999 234"), places, PLACES, &wrote) == PHONE_NO_LENIENCY && wrote == 0);
+    CHECK(1218, phone_matches(&h, B(""), 0, 9, B("+999 234"), places, 0, &wrote) == PHONE_TOO_SMALL && wrote == 1);
+    CHECK(1219, phone_matches(&h, B(""), 0, 9, B("\xff"), places, 0, &wrote) == PHONE_NOT_UTF8 && wrote == 0);
+    phone_close(&h);
+    CHECK(1220, carrier(&h, &atlas, 9) == PHONE_IS_CLOSED && atlas.at);
+    phone_atlas_close(&atlas);
+    CHECK(1221, !atlas.at && blocks == 0);
+    return 0;
+}
 int main(int argc, char **argv) {
     long rounds = argc > 2 ? atol(argv[2]) : 100, most = 0;
     int wrong;
     if ((wrong = small()) || (wrong = by_rules()) || (wrong = typing()) || (wrong = shorts()) || (wrong = prefixes())
         || (wrong = possible()) || (wrong = listed()) || (wrong = questions()) || (wrong = dialling()) || (wrong = words()) || (wrong = layouts())
-        || (wrong = world_in_library())
+        || (wrong = world_in_library()) || (wrong = atlases())
         || (wrong = shared())) return wrong;
     CHECK(100, phone_version() == PHONE_VERSION);
     fill();

@@ -41,6 +41,13 @@ static inline phone_prefixes phone_prefixes_closed(void) {
     return prefixes;
 }
 
+/* The same of an atlas: the tables of texts that a locale asks. */
+typedef struct { void *at; } phone_atlas;
+static inline phone_atlas phone_atlas_closed(void) {
+    phone_atlas atlas = PHONE_CLOSED;
+    return atlas;
+}
+
 /* What a call answers: each status has a number of its own, and words (phone_status_words). */
 typedef uint32_t phone_status;
 enum {
@@ -66,7 +73,7 @@ enum {
     PHONE_NO_MODE = 22,              /* the mode is none of the four, the form none of the three */
     PHONE_NO_RULES = 24,             /* phone_open: the rules are neither of the two */
     PHONE_LINE_EMPTY = 25,           /* phone_prefixes_open: the line is empty */
-    PHONE_LINE_NO_TAB = 26,          /* phone_prefixes_open: no tab stands in the line */
+    PHONE_LINE_NO_TAB = 26,          /* phone_prefixes_open, phone_atlas_open: no tab stands in the line */
     PHONE_LINE_NO_PREFIX = 27,       /* phone_prefixes_open: before the tab stand not 1 to 15 digits */
     PHONE_LINE_NOT_UTF8 = 28,        /* phone_prefixes_open: what stands after the tab is not UTF-8 */
     PHONE_LINE_TWICE = 29,           /* phone_prefixes_open: an earlier line has the prefix */
@@ -608,6 +615,69 @@ void phone_prefixes_close(phone_prefixes *prefixes);
 phone_status phone_prefixes_longest(phone_prefixes *prefixes, const uint8_t *digits,
                                     size_t digits_len, uint8_t *out, size_t out_len, size_t *wrote,
                                     size_t *prefix_len);
+
+/* Opens an atlas of a locale, as "de", "zh_TW" or "sr-Latn-RS". The tables of prefixes are those of its
+ * language, of areas and of carriers, each with that of English, which is asked where the language's has
+ * nothing, unless the language is Chinese, Japanese or Korean. They are four handles, none of them twice,
+ * closed where there is no table; they stay as they were, and the atlas stands on the same tables. The
+ * names are lines of a region's id, a tab and its name in UTF-8; the first name of a region counts, so those
+ * of "de-at" may stand before those of "de". What was open there is closed first. PHONE_OK: it is open.
+ * PHONE_NOT_UTF8: locale or names aren't UTF-8. PHONE_LINE_NO_TAB: a line of the names has no tab; `line` is
+ * the number of the first, counted from 1, and for all other statuses 0. PHONE_MEMORY. For each but PHONE_OK
+ * the atlas is closed. */
+phone_status phone_atlas_open(const uint8_t *locale, size_t locale_len, phone_prefixes *areas,
+                              phone_prefixes *english_areas, phone_prefixes *carriers,
+                              phone_prefixes *english_carriers, const uint8_t *names, size_t names_len,
+                              phone_atlas *atlas, size_t *line);
+
+/* Closes a handle of an atlas; nothing where it is closed. Tables go with the last of what stands on them. */
+void phone_atlas_close(phone_atlas *atlas);
+
+/* Writes the description of a number in the atlas's locale, for a user in a region, which has no byte where
+ * none is given: by libphonenumber's rules, whatever those of the handle. It is empty where the number's
+ * kind is unknown, and the name of its country where its kind is of no place. Else, and of each number
+ * where `as_it_stands` isn't 0: it is empty where the number has no region; the name of its region where
+ * the user's is another; else its area, and where none is known the name of its country. PHONE_IS_CLOSED
+ * exactly where one of the handles is closed, else PHONE_NOT_UTF8 exactly where the user's region isn't
+ * UTF-8, then PHONE_BAD_NUMBER as phone_format has it; PHONE_TOO_SMALL, PHONE_MEMORY. */
+phone_status phone_description(phone_handle *handle, phone_atlas *atlas, const phone_number *number,
+                               const uint8_t *bytes, size_t bytes_len, const uint8_t *user, size_t user_len,
+                               uint8_t as_it_stands, uint8_t *out, size_t out_len, size_t *wrote);
+
+/* Writes the name of the carrier to which a number's range was given first: empty where none is known, and,
+ * unless `as_it_stands` isn't 0, where the number's kind has no mobile carrier. Its statuses are those of
+ * phone_description. */
+phone_status phone_carrier(phone_handle *handle, phone_atlas *atlas, const phone_number *number,
+                           const uint8_t *bytes, size_t bytes_len, uint8_t as_it_stands, uint8_t *out,
+                           size_t out_len, size_t *wrote);
+
+/* Writes the name of a number's carrier where it is safe to show as today's: empty where a mobile number of
+ * the number's region is kept when the carrier changes; else as phone_carrier by the number's kind. Its
+ * statuses are those of phone_description. */
+phone_status phone_safe_carrier(phone_handle *handle, phone_atlas *atlas, const phone_number *number,
+                                const uint8_t *bytes, size_t bytes_len, uint8_t *out, size_t out_len,
+                                size_t *wrote);
+
+/* Writes the name of a number's country: empty where none is known, and where the number is valid in several
+ * or in none. Its statuses are those of phone_description. */
+phone_status phone_country_name(phone_handle *handle, phone_atlas *atlas, const phone_number *number,
+                                const uint8_t *bytes, size_t bytes_len, uint8_t *out, size_t out_len,
+                                size_t *wrote);
+
+/* Writes the time zones of a number by a table of them, as the table has them: "Etc/Unknown" where it knows
+ * none, and where the number's kind is unknown; those of its calling code where its kind is of no place;
+ * else, and of each number where `as_it_stands` isn't 0, those of its digits. Its statuses are those of
+ * phone_description. */
+phone_status phone_time_zones(phone_handle *handle, phone_prefixes *zones, const phone_number *number,
+                              const uint8_t *bytes, size_t bytes_len, uint8_t as_it_stands, uint8_t *out,
+                              size_t out_len, size_t *wrote);
+
+/* Writes where numbers stand in a text as libphonenumber finds them; `tries` is how many candidates and
+ * pieces without a number are looked at. phone_parse parses each of these pieces, with the same default
+ * region and by libphonenumber's rules, as the number that was found. Places and statuses are as of phone_find. */
+phone_status phone_matches(phone_handle *handle, const uint8_t *hint, size_t hint_len, uint32_t leniency,
+                           uint64_t tries, const uint8_t *text, size_t text_len, phone_place *out,
+                           size_t out_len, size_t *wrote);
 
 /* Writes the E.164 text of a number, a key for tables. It needs no database. Equal texts mean
  * equal calling code and national number where no calling code of the database begins another, as in

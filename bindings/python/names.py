@@ -147,6 +147,30 @@ def numbers_are_compared_and_found():
     check("tries", list(names.PhoneNumberMatcher("+64 3 331 6005", None, max_tries=0)), [])
 
 
+# Number; its description in German, and for a user in Germany; its carrier in English, safe to show; its time zones.
+PLACES = [
+    ("+41431302564", "Z\u00fcrich", "Schweiz", "", "", ("Europe/Zurich",)),
+    ("+51912345671", "Peru", "Peru", "Entel", "", ("America/Lima",)),
+    ("+6913206949", "Mikronesien", "Mikronesien", "FSMTC", "FSMTC", ("Pacific/Ponape",)),
+    ("+5493404322936", "", "", "", "", ("Etc/Unknown",)),
+    ("+18002127978", "", "", "", "", None),
+]
+
+
+def places_are_told():
+    for text, area, elsewhere, carrier, safe, zones in PLACES:
+        number = names.parse(text)
+        told = names.geocoder.description_for_number(number, "de"), names.geocoder.description_for_number(number, "de", region="DE")
+        check(text, told, (area, elsewhere))
+        check(text, (names.carrier.name_for_number(number, "en"), names.carrier.safe_display_name(number, "en")), (carrier, safe))
+        if zones:
+            check(text, names.timezone.time_zones_for_number(number), zones)
+    check("zones", len(names.timezone.time_zones_for_number(names.parse("+18002127978"))), 42)
+    nowhere = PhoneNumber(1 << 20, 1 << 60)
+    check(nowhere, (names.geocoder.description_for_valid_number(nowhere, "en"), names.timezone.time_zones_for_number(nowhere)),
+          ("", (names.timezone.UNKNOWN_TIMEZONE,)))
+
+
 def regions_are_told():
     told = names.country_code_for_valid_region("NZ"), names.is_nanpa_country("BS"), names.is_nanpa_country("NZ"), names.is_nanpa_country(None)
     check("codes", told, (64, True, False, False))
@@ -320,7 +344,7 @@ def readme():
 
 
 def main():
-    for case in (numbers_are_read, numbers_are_told, numbers_are_compared_and_found, regions_are_told, short_numbers_are_told,
+    for case in (numbers_are_read, numbers_are_told, numbers_are_compared_and_found, regions_are_told, places_are_told, short_numbers_are_told,
                  numbers_are_dialled, further_questions_are_answered, numbers_are_data, numbers_have_classes_made_of_them, package_is_installed,
                  records_are_told, readme):
         case()

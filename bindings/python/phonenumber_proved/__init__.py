@@ -37,6 +37,7 @@ from .errors import (
 from .field import Typing
 from .layouts import Layout, Layouts
 from .number import Kind, Mode, PhoneNumber, Possibility, Rules, Source
+from .places import Atlas
 from .prefixes import Prefixes
 from .questions import (
     Cost, FactsAnywhere, Form, NumberFacts, NumberMatch, RegionFacts, has_letters, is_geographical,
@@ -44,13 +45,16 @@ from .questions import (
 )
 from .short import ShortFacts, ShortNumbers, SmsServices
 from .tables import (
-    CARRIERS_TABLE, SHORT_TABLE, SMS_TABLE, TABLE, TABLE_VERSION, TIME_ZONES_TABLE,
+    AREAS_TABLE, CARRIERS_TABLE, PLACES, SHORT_TABLE, SMS_TABLE, TABLE, TABLE_VERSION,
+    TIME_ZONES_TABLE,
 )
 from .warming import warm
 
 __version__ = "0.3.0"
 
 __all__ = [
+    "AREAS_TABLE",
+    "Atlas",
     "BadDatabase",
     "BadPrefixes",
     "CARRIERS_TABLE",
@@ -70,6 +74,7 @@ __all__ = [
     "NoNumber",
     "NumberFacts",
     "NumberMatch",
+    "PLACES",
     "PhoneNumber",
     "Possibility",
     "Prefixes",

@@ -18,7 +18,7 @@ VERSION = 3
 
 #: The statuses that are looked at; `phone.h` has all.
 OK, MEMORY, IS_CLOSED, TOO_SMALL, NOT_UTF8, NO_REGION, UNKNOWN_CODE = 0, 7, 16, 17, 18, 19, 20
-NO_PREFIX, NO_EXAMPLE, NO_TERRITORY = 30, 32, 34
+LINE_NO_TAB, NO_PREFIX, NO_EXAMPLE, NO_TERRITORY = 26, 30, 32, 34
 
 #: Any cost, of an example of short numbers.
 COST_ANY = 4
@@ -43,6 +43,12 @@ class Handle(ctypes.Structure):
 
 class PrefixesHandle(ctypes.Structure):
     """A table of prefixes, or nothing where `at` is null."""
+
+    _fields_ = [("at", ctypes.c_void_p)]
+
+
+class AtlasHandle(ctypes.Structure):
+    """The tables of a locale, or nothing where `at` is null."""
 
     _fields_ = [("at", ctypes.c_void_p)]
 
@@ -142,7 +148,7 @@ def _declare(lib: Library) -> None:
     text, address, size, pointer = ctypes.c_char_p, ctypes.c_void_p, ctypes.c_size_t, ctypes.POINTER
     u8, u16, u32, u64 = ctypes.c_uint8, ctypes.c_uint16, ctypes.c_uint32, ctypes.c_uint64
     handle, prefixes, number = pointer(Handle), pointer(PrefixesHandle), pointer(Number)
-    short_facts, place = pointer(Facts), pointer(Place)
+    short_facts, place, atlas = pointer(Facts), pointer(Place), pointer(AtlasHandle)
     region_facts, number_facts = pointer(RegionFacts), pointer(NumberFacts)
     facts_anywhere = pointer(FactsAnywhere)
     texts, narrow_texts = pointer(Texts), pointer(NarrowTexts)
@@ -202,6 +208,19 @@ def _declare(lib: Library) -> None:
         "prefixes_share": [u32, prefixes, prefixes],
         "prefixes_close": [None, prefixes],
         "prefixes_longest": [u32, prefixes, text, size, text, size, pointer(size), pointer(size)],
+        "atlas_open": [
+            u32, text, size, prefixes, prefixes, prefixes, prefixes, text, size, atlas,
+            pointer(size),
+        ],
+        "atlas_close": [None, atlas],
+        "description": [
+            u32, handle, atlas, number, text, size, text, size, u8, text, size, pointer(size),
+        ],
+        "carrier": [u32, handle, atlas, number, text, size, u8, text, size, pointer(size)],
+        "safe_carrier": [u32, handle, atlas, number, text, size, text, size, pointer(size)],
+        "country_name": [u32, handle, atlas, number, text, size, text, size, pointer(size)],
+        "time_zones": [u32, handle, prefixes, number, text, size, u8, text, size, pointer(size)],
+        "matches": [u32, handle, text, size, u32, u64, text, size, place, size, pointer(size)],
         "key": [u32, number, text, size, pointer(size)],
         "is_viable": [u32, text, size, pointer(u8)],
         "status_words": [u32, u32, text, size, pointer(size)],

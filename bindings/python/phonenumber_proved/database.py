@@ -18,6 +18,9 @@ from .held import Held, PathText
 from .number import Kind, PhoneNumber, Possibility, Rules
 from .tables import TABLE
 
+# As many tries as a call takes; no text in memory uses them up.
+_ALL_TRIES = (1 << 64) - 1
+
 # From so many bytes on it takes long to find the numbers in a text.
 _LONG = 2000
 
@@ -223,6 +226,38 @@ class Database(Asked, Records):
                 call, region, len(region), level, data, len(data), *out, rules=by
             ), hint,
         )
+        return self._read_at(places, text, data, hint, by)
+
+    def matches(
+        self, text: Text, hint: Optional[str] = None, leniency: Leniency = Leniency.VALID,
+        tries: int = _ALL_TRIES,
+    ) -> List[Found]:
+        """The numbers that stand in a text as libphonenumber finds them.
+
+        Tries are how many candidates and pieces without a number are looked at: where they are
+        used up, the rest of the text isn't searched.
+
+        >>> from phonenumber_proved import Database
+        >>> with Database.load() as world:
+        ...     world.matches("Ring 03-331 6005 today", "NZ")
+        ...     world.matches("on 3/10/2011", "NZ")
+        [Found(start=5, end=16, number=<PhoneNumber +6433316005>)]
+        []
+        """
+        data, region, level = bytes_of(text), hint_of(hint), Leniency(leniency)
+        most = max(0, min(tries, _ALL_TRIES))
+        call = (lib if len(data) < _LONG else long_lib).phone_matches
+        places = items(
+            Place, 8, lambda *out: self._call(
+                call, region, len(region), level, most, data, len(data), *out
+            ), hint,
+        )
+        return self._read_at(places, text, data, hint, Rules.LIBRARY)
+
+    def _read_at(
+        self, places: Any, text: Text, data: bytes, hint: Optional[str], by: Rules
+    ) -> List[Found]:
+        """The numbers at places of a text."""
         found, last, end = [], 0, 0
         for it in places:
             piece, between = data[it.start : it.end], data[last : it.start]

@@ -313,6 +313,59 @@ class PhoneNumber:
             )
         ).decode()
 
+    def area(self, locale: str = "en", user: Optional[str] = None) -> str:
+        """Its area in a locale; the name of its country where none is known, or its kind has none.
+
+        For a user in another region it is the name of the number's region. Nothing where its kind
+        is unknown.
+
+        >>> from phonenumber_proved import Database
+        >>> with Database.load() as world:
+        ...     number = world.parse("+41 43 130 25 64")
+        ...     number.area("de"), number.area("de", "DE"), number.time_zones
+        ('Zürich', 'Schweiz', ('Europe/Zurich',))
+        """
+        from .places import atlas
+
+        return atlas(locale).area(self, user)
+
+    def carrier_name(self, locale: str = "en", safe: bool = False) -> str:
+        """The name of the carrier to which a mobile number's range was given first.
+
+        With `safe`, nothing where numbers are kept when the carrier is changed.
+        """
+        from .places import atlas
+
+        return atlas(locale).safe_carrier(self) if safe else atlas(locale).carrier(self)
+
+    def country_name(self, locale: str = "en") -> str:
+        """The name of its country; nothing where it is valid in several, or in none."""
+        from .places import atlas
+
+        return atlas(locale).country_name(self)
+
+    @property
+    def time_zones(self) -> Tuple[str, ...]:
+        """Its time zones, one at least: `Etc/Unknown` where none is known."""
+        return self._zones(False)
+
+    def _zones(self, as_it_stands: bool) -> Tuple[str, ...]:
+        from .places import time_zones
+
+        call, flag = lib.phone_time_zones, int(as_it_stands)
+        return tuple(self._told_beside(time_zones(), call, flag).split("&"))
+
+    def _told_beside(self, held: Any, call: Callable[..., int], *args: Any) -> str:
+        """What a call tells of it by something else that is open."""
+        number, texts = ctypes.byref(self._number), self._texts
+
+        def told(*out: Any) -> Any:
+            return held._call(
+                lambda at: self._call(call, at, number, texts, len(texts), *args, *out)
+            )
+
+        return written(told).decode()
+
     def match(self, other: "Union[PhoneNumber, Text]") -> NumberMatch:
         """How like it and another number, or the number of a text, are by libphonenumber's rules.
 

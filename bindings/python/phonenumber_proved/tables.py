@@ -58,9 +58,9 @@ TABLE: Optional[str] = os.environ.get("PHONE_TABLE") or (
 
 
 def _beside(name: str) -> str:
-    """A file beside that of the metadata, or that of this package where it isn't there."""
+    """What lies beside the file of the metadata, or what this package has where it isn't there."""
     beside = (Path(TABLE).parent if TABLE else _DATA) / name
-    return str(beside if beside.is_file() or not (_DATA / name).is_file() else _DATA / name)
+    return str(beside if beside.exists() or not (_DATA / name).exists() else _DATA / name)
 
 
 #: The metadata of short numbers, beside that file.
@@ -73,6 +73,11 @@ SMS_TABLE = _beside("sms.json")
 #: English names of carriers.
 TIME_ZONES_TABLE = _beside("timezones.tsv")
 CARRIERS_TABLE = _beside("carriers.tsv")
+
+#: The English names of areas, and the folder of areas, carriers and names of regions in other
+#: languages, as `tools/places` writes them.
+AREAS_TABLE = _beside("areas.tsv")
+PLACES = os.environ.get("PHONE_PLACES") or _beside("places")
 
 
 def table_json() -> bytes:

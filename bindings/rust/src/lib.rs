@@ -36,6 +36,7 @@ mod dialling;
 mod error;
 mod found;
 mod number;
+mod places;
 mod possible;
 mod prefixes;
 mod questions;
@@ -53,6 +54,7 @@ pub use dialling::{FactsAnywhere, Layout, Layouts};
 pub use error::{Error, LineFault};
 pub use found::{Found, Leniency};
 pub use number::{Mode, PhoneNumber, Source, Type};
+pub use places::{Atlas, AtlasTables};
 pub use possible::{Possibility, Sameness};
 pub use prefixes::Prefixes;
 pub use questions::{

@@ -24,6 +24,8 @@ mod dialling;
 mod examples;
 mod find;
 mod listed;
+mod matches;
+mod places;
 mod prefixes;
 mod short;
 mod typing;

@@ -16,6 +16,12 @@ pub struct Prefixes {
     pub at: *mut u8,
 }
 
+/// The same of an atlas: the tables of texts that a locale asks.
+#[repr(C)]
+pub struct Atlas {
+    pub at: *mut u8,
+}
+
 /// Where a text stands, in bytes beside a number.
 #[repr(C)]
 #[derive(Clone, Copy, Default)]
@@ -378,6 +384,86 @@ unsafe extern "C" {
         out_len: usize,
         wrote: *mut usize,
         prefix_len: *mut usize,
+    ) -> u32;
+    pub fn phone_atlas_open(
+        locale: *const u8,
+        locale_len: usize,
+        areas: *mut Prefixes,
+        english_areas: *mut Prefixes,
+        carriers: *mut Prefixes,
+        english_carriers: *mut Prefixes,
+        names: *const u8,
+        names_len: usize,
+        atlas: *mut Atlas,
+        line: *mut usize,
+    ) -> u32;
+    pub fn phone_atlas_close(atlas: *mut Atlas);
+    pub fn phone_description(
+        handle: *mut Handle,
+        atlas: *mut Atlas,
+        number: *const Number,
+        bytes: *const u8,
+        bytes_len: usize,
+        user: *const u8,
+        user_len: usize,
+        as_it_stands: u8,
+        out: *mut u8,
+        out_len: usize,
+        wrote: *mut usize,
+    ) -> u32;
+    pub fn phone_carrier(
+        handle: *mut Handle,
+        atlas: *mut Atlas,
+        number: *const Number,
+        bytes: *const u8,
+        bytes_len: usize,
+        as_it_stands: u8,
+        out: *mut u8,
+        out_len: usize,
+        wrote: *mut usize,
+    ) -> u32;
+    pub fn phone_safe_carrier(
+        handle: *mut Handle,
+        atlas: *mut Atlas,
+        number: *const Number,
+        bytes: *const u8,
+        bytes_len: usize,
+        out: *mut u8,
+        out_len: usize,
+        wrote: *mut usize,
+    ) -> u32;
+    pub fn phone_country_name(
+        handle: *mut Handle,
+        atlas: *mut Atlas,
+        number: *const Number,
+        bytes: *const u8,
+        bytes_len: usize,
+        out: *mut u8,
+        out_len: usize,
+        wrote: *mut usize,
+    ) -> u32;
+    pub fn phone_time_zones(
+        handle: *mut Handle,
+        zones: *mut Prefixes,
+        number: *const Number,
+        bytes: *const u8,
+        bytes_len: usize,
+        as_it_stands: u8,
+        out: *mut u8,
+        out_len: usize,
+        wrote: *mut usize,
+    ) -> u32;
+    pub fn phone_matches(
+        handle: *mut Handle,
+        hint: *const u8,
+        hint_len: usize,
+        leniency: u32,
+        tries: u64,
+        text: *const u8,
+        text_len: usize,
+        out: *mut Place,
+        out_len: usize,
+        wrote: *mut usize,
     ) -> u32;
     pub fn phone_key(number: *const Number, out: *mut u8, out_len: usize, wrote: *mut usize) -> u32;
     pub fn phone_is_viable(text: *const u8, text_len: usize, told: *mut u8) -> u32;
