@@ -138,7 +138,8 @@ def build_tables(wheel_directory):
     told = (tables / "VERSION").read_text(encoding="ascii").split()
     name = f"{NAME}_tables"
     found = {f"{name}/__init__.py": f'"""The tables of {" ".join(told)}, which phonenumber_proved takes where its own are older."""\n'.encode()}
-    found.update((f"{name}/{it}", (tables / it).read_bytes()) for it in TABLES)
+    # A renewed folder need not have places, of which the package then takes its own.
+    found.update((f"{name}/{it}", (tables / it).read_bytes()) for it in TABLES if not it.startswith("places/") or (tables / it).is_file())
     about = f"""Metadata-Version: 2.1
 Name: phonenumber-proved-tables
 Version: {told[1]}
