@@ -1,2 +1,3 @@
+pub mod Codes
 pub mod Read
 pub mod Tried

@@ -41,7 +41,7 @@ pub fn example_of_code(database: &Plans, code: u16) -> Result<Option<PhoneNumber
 }
 
 /// An example, as it is read under a hint.
-fn read_example(
+pub(crate) fn read_example(
     database: &Plans,
     hint: Option<Id>,
     text: &str,
@@ -56,7 +56,11 @@ fn read_example(
 
 /// The first example of these kinds of a code that serves no region, behind plus sign and code.
 /// Refused only for memory.
-fn code_example(database: &Plans, kinds: &[Type], code: u16) -> Result<Option<String>, AllocError>
+pub(crate) fn code_example(
+    database: &Plans,
+    kinds: &[Type],
+    code: u16,
+) -> Result<Option<String>, AllocError>
     ensures { IfOk result (λ t. option_map string_bytes t ≡
         code_example database.now kinds.now code) }
 {

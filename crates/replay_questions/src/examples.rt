@@ -2,7 +2,7 @@
 use crate::given::{parts, region};
 use anyhow::Result;
 use phone_engine::{Engine, Rules};
-use phone_examples::{example_of_code, invalid_example};
+use phone_examples::{example_of_code, example_of_kind, invalid_example};
 use phone_meta::Database;
 use phone_util::example;
 use phone_values::Type;
@@ -15,6 +15,7 @@ use std::alloc::Global;
 pub fn answer(alloc: Global, row: &Row, db: &Database) -> Result<Option<String>> {
     let name = row.argument(2);
     let kind = match row.argument(1) {
+        "example-any" => return shown(alloc, example_of_kind(db, kind(name)?)?),
         "example-code" => return shown(alloc, example_of_code(db, name.parse::<u16>()?)?),
         "example-invalid" => return shown(alloc, invalid(db, name)?),
         "example" => Type::FixedLine,

@@ -1,0 +1,107 @@
+//! An example of a kind, of whatever region or calling code.
+ghost use Rattle.std.specs.Prelude.{◌≡◌, ◌⊎◌, ℕ, Err, IfOk, List, None, Option, map, option_map};
+ghost use Rattle.std.specs.Prelude.{string_bytes};
+ghost use Rattle.phone_examples.specs.Examples.{IsExample};
+ghost use Rattle.std.specs.Borrow.{Bor};
+ghost use Rattle.phone_examples.specs.Lowest.{AnswersAny, IsLowest, example_of_code};
+ghost use Rattle.phone_examples.specs.Lowest.{example_of_regions, region_example, seen};
+ghost use Rattle.phone_records.specs.Missing.{first_given};
+ghost use Rattle.phone_records.specs.declared.loader.Metadata as loader;
+
+use crate::examples::{code_example, example_in, read_example};
+use phone_plans::{Plans, Territory};
+use phone_values::country::Id;
+use phone_values::{ParseError, Type};
+use phonenumber::PhoneNumber;
+use std::alloc::AllocError;
+
+/// How many numbers may be calling codes.
+const ALL_CODES: u32 = 65536;
+
+/// An example of a number of a kind, of whatever region: that of the lowest calling code with a
+/// region whose territory gives one, of these the first, read under the region; else that of the
+/// lowest code which serves no region and has one, read behind a plus sign and the code. None where
+/// no territory gives one. Refused as the example's text is; `Memory` where memory was refused.
+pub fn example_of_kind(database: &Plans, kind: Type) -> Result<Option<PhoneNumber>, ParseError>
+    ensures { AnswersAny database.now kind result }
+{
+    let found = lowest_of_regions(database, kind)?;
+    match found {
+        Some((region, text)) => read_example(database, Some(region), text),
+        None => example_of_codes(database, kind),
+    }
+}
+
+/// The same of the codes that serve no region.
+fn example_of_codes(database: &Plans, kind: Type) -> Result<Option<PhoneNumber>, ParseError>
+    ensures { (result ≡ Err ParseError.Memory) ⊎ ((text : Option (List ℕ)) ×
+        IsLowest (example_of_code database.now kind) text ×
+        IsExample database.now None text result) }
+{
+    let text = lowest_of_codes(database, kind)?;
+    match text {
+        Some(text) => read_example(database, None, text.as_str()),
+        None => Ok(None),
+    }
+}
+
+/// The example of a region of the lowest code that has one. Refused only for memory.
+fn lowest_of_regions(database: &Plans, kind: Type) -> Result<Option<(Id, &str)>, AllocError>
+    ensures { IfOk result (λ found. IsLowest (example_of_regions database.entry.now kind)
+        (option_map seen found)) }
+{
+    for n in 0..ALL_CODES {
+        let found = of_regions(database, kind, n as u16)?;
+        if found.is_some() {
+            return Ok(found);
+        }
+    }
+    Ok(None)
+}
+
+/// The first example that a code's territories give. Refused only for memory.
+fn of_regions(database: &Plans, kind: Type, code: u16) -> Result<Option<(Id, &str)>, AllocError>
+    ensures { IfOk result (λ found. option_map seen found ≡
+        example_of_regions database.entry.now kind code) }
+{
+    match database.by_code(&code)? {
+        Some(found) => Ok(first_among(kind, found.as_slice())),
+        None => Ok(None),
+    }
+}
+
+/// The first example that these territories give.
+fn first_among<'d>(kind: Type, found: &[&'d Territory]) -> Option<(Id, &'d str)>
+    ensures { option_map seen result ≡ first_given (map (region_example kind)
+        (map (λ (m : Bor loader.Metadata). m.now) found.now)) }
+{
+    for m in found {
+        if let Some(found) = region_example(kind, m) {
+            return Some(found);
+        }
+    }
+    None
+}
+
+/// The region of a territory with the example that it gives of a kind.
+fn region_example(kind: Type, m: &Territory) -> Option<(Id, &str)>
+    ensures { option_map seen result ≡ region_example kind m.entry.now }
+{
+    let region = m.region()?;
+    let text = example_in(m, kind)?;
+    Some((region, text))
+}
+
+/// The example of the lowest code that serves no region and has one. Refused only for memory.
+fn lowest_of_codes(database: &Plans, kind: Type) -> Result<Option<String>, AllocError>
+    ensures { IfOk result (λ found. IsLowest (example_of_code database.now kind)
+        (option_map string_bytes found)) }
+{
+    for n in 0..ALL_CODES {
+        let found = code_example(database, &[kind], n as u16)?;
+        if found.is_some() {
+            return Ok(found);
+        }
+    }
+    Ok(None)
+}
