@@ -4,3 +4,4 @@ pub mod CallLemmas
 pub mod KindLemmas
 pub mod OffsetLemmas
 pub mod RowLemmas
+pub mod TextLemmas

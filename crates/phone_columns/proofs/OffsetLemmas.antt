@@ -7,6 +7,12 @@ use Rattle.std.specs.List.{flat_map}
 use Rattle.phone_arrow.specs.Buffers.{ends_from, in_eight_bytes}
 use Rattle.phone_columns.specs.Columns.{offsets_by}
 use Rattle.phone_columns.specs.declared.answers.Answer.{Answer}
+use Rattle.phone_columns.specs.declared.printed.Printed.{Printed}
+use Rattle.phone_columns.specs.Cells.{text_of_row}
+use Rattle.phone_columns.specs.Texts.{AreTexts, IsEmpty, IsOneMore}
+use Rattle.phone_values.specs.declared.mode.Mode.{Mode}
+use Rattle.phone_values.specs.declared.rules.Rules.{Rules}
+use Rattle.phone_records.specs.declared.loader.Metadata.{Metadata}
 
 ends_more : {X : Type 0} (f : X → List ℕ) (k : ℕ) (xs : List X) (x : X) →
     ends_from k (map f (xs ++ x ∷ [])) ≡ ends_from k (map f xs) ++ (k + length (flat_map f xs ++ f x)) ∷ []
@@ -30,19 +36,27 @@ offsets_more f xs x =
     ap (λ (bs : List ℕ). offsets_by f xs ++ bs) (append-nil (to_le_bytes w64 (length (flat_map f xs ++ f x))))
 
 -- one row more of the texts and their offsets
-pub printed_more : (f : Answer → List ℕ) (all : List Answer) (i : ℕ) (x : Answer) (texts offsets texts_then offsets_then : List ℕ) →
-    i < length all → x ≡ get_or all i x → texts ≡ flat_map f (take i all) → offsets ≡ offsets_by f (take i all) →
-    texts_then ≡ texts ++ f x → offsets_then ≡ offsets ++ to_le_bytes w64 (length texts_then) →
-    (offsets_then ≡ offsets_by f (take (i + 1) all)) × (texts_then ≡ flat_map f (take (i + 1) all))
-printed_more f all i x texts offsets texts_then offsets_then h at t o t' o' =
+pub texts_more : (rules : Rules) (db : List Metadata) (mode : Mode) (all : List Answer) (i : ℕ) (x : Answer) (old new : Printed) →
+    i < length all → x ≡ get_or all i x → AreTexts rules db mode (take i all) old → IsOneMore (text_of_row rules db mode x) old new →
+    AreTexts rules db mode (take (i + 1) all) new
+texts_more rules db mode all i x old new h at are more =
+    let f = text_of_row rules db mode in
     let before = take i all in
     let rows : take (i + 1) all ≡ before ++ x ∷ [] = take_more all i x h ∙ ap (λ (y : Answer). before ++ y ∷ []) (sym at) in
-    let end : texts_then ≡ flat_map f before ++ f x = t' ∙ ap (λ (ys : List ℕ). ys ++ f x) t in
+    let end : new.texts.items ≡ flat_map f before ++ f x = more.texts ∙ ap (λ (ys : List ℕ). ys ++ f x) are.texts in
     let all_texts : flat_map f (before ++ x ∷ []) ≡ flat_map f before ++ (f x ++ []) = flat_map-append f before (x ∷ []) in
-    let all_offsets : offsets_then ≡ offsets_by f before ++ to_le_bytes w64 (length (flat_map f before ++ f x)) =
-    o' ∙ ap (λ (ys : List ℕ). ys ++ to_le_bytes w64 (length texts_then)) o ∙
-    ap (λ (ys : List ℕ). offsets_by f before ++ to_le_bytes w64 (length ys)) end in (
-      all_offsets ∙ sym (offsets_more f before x) ∙ ap (λ (ys : List Answer). offsets_by f ys) (sym rows),
-      end ∙ ap (λ (ys : List ℕ). flat_map f before ++ ys) (sym (append-nil (f x))) ∙ sym all_texts ∙
-          ap (λ (ys : List Answer). flat_map f ys) (sym rows),
-    )
+    let all_offsets : new.offsets.items ≡ offsets_by f before ++ to_le_bytes w64 (length (flat_map f before ++ f x)) =
+    more.offsets ∙ ap (λ (ys : List ℕ). ys ++ to_le_bytes w64 (length new.texts.items)) are.offsets ∙
+    ap (λ (ys : List ℕ). offsets_by f before ++ to_le_bytes w64 (length ys)) end in
+    record {
+      offsets = all_offsets ∙ sym (offsets_more f before x) ∙ ap (λ (ys : List Answer). offsets_by f ys) (sym rows);
+      texts = end ∙ ap (λ (ys : List ℕ). flat_map f before ++ ys) (sym (append-nil (f x))) ∙ sym all_texts ∙
+          ap (λ (ys : List Answer). flat_map f ys) (sym rows);
+    }
+
+-- no texts, and one offset
+pub texts_none : (rules : Rules) (db : List Metadata) (mode : Mode) (printed : Printed) → IsEmpty printed →
+    AreTexts rules db mode [] printed
+texts_none rules db mode printed is =
+    let e : in_eight_bytes (0 ∷ []) ≡ to_le_bytes w64 0 = append-nil (to_le_bytes w64 0) in
+    record { offsets = is.offsets ∙ sym e; texts = is.texts }

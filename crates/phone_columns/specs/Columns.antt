@@ -61,3 +61,8 @@ columns_of numbers = flat_map column_in numbers
 abbrev pub is_told : Column → Bool
 is_told (Told f) = true
 is_told other = false
+
+-- the column has texts
+abbrev pub is_text : Column → Bool
+is_text (Text m) = true
+is_text other = false

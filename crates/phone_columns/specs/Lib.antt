@@ -4,3 +4,4 @@ pub mod Cells
 pub mod Columns
 pub mod Known
 pub mod Rows
+pub mod Texts

@@ -2,7 +2,7 @@
 ghost use Rattle.std.specs.Prelude.{◌≡◌, ◌++◌, IfOk, OnOk};
 ghost use Rattle.std.specs.List.{list_any};
 ghost use Rattle.phone_columns.specs.Columns.{column_in, column_of, columns_of, is_no_column};
-ghost use Rattle.phone_columns.specs.Columns.{is_told};
+ghost use Rattle.phone_columns.specs.Columns.{is_text, is_told};
 
 use phonenumber::Mode;
 use std::alloc::{AllocError, Global};
@@ -68,6 +68,16 @@ impl Column {
             11 => Some(Column::Plain(Cell::Refusal)),
             12 => Some(Column::IsNumber),
             _ => None,
+        }
+    }
+
+    /// Whether it has texts.
+    pub(crate) fn is_text(self) -> bool
+        ensures { result ≡ is_text self }
+    {
+        match self {
+            Column::Text(_) => true,
+            _ => false,
         }
     }
 

@@ -11,6 +11,7 @@ mod given;
 mod known;
 pub mod laws;
 mod printed;
+mod texts;
 
 pub use answers::{Answer, answer_rows};
 pub use body::{Body, lay_out};

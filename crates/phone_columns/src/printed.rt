@@ -1,11 +1,9 @@
 //! Columns of texts.
-ghost use Rattle.std.specs.Prelude.{◌≡◌, ◌++◌, ◌∷◌, [], IfOk, OnOk, None, length, unwrap_or};
-ghost use Rattle.std.specs.Int.{w64, to_le_bytes};
-ghost use Rattle.std.specs.List.{flat_map};
+ghost use Rattle.std.specs.Prelude.{◌≡◌, ◌++◌, [], IfOk, OnOk, None, unwrap_or};
 ghost use Rattle.phone_engine.specs.Facts.{printed_as};
 ghost use Rattle.phonenumber.specs.Printed.{printed};
 ghost use Rattle.phone_columns.specs.Cells.{text_of_row};
-ghost use Rattle.phone_columns.specs.Columns.{offsets_by};
+ghost use Rattle.phone_columns.specs.Texts.{AreTexts, IsEmpty, IsOneMore};
 
 use crate::answers::Answer;
 use phone_c_base::print::text_by;
@@ -22,9 +20,8 @@ pub(crate) struct Printed {
 
 impl Printed {
     /// Of no rows: one offset. Refused only for memory.
-    fn new(alloc: Global) -> Result<Printed, AllocError>
-        ensures offsets { IfOk result (λ p. p.offsets.items ≡ to_le_bytes w64 0) }
-        ensures texts { IfOk result (λ p. p.texts.items ≡ []) }
+    pub(crate) fn new(alloc: Global) -> Result<Printed, AllocError>
+        ensures { IfOk result IsEmpty }
     {
         let mut offsets = Vec::new(alloc);
         offsets.extend_from_slice(&0u64.to_le_bytes())?;
@@ -34,12 +31,19 @@ impl Printed {
         })
     }
 
+    /// Puts a text behind the others, and where it ends. Refused only for memory.
+    pub(crate) fn push_text(&mut self, text: &[u8]) -> Result<(), AllocError>
+        ensures { OnOk result (IsOneMore text.now self.old self.new) }
+    {
+        self.texts.extend_from_slice(text)?;
+        let end = self.texts.len() as u64;
+        self.offsets.extend_from_slice(&end.to_le_bytes())
+    }
+
     /// Puts the text of one row behind the others, and where it ends. Refused only for memory.
     fn push(&mut self, engine: Engine<'_>, mode: Mode, answer: &Answer) -> Result<(), AllocError>
-        ensures texts { OnOk result (self.new.texts.items ≡ self.old.texts.items ++
-            text_of_row engine.entry.rules engine.entry.database.now mode answer.now) }
-        ensures offsets { OnOk result (self.new.offsets.items ≡ self.old.offsets.items ++
-            to_le_bytes w64 (length self.new.texts.items)) }
+        ensures { OnOk result (IsOneMore (text_of_row engine.entry.rules
+            engine.entry.database.now mode answer.now) self.old self.new) }
     {
         push_text(engine, mode, answer, &mut self.texts)?;
         let end = self.texts.len() as u64;
@@ -53,10 +57,8 @@ pub(crate) fn print_rows(
     mode: Mode,
     answers: &[Answer],
 ) -> Result<Printed, AllocError>
-    ensures offsets { IfOk result (λ p. p.offsets.items ≡ offsets_by
-        (text_of_row engine.entry.rules engine.entry.database.now mode) answers.now) }
-    ensures texts { IfOk result (λ p. p.texts.items ≡ flat_map
-        (text_of_row engine.entry.rules engine.entry.database.now mode) answers.now) }
+    ensures { IfOk result (λ p.
+        AreTexts engine.entry.rules engine.entry.database.now mode answers.now p) }
 {
     let mut printed = Printed::new(engine.database.allocator())?;
     for answer in answers {

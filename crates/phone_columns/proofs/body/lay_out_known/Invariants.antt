@@ -1,6 +1,6 @@
 use Rattle.std.proofs.Common.{take}
 use Rattle.phone_columns.specs.Bodies.{HasBuffers, all_buffers}
-use Rattle.phone_columns.proofs.body.lay_out.Given as goal
+use Rattle.phone_columns.proofs.body.lay_out_known.Given as goal
 
 abbrev pub invariant-loop-column : goal.invariant-loop-column
 invariant-loop-column l = HasBuffers
