@@ -13,7 +13,7 @@ module _ {N : Type 0} (accepts : Accepts N) (text : List ℕ) where
   first_accepted ps found failed (Searches.here p others n h) = h
   first_accepted ps found failed (Searches.later p others found₁ failed₁ refused h) = first_accepted others found₁ failed₁ h
 
-  tried_accepted : (c : Piece) (tries : ℕ) (found : Option (Matched N)) (left : ℕ) → IsTried accepts text c tries found left →
+  pub tried_accepted : (c : Piece) (tries : ℕ) (found : Option (Matched N)) (left : ℕ) → IsTried accepts text c tries found left →
       IfSome found (λ (m : Matched N). IsAccepted accepts text m.0 m.1)
   tried_accepted c tries found left (Searches.dated d) = tt
   tried_accepted c tries found left (Searches.whole n d h) = h

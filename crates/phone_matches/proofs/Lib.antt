@@ -1,6 +1,9 @@
 pub mod Accepted
+pub mod Alone
 pub mod Announced
+pub mod Decided
 pub mod Orders
 pub mod Same
 pub mod Sufficing
+pub mod There
 pub mod Told

@@ -1,5 +1,5 @@
 -- Matches come in their order and don't overlap.
-use Rattle.std.proofs.Common.{◌≡◌, ◌⊎◌, inl, inr, ℕ, zero, suc, ◌+◌, ◌-◌, ◌≤◌, ◌<◌, Bool, true, false, cond, List, [], ◌∷◌, ◌++◌, length, length-append, drop, take, map, Option, None, Some, IfSome, refl, ap, sym, subst, ◌∙◌, arith}
+use Rattle.std.proofs.Common.{◌≡◌, ◌⊎◌, inl, inr, ℕ, zero, suc, ◌+◌, ◌-◌, ◌≤◌, Bool, true, false, cond, List, [], ◌∷◌, ◌++◌, length, length-append, drop, take, map, Option, None, Some, IfSome, refl, ap, sym, subst, ◌∙◌, arith}
 use Rattle.std.proofs.lemmas.List.{length-drop}
 use Rattle.std.specs.List.{AllByRecursion}
 use Rattle.std.specs.Option.{option_to_list}
@@ -9,9 +9,9 @@ use Rattle.phone_matches_text.specs.Pieces.{Piece}
 use Rattle.phone_matches_text.specs.Shapes.{Test, before_end, from_first}
 use Rattle.phone_matches.specs.Orders.{IsOrdered}
 use Rattle.phone_matches_search.specs.Searches
-use Rattle.phone_matches_search.specs.Searches.{Accepts, AreMatches, IsFirst, IsTried, Matched, behind, candidate_in, passed, placed, tried}
+use Rattle.phone_matches_search.specs.Searches.{Accepts, AreMatches, IsFirst, IsTried, Matched, behind, candidate_in, placed, tried}
 
-first_shorter : (q : Test) (t : List ℕ) → length (from_first q t) ≤ length t
+pub first_shorter : (q : Test) (t : List ℕ) → length (from_first q t) ≤ length t
 first_shorter q [] = omega arith
 first_shorter q (c ∷ cs) = by_test (q (c ∷ cs)) (first_shorter q cs)
   where
@@ -36,7 +36,7 @@ module _ {N : Type 0} (accepts : Accepts N) (text : List ℕ) where
   all_placed b (p ∷ ps) = (let l = length-append b p.0 in omega (arith, l), all_placed b ps)
 
   -- a match begins where its candidate does, or later
-  tried_behind : (c : Piece) (tries : ℕ) (found : Option (Matched N)) (left : ℕ) → IsTried accepts text c tries found left →
+  pub tried_behind : (c : Piece) (tries : ℕ) (found : Option (Matched N)) (left : ℕ) → IsTried accepts text c tries found left →
       IfSome found (λ (m : Matched N). length c.0 ≤ length m.0.0)
   tried_behind c tries found left (Searches.dated d) = tt
   tried_behind c tries found left (Searches.whole n d h) = omega arith
@@ -47,7 +47,7 @@ module _ {N : Type 0} (accepts : Accepts N) (text : List ℕ) where
   abbrev BeginsAt : ℕ → List ℕ → Type 0
   BeginsAt from rest = (from + length rest ≤ length text) ⊎ (rest ≡ [])
 
-  from_length : (rest : List ℕ) → length rest ≤ length text → length (before_end text (from_candidate rest)) ≡ length text - length (from_candidate rest)
+  pub from_length : (rest : List ℕ) → length rest ≤ length text → length (before_end text (from_candidate rest)) ≡ length text - length (from_candidate rest)
   from_length rest h = take_length (length text - length (from_candidate rest)) text (omega arith)
 
   behind_at : (p : Piece) → BeginsAt (length p.0 + length p.1) (behind text p)

@@ -19,7 +19,7 @@ not_true P none = (λ yes. absurd (true≢false (sym yes)), λ p. absurd (none p
 pub is_false : (b : Bool) (P : Type 0) → b ≡ false → ¬ P → IsTrue b ↔ P
 is_false b P e none = (λ yes. absurd (true≢false (sym yes ∙ e)), λ p. absurd (none p))
 
-same_region : (a b : Id) (o : Option Id) → o ≡ Some a → o ≡ Some b → a ≡ b
+pub same_region : (a b : Id) (o : Option Id) → o ≡ Some a → o ≡ Some b → a ≡ b
 same_region a b o e f = let g : Some a ≡ Some b = sym e ∙ f in cc
 
 module _ (one : OneReading) (db : List Metadata) (n : Reading) (t : List ℕ) (code : ℕ) (same_code : code ≡ n.code.value) where

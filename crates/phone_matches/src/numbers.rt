@@ -1,8 +1,11 @@
 //! The numbers of a running text.
 ghost use Rattle.std.specs.Prelude.{◌≡◌, ◌↔◌, [], IfOk, IfSome, MatchOption, None, chars};
+ghost use Rattle.std.specs.Prelude.{unwrap_or};
+ghost use Rattle.std.specs.Option.{option_copied};
 ghost use Rattle.phone_library.specs.Readings.{ReadsByLibrary};
 ghost use Rattle.phone_matches.specs.Leniencies.{Suffices};
-ghost use Rattle.phone_matches.specs.Numbers.{AreNumbers, IsNumber, IsReadWell, may_be_number};
+ghost use Rattle.phone_matches.specs.Numbers.{AreNumbers, AreNumbersBy, IsNumberBy};
+ghost use Rattle.phone_matches.specs.Numbers.{IsReadWell, may_be_number};
 ghost use Rattle.phone_matches.specs.declared.leniency.Leniency.TheVariants as leniency;
 ghost use Rattle.phone_matches_search.specs.Told.{AllMatchThere, told_matches};
 ghost use Rattle.phone_values.specs.declared.reading.Reading.{Reading};
@@ -22,14 +25,18 @@ use std::alloc::{AllocError, Global};
 #[derive(Drop)]
 struct Sufficient<'d> {
     database: &'d Plans,
+    alternates: Option<&'d Plans>,
     hint: Option<Id>,
     leniency: Leniency,
 }
 
 impl<'d> Judge<PhoneNumber> for Sufficient<'d> {
-    ghost use Rattle.phone_matches.specs.Numbers.{IsNumber};
+    ghost use Rattle.std.specs.Prelude.{[], unwrap_or};
+    ghost use Rattle.std.specs.Option.{option_copied};
+    ghost use Rattle.phone_matches.specs.Numbers.{IsNumberBy};
 
-    ghost accepts = { λ s. IsNumber s.database.now s.hint s.leniency };
+    ghost accepts = { λ s. IsNumberBy s.database.now
+        (unwrap_or (option_copied s.alternates) []) s.hint s.leniency };
 
     fn judge(
         &self,
@@ -40,6 +47,7 @@ impl<'d> Judge<PhoneNumber> for Sufficient<'d> {
     ) -> Result<Option<PhoneNumber>, AllocError> {
         number_between(
             self.database,
+            self.alternates,
             self.hint,
             self.leniency,
             before,
@@ -62,6 +70,7 @@ fn may_be_number(leniency: Leniency, before: &str, piece: &str, after: &str) -> 
 /// for memory.
 fn number_between(
     db: &Plans,
+    alternates: Option<&Plans>,
     hint: Option<Id>,
     leniency: Leniency,
     before: &str,
@@ -69,32 +78,37 @@ fn number_between(
     after: &str,
 ) -> Result<Option<PhoneNumber>, AllocError>
     ensures told { IfOk result (λ told. MatchOption told
-        ((n : Reading) → ¬ (IsNumber db.now hint leniency
+        ((n : Reading) → ¬ (IsNumberBy db.now
+        (unwrap_or (option_copied alternates.entry) []) hint leniency
         (chars before.now) (chars piece.now) (chars after.now) n))
-        (λ n. IsNumber db.now hint leniency
+        (λ n. IsNumberBy db.now
+        (unwrap_or (option_copied alternates.entry) []) hint leniency
         (chars before.now) (chars piece.now) (chars after.now) n)) }
     ensures some { IfOk result (λ told. IfSome told (λ _. ¬ (piece.now ≡ []))) }
 {
     if !may_be_number(leniency, before, piece, after) {
         return Ok(None);
     }
-    number_in(db, hint, leniency, piece)
+    number_in(db, alternates, hint, leniency, piece)
 }
 
 /// The number that a text is read as, where it suffices. Refused only for memory.
 fn number_in(
     db: &Plans,
+    alternates: Option<&Plans>,
     hint: Option<Id>,
     leniency: Leniency,
     text: &str,
 ) -> Result<Option<PhoneNumber>, AllocError>
     ensures { IfOk result (λ told. MatchOption told
-        ((n : Reading) → ¬ (IsReadWell db.now hint leniency (chars text.now) n))
-        (λ n. IsReadWell db.now hint leniency (chars text.now) n)) }
+        ((n : Reading) → ¬ (IsReadWell db.now (unwrap_or (option_copied alternates.entry) []) hint
+        leniency (chars text.now) n))
+        (λ n. IsReadWell db.now (unwrap_or (option_copied alternates.entry) []) hint
+        leniency (chars text.now) n)) }
 {
     readings::one_reading();
     match parse(db, hint, text) {
-        Ok(number) => where_sufficient(db, leniency, number, text),
+        Ok(number) => where_sufficient(db, alternates, leniency, number, text),
         Err(error) => without_number(error),
     }
 }
@@ -112,15 +126,18 @@ fn without_number(error: ParseError) -> Result<Option<PhoneNumber>, AllocError>
 /// The number that is read from a text, where it suffices. Refused only for memory.
 fn where_sufficient(
     db: &Plans,
+    alternates: Option<&Plans>,
     leniency: Leniency,
     number: PhoneNumber,
     text: &str,
 ) -> Result<Option<PhoneNumber>, AllocError>
     ensures { IfOk result (λ told. MatchOption told
-        (¬ (Suffices db.now number (chars text.now) leniency))
-        (λ n. (n ≡ number) × Suffices db.now number (chars text.now) leniency)) }
+        (¬ (Suffices db.now (unwrap_or (option_copied alternates.entry) []) number
+        (chars text.now) leniency))
+        (λ n. (n ≡ number) × Suffices db.now (unwrap_or (option_copied alternates.entry) [])
+        number (chars text.now) leniency)) }
 {
-    if suffices(db, leniency, &number, text)? {
+    if suffices(db, alternates, leniency, &number, text)? {
         Ok(Some(number))
     } else {
         Ok(None)
@@ -136,8 +153,34 @@ fn where_sufficient(
 /// the search goes on at its end, which may lie inside a candidate. So matches come in their order
 /// and don't overlap.
 ///
+/// Where groups are asked for, alternate layouts are those of a database of such, where there is
+/// one: its territories' national layouts.
+///
 /// The tries are how many candidates and pieces without match are looked at. Refused only for
 /// memory.
+pub fn find_matches_by<'a>(
+    database: &Plans,
+    alternates: Option<&Plans>,
+    hint: Option<Id>,
+    leniency: Leniency,
+    tries: u64,
+    text: &'a str,
+) -> Result<Vec<Match<'a, PhoneNumber>>, AllocError>
+    ensures numbers { IfOk result (λ all. AreNumbersBy database.now
+        (unwrap_or (option_copied alternates.entry) []) hint leniency tries
+        (chars text.now) (told_matches all.items)) }
+    ensures stand { IfOk result (λ all. AllMatchThere text.now all.items) }
+{
+    let judge = Sufficient {
+        database,
+        alternates,
+        hint,
+        leniency,
+    };
+    all_matches(database.allocator(), &judge, text, tries)
+}
+
+/// The numbers of a running text: [`find_matches_by`], without alternate layouts.
 pub fn find_matches_within<'a>(
     database: &Plans,
     hint: Option<Id>,
@@ -149,12 +192,7 @@ pub fn find_matches_within<'a>(
         (chars text.now) (told_matches all.items)) }
     ensures stand { IfOk result (λ all. AllMatchThere text.now all.items) }
 {
-    let judge = Sufficient {
-        database,
-        hint,
-        leniency,
-    };
-    all_matches(database.allocator(), &judge, text, tries)
+    find_matches_by(database, None, hint, leniency, tries, text)
 }
 
 /// The valid numbers of a running text: [`find_matches_within`], [`Leniency::Valid`], 2^64 - 1

@@ -15,13 +15,17 @@ const SHORT: &str = "world/short";
 /// The database of SMS services.
 const SMS: &str = "world/sms";
 
+/// The database of alternate layouts.
+const ALTERNATES: &str = "world/alternates";
+
 /// The databases that are at hand for the next line: the one that a line names, and those of
-/// short numbers and of SMS services.
+/// short numbers, of SMS services and of alternate layouts.
 #[derive(Drop)]
 pub struct AtHand {
     named: Option<Named>,
     short: Option<Named>,
     sms: Option<Named>,
+    alternates: Option<Named>,
 }
 
 impl AtHand {
@@ -31,6 +35,7 @@ impl AtHand {
             named: None,
             short: None,
             sms: None,
+            alternates: None,
         }
     }
 }
@@ -73,9 +78,6 @@ fn on_database(
     if let Some(found) = replay_questions::answer(alloc, row, db)? {
         return Ok(Some(found));
     }
-    if let Some(found) = replay_matches::answer(alloc, row, db)? {
-        return Ok(Some(found));
-    }
     if let Some(found) = replay_places::answer(alloc, row, db)? {
         return Ok(Some(found));
     }
@@ -95,6 +97,10 @@ pub fn answer<R: Files + AllocGlobal>(rt: &R, row: &Row, at_hand: &mut AtHand) -
     if short::is_asked(row) {
         let short = of_name(rt, &mut at_hand.short, SHORT)?;
         return short::answer(rt.alloc(), row, db, short);
+    }
+    if replay_matches::is_asked(row) {
+        let alternates = of_name(rt, &mut at_hand.alternates, ALTERNATES)?;
+        return replay_matches::answer(rt.alloc(), row, db, alternates);
     }
     match under(rt, row, db)? {
         Some(found) => Ok(found),

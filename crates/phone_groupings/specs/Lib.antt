@@ -1,0 +1,2 @@
+pub mod Groupings
+pub mod Layouts
