@@ -82,7 +82,7 @@ enum {
     PHONE_NO_EXAMPLE = 32,           /* the database has no example of the region and kind */
     PHONE_NO_WORD = 33,              /* no value of the set has the number; no status, no cost has it */
     PHONE_NO_TERRITORY = 34,         /* the database has no territory of the region */
-    PHONE_NO_LENIENCY = 35,          /* the leniency is neither of the two */
+    PHONE_NO_LENIENCY = 35,          /* the call has no such leniency */
     PHONE_NO_COLUMN = 36,            /* phone_columns: no column has one of the numbers */
     PHONE_BAD_LAYOUT = 37            /* phone_columns: texts or default regions are no column */
 };
@@ -672,9 +672,11 @@ phone_status phone_time_zones(phone_handle *handle, phone_prefixes *zones, const
                               const uint8_t *bytes, size_t bytes_len, uint8_t as_it_stands, uint8_t *out,
                               size_t out_len, size_t *wrote);
 
-/* Writes where numbers stand in a text as libphonenumber finds them; `tries` is how many candidates and
- * pieces without a number are looked at. phone_parse parses each of these pieces, with the same default
- * region and by libphonenumber's rules, as the number that was found. Places and statuses are as of phone_find. */
+/* Writes where numbers stand in a text as libphonenumber finds them; a leniency of 2 asks for the groups of
+ * a format in their order, 3 for no other groups, both without libphonenumber's alternate formats; `tries`
+ * is how many candidates and pieces without a number are looked at. phone_parse parses each of these
+ * pieces, with the same default region and by libphonenumber's rules, as the number that was found. Places
+ * and statuses are as of phone_find. */
 phone_status phone_matches(phone_handle *handle, const uint8_t *hint, size_t hint_len, uint32_t leniency,
                            uint64_t tries, const uint8_t *text, size_t text_len, phone_place *out,
                            size_t out_len, size_t *wrote);

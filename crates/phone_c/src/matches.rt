@@ -14,13 +14,15 @@ use std::alloc::Global;
 
 /// Writes where the numbers of a running text stand, in their order, under the hint that
 /// `phone_report` takes, as libphonenumber finds them: those that are possible, where the leniency
-/// is 0; those that are valid, where it is 1. Whatever the rules of the handle, they are
+/// is 0; those that are valid, where it is 1; those whose groups of digits are a layout's, in their
+/// order, where it is 2, and exactly, where it is 3; of 2 and 3 libphonenumber has alternate layouts
+/// besides, which aren't looked at here. Whatever the rules of the handle, they are
 /// libphonenumber's: what stands at a place is read by `phone_parse` under the same hint and these
 /// rules as the number that was found. The tries are how many candidates and pieces without number
 /// are looked at. The room of `out` and `wrote` are counts of places, as of `phone_find`.
 ///
 /// `CLOSED` exactly where the handle is closed, else `NO_LENIENCY` exactly where the leniency is
-/// above 1, else `NO_REGION` exactly where the hint has a byte and is no region's id, else
+/// above 3, else `NO_REGION` exactly where the hint has a byte and is no region's id, else
 /// `NOT_UTF8` exactly where the text isn't UTF-8. `TOO_SMALL` and `MEMORY` as `phone_report` has
 /// them. For each but `OK` `out` is as it was.
 #[unsafe(no_mangle)]

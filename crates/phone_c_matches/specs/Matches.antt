@@ -6,6 +6,7 @@ use Rattle.phone_records.specs.declared.loader.Metadata.{Metadata}
 use Rattle.phone_matches.specs.Numbers.{AreNumbers}
 use Rattle.phone_matches.specs.declared.leniency.Leniency.{Leniency}
 use Rattle.phone_matches.specs.declared.leniency.Leniency.TheVariants.{Possible, Valid}
+use Rattle.phone_matches.specs.declared.leniency.Leniency.TheVariants.{StrictGrouping, ExactGrouping}
 use Rattle.phone_matches_search.specs.Told.{AllMatchThere, told_matches}
 use Rattle.phone_matches_search.specs.declared.places.Match.{Match}
 use Rattle.phone_c_base.specs.declared.found.Place.{Place}
@@ -14,10 +15,12 @@ use Rattle.phone_c_base.specs.declared.found.Place.{Place}
 abbrev pub leniency_number : Leniency → ℕ
 leniency_number Possible = 0
 leniency_number Valid = 1
+leniency_number StrictGrouping = 2
+leniency_number ExactGrouping = 3
 
 -- no leniency has this number: the last one's is below it
 abbrev pub IsNoLeniency : ℕ → Type 0
-IsNoLeniency number = leniency_number Valid < number
+IsNoLeniency number = leniency_number ExactGrouping < number
 
 -- some leniency has this number, and it is so by it
 abbrev pub UnderLeniency : ℕ → (Leniency → Type 0) → Type 0

@@ -21,6 +21,8 @@ pub fn leniency_of(number: u32) -> Option<Leniency>
     match number {
         0 => Some(Leniency::Possible),
         1 => Some(Leniency::Valid),
+        2 => Some(Leniency::StrictGrouping),
+        3 => Some(Leniency::ExactGrouping),
         _ => None,
     }
 }
