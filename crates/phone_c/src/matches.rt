@@ -15,8 +15,8 @@ use std::alloc::Global;
 /// Writes where the numbers of a running text stand, in their order, under the hint that
 /// `phone_report` takes, as libphonenumber finds them: those that are possible, where the leniency
 /// is 0; those that are valid, where it is 1; those whose groups of digits are a layout's, in their
-/// order, where it is 2, and exactly, where it is 3; of 2 and 3 libphonenumber has alternate layouts
-/// besides, which aren't looked at here. Whatever the rules of the handle, they are
+/// order, where it is 2, and exactly, where it is 3. Of 2 and 3 libphonenumber looks at alternate
+/// layouts, too, which this call has none of. Whatever the rules of the handle, they are
 /// libphonenumber's: what stands at a place is read by `phone_parse` under the same hint and these
 /// rules as the number that was found. The tries are how many candidates and pieces without number
 /// are looked at. The room of `out` and `wrote` are counts of places, as of `phone_find`.

@@ -5,8 +5,8 @@ use Rattle.phone_values.specs.declared.reading.Reading.{Reading}
 use Rattle.phone_records.specs.declared.loader.Metadata.{Metadata}
 use Rattle.phone_matches.specs.Numbers.{AreNumbers}
 use Rattle.phone_matches.specs.declared.leniency.Leniency.{Leniency}
-use Rattle.phone_matches.specs.declared.leniency.Leniency.TheVariants.{Possible, Valid}
-use Rattle.phone_matches.specs.declared.leniency.Leniency.TheVariants.{StrictGrouping, ExactGrouping}
+use Rattle.phone_matches.specs.declared.leniency.Leniency.TheVariants.{ExactGrouping, Possible}
+use Rattle.phone_matches.specs.declared.leniency.Leniency.TheVariants.{StrictGrouping, Valid}
 use Rattle.phone_matches_search.specs.Told.{AllMatchThere, told_matches}
 use Rattle.phone_matches_search.specs.declared.places.Match.{Match}
 use Rattle.phone_c_base.specs.declared.found.Place.{Place}
