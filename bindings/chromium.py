@@ -14,14 +14,14 @@ import urllib.request
 class Browser:
     """A session of chromedriver."""
 
-    def __init__(self, language, size="560,760", traced=""):
-        """`traced` are categories of Chromium's own trace, which `trace` gives."""
+    def __init__(self, language, size="560,760", traced="", flags=()):
+        """`traced` are categories of Chromium's own trace, which `trace` gives; `flags` are further words of its command line."""
         self.driver = subprocess.Popen(
             ["chromedriver", "--port=0"], stdout=subprocess.PIPE, stderr=subprocess.DEVNULL, text=True
         )
         port = next(line for line in self.driver.stdout if "successfully" in line).split()[-1].rstrip(".")
         self.at = f"http://127.0.0.1:{port}/session"
-        arguments = ["--headless=new", "--no-sandbox", "--disable-gpu", f"--window-size={size}", f"--lang={language}"]
+        arguments = ["--headless=new", "--no-sandbox", "--disable-gpu", f"--window-size={size}", f"--lang={language}", *flags]
         options = {"args": arguments, "prefs": {"intl.accept_languages": language}, "binary": shutil.which("chromium")}
         logs = {"browser": "ALL"}
         if traced:

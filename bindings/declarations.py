@@ -3,7 +3,7 @@
 
 usage: bindings/declarations.py [--write]
 
---write writes those two; without it they are compared, as are always the calls of crates/phone_c and c/world.c, by arguments and answer,
+--write writes those two; without it they are compared, as are always the calls of crates/phone_c, c/world.c and c/newest.c, by arguments and answer,
 each struct's fields in their order, and the numbers that have a name. No library is needed. Each difference is a line, and the status is
 then 1; else the last line is `declarations: ok`.
 """
@@ -22,8 +22,9 @@ PYTHON = BINDINGS / "python" / "phonenumber_proved" / "_calls.py"
 # The names of a struct in the four places, each by its name in phone.h.
 STRUCTS = {
     "Handle": "handle", "PrefixTable": "prefixes", "Prefixes": "prefixes", "PrefixesHandle": "prefixes", "Part": "part", "Number": "number",
+    "AtlasHandle": "atlas", "Atlas": "atlas",
     "PlainFacts": "short_facts", "ShortFacts": "short_facts", "Facts": "short_facts", "Place": "place",
-    "RegionFacts": "region_facts", "NumberFacts": "number_facts",
+    "RegionFacts": "region_facts", "NumberFacts": "number_facts", "FactsAnywhere": "facts_anywhere",
     "Layout": "texts", "Texts": "texts", "Narrow": "narrow_texts", "NarrowTexts": "narrow_texts",
 }
 # What the names of a set's values begin with in phone.h.
@@ -195,9 +196,9 @@ def main(write):
     calls, structs, numbers = header()
     make(calls, write)
     crate = "".join(file.read_text() for file in sorted(CRATES.glob("phone_c*/src/*.rt")))
-    world = c_calls((BINDINGS / "c" / "world.c").read_text(), r" \{")
+    world = c_calls("".join((BINDINGS / "c" / name).read_text() for name in ("world.c", "newest.c")), r" \{")
     nameless, world = ({name: ([kind for _, kind in args], answer) for name, (args, answer) in it.items()} for it in (calls, world))
-    compare("crates/phone_c, c/world.c", "call", rust_calls(crate) | world, nameless, whole=True)
+    compare("crates/phone_c, c/world.c, c/newest.c", "call", rust_calls(crate) | world, nameless, whole=True)
     compare("crates/phone_c", "struct", rust_structs(crate), structs)
     compare("crates/phone_c", "number", crate_numbers(crate), numbers)
     compare("sys/src/lib.rs", "struct", rust_structs(RUST.read_text()), structs, whole=True)

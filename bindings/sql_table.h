@@ -10,6 +10,7 @@
 #include <errno.h>
 #include <stdio.h>
 #include <string.h>
+#include <sys/stat.h>
 
 /* A text that somebody else owns, in bytes. */
 typedef struct { const char *at; size_t len; } sql_text;
@@ -46,19 +47,39 @@ static uint8_t *sql_read(const char *path, size_t *len, char *why, size_t why_le
     return text;
 }
 
-/* Opens the table at a path, or the one in the library where the path is empty, under a handle. 0: the
- * handle is closed, and why stands in `why`. */
+/* What the table that is open is called: its version, or the path of a file that was named. */
+static char sql_version[1024];
+
+static int sql_is_folder(const char *path) {
+    struct stat told;
+    return !stat(path, &told) && S_ISDIR(told.st_mode);
+}
+
+/* Opens the table that a path names under a handle: that of a file; of a folder the newest of its own and the
+ * library's; of an empty path the newest of that folder's that phone_open_newest looks in; of NULL the
+ * library's. 0: the handle is closed, and why stands in `why`. */
 static int sql_open(const char *path, phone_handle *world, char *why, size_t why_len) {
     uint8_t *text = NULL, words[128];
-    size_t len = 0, words_len = 0;
+    int is_file = path && *path && !sql_is_folder(path);
+    size_t len = 0, words_len = 0, room = sizeof sql_version - 1;
     phone_status status;
     errno = 0;
-    if (*path && !(text = sql_read(path, &len, why, why_len))) return phone_close(world), 0;
-    status = *path ? phone_open(text, len, PHONE_LIBRARY, world) : phone_open_world(world, PHONE_LIBRARY);
+    if (is_file && !(text = sql_read(path, &len, why, why_len))) return phone_close(world), 0;
+    memset(sql_version, 0, sizeof sql_version);
+    if (is_file) {
+        status = phone_open(text, len, PHONE_LIBRARY, world);
+        snprintf(sql_version, sizeof sql_version, "%s", path);
+    } else if (path) {
+        status = phone_open_newest(world, PHONE_LIBRARY, phone_text(path, strlen(path)), strlen(path),
+                                   (uint8_t *)sql_version, room, &len);
+    } else {
+        status = phone_open_world(world, PHONE_LIBRARY);
+        phone_table_version((uint8_t *)sql_version, room, &len);
+    }
     sql_forget(text);
     if (status != PHONE_OK) {
         phone_status_words(status, words, sizeof words, &words_len);
-        snprintf(why, why_len, "the table of phone numbers %s is refused: %.*s", path, (int)words_len, (const char *)words);
+        snprintf(why, why_len, "the table of phone numbers %s is refused: %.*s", path ? path : "", (int)words_len, (const char *)words);
     }
     return status == PHONE_OK;
 }

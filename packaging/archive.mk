@@ -4,6 +4,8 @@
 #                                                  that for PostgreSQL where `pg_config` is of the version that it was built for
 #   make install-postgresql [PG_CONFIG=pg_config]  that alone
 #   make uninstall                                 takes the same files away
+#   make renew RELEASE=FOLDER                      lays the tables of a later release of libphonenumber in place of those that were
+#                                                  installed; it needs Python 3, and `phone-renew --help` tells what a release is
 PREFIX ?= /usr/local
 DESTDIR ?=
 PG_CONFIG ?= pg_config
@@ -12,11 +14,11 @@ name = phonenumber-proved
 # The folder of the extension for PostgreSQL, and its major version.
 built = $(wildcard sql/postgresql-*)
 major = $(patsubst sql/postgresql-%,%,$(built))
-is_here = $(filter $(major).%,$(word 2,$(shell $(PG_CONFIG) --version 2>/dev/null)))
+is_here = $(if $(major),$(filter $(major).%,$(word 2,$(shell $(PG_CONFIG) --version 2>/dev/null))))
 library = $(DESTDIR)$(shell $(PG_CONFIG) --pkglibdir)
 scripts = $(DESTDIR)$(shell $(PG_CONFIG) --sharedir)/extension
 
-install: install-tree install-sqlite install-duckdb $(if $(is_here),install-postgresql)
+install: install-tree $(if $(wildcard sql),install-sqlite install-duckdb) $(if $(is_here),install-postgresql)
 
 install-tree:
 	mkdir -p $(to)
@@ -39,4 +41,7 @@ uninstall:
 	$(if $(is_here),rm -f $(library)/phonenumber.so $(scripts)/phonenumber.control $(addprefix $(scripts)/,$(notdir $(wildcard $(built)/*.sql))))
 	for each in include share libexec; do rmdir $(to)/$$each/$(name) 2>/dev/null || true; done
 
-.PHONY: install install-tree install-sqlite install-duckdb install-postgresql uninstall
+renew:
+	$(to)/bin/phone-renew $(RELEASE)
+
+.PHONY: renew install install-tree install-sqlite install-duckdb install-postgresql uninstall

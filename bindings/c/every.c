@@ -7,7 +7,10 @@
 static const char SHORT[] =
     "[{\"id\": \"NZ\", \"country_code\": 64, \"general\": {\"national_number\": \"1\\\\d\\\\d\", \"possible_length\": [3]}, "
     "\"emergency\": {\"national_number\": \"111\", \"possible_length\": [3]}, "
-    "\"short_code\": {\"national_number\": \"1\\\\d\\\\d\", \"possible_length\": [3]}}]";
+    "\"short_code\": {\"national_number\": \"1\\\\d\\\\d\", \"possible_length\": [3], \"example\": \"111\"}}]";
+static const char LAYOUTS[] =
+    "[{\"id\": \"001\", \"country_code\": 1, \"general\": {\"national_number\": \"1\"}, "
+    "\"formats\": [{\"pattern\": \"(\\\\d)(\\\\d+)\", \"format\": \"$1 $2\", \"national_prefix_formatting_rule\": \"($NP$FG)\"}]}]";
 static uint8_t out[256];
 static size_t wrote;
 
@@ -146,6 +149,65 @@ static void of_questions(phone_handle *world) {
     VALUE("phone_has_letters", phone_has_letters(TEXT("1-800-FLOWERS"), &flag), flag);
 }
 
+/* How a number is dialled, and what it is as a short number. */
+static void of_dialling(phone_handle *world) {
+    const char *line = "03-331-6005";
+    uint8_t texts[64], flag = 9;
+    size_t len = 0;
+    phone_handle layouts = PHONE_CLOSED, shorts = PHONE_CLOSED;
+    phone_facts_anywhere facts = {9, 9, 9, 9};
+    phone_number number = number_of(world, "phone_parse", line, texts, &len);
+    text("phone_format_read",
+         phone_format_read(world, PHONE_MODE_NATIONAL, TEXT(line), &number, texts, len, out, sizeof out, &wrote));
+    text("phone_mobile_text", phone_mobile_text(world, TEXT("US"), 0, TEXT(line), &number, texts, len, out, sizeof out, &wrote));
+    text("phone_text_from", phone_text_from(world, TEXT("UA"), TEXT(line), &number, texts, len, out, sizeof out, &wrote));
+    text("phone_original_text", phone_original_text(world, TEXT("NZ"), TEXT(line), &number, texts, len, out, sizeof out, &wrote));
+    VALUE("phone_open", phone_open(TEXT(LAYOUTS), PHONE_LIBRARY, &layouts), 0);
+    text("phone_format_by", phone_format_by(world, &layouts, PHONE_MODE_NATIONAL, &number, texts, len, out, sizeof out, &wrote));
+    VALUE("phone_open", phone_open(TEXT(SHORT), PHONE_LIBRARY, &shorts), 0);
+    number.value = 111;
+    VALUE("phone_short_anywhere", phone_short_anywhere(world, &shorts, &number, &facts), facts.cost);
+    printf("%u%u%u\n", facts.is_possible, facts.is_valid, facts.is_carrier_specific);
+    text("phone_short_example", phone_short_example(&shorts, TEXT("NZ"), PHONE_COST_ANY, out, sizeof out, &wrote));
+    VALUE("phone_is_sms_service", phone_is_sms_service(world, &shorts, TEXT("NZ"), &number, &flag), flag);
+    VALUE("phone_example_of_code", phone_example_of_code(world, 800, &number, texts, sizeof texts, &len), number.value);
+    VALUE("phone_invalid_example", phone_invalid_example(world, TEXT("NZ"), &number, texts, sizeof texts, &len), number.value);
+    phone_close(&layouts);
+    phone_close(&shorts);
+}
+
+/* Where a number is, and the numbers in a text as libphonenumber finds them. */
+static void of_places(phone_handle *world) {
+    phone_prefixes areas = PHONE_CLOSED, english = PHONE_CLOSED, carriers = PHONE_CLOSED, none = PHONE_CLOSED, zones = PHONE_CLOSED;
+    phone_atlas german = PHONE_CLOSED;
+    phone_place places[2] = {{0, 0}, {0, 0}};
+    uint8_t texts[64];
+    size_t len = 0, line = 99;
+    phone_number number = number_of(world, "phone_parse", "+41 44 668 1800", texts, &len);
+    VALUE("phone_prefixes_open", phone_prefixes_open(TEXT("4144\tZ\xc3\xbcrich"), &areas, &line), 0);
+    VALUE("phone_prefixes_open", phone_prefixes_open(TEXT("4122\tGeneva"), &english, &line), 0);
+    VALUE("phone_prefixes_open", phone_prefixes_open(TEXT("41\tA carrier"), &carriers, &line), 0);
+    VALUE("phone_prefixes_open", phone_prefixes_open(TEXT("41\tEurope/Zurich"), &zones, &line), 0);
+    VALUE("phone_atlas_open, refused", phone_atlas_open(TEXT("de"), &areas, &english, &carriers, &none, TEXT("CH Schweiz"), &german, &line), 0);
+    printf("line %u\n", (unsigned)line);
+    VALUE("phone_atlas_open", phone_atlas_open(TEXT("de-AT"), &areas, &english, &carriers, &none, TEXT("CH\tSchweiz"), &german, &line), line);
+    phone_prefixes_close(&areas);
+    phone_prefixes_close(&english);
+    phone_prefixes_close(&carriers);
+    text("phone_description", phone_description(world, &german, &number, texts, len, TEXT("CH"), 0, out, sizeof out, &wrote));
+    text("phone_description", phone_description(world, &german, &number, texts, len, TEXT("DE"), 0, out, sizeof out, &wrote));
+    text("phone_carrier", phone_carrier(world, &german, &number, texts, len, 0, out, sizeof out, &wrote));
+    text("phone_carrier", phone_carrier(world, &german, &number, texts, len, 1, out, sizeof out, &wrote));
+    text("phone_safe_carrier", phone_safe_carrier(world, &german, &number, texts, len, out, sizeof out, &wrote));
+    text("phone_country_name", phone_country_name(world, &german, &number, texts, len, out, sizeof out, &wrote));
+    text("phone_time_zones", phone_time_zones(world, &zones, &number, texts, len, 0, out, sizeof out, &wrote));
+    phone_prefixes_close(&zones);
+    phone_atlas_close(&german);
+    text("phone_atlas_close", phone_country_name(world, &german, &number, texts, len, out, sizeof out, &wrote));
+    VALUE("phone_matches", phone_matches(world, TEXT("NZ"), PHONE_IF_VALID, 99, TEXT("3/10/2011: 03-331 6005"), places, 2, &len), len);
+    printf("%u to %u\n", (unsigned)places[0].start, (unsigned)places[0].end);
+}
+
 /* The calls of tables of their own. */
 static void of_tables(void) {
     phone_handle numbers = PHONE_CLOSED;
@@ -174,6 +236,8 @@ int main(void) {
     VALUE("phone_version", PHONE_OK, phone_version() == PHONE_VERSION);
     text("phone_table_version", phone_table_version(out, sizeof out, &wrote) == PHONE_OK ? (wrote = 14, PHONE_OK) : 99);
     VALUE("phone_world_text", PHONE_OK, len > 100000 && table[0] == '[');
+    VALUE("phone_open_newest", phone_open_newest(&second, PHONE_LIBRARY, TEXT(""), out, sizeof out, &wrote), wrote > 14);
+    phone_close(&second);
     VALUE("phone_open_world", phone_open_world(&world, PHONE_LIBRARY), 0);
     VALUE("phone_share", phone_share(&world, &mine), 0);
     of_number(&world);
@@ -184,6 +248,8 @@ int main(void) {
     of_more(&mine);
     of_columns(&mine);
     of_questions(&mine);
+    of_dialling(&mine);
+    of_places(&mine);
     phone_close(&mine);
     of_tables();
     return 0;

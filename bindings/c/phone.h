@@ -41,6 +41,13 @@ static inline phone_prefixes phone_prefixes_closed(void) {
     return prefixes;
 }
 
+/* The same of an atlas: the tables of texts that a locale asks. */
+typedef struct { void *at; } phone_atlas;
+static inline phone_atlas phone_atlas_closed(void) {
+    phone_atlas atlas = PHONE_CLOSED;
+    return atlas;
+}
+
 /* What a call answers: each status has a number of its own, and words (phone_status_words). */
 typedef uint32_t phone_status;
 enum {
@@ -66,16 +73,16 @@ enum {
     PHONE_NO_MODE = 22,              /* the mode is none of the four, the form none of the three */
     PHONE_NO_RULES = 24,             /* phone_open: the rules are neither of the two */
     PHONE_LINE_EMPTY = 25,           /* phone_prefixes_open: the line is empty */
-    PHONE_LINE_NO_TAB = 26,          /* phone_prefixes_open: no tab stands in the line */
+    PHONE_LINE_NO_TAB = 26,          /* phone_prefixes_open, phone_atlas_open: no tab stands in the line */
     PHONE_LINE_NO_PREFIX = 27,       /* phone_prefixes_open: before the tab stand not 1 to 15 digits */
     PHONE_LINE_NOT_UTF8 = 28,        /* phone_prefixes_open: what stands after the tab is not UTF-8 */
     PHONE_LINE_TWICE = 29,           /* phone_prefixes_open: an earlier line has the prefix */
     PHONE_NO_PREFIX = 30,            /* phone_prefixes_longest: no prefix begins the digits */
     PHONE_NO_KIND = 31,              /* the kind is none of the 17 */
     PHONE_NO_EXAMPLE = 32,           /* the database has no example of the region and kind */
-    PHONE_NO_WORD = 33,              /* phone_word: no value of the set has the number; no status has it */
+    PHONE_NO_WORD = 33,              /* no value of the set has the number; no status, no cost has it */
     PHONE_NO_TERRITORY = 34,         /* the database has no territory of the region */
-    PHONE_NO_LENIENCY = 35,          /* the leniency is neither of the two */
+    PHONE_NO_LENIENCY = 35,          /* the call has no such leniency */
     PHONE_NO_COLUMN = 36,            /* phone_columns: no column has one of the numbers */
     PHONE_BAD_LAYOUT = 37            /* phone_columns: texts or default regions are no column */
 };
@@ -243,7 +250,8 @@ static inline const uint8_t *phone_text(const void *text, size_t len) {
     return len ? (const uint8_t *)text : (const uint8_t *)"";
 }
 
-/* A column of so many texts; each of the pointers is null where it has nothing. `bits` is as long as need be. */
+/* A column of so many texts; each of the pointers is null where it has nothing. `bits` is as long as need
+ * be. */
 static inline phone_texts phone_texts_of(const uint64_t *offsets, size_t count, const void *bytes,
                                          const uint8_t *bits, size_t first) {
     static const uint64_t none = 0;
@@ -305,6 +313,17 @@ phone_status phone_open_world(phone_handle *handle, uint32_t rules);
 /* The records of that database as JSON, of which phone_open makes the same: a text that is never freed, and
  * its length. It is C, and takes no memory. */
 const uint8_t *phone_world_text(size_t *text_len);
+
+/* Opens the newest database of all regions that is here, to be asked by these rules: that of the file
+ * world.compact in a folder, where the file VERSION beside it names a later version than
+ * phone_table_version does, and phone_open takes it; else the one in the library. Writes the version of
+ * the one that it took to the front of `out`, and its length to `wrote`. The folder is a path; length 0
+ * means the folder that the environment variable PHONE_TABLES names, or where there is no such variable,
+ * share/phonenumber-proved of the prefix that the library is installed under. PHONE_OK, PHONE_NO_RULES,
+ * PHONE_TOO_SMALL as phone_report has it, PHONE_MEMORY. For each but PHONE_OK the handle is closed. It is
+ * C over the two calls, and loads files. */
+phone_status phone_open_newest(phone_handle *handle, uint32_t rules, const uint8_t *folder, size_t folder_len,
+    uint8_t *out, size_t out_len, size_t *wrote);
 
 /* Opens behind `mine` the database that is open behind `world`, to be asked by the same rules: a second
  * handle on one database, for a part of a program that closes it when it likes, say. It takes a few
@@ -416,20 +435,19 @@ phone_status phone_find(phone_handle *handle, const uint8_t *hint, size_t hint_l
                         size_t out_len, size_t *wrote);
 
 /* Parses each text of a column by itself, with the default region at its place or the one of all, as
- * phone_parse does, and writes what columns, PHONE_COLUMN_E164 .., tell of it. Their buffers go to the front of `out`, in the
- * order of `columns`, each at a multiple of eight bytes with zeros between; where each begins and ends goes
- * to the front of `places`, two for a column of texts, else one; the length of all goes to `wrote`. Row i of
- * a column is what phone_parse and the calls over its number tell of text i alone, so a column may be cut
- * into pieces, and each given to a thread with a handle of its own. A row has PHONE_NO_REGION where its
- * default region is no region's id, PHONE_NOT_UTF8 where its text isn't UTF-8; a default region that isn't
- * there is none.
- * PHONE_IS_CLOSED exactly where nothing is open, else PHONE_BAD_LAYOUT exactly where an offset of the texts
- * is below the one before it or past the bytes, or the bitmap lacks a flag, or the default regions, if there
- * are offsets, are so or not as many as the texts; else PHONE_NO_COLUMN exactly where no column has one of the
- * numbers. PHONE_TOO_SMALL only where `out` or `places` is too short: `wrote` is then the length that `out`
- * needs; PHONE_MEMORY. For each but PHONE_OK `out` and `places` are as they were, and for each but PHONE_OK
- * and PHONE_TOO_SMALL `wrote` is 0. While it works it takes some 100 bytes a row, and a few times what it
- * writes. */
+ * phone_parse does, and writes what columns, PHONE_COLUMN_E164 .., tell of it. Their buffers go to the
+ * front of `out`, in the order of `columns`, each at a multiple of eight bytes with zeros between; where
+ * each begins and ends goes to the front of `places`, two for a column of texts, else one; the length of
+ * all goes to `wrote`. Row i of a column is what phone_parse and the calls over its number tell of text i
+ * alone, so a column may be cut into pieces, and each given to a thread with a handle of its own. A row has
+ * PHONE_NO_REGION where its default region is no region's id, PHONE_NOT_UTF8 where its text isn't UTF-8; a
+ * default region that isn't there is none. PHONE_IS_CLOSED exactly where nothing is open, else
+ * PHONE_BAD_LAYOUT exactly where an offset of the texts is below the one before it or past the bytes, or
+ * the bitmap lacks a flag, or the default regions, if there are offsets, are so or not as many as the
+ * texts; else PHONE_NO_COLUMN exactly where no column has one of the numbers. PHONE_TOO_SMALL only where
+ * `out` or `places` is too short: `wrote` is then the length that `out` needs; PHONE_MEMORY. For each but
+ * PHONE_OK `out` and `places` are as they were, and for each but PHONE_OK and PHONE_TOO_SMALL `wrote` is 0.
+ * While it works it takes some 100 bytes a row, and a few times what it writes. */
 phone_status phone_columns(phone_handle *handle, const phone_texts *texts, const phone_texts *hints,
                            const uint32_t *columns, size_t columns_len, phone_place *places,
                            size_t places_len, uint8_t *out, size_t out_len, size_t *wrote);
@@ -598,6 +616,71 @@ phone_status phone_prefixes_longest(phone_prefixes *prefixes, const uint8_t *dig
                                     size_t digits_len, uint8_t *out, size_t out_len, size_t *wrote,
                                     size_t *prefix_len);
 
+/* Opens an atlas of a locale, as "de", "zh_TW" or "sr-Latn-RS". The tables of prefixes are those of its
+ * language, of areas and of carriers, each with that of English, which is asked where the language's has
+ * nothing, unless the language is Chinese, Japanese or Korean. They are four handles, none of them twice,
+ * closed where there is no table; they stay as they were, and the atlas stands on the same tables. The
+ * names are lines of a region's id, a tab and its name in UTF-8; the first name of a region counts, so those
+ * of "de-at" may stand before those of "de". What was open there is closed first. PHONE_OK: it is open.
+ * PHONE_NOT_UTF8: locale or names aren't UTF-8. PHONE_LINE_NO_TAB: a line of the names has no tab; `line` is
+ * the number of the first, counted from 1, and for all other statuses 0. PHONE_MEMORY. For each but PHONE_OK
+ * the atlas is closed. */
+phone_status phone_atlas_open(const uint8_t *locale, size_t locale_len, phone_prefixes *areas,
+                              phone_prefixes *english_areas, phone_prefixes *carriers,
+                              phone_prefixes *english_carriers, const uint8_t *names, size_t names_len,
+                              phone_atlas *atlas, size_t *line);
+
+/* Closes a handle of an atlas; nothing where it is closed. Tables go with the last of what stands on them. */
+void phone_atlas_close(phone_atlas *atlas);
+
+/* Writes the description of a number in the atlas's locale, for a user in a region, which has no byte where
+ * none is given: by libphonenumber's rules, whatever those of the handle. It is empty where the number's
+ * kind is unknown, and the name of its country where its kind is of no place. Else, and of each number
+ * where `as_it_stands` isn't 0: it is empty where the number has no region; the name of its region where
+ * the user's is another; else its area, and where none is known the name of its country. PHONE_IS_CLOSED
+ * exactly where one of the handles is closed, else PHONE_NOT_UTF8 exactly where the user's region isn't
+ * UTF-8, then PHONE_BAD_NUMBER as phone_format has it; PHONE_TOO_SMALL, PHONE_MEMORY. */
+phone_status phone_description(phone_handle *handle, phone_atlas *atlas, const phone_number *number,
+                               const uint8_t *bytes, size_t bytes_len, const uint8_t *user, size_t user_len,
+                               uint8_t as_it_stands, uint8_t *out, size_t out_len, size_t *wrote);
+
+/* Writes the name of the carrier to which a number's range was given first: empty where none is known, and,
+ * unless `as_it_stands` isn't 0, where the number's kind has no mobile carrier. Its statuses are those of
+ * phone_description. */
+phone_status phone_carrier(phone_handle *handle, phone_atlas *atlas, const phone_number *number,
+                           const uint8_t *bytes, size_t bytes_len, uint8_t as_it_stands, uint8_t *out,
+                           size_t out_len, size_t *wrote);
+
+/* Writes the name of a number's carrier where it is safe to show as today's: empty where a mobile number of
+ * the number's region is kept when the carrier changes; else as phone_carrier by the number's kind. Its
+ * statuses are those of phone_description. */
+phone_status phone_safe_carrier(phone_handle *handle, phone_atlas *atlas, const phone_number *number,
+                                const uint8_t *bytes, size_t bytes_len, uint8_t *out, size_t out_len,
+                                size_t *wrote);
+
+/* Writes the name of a number's country: empty where none is known, and where the number is valid in several
+ * or in none. Its statuses are those of phone_description. */
+phone_status phone_country_name(phone_handle *handle, phone_atlas *atlas, const phone_number *number,
+                                const uint8_t *bytes, size_t bytes_len, uint8_t *out, size_t out_len,
+                                size_t *wrote);
+
+/* Writes the time zones of a number by a table of them, as the table has them: "Etc/Unknown" where it knows
+ * none, and where the number's kind is unknown; those of its calling code where its kind is of no place;
+ * else, and of each number where `as_it_stands` isn't 0, those of its digits. Its statuses are those of
+ * phone_description. */
+phone_status phone_time_zones(phone_handle *handle, phone_prefixes *zones, const phone_number *number,
+                              const uint8_t *bytes, size_t bytes_len, uint8_t as_it_stands, uint8_t *out,
+                              size_t out_len, size_t *wrote);
+
+/* Writes where numbers stand in a text as libphonenumber finds them; a leniency of 2 asks for the groups of
+ * a format in their order, 3 for no other groups, both without libphonenumber's alternate formats; `tries`
+ * is how many candidates and pieces without a number are looked at. phone_parse parses each of these
+ * pieces, with the same default region and by libphonenumber's rules, as the number that was found. Places
+ * and statuses are as of phone_find. */
+phone_status phone_matches(phone_handle *handle, const uint8_t *hint, size_t hint_len, uint32_t leniency,
+                           uint64_t tries, const uint8_t *text, size_t text_len, phone_place *out,
+                           size_t out_len, size_t *wrote);
+
 /* Writes the E.164 text of a number, a key for tables. It needs no database. Equal texts mean
  * equal calling code and national number where no calling code of the database begins another, as in
  * that of the library. PHONE_BAD_NUMBER as phone_kind has it, PHONE_TOO_SMALL, PHONE_MEMORY. */
@@ -626,6 +709,109 @@ uint32_t phone_version(void);
  * the front of `out`, and its length to `wrote`; a caller may open another. It needs no database
  * and takes no memory. PHONE_OK, or PHONE_TOO_SMALL as phone_report has it. */
 phone_status phone_table_version(uint8_t *out, size_t out_len, size_t *wrote);
+
+/* How a number is written so that it can be dialled, or as it was written, and what it is as a short number
+ * where its region isn't given: by libphonenumber's rules, whatever those of the handle. `raw` is the text that
+ * the number was parsed from, of which it keeps nothing, and has no byte where it isn't known. `number` and
+ * `bytes` are as phone_format takes them. */
+
+/* Writes the text of a number in a mode, as phone_format does: but `raw` stands for a number whose value is 0,
+ * and one whose calling code the database lacks is written in E.164, or as its digits in the other modes.
+ * PHONE_IS_CLOSED exactly where nothing is open, else PHONE_NO_MODE exactly where the mode is above 3, else
+ * PHONE_NOT_UTF8 exactly where `raw` isn't UTF-8, else PHONE_BAD_NUMBER as phone_format has it;
+ * PHONE_TOO_SMALL, PHONE_MEMORY. */
+phone_status phone_format_read(phone_handle *handle, uint32_t mode, const uint8_t *raw, size_t raw_len,
+                               const phone_number *number, const uint8_t *bytes, size_t bytes_len,
+                               uint8_t *out, size_t out_len, size_t *wrote);
+
+/* Writes what a mobile phone dials to reach a number where a region's id is `id`, or "001" for the whole
+ * world: without its extension; no byte where the number can't be dialled there. Where `with_symbols` is 0
+ * only digits from 0 to 9, plus signs, stars and number signs are written. PHONE_IS_CLOSED exactly where
+ * nothing is open, else PHONE_NOT_UTF8 exactly where `id` or `raw` isn't UTF-8, else PHONE_BAD_NUMBER as
+ * phone_format has it; PHONE_TOO_SMALL, PHONE_MEMORY. */
+phone_status phone_mobile_text(phone_handle *handle, const uint8_t *id, size_t id_len, uint8_t with_symbols,
+                               const uint8_t *raw, size_t raw_len, const phone_number *number,
+                               const uint8_t *bytes, size_t bytes_len, uint8_t *out, size_t out_len,
+                               size_t *wrote);
+
+/* Writes how a number is dialled from a region; from none, where the region has no byte, and from one that the
+ * database lacks, as international text. Between regions of the code 1 a "1 " stands in front of its national
+ * text, which phone_dialled_from leaves out. PHONE_IS_CLOSED exactly where nothing is open, else
+ * PHONE_NO_REGION exactly where the region has a byte and is no region's id, else PHONE_NOT_UTF8 exactly where
+ * `raw` isn't UTF-8, else PHONE_BAD_NUMBER as phone_format has it; PHONE_TOO_SMALL, PHONE_MEMORY. */
+phone_status phone_text_from(phone_handle *handle, const uint8_t *region, size_t region_len,
+                             const uint8_t *raw, size_t raw_len, const phone_number *number,
+                             const uint8_t *bytes, size_t bytes_len, uint8_t *out, size_t out_len,
+                             size_t *wrote);
+
+/* Writes a number in the way in which `raw` was written, of which no digit is lost and to which none is added;
+ * without it, as national text. The region is where the number would be dialled from. How the calling code was
+ * found counts: the number is that of phone_parse. Its statuses are those of phone_text_from. */
+phone_status phone_original_text(phone_handle *handle, const uint8_t *region, size_t region_len,
+                                 const uint8_t *raw, size_t raw_len, const phone_number *number,
+                                 const uint8_t *bytes, size_t bytes_len, uint8_t *out, size_t out_len,
+                                 size_t *wrote);
+
+/* Writes the text of a number in a mode by formats of the caller's: those of the record "001" of the database
+ * behind `layouts`, of which the first counts that suits the digits. phone_open takes such a database, as
+ *   [{"id": "001", "country_code": 1, "general": {"national_number": "1"}, "formats":
+ *     [{"pattern": "(\\d)(\\d+)", "format": "$1 $2", "national_prefix_formatting_rule": "($NP$FG)"}]}]
+ * PHONE_IS_CLOSED exactly where nothing is open behind one of the handles, which are two, else PHONE_NO_MODE
+ * exactly where the mode is above 3, else PHONE_BAD_NUMBER as phone_format has it; PHONE_TOO_SMALL,
+ * PHONE_MEMORY. */
+phone_status phone_format_by(phone_handle *handle, phone_handle *layouts, uint32_t mode,
+                             const phone_number *number, const uint8_t *bytes, size_t bytes_len,
+                             uint8_t *out, size_t out_len, size_t *wrote);
+
+/* What is known of a number as a short number of the regions of its calling code. Each but the cost is 1,
+ * else 0. */
+typedef struct {
+    uint32_t cost;               /* PHONE_COST_PREMIUM_RATE, .._UNKNOWN, .._STANDARD_RATE, .._TOLL_FREE: the
+                                  * first that it costs in one of them */
+    uint8_t is_possible;         /* the count of its digits is possible in one */
+    uint8_t is_valid;            /* it is a short number of one */
+    uint8_t is_carrier_specific; /* only some carriers connect it in the first whose short number it is */
+} phone_facts_anywhere;
+
+/* Tells what is known of a number as a short number, where its region isn't given. `shorts` is a second
+ * handle, opened on a database of short numbers. The number's texts are not looked at. PHONE_IS_CLOSED
+ * exactly where nothing is open behind one of the handles, else PHONE_BAD_NUMBER as phone_kind has it;
+ * PHONE_MEMORY. For each but PHONE_OK `facts` is as it was. */
+phone_status phone_short_anywhere(phone_handle *handle, phone_handle *shorts, const phone_number *number,
+                                  phone_facts_anywhere *facts);
+
+/* Any cost, of phone_short_example. */
+enum { PHONE_COST_ANY = 4 };
+
+/* Writes the example of a region's short numbers of a cost, PHONE_COST_TOLL_FREE .., PHONE_COST_ANY. The
+ * handle is one that was opened on a database of short numbers. PHONE_IS_CLOSED exactly where nothing is open,
+ * else PHONE_NO_REGION exactly where the region is no region's id, else PHONE_NO_WORD exactly where the cost is
+ * above 4, else PHONE_NO_EXAMPLE exactly where the database gives none, as of PHONE_COST_UNKNOWN;
+ * PHONE_TOO_SMALL. It takes no memory. */
+phone_status phone_short_example(phone_handle *handle, const uint8_t *region, size_t region_len,
+                                 uint32_t cost, uint8_t *out, size_t out_len, size_t *wrote);
+
+/* Tells whether a number is an SMS service of a region, a short number that messages are sent to: 1, else
+ * 0. `services` is a second handle, opened on a database of these services (data/sms.json is one). The
+ * number's texts are not looked at. PHONE_IS_CLOSED exactly where nothing is open behind one of the
+ * handles, else PHONE_NO_REGION exactly where the region is no region's id, else PHONE_BAD_NUMBER as
+ * phone_kind has it; PHONE_MEMORY. For each but PHONE_OK `told` is as it was. */
+phone_status phone_is_sms_service(phone_handle *handle, phone_handle *services, const uint8_t *region,
+                                  size_t region_len, const phone_number *number, uint8_t *told);
+
+/* Writes the example of a calling code that serves no region, as 800, as phone_parse writes a number, by
+ * libphonenumber's rules, whatever those of the handle. PHONE_IS_CLOSED exactly where nothing is open;
+ * PHONE_NO_EXAMPLE only where the code serves a region, isn't listed or has no example; 1 to 6: why the example
+ * is no number; PHONE_TOO_SMALL, PHONE_MEMORY. */
+phone_status phone_example_of_code(phone_handle *handle, uint16_t code, phone_number *number, uint8_t *out,
+                                   size_t out_len, size_t *wrote);
+
+/* Writes a number of a region that isn't valid, as phone_parse writes a number, by the same rules: the
+ * first that is parsed of the example of its fixed lines without its last digit, its last two and so on.
+ * PHONE_IS_CLOSED exactly where nothing is open, else PHONE_NO_REGION exactly where the region is no
+ * region's id; PHONE_NO_EXAMPLE only where there is no such number; PHONE_TOO_SMALL, PHONE_MEMORY. */
+phone_status phone_invalid_example(phone_handle *handle, const uint8_t *region, size_t region_len,
+                                   phone_number *number, uint8_t *out, size_t out_len, size_t *wrote);
 
 #ifdef __cplusplus
 }

@@ -95,6 +95,7 @@ int main(int argc, char **argv) {
     must(phones.calling_codes().value().size() > 200, "calling codes");
     must(is_viable("03-331 6005").value() && !is_viable("x").value(), "viable");
     must(table_version().compare(0, 15, "libphonenumber ") == 0, "the version");
+    must(world::newest("/none").value().second == table_version(), "the newest");
 
     world crate = phones.share(rules::crate).value();
     must(crate.parse("+6433316005").has_value(), "the other rules");

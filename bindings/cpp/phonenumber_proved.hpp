@@ -213,6 +213,17 @@ public:
         return it.opened(
             phone_open(inside::bytes(bytes), bytes.size(), static_cast<std::uint32_t>(by), &it.handle_));
     }
+    /* The newest metadata, and their version: later ones of a folder, which is looked for where it is empty, or
+     * the library's own (phone_open_newest). */
+    static result<std::pair<world, std::string>> newest(std::string_view folder = {}, rules by = rules::library) {
+        world it;
+        auto version = inside::text_of([&](std::uint8_t *out, std::size_t room, std::size_t *wrote) {
+            return phone_open_newest(&it.handle_, static_cast<std::uint32_t>(by), inside::bytes(folder), folder.size(),
+                                     out, room, wrote);
+        });
+        if (!version) return result<std::pair<world, std::string>>::refused(version.status());
+        return std::pair<world, std::string>(std::move(it), std::move(version).value());
+    }
     /* A second handle on the same metadata, which copies nothing. */
     result<world> share() {
         world it;

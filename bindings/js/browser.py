@@ -4,8 +4,9 @@ usage: python3 bindings/js/browser.py PACKAGE [--firefox] [--pictures FOLDER] [-
 
 Types into the field, edits, pastes, sends the form, by the keyboard too, cleans a table of 100,000 rows, or N, and asks the report of LINES,
 each a region, `-` for none, a tab and a text. FOLDER gets pictures. In Chromium the page's accessibility tree is compared, the contrast of
-its colours, light and dark, is measured, and the time of each key, from its event to the frame that shows it, is told by Chromium's own
-trace. Needs chromium and chromedriver, or with --firefox firefox-esr. The last line is `page: ok`.
+its colours, light and dark, is measured, the time of each key, from its event to the frame that shows it, is told by Chromium's own
+trace, and the page says in words that it can't run where there is no WebAssembly. Needs chromium and chromedriver, or with --firefox
+firefox-esr. The last line is `page: ok`.
 """
 
 import shutil
@@ -225,6 +226,24 @@ def table(browser, folder, rows):
     print(f"   {rows} rows: {browser.run('return document.getElementById(`result`).firstChild.textContent')}; the page answers within {slowest:.2f} s")
 
 
+def unsupported(address, pictures):
+    """A browser that can't run the library says so, in words. Without machine code, as here, V8 has no WebAssembly."""
+    browser = chromium.Browser("en-NZ", "480,900", flags=["--js-flags=--jitless"])
+    try:
+        browser.go(address)
+        for _ in range(200):
+            told = browser.run("return document.getElementById('sent').textContent")
+            if told:
+                break
+            time.sleep(0.05)
+        check("a browser without WebAssembly", told, "phonenumber-proved needs WebAssembly with instructions on 128 bits, BigInt and DecompressionStream: "
+              "Node 18, or a browser of 2023 or later")
+        if pictures:
+            browser.picture(pictures / "unsupported.png")
+    finally:
+        browser.close()
+
+
 def lines(browser, given, answers, rules):
     """The report of lines, which differs nowhere."""
     script = """const [lines, answers, rules, done] = arguments;
@@ -294,6 +313,8 @@ def main():
             check("the console", [it for it in browser.log() if "favicon" not in it], [])
         finally:
             browser.close()
+        if not in_firefox:
+            unsupported(f"file://{folder}/demo.html", pictures)
     print(f"page: {len(failed)} failed" if failed else "page: ok")
     return 1 if failed else 0
 

@@ -1,4 +1,4 @@
-// The rows of crates/replay/data that are calls of the module, asked in JavaScript: node --experimental-wasm-memory64 replay.mjs PACKAGE DATA
+// The rows of crates/replay/data that are calls of the module, asked in JavaScript: node replay.mjs PACKAGE DATA
 // A row that differs is printed; the last lines are the count of each call, and `replay: ok`.
 import { readFileSync } from "node:fs";
 import { pathToFileURL } from "node:url";

@@ -1,4 +1,4 @@
-// What users of the package count on, in Node: node --experimental-wasm-memory64 tests.mjs PACKAGE ROWS [LINES REPORT [LINES REPORT_BY_CRATE]]
+// What users of the package count on, in Node: node tests.mjs PACKAGE ROWS [LINES REPORT [LINES REPORT_BY_CRATE]]
 // ROWS is bindings/sql_rows.tsv; LINES has a region, `-` for none, a tab and a text on each line, REPORT the report line of each. The last
 // line is `js: ok`; the first difference ends it with status 1.
 import { readFileSync } from "node:fs";
@@ -7,7 +7,7 @@ import { pathToFileURL } from "node:url";
 const [folder, rows, ...pairs] = process.argv.slice(2);
 const phones = await import(pathToFileURL(`${folder}/index.mjs`));
 const { load } = await import(pathToFileURL(`${folder}/load.mjs`));
-const { Engine } = await import(pathToFileURL(`${folder}/engine.mjs`));
+const { Engine, PhoneError } = await import(pathToFileURL(`${folder}/engine.mjs`));
 const { parsePhoneNumber, AsYouType } = phones;
 
 function must(told, wanted, what) {
@@ -137,6 +137,88 @@ instance.exports.phone_memory_most((1n << 64n) - 1n);
 must(ask(2).split("\t")[1], "+6433316002", "after refused memory");
 must(refused > 0, true, "memory is refused");
 console.log(`memory: refused ${refused} times`);
+
+// Hostile callers: values of every kind in the place of every argument, objects that change while they are looked at, tables that are none. Each
+// call answers or throws an error with words, and all is afterwards as it was.
+{
+  const is = () => must(parsePhoneNumber("03-331 6005 ext. 7", "NZ")?.formatNational(), "03 331 6005 ext. 7", "after a hostile caller");
+  const turns = (...all) => { let at = 0; return () => all[at++ % all.length]; };
+  const long = "1".repeat(100000);
+  /** An object whose text, length and items are others each time. */
+  const shifty = () => ({ toString: turns("1", long), valueOf: turns(1, long), [Symbol.toPrimitive]: turns("1", long), get length() { return this.next(); },
+    next: turns(0, 1, 3), get 0() { return this.item(); }, item: turns("1", long, 7, null), get defaultCountry() { return this.region(); }, region: turns("NZ", long, {}) });
+  const values = () => [undefined, null, true, 0, -1, 1.5, NaN, Infinity, 2 ** 53, 5n, -1n, "", "NZ", "ZZ", "\ud800", "\0", "+64 3 331 6005", long, "\u0663".repeat(3000), Symbol("s"),
+    {}, [], [1], ["NZ"], [["NZ"]], () => "NZ", new String("NZ"), new Uint8Array(9), new Proxy({}, { get: () => long }), new Proxy([], { get: (_, name) => name === "length" ? 1e3 : {} }),
+    { defaultCountry: "NZ" }, { defaultCountry: {} }, { get defaultCountry() { throw new RangeError("mine"); } }, { length: -1 }, { length: 2 ** 40 }, { __proto__: null }, shifty()];
+  const it = parsePhoneNumber("+64 3 331 6005 ext. 7"), calls = [];
+  for (const name of ["parsePhoneNumber", "parsePhoneNumberWithError", "isValidPhoneNumber", "isPossiblePhoneNumber", "validatePhoneNumberLength", "findPhoneNumbersInText",
+    "compareTexts", "report", "getExampleNumber", "getCountryCallingCode", "isSupportedCountry"]) calls.push([name, phones[name]]);
+  calls.push(["searchPhoneNumbersInText", (a, b) => [...phones.searchPhoneNumbersInText(a, b)]]);
+  calls.push(["columns", (a, b) => phones.columns([a, b, "1"], { regions: b })], ["columns of", (a, b) => phones.columns(a, { regions: [a, b], columns: b })]);
+  calls.push(["columns by one", (a, b) => phones.columns(["1"], { regions: a, columns: [b] })], ["columns of many", (a, b) => phones.columns(a, b ?? {})]);
+  calls.push(["AsYouType", (a, b) => { const typing = new AsYouType(a); typing.input(b); return [typing.caret(1), typing.getNumberValue(), typing.getChars()]; }]);
+  calls.push(["caret", (a) => { const typing = new AsYouType("NZ"); typing.input("03331"); return typing.caret(a); }]);
+  calls.push(["format", (a) => it.format(a)], ["formatFrom", (a) => it.formatFrom(a)], ["isEqual", (a) => it.isEqual(a ?? it)], ["PhoneNumber", (a, b) => new phones.PhoneNumber(a ?? b ?? {})]);
+  calls.push(["setExt", (a) => { const other = parsePhoneNumber("+64 3 331 6005"); other.setExt(a); return [other.formatNational(), other.getURI(), JSON.stringify(other)]; }]);
+  calls.push(["PhoneNumber of parts", (a, b) => new phones.PhoneNumber({ value: a, code: b, source: a, zeros: b, extension: a, carrier: b }).formatNational()]);
+  let answered = 0, refused = 0;
+  for (const [name, call] of calls) for (const a of values()) for (const b of values()) {
+    try {
+      call(a, b);
+      answered++;
+    } catch (error) {
+      refused++;
+      if (!(error instanceof Error) || error instanceof WebAssembly.RuntimeError || !error.message) must(String(error), "an error with words", name);
+    }
+    if ((answered + refused) % 64 === 0) is();
+  }
+  is();
+  console.log(`hostile: ${answered} answered, ${refused} refused`);
+  // An array whose items ask the library themselves, or grow, while they are read.
+  const asks = Array(40).fill("1");
+  Object.defineProperty(asks, 7, { get: () => parsePhoneNumber(`+64 3 331 6005 ext. ${"7".repeat(7)}`)?.number });
+  Object.defineProperty(asks, 9, { get: turns("1", long, long) });
+  must(phones.columns(asks, { regions: "NZ", columns: ["e164"] }).e164[7], "+6433316005", "an item that asks");
+  must(phones.columns(["03-331 6005", "09 887 6986"], { regions: "NZ", columns: ["e164"], progress: () => parsePhoneNumber("1".repeat(9000), "NZ") }).e164,
+    ["+6433316005", "+6498876986"], "progress that asks");
+  is();
+  // Tables that are cut, or whose bytes are others: opened or refused, never a trap; what is opened answers or refuses.
+  const own = new Engine(await WebAssembly.instantiate(module, {}), table), tables = [];
+  for (let i = 0; i < 120; i++) tables.push(table.slice(0, Math.floor(i * i * table.length / 14400)));
+  let seed = 7;
+  const random = (n) => (seed = (Math.imul(seed, 1103515245) + 12345) >>> 1) % n;
+  for (let i = 0; i < 200; i++) {
+    const other = table.slice();
+    for (let k = random(3); k >= 0; k--) other[random(other.length)] = random(256);
+    tables.push(other);
+  }
+  for (const text of ["", "[", "[]", "null", "{}", "[{}]", "[[[[", "phone_compact 1\n", "phone_compact 2\n", "\ufeff[]", '[{"id":"NZ","country_code":64}]']) tables.push(new TextEncoder().encode(text));
+  const count = { opened: 0, refused: 0 };
+  for (const bytes of tables) {
+    let told;
+    try {
+      const by = new Engine(await WebAssembly.instantiate(module, {}), bytes);
+      told = "opened";
+      for (const text of ["03-331 6005", "+1 650 253 0000", "+390236618300", "call me"]) try { by.report(text, "NZ"), by.find(text, "NZ"), by.typed(text, "NZ"); } catch (error) {
+        if (!(error instanceof PhoneError)) throw error;
+      }
+      by.close();
+    } catch (error) {
+      if (!(error instanceof PhoneError)) must(String(error), "a refusal", "a table");
+      told = "refused";
+    }
+    count[told]++;
+  }
+  console.log(`tables: ${tables.length}, of which ${count.refused} are refused`);
+  own.close();
+  must(thrown(() => own.report("1", "NZ"))?.[0], "PhoneError", "a closed table");
+  own.close();
+  for (const options of [{ table: "[]" }, { module: "x" }, { table: 5 }, { rules: "mine" }, { table: [91, 93] }])
+    must((await load(options).then(() => undefined, (error) => error.name)), "TypeError", JSON.stringify(options));
+  must((await load({ module: new Uint8Array([1, 2, 3]) }).then(() => undefined, (error) => error.name)), "CompileError", "no module");
+  must((await load({ table: new Uint8Array([91]) }).then(() => undefined, (error) => error.name)), "PhoneError", "no table");
+  is();
+}
 
 // A column beside the calls for one text, in turn: the middle of each.
 {

@@ -22,8 +22,9 @@
 PG_MODULE_MAGIC;
 void _PG_init(void);
 
-/* The file of the table, empty for the one in the library. It is chosen at the start of a server that
- * preloads the library, and nowhere else: an answer is the same as long as a server runs. */
+/* The file of the table, or a folder of which a later one than the library's is taken, empty for the one
+ * in the library. It is chosen at the start of a server that preloads the library, and nowhere else: an
+ * answer is the same as long as a server runs. */
 static char *table_path = "";
 static bool is_open;
 static phone_handle world = PHONE_CLOSED;
@@ -32,7 +33,7 @@ static phone_handle world = PHONE_CLOSED;
 static void open_world(int level) {
     char why[1024] = "";
     if (is_open) return;
-    is_open = sql_open(table_path, &world, why, sizeof why);
+    is_open = sql_open(*table_path ? table_path : NULL, &world, why, sizeof why);
     if (!is_open)
         ereport(level, (errcode(ERRCODE_CONFIG_FILE_ERROR), errmsg("%s", why),
                         errhint("The setting phonenumber.table_path names the table.")));
@@ -48,7 +49,7 @@ static void warn_of_path(void) {
 
 void _PG_init(void) {
     if (process_shared_preload_libraries_in_progress) {
-        DefineCustomStringVariable("phonenumber.table_path", "The file of the table of phone numbers.",
+        DefineCustomStringVariable("phonenumber.table_path", "The file of the table of phone numbers, or the folder of a later one.",
                                    "Once it is another table, what stands on the functions is to be built anew.",
                                    &table_path, "", PGC_POSTMASTER, 0, NULL, NULL, NULL);
         open_world(FATAL);
@@ -234,12 +235,9 @@ Datum sql_phone_find(PG_FUNCTION_ARGS) {
     return (Datum)0;
 }
 
-/* The version of the table in the library, or the file of the one that was chosen. */
+/* The version of the table that is open, or the file of the one that was chosen. */
 PG_FUNCTION_INFO_V1(sql_phone_table_version);
 Datum sql_phone_table_version(PG_FUNCTION_ARGS) {
-    uint8_t version[128] = {0};
-    size_t len = 0;
-    if (*table_path) PG_RETURN_TEXT_P(cstring_to_text(table_path));
-    phone_table_version(version, sizeof version, &len);
-    PG_RETURN_TEXT_P(cstring_to_text_with_len((char *)version, (int)len));
+    the_world();
+    PG_RETURN_TEXT_P(cstring_to_text(sql_version));
 }

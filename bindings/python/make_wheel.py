@@ -2,11 +2,13 @@
 pyproject.toml, and needs Python alone.
 
 usage: pip wheel --no-deps bindings/python        or pip install bindings/python
-       bindings/python/make_wheel.py [--source] FOLDER
+       bindings/python/make_wheel.py [--source | --tables] FOLDER
 
 PHONE_LIBRARY names the shared library; else it is bindings/c/out/libphone.so, or the installed one that `pkg-config phonenumber-proved`
 tells. PHONE_LICENCES is a file of the licences of all that is linked, else the repository's own. A source distribution has the package, the
-tables and this file, and makes a wheel of the installed library. The same files give the same bytes: the time of each is
+tables and this file, and makes a wheel of the installed library. --tables makes a wheel of tables alone, the package
+phonenumber_proved_tables, of libphonenumber's version: where it is installed and later, its tables are taken in place of the package's own.
+PHONE_TABLES names the folder of the tables, as phone-renew writes them, else they are data's. The same files give the same bytes: the time of each is
 SOURCE_DATE_EPOCH, else 1980.
 """
 import base64
@@ -29,7 +31,9 @@ NAME = "phonenumber_proved"
 # Where the tables and the licence are: in the repository, or in a source distribution.
 DATA = HERE / "data" if (HERE / "data").is_dir() else TOP / "data"
 OWN_LICENCE = HERE / "LICENSE" if (HERE / "LICENSE").is_file() else TOP / "LICENSE"
-TABLES = ["world.json", "world.compact", "short.json", "timezones.tsv", "carriers.tsv", "VERSION"]
+TABLES = ["world.json", "world.compact", "short.json", "sms.json", "timezones.tsv", "areas.tsv", "carriers.tsv", "VERSION"]
+# Areas, carriers and names of regions by language, and the licence of the names.
+TABLES += sorted(str(it.relative_to(DATA)) for it in (DATA / "places").rglob("*") if it.is_file())
 CLASSIFIERS = """Development Status :: 4 - Beta
 Intended Audience :: Developers
 License :: OSI Approved :: Apache Software License
@@ -117,11 +121,36 @@ def files():
     for it in TABLES:
         found[f"{NAME}/data/{it}"] = (DATA / it).read_bytes()
     tag = "py3-none-" + platform(found[f"{NAME}/libphone.so"])
-    info = f"{NAME}-{version()}.dist-info"
-    found.update((f"{info}/{name}", data) for name, data in metadata(tag).items())
+    recorded(found, f"{NAME}-{version()}.dist-info", metadata(tag))
+    return found, tag
+
+
+def recorded(found, info, told):
+    """Adds the files that tell of a wheel, and the one that lists all."""
+    found.update((f"{info}/{name}", data) for name, data in told.items())
     rows = [f"{name},sha256={digest(data)},{len(data)}\n" for name, data in found.items()]
     found[f"{info}/RECORD"] = "".join([*rows, f"{info}/RECORD,,\n"]).encode()
-    return found, tag
+
+
+def build_tables(wheel_directory):
+    """Writes the wheel of tables alone into a folder; its name."""
+    tables = Path(os.environ.get("PHONE_TABLES") or DATA)
+    told = (tables / "VERSION").read_text(encoding="ascii").split()
+    name = f"{NAME}_tables"
+    found = {f"{name}/__init__.py": f'"""The tables of {" ".join(told)}, which phonenumber_proved takes where its own are older."""\n'.encode()}
+    # A renewed folder need not have places, of which the package then takes its own.
+    found.update((f"{name}/{it}", (tables / it).read_bytes()) for it in TABLES if not it.startswith("places/") or (tables / it).is_file())
+    about = f"""Metadata-Version: 2.1
+Name: phonenumber-proved-tables
+Version: {told[1]}
+Summary: Tables of phone numbers for phonenumber-proved, from {" ".join(told)}
+License: Apache-2.0
+Requires-Python: >=3.8
+"""
+    tag = "py3-none-any"
+    wheel = f"Wheel-Version: 1.0\nGenerator: make_wheel\nRoot-Is-Purelib: true\nTag: {tag}\n"
+    recorded(found, f"{name}-{told[1]}.dist-info", {"METADATA": about.encode(), "WHEEL": wheel.encode(), "LICENSE": (DATA / "LICENSE").read_bytes()})
+    return packed(wheel_directory, f"{name}-{told[1]}-{tag}.whl", found)
 
 
 def digest(data):
@@ -131,9 +160,13 @@ def digest(data):
 def build_wheel(wheel_directory, config_settings=None, metadata_directory=None):
     """Writes the wheel into a folder; its name."""
     found, tag = files()
+    return packed(wheel_directory, f"{NAME}-{version()}-{tag}.whl", found)
+
+
+def packed(folder, name, found):
+    """Writes files into a wheel of this name, each under its own; the name."""
     stamp = max(int(os.environ.get("SOURCE_DATE_EPOCH") or 0), 315532800)
-    name = f"{NAME}-{version()}-{tag}.whl"
-    with zipfile.ZipFile(Path(wheel_directory) / name, "w") as wheel:
+    with zipfile.ZipFile(Path(folder) / name, "w") as wheel:
         for path, data in found.items():
             info = zipfile.ZipInfo(path, time.gmtime(stamp)[:6])
             info.compress_type, info.create_system, mode = zipfile.ZIP_DEFLATED, 3, 0o644
@@ -164,8 +197,8 @@ def build_sdist(sdist_directory, config_settings=None):
 
 if __name__ == "__main__":
     words = sys.argv[1:]
-    build = build_sdist if words[:1] == ["--source"] else build_wheel
-    words = words[build is build_sdist:]
+    build = {"--source": build_sdist, "--tables": build_tables}.get(words[0] if words else "", build_wheel)
+    words = words[build is not build_wheel:]
     if len(words) != 1 or words[0].startswith("-"):
         sys.exit(__doc__)
     print(build(words[0]))

@@ -147,6 +147,30 @@ def numbers_are_compared_and_found():
     check("tries", list(names.PhoneNumberMatcher("+64 3 331 6005", None, max_tries=0)), [])
 
 
+# Number; its description in German, and for a user in Germany; its carrier in English, safe to show; its time zones.
+PLACES = [
+    ("+41431302564", "Z\u00fcrich", "Schweiz", "", "", ("Europe/Zurich",)),
+    ("+51912345671", "Peru", "Peru", "Entel", "", ("America/Lima",)),
+    ("+6913206949", "Mikronesien", "Mikronesien", "FSMTC", "FSMTC", ("Pacific/Ponape",)),
+    ("+5493404322936", "", "", "", "", ("Etc/Unknown",)),
+    ("+18002127978", "", "", "", "", None),
+]
+
+
+def places_are_told():
+    for text, area, elsewhere, carrier, safe, zones in PLACES:
+        number = names.parse(text)
+        told = names.geocoder.description_for_number(number, "de"), names.geocoder.description_for_number(number, "de", region="DE")
+        check(text, told, (area, elsewhere))
+        check(text, (names.carrier.name_for_number(number, "en"), names.carrier.safe_display_name(number, "en")), (carrier, safe))
+        if zones:
+            check(text, names.timezone.time_zones_for_number(number), zones)
+    check("zones", len(names.timezone.time_zones_for_number(names.parse("+18002127978"))), 42)
+    nowhere = PhoneNumber(1 << 20, 1 << 60)
+    check(nowhere, (names.geocoder.description_for_valid_number(nowhere, "en"), names.timezone.time_zones_for_number(nowhere)),
+          ("", (names.timezone.UNKNOWN_TIMEZONE,)))
+
+
 def regions_are_told():
     told = names.country_code_for_valid_region("NZ"), names.is_nanpa_country("BS"), names.is_nanpa_country("NZ"), names.is_nanpa_country(None)
     check("codes", told, (64, True, False, False))
@@ -160,6 +184,41 @@ def regions_are_told():
     check("example", (names.example_number("001"), names.example_number_for_type("NZ", PhoneNumberType.VOICEMAIL)), (None, None))
     dialled = [names.format_out_of_country_calling_number(PhoneNumber(1, 6502530000), it) for it in ("US", "DE", "BS", "ZZ")]
     check("dialled", dialled, ["1 (650) 253-0000", "00 1 650-253-0000", "1 (650) 253-0000", "+1 650-253-0000"])
+
+
+# Region, text: the region where it is dialled, and how it is printed as it was written.
+ORIGINALS = [
+    ("NZ", "3 331 6005", "NZ", "3 331 6005"), ("NZ", "03-331-6005", "NZ", "03 331 6005"), ("GB", "020 7946 0018 #5", "GB", "020 7946 0018 #5"),
+    (None, "+64 33316005", "NZ", "+64 3 331 6005"), ("NZ", "0064 33316005", "NZ", "0064 33316005"), ("US", "011 64 33316005", "US", "011 64 3 331 6005"),
+    ("NZ", "64 33316005", "NZ", "64 3 331 6005"),
+]
+
+# Region, text: the region where it is dialled on a mobile phone, whether with symbols, and what is dialled.
+MOBILES = [
+    ("BR", "0 31 21 2128 6979", "BR", False, "0312121286979"), ("BR", "21 2128 6979", "BR", True, ""), (None, "+61 1300 123456", "AU", True, "1300 123 456"),
+    (None, "+61 1300 123456", "CX", True, ""), (None, "+64 3 331 6005 ext. 5", "US", True, "+64 3 331 6005"), (None, "+64 3 331 6005", None, False, "+6433316005"),
+]
+
+
+def numbers_are_dialled():
+    for hint, text, region, wanted in ORIGINALS:
+        number = names.parse(text, hint, keep_raw_input=True)
+        check(text, names.format_in_original_format(number, region), wanted)
+    check("no text", names.format_in_original_format(PhoneNumber(64, 33316005), "NZ"), "03 331 6005")
+    for hint, text, region, symbols, wanted in MOBILES:
+        number = names.parse(text, hint, keep_raw_input=True)
+        check(text, names.format_number_for_mobile_dialing(number, region, symbols), wanted)
+    own = names.NumberFormat(pattern=r"(\d)(\d+)", format=r"\1 \2", national_prefix_formatting_rule="($NP$FG)")
+    told = [names.format_by_pattern(PhoneNumber(64, 33316005), it, [own]) for it in range(4)]
+    check("layouts", told, ["+643 3316005", "+64 3 3316005", "(03) 3316005", "tel:+64-3-3316005"])
+    check("layouts", names.format_by_pattern(PhoneNumber(999, 33316005), PhoneNumberFormat.NATIONAL, [own]), "33316005")
+    zeros = names.parse("000", "IT", keep_raw_input=True)
+    check("zeros", [names.format_number(zeros, it) for it in range(4)], ["+39000", "000", "000", "000"])
+    short, of = names.shortnumberinfo, PhoneNumber(1, 911)
+    told = names.is_possible_short_number(of), names.is_valid_short_number(of), names.expected_cost(of), names.is_carrier_specific(of)
+    check("911", told, (True, True, names.ShortNumberCost.UNKNOWN_COST, False))
+    told = short._example_short_number("FR"), short._example_short_number("XX"), short._example_short_number_for_cost("FR", 3)
+    check("examples", told, ("15", "", ""))
 
 
 # Number: what `truncate_too_long_number` answers, and what it leaves.
@@ -285,14 +344,14 @@ def readme():
 
 
 def main():
-    for case in (numbers_are_read, numbers_are_told, numbers_are_compared_and_found, regions_are_told, short_numbers_are_told,
-                 further_questions_are_answered, numbers_are_data, numbers_have_classes_made_of_them, package_is_installed,
+    for case in (numbers_are_read, numbers_are_told, numbers_are_compared_and_found, regions_are_told, places_are_told, short_numbers_are_told,
+                 numbers_are_dialled, further_questions_are_answered, numbers_are_data, numbers_have_classes_made_of_them, package_is_installed,
                  records_are_told, readme):
         case()
     missing = [name for name in names.__all__ if not hasattr(names, name)]
     check("names", missing, [])
-    told = [doctest.testmod(sys.modules[it]).failed for it in (names.__name__, names.is_number_match.__module__)]
-    check("docstrings", told, [0, 0])
+    told = [doctest.testmod(sys.modules[it]).failed for it in (names.__name__, names.is_number_match.__module__, names.format_number.__module__)]
+    check("docstrings", told, [0, 0, 0])
     print(f"names: {len(failed)} failed" if failed else "names: ok")
     return 1 if failed else 0
 

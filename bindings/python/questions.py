@@ -1,7 +1,7 @@
 """The further questions of libphonenumber over the package, by the rows of crates/replay/data/questions.tsv.
 
-tools/answers --as-libphonenumber answers them, but for those that the package has no call for, which are LEFT. The last line is
-`questions: ok`, with the count of rows; else a line tells each that is answered otherwise.
+tools/answers --as-libphonenumber answers them. The last line is `questions: ok`, with the count of rows; else a line tells each that is
+answered otherwise.
 """
 
 import re
@@ -14,10 +14,7 @@ TOP = Path(__file__).resolve().parents[2]
 ROWS = TOP / "crates" / "replay" / "data" / "questions.tsv"
 
 # The questions that are answered in Rattle alone.
-LEFT = {
-    "mobile", "original", "by-layouts", "short-example", "short-example-cost", "short-sms", "example-code",
-    "example-invalid", "example-any",
-}
+LEFT = {"example-any"}
 
 # The escapes of rows: of characters, of a tab, of a line feed, of a backslash.
 ESCAPE = re.compile(r"\\(?:u([0-9A-Fa-f]{4})|U([0-9A-Fa-f]{8})|([tn\\]))")

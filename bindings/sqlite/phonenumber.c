@@ -126,18 +126,10 @@ static void match(sqlite3_context *context, int count, sqlite3_value **values) {
     if (sqlite3_value_type(values[1]) != SQLITE_NULL) ask(context, count, values);
 }
 
-/* The version of the table in the library, or the file of the one that PHONE_TABLE names. */
+/* The version of the table that is open, or the file of the one that PHONE_TABLE names. */
 static void table_version(sqlite3_context *context, int count, sqlite3_value **values) {
-    const char *path = getenv("PHONE_TABLE");
-    uint8_t version[128] = {0};
-    size_t len = 0;
     (void)count, (void)values;
-    if (path && *path) {
-        sqlite3_result_text(context, path, -1, SQLITE_TRANSIENT);
-        return;
-    }
-    phone_table_version(version, sizeof version, &len);
-    sqlite3_result_text(context, (const char *)version, (int)len, SQLITE_TRANSIENT);
+    if (world_of_thread(context)) sqlite3_result_text(context, sql_version, -1, SQLITE_TRANSIENT);
 }
 
 /* phone_parts(text, region) as a table of one row, or of none where the text is NULL. */

@@ -91,8 +91,17 @@ const COLUMNS = {
 
 /** The region that a call's second argument names: an id, or an object with `defaultCountry`; or a calling code. */
 function regionOf(options) {
-  if (typeof options === "string") return options;
-  return options?.defaultCountry ?? "";
+  const region = typeof options === "object" && options !== null ? options.defaultCountry : options;
+  if (region != null && typeof region !== "string") throw new TypeError("a region is a string");
+  return region ?? "";
+}
+
+/** The items of an array, or what is like one, as they are now: each a string or nothing. */
+function itemsOf(values, what) {
+  if (values == null || typeof values === "string") throw new TypeError("columns are made of arrays");
+  const items = Array.from(values);
+  for (const it of items) if (it != null && typeof it !== "string") throw new TypeError(what);
+  return items;
 }
 
 /** All names over an engine. */
@@ -124,7 +133,7 @@ export function bind(engine) {
     }
     format(format) {
       if (format === "IDD") throw new PhoneError(0, "formatFrom(region) tells how a number is dialled from a region");
-      if (!(format in FORMATS)) throw new TypeError(`no format: ${format}`);
+      if (!Object.hasOwn(FORMATS, format)) throw new TypeError(`no format: ${String(format)}`);
       try {
         return engine.format(this.#number, FORMATS[format]);
       } catch (error) {
@@ -145,6 +154,7 @@ export function bind(engine) {
     isNonGeographic() { return this.country === undefined && this.isValid(); }
     isEqual(other) { return this.number === other.number && this.ext === other.ext; }
     setExt(ext) {
+      if (ext != null && typeof ext !== "string") throw new TypeError("an extension is a string");
       this.#number = { ...this.#number, extension: ext || undefined };
       this.ext = ext || undefined;
     }
@@ -201,7 +211,10 @@ export function bind(engine) {
     reset() { this.#typed = ""; }
     get shown() { return engine.typed(this.#typed, this.#region); }
     /** After how many characters of what is shown the n-th key stands. */
-    caret(n) { return engine.caret(this.#typed, this.#region, n); }
+    caret(n) {
+      if (!Number.isSafeInteger(n) || n < 0) throw new RangeError("keys are counted from 0");
+      return engine.caret(this.#typed, this.#region, n);
+    }
     getChars() { return this.#typed.replace(/[^\d+\uff0b]/gu, ""); }
     getNumber() { return parsePhoneNumber(this.#typed, this.#region); }
     getNumberValue() { return this.getNumber()?.number; }
@@ -236,14 +249,16 @@ export function bind(engine) {
   /** The report line of a line: its fields parted by tabs. */
   const report = (line, region = "") => engine.report(textOf(line), region);
   /** What is told of each of many texts, as arrays by the names of columns. `regions` is one for all, or an array. */
-  function columns(texts, { regions = "", columns: names = ["e164", "type", "country", "valid", "refusal"], progress } = {}) {
-    for (const name of names) if (!(name in COLUMNS)) throw new TypeError(`no column: ${name}`);
-    for (let row = 0; row < texts.length; row++) if (texts[row] != null) textOf(texts[row]);
+  function columns(values, { regions = "", columns: given = ["e164", "type", "country", "valid", "refusal"], progress } = {}) {
+    const names = Array.from(given);
+    for (const name of names) if (!Object.hasOwn(COLUMNS, name)) throw new TypeError(`no column: ${String(name)}`);
+    const texts = itemsOf(values, "a phone number is read of a string");
+    const hints = typeof regions === "string" ? regions : itemsOf(regions ?? [], "a region is a string");
     const told = Object.fromEntries(names.map((name) => [name, new Array(texts.length)]));
     const numbers = [...new Set([NUMBER_COLUMN.isNumber, ...names.flatMap((name) => COLUMNS[name].of)])];
     for (let from = 0; from < texts.length; from += PIECE) {
       const count = Math.min(PIECE, texts.length - from);
-      const piece = new Piece(engine.columns(texts, regions, from, count, numbers), numbers, count);
+      const piece = new Piece(engine.columns(texts, hints, from, count, numbers), numbers, count);
       for (const name of names) COLUMNS[name].rows(piece, told[name], from);
       if (progress) progress(from + count, texts.length);
     }

@@ -18,6 +18,10 @@ export const SOURCES = ["plus", "idd", "number", "default"];
 // A number: value, extension and carrier (start, length, whether it is there), code, source, zeros.
 const NUMBER = { size: 64, extension: 8, carrier: 32, code: 56, source: 58, zeros: 59 };
 const encoder = new TextEncoder();
+/** Says that a text is no string. Only strings are laid out: what else is made of a value may change from one look at it to the next. */
+const texts = (...all) => {
+  for (const text of all) if (typeof text !== "string") throw new TypeError("a text or a region is a string");
+};
 const decoder = new TextDecoder("utf-8", { fatal: true });
 
 /** An instance of the module, with the table that is open in it. One call at a time: a worker has its own. */
@@ -30,6 +34,7 @@ export class Engine {
 
   /** The engine of an instance, over a table's bytes, JSON or compact; by libphonenumber's rules, or the crate's where `rules` is 1. */
   constructor(instance, table, rules = 0) {
+    if (!(table instanceof Uint8Array)) throw new TypeError("a table is bytes, in a Uint8Array");
     this.#calls = instance.exports;
     // The cells are zero at first: a handle, two lengths, a number, plain results.
     this.#cells = this.#take(256);
@@ -63,13 +68,14 @@ export class Engine {
   }
 
   /** Puts texts, one behind the other, where calls read them; the place and length of each. */
-  #put(...texts) {
+  #put(...all) {
+    texts(...all);
     let room = 0;
-    for (const text of texts) room += 3 * text.length + 1;
+    for (const text of all) room += 3 * text.length + 1;
     this.#grow(this.#in, room);
     const bytes = this.#bytes(), parts = [];
     let at = Number(this.#in.at);
-    for (const text of texts) {
+    for (const text of all) {
       const { written } = encoder.encodeInto(text, bytes.subarray(at));
       parts.push(BigInt(at), BigInt(written));
       at += written;
@@ -136,9 +142,10 @@ export class Engine {
   }
 
   /** Puts a number where calls read it; where its texts stand, behind other texts. */
-  #lay(number, ...texts) {
+  #lay(number, ...more) {
     const { extension, carrier } = number;
-    const parts = this.#put(...texts, (extension ?? "") + (carrier ?? ""));
+    texts(extension ?? "", carrier ?? "");
+    const parts = this.#put(...more, (extension ?? "") + (carrier ?? ""));
     const at = Number(this.#number), view = this.#view(), first = BigInt(encoder.encode(extension ?? "").length);
     const total = parts[parts.length - 1];
     view.setBigUint64(at, number.value, true);
@@ -234,17 +241,17 @@ export class Engine {
   }
 
   /** Lays a column of texts out from a place on, as Arrow has it: offsets, flags, bytes. One text is a hint for all; null is none. */
-  #layColumn(struct, at, texts, from, count) {
-    const view = this.#view(), all = this.#bytes(), isOne = typeof texts === "string";
+  #layColumn(struct, at, rows, from, count) {
+    const view = this.#view(), all = this.#bytes(), isOne = typeof rows === "string";
     const offsets = at, bits = at + (isOne ? 0 : 8 * (count + 1)), start = bits + (isOne ? 0 : 8 * Math.ceil(count / 64));
     let end = start;
     const put = (text) => { end += encoder.encodeInto(text, all.subarray(end)).written; };
-    if (isOne) put(texts);
+    if (isOne) put(rows);
     else {
       all.fill(0, bits, start);
       for (let row = 0; row < count; row++) {
         view.setBigUint64(offsets + 8 * row, BigInt(end - start), true);
-        const text = texts[from + row];
+        const text = rows[from + row];
         if (text == null) continue;
         all[bits + (row >> 3)] |= 1 << (row & 7);
         // Where all are ASCII, as numbers mostly are, their characters are their bytes.
@@ -261,18 +268,18 @@ export class Engine {
   }
 
   /**
-   * What columns, by their numbers in phone.h, tell of `count` texts from one on, each read by itself under its hint or the one of all; of each
-   * the places of its buffers, offsets and bytes of texts, else values, in `bytes`, which stand until the next call.
+   * What columns, by their numbers in phone.h, tell of `count` texts from one on, each read by itself under its hint or the one of all, which are
+   * arrays of strings and of nothing; of each the places of its buffers, offsets and bytes of texts, else values, in `bytes`, which stand until the next call.
    */
-  columns(texts, hints, from, count, columns) {
+  columns(rows, hints, from, count, columns) {
     let room = 64;
-    for (const all of [texts, hints])
+    for (const all of [rows, hints])
       if (typeof all === "string") room += 3 * all.length + 8;
       else for (let row = from; row < from + count; row++) room += 3 * (all[row]?.length ?? 0) + 9;
     const structs = 2 * 56, numbers = 8 * columns.length, places = 32 * columns.length;
     this.#grow(this.#in, room + structs + numbers + places + 256);
     const base = Number(this.#in.at), numbersAt = base + structs, placesAt = numbersAt + numbers;
-    const next = this.#layColumn(base, placesAt + places, texts, from, count);
+    const next = this.#layColumn(base, placesAt + places, rows, from, count);
     this.#layColumn(base + 56, next, hints, from, count);
     const view = this.#view();
     columns.forEach((number, i) => view.setUint32(numbersAt + 4 * i, number, true));

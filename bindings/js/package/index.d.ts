@@ -109,7 +109,7 @@ export interface LoadOptions {
   rules?: "library" | "crate";
 }
 export function load(options?: LoadOptions): Promise<Phones>;
-/** Whether this machine has memories of 64 bits. */
+/** Whether this machine runs the library: Node 18 or later, and browsers of 2023 or later. */
 export function isSupported(): boolean;
 
 export const parsePhoneNumber: Phones["parsePhoneNumber"];

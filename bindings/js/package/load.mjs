@@ -2,11 +2,12 @@
 import { bind } from "./api.mjs";
 import { Engine } from "./engine.mjs";
 
-// The smallest module that has memory of 64 bits.
-const PROBE = new Uint8Array([0, 97, 115, 109, 1, 0, 0, 0, 5, 3, 1, 4, 1]);
+// A module with an instruction on 128 bits, which is the latest thing that the library's module needs.
+const PROBE = new Uint8Array([0, 97, 115, 109, 1, 0, 0, 0, 1, 5, 1, 96, 0, 1, 123, 3, 2, 1, 0, 10, 10, 1, 8, 0, 65, 0, 253, 15, 253, 98, 11]);
 
-/** Whether this machine has memories of 64 bits: Node 20 wants --experimental-wasm-memory64, Node 24 and today's Chromium and Firefox nothing. */
-export const isSupported = () => typeof WebAssembly === "object" && WebAssembly.validate(PROBE);
+/** Whether this machine runs the library: Node 18 or later, and browsers of 2023 or later. */
+export const isSupported = () =>
+  typeof WebAssembly === "object" && typeof BigInt === "function" && typeof DecompressionStream === "function" && WebAssembly.validate(PROBE);
 
 async function bytesOf(url) {
   if (url.protocol === "file:" && globalThis.process?.versions?.node) {
@@ -31,7 +32,10 @@ async function unpacked(bytes) {
  */
 export async function load({ module, table, rules = "library" } = {}) {
   if (!isSupported())
-    throw new Error("phonenumber-proved needs WebAssembly with memory of 64 bits: Node 20 with --experimental-wasm-memory64, Node 24, or a browser of today");
+    throw new Error("phonenumber-proved needs WebAssembly with instructions on 128 bits, BigInt and DecompressionStream: Node 18, or a browser of 2023 or later");
+  for (const bytes of [module, table])
+    if (bytes != null && !(bytes instanceof Uint8Array)) throw new TypeError("a module or a table is bytes, in a Uint8Array");
+  if (rules !== "library" && rules !== "crate") throw new TypeError(`no rules: ${String(rules)}`);
   const [code, records] = await Promise.all([
     module ?? bytesOf(new URL("./phone.wasm.gz", import.meta.url)),
     table ?? bytesOf(new URL("./world.compact.gz", import.meta.url)),

@@ -35,19 +35,26 @@ from .errors import (
     BadDatabase, BadPrefixes, Closed, Error, NoNumber, UnknownCode, UnknownRegion,
 )
 from .field import Typing
+from .layouts import Layout, Layouts
 from .number import Kind, Mode, PhoneNumber, Possibility, Rules, Source
+from .places import Atlas
 from .prefixes import Prefixes
 from .questions import (
-    Form, NumberFacts, NumberMatch, RegionFacts, has_letters, is_geographical, mobile_token,
-    normalize,
+    Cost, FactsAnywhere, Form, NumberFacts, NumberMatch, RegionFacts, has_letters, is_geographical,
+    mobile_token, normalize,
 )
-from .short import Cost, ShortFacts, ShortNumbers
-from .tables import CARRIERS_TABLE, SHORT_TABLE, TABLE, TABLE_VERSION, TIME_ZONES_TABLE
+from .short import ShortFacts, ShortNumbers, SmsServices
+from .tables import (
+    AREAS_TABLE, CARRIERS_TABLE, PLACES, SHORT_TABLE, SMS_TABLE, TABLE, TABLE_VERSION,
+    TIME_ZONES_TABLE,
+)
 from .warming import warm
 
 __version__ = "0.3.0"
 
 __all__ = [
+    "AREAS_TABLE",
+    "Atlas",
     "BadDatabase",
     "BadPrefixes",
     "CARRIERS_TABLE",
@@ -56,23 +63,29 @@ __all__ = [
     "Cost",
     "Database",
     "Error",
+    "FactsAnywhere",
     "Form",
     "Found",
     "Kind",
+    "Layout",
+    "Layouts",
     "Leniency",
     "Mode",
     "NoNumber",
     "NumberFacts",
     "NumberMatch",
+    "PLACES",
     "PhoneNumber",
     "Possibility",
     "Prefixes",
     "RegionFacts",
     "Rules",
     "SHORT_TABLE",
+    "SMS_TABLE",
     "Sameness",
     "ShortFacts",
     "ShortNumbers",
+    "SmsServices",
     "Source",
     "TABLE",
     "TABLE_VERSION",

@@ -18,7 +18,10 @@ VERSION = 3
 
 #: The statuses that are looked at; `phone.h` has all.
 OK, MEMORY, IS_CLOSED, TOO_SMALL, NOT_UTF8, NO_REGION, UNKNOWN_CODE = 0, 7, 16, 17, 18, 19, 20
-NO_PREFIX, NO_EXAMPLE, NO_TERRITORY = 30, 32, 34
+LINE_NO_TAB, NO_PREFIX, NO_EXAMPLE, NO_TERRITORY = 26, 30, 32, 34
+
+#: Any cost, of an example of short numbers.
+COST_ANY = 4
 
 #: The errors of statuses that any call may give; 1 to 6 are those of a text that is no number.
 _ERRORS = {
@@ -40,6 +43,12 @@ class Handle(ctypes.Structure):
 
 class PrefixesHandle(ctypes.Structure):
     """A table of prefixes, or nothing where `at` is null."""
+
+    _fields_ = [("at", ctypes.c_void_p)]
+
+
+class AtlasHandle(ctypes.Structure):
+    """The tables of a locale, or nothing where `at` is null."""
 
     _fields_ = [("at", ctypes.c_void_p)]
 
@@ -97,6 +106,17 @@ class NumberFacts(ctypes.Structure):
     ]
 
 
+class FactsAnywhere(ctypes.Structure):
+    """What is known of a number as a short number of any region of its calling code."""
+
+    _fields_ = [
+        ("cost", ctypes.c_uint32),
+        ("is_possible", ctypes.c_uint8),
+        ("is_valid", ctypes.c_uint8),
+        ("is_carrier_specific", ctypes.c_uint8),
+    ]
+
+
 class Place(ctypes.Structure):
     """Where a number stands in a text, in bytes."""
 
@@ -128,14 +148,16 @@ def _declare(lib: Library) -> None:
     text, address, size, pointer = ctypes.c_char_p, ctypes.c_void_p, ctypes.c_size_t, ctypes.POINTER
     u8, u16, u32, u64 = ctypes.c_uint8, ctypes.c_uint16, ctypes.c_uint32, ctypes.c_uint64
     handle, prefixes, number = pointer(Handle), pointer(PrefixesHandle), pointer(Number)
-    short_facts, place = pointer(Facts), pointer(Place)
+    short_facts, place, atlas = pointer(Facts), pointer(Place), pointer(AtlasHandle)
     region_facts, number_facts = pointer(RegionFacts), pointer(NumberFacts)
+    facts_anywhere = pointer(FactsAnywhere)
     texts, narrow_texts = pointer(Texts), pointer(NarrowTexts)
     # Made by `bindings/declarations.py --write` of `phone.h`: edit that.
     calls: dict[str, list[Any]] = {
         "open": [u32, text, size, u32, handle],
         "open_world": [u32, handle, u32],
         "world_text": [address, pointer(size)],
+        "open_newest": [u32, handle, u32, text, size, text, size, pointer(size)],
         "share": [u32, handle, handle],
         "share_by": [u32, handle, u32, handle],
         "close": [None, handle],
@@ -186,12 +208,43 @@ def _declare(lib: Library) -> None:
         "prefixes_share": [u32, prefixes, prefixes],
         "prefixes_close": [None, prefixes],
         "prefixes_longest": [u32, prefixes, text, size, text, size, pointer(size), pointer(size)],
+        "atlas_open": [
+            u32, text, size, prefixes, prefixes, prefixes, prefixes, text, size, atlas,
+            pointer(size),
+        ],
+        "atlas_close": [None, atlas],
+        "description": [
+            u32, handle, atlas, number, text, size, text, size, u8, text, size, pointer(size),
+        ],
+        "carrier": [u32, handle, atlas, number, text, size, u8, text, size, pointer(size)],
+        "safe_carrier": [u32, handle, atlas, number, text, size, text, size, pointer(size)],
+        "country_name": [u32, handle, atlas, number, text, size, text, size, pointer(size)],
+        "time_zones": [u32, handle, prefixes, number, text, size, u8, text, size, pointer(size)],
+        "matches": [u32, handle, text, size, u32, u64, text, size, place, size, pointer(size)],
         "key": [u32, number, text, size, pointer(size)],
         "is_viable": [u32, text, size, pointer(u8)],
         "status_words": [u32, u32, text, size, pointer(size)],
         "word": [u32, u32, u32, text, size, pointer(size)],
         "version": [u32],
         "table_version": [u32, text, size, pointer(size)],
+        "format_read": [
+            u32, handle, u32, text, size, number, text, size, text, size, pointer(size),
+        ],
+        "mobile_text": [
+            u32, handle, text, size, u8, text, size, number, text, size, text, size, pointer(size),
+        ],
+        "text_from": [
+            u32, handle, text, size, text, size, number, text, size, text, size, pointer(size),
+        ],
+        "original_text": [
+            u32, handle, text, size, text, size, number, text, size, text, size, pointer(size),
+        ],
+        "format_by": [u32, handle, handle, u32, number, text, size, text, size, pointer(size)],
+        "short_anywhere": [u32, handle, handle, number, facts_anywhere],
+        "short_example": [u32, handle, text, size, u32, text, size, pointer(size)],
+        "is_sms_service": [u32, handle, handle, text, size, number, pointer(u8)],
+        "example_of_code": [u32, handle, u16, number, text, size, pointer(size)],
+        "invalid_example": [u32, handle, text, size, number, text, size, pointer(size)],
     }
     for name, (answer, *arguments) in calls.items():
         call = getattr(lib, "phone_" + name)

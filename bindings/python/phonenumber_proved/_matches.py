@@ -46,8 +46,7 @@ class PhoneNumberMatcher:
     ...     print(match, match.number)
     PhoneNumberMatch [5,16) 03-331 6005 Country Code: 64 National Number: 33316005
 
-    All of the text is searched at the first question, in time that grows with its length alone: the
-    limit on tries of that package is taken, and only 0 heeded.
+    They are found by libphonenumber's rules. All of the text is searched at the first question.
     """
 
     def __init__(
@@ -59,13 +58,15 @@ class PhoneNumberMatcher:
         if int(max_tries) < 0:
             raise ValueError("max_tries is 0 at least")
         self._text, self._region, self._leniency = text or "", region, leniency
-        self._left: Optional[List[PhoneNumberMatch]] = None if int(max_tries) else []
+        self._tries = int(max_tries)
+        self._left: Optional[List[PhoneNumberMatch]] = None
 
     def _found(self) -> List[PhoneNumberMatch]:
         """The matches that are left, the first one last."""
         if self._left is None:
             hint = self._region if self._region in _regions.code_by_region() else None
-            found = _regions.world().find(self._text, hint, _Level(self._leniency))
+            level = _Level(self._leniency)
+            found = _regions.world().matches(self._text, hint, level, self._tries)
             self._left = [
                 PhoneNumberMatch(it.start, self._text[it.start : it.end], plain_number(it.number))
                 for it in reversed(found)

@@ -35,19 +35,19 @@ RESULTS = {
 }
 
 
-def _read(numobj: PhoneNumber) -> Optional[_Read]:
+def _read(numobj: PhoneNumber, source: Source = Source.PLUS) -> Optional[_Read]:
     """The number for the library; none where a field is past what it takes."""
     code, value = numobj.country_code or 0, numobj.national_number or 0
     zeros, carrier = leading_zeros(numobj), numobj.preferred_domestic_carrier_code or None
     if not (0 <= code < 1 << 16 and 0 <= value < 1 << 56 and zeros < 1 << 8):
         return None
-    plus, rules = int(Source.PLUS), int(Rules.LIBRARY)
-    return _again(value, code, plus, zeros, numobj.extension or None, carrier, rules)
+    told, rules = int(source), int(Rules.LIBRARY)
+    return _again(value, code, told, zeros, numobj.extension or None, carrier, rules)
 
 
-def asked(numobj: PhoneNumber) -> Optional[_Read]:
+def asked(numobj: PhoneNumber, source: Source = Source.PLUS) -> Optional[_Read]:
     """The same, for a question to the table of the world."""
-    read = _read(numobj)
+    read = _read(numobj, source)
     return None if read is None else read.on(_regions.world())
 
 

@@ -9,7 +9,7 @@ from typing import Any, Callable, Dict, List, Tuple
 
 from ._locks import new_lock
 from .database import Database
-from .short import ShortNumbers
+from .short import ShortNumbers, SmsServices
 from .tables import SHORT_TABLE, table_json
 
 #: The region of a code that is no region's, as 800, and that of no code.
@@ -36,6 +36,11 @@ def world() -> Database:
 def short_numbers() -> ShortNumbers:
     """The table of short numbers, opened once for all threads."""
     return _once("short", ShortNumbers.load)  # type: ignore[no-any-return]
+
+
+def sms_services() -> SmsServices:
+    """The table of SMS services, opened once for all threads."""
+    return _once("sms", SmsServices.load)  # type: ignore[no-any-return]
 
 
 @functools.lru_cache(maxsize=None)

@@ -7,7 +7,9 @@ from typing import Optional, Union
 from . import _regions
 from ._of_regions import region_codes_for_country_code
 from ._plain import PhoneNumber, ShortNumberCost, national_significant_number
+from ._questions import asked
 from .errors import UnknownRegion
+from .questions import Cost, FactsAnywhere
 from .short import ShortFacts
 
 
@@ -47,16 +49,22 @@ def is_carrier_specific_for_region(numobj: PhoneNumber, region_dialing_from: str
     return facts is not None and facts.is_carrier_specific
 
 
+def _anywhere(numobj: PhoneNumber) -> Optional[FactsAnywhere]:
+    """What is known of a number as a short number of the regions of its calling code."""
+    read = asked(numobj)
+    return None if read is None else read.short_anywhere(_regions.short_numbers())
+
+
 def is_possible_short_number(numobj: PhoneNumber) -> bool:
     """Whether the count of a short number's digits is possible in a region of its calling code."""
-    regions = region_codes_for_country_code(numobj.country_code or 0)
-    return any(is_possible_short_number_for_region(numobj, it) for it in regions)
+    facts = _anywhere(numobj)
+    return facts is not None and facts.is_possible
 
 
 def is_valid_short_number(numobj: PhoneNumber) -> bool:
     """Whether a number is a short number of a region of its calling code."""
-    regions = region_codes_for_country_code(numobj.country_code or 0)
-    return any(is_valid_short_number_for_region(numobj, it) for it in regions)
+    facts = _anywhere(numobj)
+    return facts is not None and facts.is_valid
 
 
 def expected_cost(numobj: PhoneNumber) -> int:
@@ -64,19 +72,41 @@ def expected_cost(numobj: PhoneNumber) -> int:
 
     An unknown one stands between premium and standard rate.
     """
-    regions = region_codes_for_country_code(numobj.country_code or 0)
-    costs = {expected_cost_for_region(numobj, it) for it in regions}
-    ranked = ShortNumberCost.PREMIUM_RATE, ShortNumberCost.UNKNOWN_COST
-    ranked += ShortNumberCost.STANDARD_RATE, ShortNumberCost.TOLL_FREE
-    return next((it for it in ranked if it in costs), ShortNumberCost.UNKNOWN_COST)
+    facts = _anywhere(numobj)
+    return ShortNumberCost.UNKNOWN_COST if facts is None else int(facts.cost)
 
 
 def is_carrier_specific(numobj: PhoneNumber) -> bool:
     """Whether only some carriers connect a short number, in the first region that has it."""
-    regions = region_codes_for_country_code(numobj.country_code or 0)
-    if len(regions) > 1:
-        regions = tuple(it for it in regions if is_valid_short_number_for_region(numobj, it))
-    return bool(regions) and is_carrier_specific_for_region(numobj, regions[0])
+    facts = _anywhere(numobj)
+    return facts is not None and facts.is_carrier_specific
+
+
+def is_sms_service_for_region(numobj: PhoneNumber, region_dialing_from: Optional[str]) -> bool:
+    """Whether a number is an SMS service of a region, a short number that messages are sent to."""
+    read = asked(numobj)
+    try:
+        services, region = _regions.sms_services(), region_dialing_from or ""
+        return read is not None and read.is_sms_service(services, region)
+    except UnknownRegion:
+        return False
+
+
+def _example(region_code: Optional[str], cost: Optional[Cost]) -> str:
+    try:
+        return _regions.short_numbers().example(region_code or "", cost) or ""
+    except UnknownRegion:
+        return ""
+
+
+def example_short_number(region_code: Optional[str]) -> str:
+    """An example of the short numbers of a region; empty without one."""
+    return _example(region_code, None)
+
+
+def example_short_number_for_cost(region_code: Optional[str], cost: int) -> str:
+    """The same of those of a cost, of `ShortNumberCost`."""
+    return _example(region_code, Cost(cost))
 
 
 def is_emergency_number(number: str, region_code: str) -> bool:

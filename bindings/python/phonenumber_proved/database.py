@@ -18,6 +18,9 @@ from .held import Held, PathText
 from .number import Kind, PhoneNumber, Possibility, Rules
 from .tables import TABLE
 
+# As many tries as a call takes; no text in memory uses them up.
+_ALL_TRIES = (1 << 64) - 1
+
 # From so many bytes on it takes long to find the numbers in a text.
 _LONG = 2000
 
@@ -223,6 +226,38 @@ class Database(Asked, Records):
                 call, region, len(region), level, data, len(data), *out, rules=by
             ), hint,
         )
+        return self._read_at(places, text, data, hint, by)
+
+    def matches(
+        self, text: Text, hint: Optional[str] = None, leniency: Leniency = Leniency.VALID,
+        tries: int = _ALL_TRIES,
+    ) -> List[Found]:
+        """The numbers that stand in a text as libphonenumber finds them.
+
+        Tries are how many candidates and pieces without a number are looked at: where they are
+        used up, the rest of the text isn't searched.
+
+        >>> from phonenumber_proved import Database
+        >>> with Database.load() as world:
+        ...     world.matches("Ring 03-331 6005 today", "NZ")
+        ...     world.matches("on 3/10/2011", "NZ")
+        [Found(start=5, end=16, number=<PhoneNumber +6433316005>)]
+        []
+        """
+        data, region, level = bytes_of(text), hint_of(hint), Leniency(leniency)
+        most = max(0, min(tries, _ALL_TRIES))
+        call = (lib if len(data) < _LONG else long_lib).phone_matches
+        places = items(
+            Place, 8, lambda *out: self._call(
+                call, region, len(region), level, most, data, len(data), *out
+            ), hint,
+        )
+        return self._read_at(places, text, data, hint, Rules.LIBRARY)
+
+    def _read_at(
+        self, places: Any, text: Text, data: bytes, hint: Optional[str], by: Rules
+    ) -> List[Found]:
+        """The numbers at places of a text."""
         found, last, end = [], 0, 0
         for it in places:
             piece, between = data[it.start : it.end], data[last : it.start]
@@ -273,13 +308,39 @@ class Database(Asked, Records):
         ...     world.example("NZ", Kind.MOBILE).kind.name, world.example("NZ", Kind.UNKNOWN)
         ('MOBILE', None)
         """
-        at, number, by = hint_of(region or ""), Number(), Rules(rules)
-        is_there, of_kind = [], Kind(kind)
+        at = hint_of(region or "")
+        return self._example(lib.phone_example, at, len(at), Kind(kind), region=region, rules=rules)
+
+    def example_of_code(self, code: int) -> Optional[PhoneNumber]:
+        """An example of a calling code that serves no region; `None` for any other code.
+
+        >>> from phonenumber_proved import Database
+        >>> with Database.load() as world:
+        ...     world.example_of_code(800).e164, world.example_of_code(64)
+        ('+80012345678', None)
+        """
+        return self._example(lib.phone_example_of_code, code) if 0 <= code < 1 << 16 else None
+
+    def invalid_example(self, region: str) -> Optional[PhoneNumber]:
+        """A number of a region that isn't valid, for tests; `None` where there is none.
+
+        >>> from phonenumber_proved import Database
+        >>> with Database.load() as world:
+        ...     world.invalid_example("NZ").is_valid
+        False
+        """
+        at = hint_of(region or "")
+        return self._example(lib.phone_invalid_example, at, len(at), region=region)
+
+    def _example(
+        self, ask: Callable[..., int], *front: Any, region: Optional[str] = None,
+        rules: Rules = Rules.LIBRARY,
+    ) -> Optional[PhoneNumber]:
+        """The number that a call writes behind these arguments; `None` where there is none."""
+        number, by, is_there = Number(), Rules(rules), []
 
         def call(*out: Any) -> int:
-            into = ctypes.byref(number)
-            args = at, len(at), of_kind, into
-            status: int = self._call(lib.phone_example, *args, *out, rules=by)
+            status: int = self._call(ask, *front, ctypes.byref(number), *out, rules=by)
             is_there.append(status != NO_EXAMPLE)
             return status if is_there[-1] else OK
 

@@ -8,7 +8,7 @@ from typing import Any, Callable, List, NoReturn, Optional, Tuple, Type, TypeVar
 
 import os
 
-from ._calls import MEMORY, OK, Handle, PrefixesHandle, Text, lib, long_lib
+from ._calls import MEMORY, OK, AtlasHandle, Handle, PrefixesHandle, Text, lib, long_lib
 from ._locks import new_lock
 
 Self = TypeVar("Self", bound="Held")
@@ -38,6 +38,15 @@ class OwnPrefixesHandle(PrefixesHandle):
 
     def _share(self, _: int, mine: PrefixesHandle) -> Any:
         return lib.phone_prefixes_share(self, mine)
+
+    def __del__(self) -> None:
+        self._close(self)
+
+
+class OwnAtlasHandle(AtlasHandle):
+    """The same of an atlas, of which no second one is made."""
+
+    _close = long_lib.phone_atlas_close
 
     def __del__(self) -> None:
         self._close(self)

@@ -10,10 +10,12 @@ from typing import TYPE_CHECKING, Any, Callable, Optional, Tuple, Union
 from . import _calls
 from ._calls import IS_CLOSED, OK, Number, Part, Text, bytes_of, hint_of, lib, refuse, written
 from .errors import Closed
-from .questions import NumberFacts, NumberMatch, match_of
+from .questions import Cost, FactsAnywhere, NumberFacts, NumberMatch, match_of
 
 if TYPE_CHECKING:
     from .database import Database
+    from .layouts import Layouts
+    from .short import ShortNumbers, SmsServices
 
 
 class Rules(enum.IntEnum):
@@ -311,6 +313,59 @@ class PhoneNumber:
             )
         ).decode()
 
+    def area(self, locale: str = "en", user: Optional[str] = None) -> str:
+        """Its area in a locale; the name of its country where none is known, or its kind has none.
+
+        For a user in another region it is the name of the number's region. Nothing where its kind
+        is unknown.
+
+        >>> from phonenumber_proved import Database
+        >>> with Database.load() as world:
+        ...     number = world.parse("+41 43 130 25 64")
+        ...     number.area("de"), number.area("de", "DE"), number.time_zones
+        ('Zürich', 'Schweiz', ('Europe/Zurich',))
+        """
+        from .places import atlas
+
+        return atlas(locale).area(self, user)
+
+    def carrier_name(self, locale: str = "en", safe: bool = False) -> str:
+        """The name of the carrier to which a mobile number's range was given first.
+
+        With `safe`, nothing where numbers are kept when the carrier is changed.
+        """
+        from .places import atlas
+
+        return atlas(locale).safe_carrier(self) if safe else atlas(locale).carrier(self)
+
+    def country_name(self, locale: str = "en") -> str:
+        """The name of its country; nothing where it is valid in several, or in none."""
+        from .places import atlas
+
+        return atlas(locale).country_name(self)
+
+    @property
+    def time_zones(self) -> Tuple[str, ...]:
+        """Its time zones, one at least: `Etc/Unknown` where none is known."""
+        return self._zones(False)
+
+    def _zones(self, as_it_stands: bool) -> Tuple[str, ...]:
+        from .places import time_zones
+
+        call, flag = lib.phone_time_zones, int(as_it_stands)
+        return tuple(self._told_beside(time_zones(), call, flag).split("&"))
+
+    def _told_beside(self, held: Any, call: Callable[..., int], *args: Any) -> str:
+        """What a call tells of it by something else that is open."""
+        number, texts = ctypes.byref(self._number), self._texts
+
+        def told(*out: Any) -> Any:
+            return held._call(
+                lambda at: self._call(call, at, number, texts, len(texts), *args, *out)
+            )
+
+        return written(told).decode()
+
     def match(self, other: "Union[PhoneNumber, Text]") -> NumberMatch:
         """How like it and another number, or the number of a text, are by libphonenumber's rules.
 
@@ -331,6 +386,127 @@ class PhoneNumber:
             return match_of(call(number, texts, len(texts), two, others, len(others), at), told)
         data, ask = bytes_of(other), lib.phone_match_text
         return match_of(self._call(ask, number, texts, len(texts), data, len(data), at), told)
+
+    def format_read(self, mode: Mode, raw: Optional[Text] = None) -> str:
+        """The text in a mode, where the text that it was read from may be known.
+
+        That stands for a number whose value is 0. One whose calling code the database lacks is
+        written in E.164, in the other modes as its digits.
+
+        >>> from phonenumber_proved import Database, Mode
+        >>> with Database.load() as world:
+        ...     number = world.parse("000", "IT")
+        ...     number.format_read(Mode.E164, "000"), number.format_read(Mode.NATIONAL, "000")
+        ('+39000', '000')
+        """
+        return self._written(lib.phone_format_read, int(Mode(mode)), *_given(raw))
+
+    def mobile_text(
+        self, region: str, with_symbols: bool = True, raw: Optional[Text] = None
+    ) -> str:
+        """What a mobile phone dials to reach it in a region, or with `001` anywhere.
+
+        It is empty where the number can't be dialled there, and leaves the extension out. The text
+        that the number was read from stands for one whose code the database lacks.
+
+        >>> from phonenumber_proved import Database
+        >>> with Database.load() as world:
+        ...     number = world.parse("03-331 6005", "NZ")
+        ...     number.mobile_text("NZ"), number.mobile_text("US", with_symbols=False)
+        ('03 331 6005', '+6433316005')
+        """
+        return self._written(
+            lib.phone_mobile_text, *_given(region), int(with_symbols), *_given(raw), region=region
+        )
+
+    def text_from(self, region: Optional[str], raw: Optional[Text] = None) -> str:
+        """How it is dialled from a region as libphonenumber writes it; from none, internationally.
+
+        >>> from phonenumber_proved import Database
+        >>> with Database.load() as world:
+        ...     number = world.parse("(650) 253-0000", "US")
+        ...     number.text_from("CA"), number.text_from("NZ")
+        ('1 (650) 253-0000', '00 1 650-253-0000')
+        """
+        at = hint_of(region)
+        return self._written(lib.phone_text_from, at, len(at), *_given(raw), region=region)
+
+    def original_text(self, region: Optional[str], raw: Optional[Text] = None) -> str:
+        """It in the way in which the text was written that it was read from.
+
+        No digit of that text is lost, and none is added. Without it, this is the national text. The
+        region is where the number would be dialled from.
+
+        >>> from phonenumber_proved import Database
+        >>> with Database.load() as world:
+        ...     world.parse("3 331-6005", "NZ").original_text("NZ", "3 331-6005")
+        '3 331 6005'
+        """
+        at = hint_of(region)
+        return self._written(lib.phone_original_text, at, len(at), *_given(raw), region=region)
+
+    def format_by(self, layouts: "Layouts", mode: Mode = Mode.NATIONAL) -> str:
+        """The text in a mode by a program's own layouts, the first of them that suits it.
+
+        >>> from phonenumber_proved import Database, Layout, Layouts
+        >>> own = Layouts([Layout(r"(\d)(\d+)", "$1 $2", national_prefix_rule="($NP$FG)")])
+        >>> with Database.load() as world:
+        ...     world.parse("03-331 6005", "NZ").format_by(own)
+        '(03) 3316005'
+        """
+        return self._written(
+            lambda handle, *rest: layouts._call(
+                lambda own, *more: lib.phone_format_by(handle, own, *more), *rest
+            ),
+            int(Mode(mode)),
+        )
+
+    def short_anywhere(self, shorts: "ShortNumbers") -> FactsAnywhere:
+        """What is known of it as a short number of the regions of its calling code.
+
+        >>> from phonenumber_proved import Database, PhoneNumber, ShortNumbers
+        >>> with Database.load() as world, ShortNumbers.load() as shorts:
+        ...     PhoneNumber.from_parts(64, "111").on(world).short_anywhere(shorts).cost.name
+        'TOLL_FREE'
+        """
+        told, number = _calls.FactsAnywhere(), ctypes.byref(self._number)
+        status = self._call(
+            lambda handle, *rest: shorts._call(
+                lambda own, *more: lib.phone_short_anywhere(handle, own, *more), *rest
+            ),
+            number,
+            ctypes.byref(told),
+        )
+        if status != OK:
+            refuse(status)
+        is_some = told.is_possible == 1, told.is_valid == 1, Cost(told.cost)
+        return FactsAnywhere(*is_some, told.is_carrier_specific == 1)
+
+    def is_sms_service(self, services: "SmsServices", region: str) -> bool:
+        """Whether it is an SMS service of a region, a short number that messages are sent to.
+
+        >>> from phonenumber_proved import Database, PhoneNumber, SmsServices
+        >>> with Database.load() as world, SmsServices.load() as services:
+        ...     PhoneNumber.from_parts(1, "911").on(world).is_sms_service(services, "US")
+        False
+        """
+        at, told, number = hint_of(region or ""), ctypes.c_uint8(), ctypes.byref(self._number)
+        status = self._call(
+            lambda handle, *rest: services._call(
+                lambda own, *more: lib.phone_is_sms_service(handle, own, *more), *rest
+            ),
+            at, len(at), number, ctypes.byref(told),
+        )
+        if status != OK:
+            refuse(status, region)
+        return told.value == 1
+
+    def _written(self, call: Callable[..., int], *front: Any, region: Any = None) -> str:
+        """What a call writes of the number: it stands behind these arguments."""
+        number, texts = ctypes.byref(self._number), self._texts
+        return written(
+            lambda *out: self._call(call, *front, number, texts, len(texts), *out), region=region
+        ).decode()
 
     def _call(self, call: Callable[..., int], *args: Any) -> Any:
         """What a call on the number's database gives, by the number's rules."""
@@ -378,6 +554,12 @@ class PhoneNumber:
 
     def __repr__(self) -> str:
         return f"<PhoneNumber {self.e164}>"
+
+
+def _given(text: Optional[Text]) -> Tuple[bytes, int]:
+    """A text that may be absent, which no byte stands for, and its length."""
+    data = b"" if text is None else bytes_of(text)
+    return data, len(data)
 
 
 def _part_of(text: Optional[str], start: int) -> Part:

@@ -36,6 +36,28 @@ class Form(enum.IntEnum):
     """Its digits from 0 to 9, plus signs, stars and number signs; nothing else stays."""
 
 
+class Cost(enum.IntEnum):
+    """What a call of a short number costs."""
+
+    TOLL_FREE = 0
+    STANDARD_RATE = 1
+    PREMIUM_RATE = 2
+    UNKNOWN = 3
+
+
+class FactsAnywhere(NamedTuple):
+    """What is known of a number as a short number of the regions of its calling code."""
+
+    is_possible: bool
+    """The count of its digits is possible in one of them."""
+    is_valid: bool
+    """It is a short number of one of them."""
+    cost: Cost
+    """The first that it costs in one of premium rate, an unknown cost, standard rate, nothing."""
+    is_carrier_specific: bool
+    """Only some carriers connect it, in the first region whose short number it is."""
+
+
 class RegionFacts(NamedTuple):
     """What is known of a region."""
 

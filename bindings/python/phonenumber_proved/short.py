@@ -3,22 +3,13 @@
 from __future__ import annotations
 
 import ctypes
-import enum
-from typing import NamedTuple
+from typing import Any, List, NamedTuple, Optional
 
-from ._calls import OK, Facts, Text, bytes_of, hint_of, lib, refuse
+from ._calls import COST_ANY, NO_EXAMPLE, OK, Facts, Text, bytes_of, hint_of, lib, refuse, written
 from .database import Records
 from .held import PathText
-from .tables import SHORT_TABLE
-
-
-class Cost(enum.IntEnum):
-    """What a call of a short number costs."""
-
-    TOLL_FREE = 0
-    STANDARD_RATE = 1
-    PREMIUM_RATE = 2
-    UNKNOWN = 3
+from .questions import Cost
+from .tables import SHORT_TABLE, SMS_TABLE
 
 
 class ShortFacts(NamedTuple):
@@ -64,3 +55,37 @@ class ShortNumbers(Records):
             facts.is_possible == 1, facts.is_valid == 1, Cost(facts.cost),
             facts.is_carrier_specific == 1, facts.is_emergency == 1, facts.reaches_emergency == 1,
         )
+
+    def example(self, region: str, cost: Optional[Cost] = None) -> Optional[str]:
+        """The example of a region's short numbers, of those of a cost or of all; perhaps none.
+
+        >>> from phonenumber_proved import Cost, ShortNumbers
+        >>> with ShortNumbers.load() as table:
+        ...     table.example("FR"), table.example("FR", Cost.UNKNOWN)
+        ('15', None)
+        """
+        at, wanted = hint_of(region or ""), COST_ANY if cost is None else int(Cost(cost))
+        is_there: List[bool] = []
+
+        def call(*out: Any) -> int:
+            status: int = self._call(lib.phone_short_example, at, len(at), wanted, *out)
+            is_there.append(status != NO_EXAMPLE)
+            return status if is_there[-1] else OK
+
+        text = written(call, 32, region).decode()
+        return text if is_there[-1] else None
+
+
+class SmsServices(Records):
+    """Metadata of SMS services: short numbers that messages are sent to.
+
+    >>> from phonenumber_proved import Database, PhoneNumber, SmsServices
+    >>> with Database.load() as world, SmsServices.load() as services:
+    ...     PhoneNumber.from_parts(1, "22000").on(world).is_sms_service(services, "US")
+    True
+    """
+
+    @classmethod
+    def load(cls, path: PathText = SMS_TABLE) -> "SmsServices":
+        """Opens the metadata of a file; without a path, those of all regions."""
+        return super().load(path)

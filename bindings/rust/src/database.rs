@@ -75,6 +75,22 @@ impl Database {
         Database::of(Records::world()?)
     }
 
+    /// The newest metadata that are here, and their version: those of the file `world.compact` in a folder, where the file
+    /// `VERSION` beside it names a later version than the library's own have, else the library's. Where no folder is given, it is
+    /// the one that the environment variable `PHONE_TABLES` names, else `../share/phonenumber-proved` beside this program's folder.
+    ///
+    /// ```
+    /// use phonenumber_proved::Database;
+    /// let (world, version) = Database::newest(None)?;
+    /// assert!(version.starts_with("libphonenumber "));
+    /// assert!(world.is_valid(&world.parse(Some("NZ"), "03-331 6005")?)?);
+    /// # Ok::<(), phonenumber_proved::Error>(())
+    /// ```
+    pub fn newest(folder: Option<&Path>) -> Result<(Database, String), Error> {
+        let (records, version) = Records::newest(folder.map_or(&[], |it| it.as_os_str().as_encoded_bytes()))?;
+        Ok((Database::of(records)?, version))
+    }
+
     /// The database that a JSON text is, or the compact form of its records (`world.compact` is one).
     ///
     /// ```

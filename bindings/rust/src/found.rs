@@ -40,6 +40,35 @@ impl Database {
         self.by(Default::default()).find(hint, Leniency::Valid, text)
     }
 
+    /// The numbers that stand in a text as libphonenumber finds them, from its front on. The tries are how many
+    /// candidates and pieces without a number are looked at.
+    ///
+    /// ```
+    /// use phonenumber_proved::{Database, Leniency};
+    /// let (world, text) = (Database::world()?, "On 3/10/2011: 03-331 6005");
+    /// let found = world.matches(Some("NZ"), Leniency::Valid, u64::MAX, text)?;
+    /// assert_eq!((&text[found[0].place.clone()], found.len()), ("03-331 6005", 1));
+    /// # Ok::<(), phonenumber_proved::Error>(())
+    /// ```
+    pub fn matches(
+        &self,
+        hint: Option<&str>,
+        leniency: Leniency,
+        tries: u64,
+        text: impl AsRef<str>,
+    ) -> Result<Vec<Found>, Error> {
+        let (id, text, leniency) = (hint_of(hint)?, text.as_ref(), leniency as u32);
+        let by = self.by(Default::default());
+        let places = items_of(4, |out: *mut ffi::Place, len, wrote| {
+            let (at, id_len) = (text.as_ptr(), id.len());
+            // SAFETY: as in `By::find`.
+            by.records().with(|handle| unsafe {
+                ffi::phone_matches(handle, id.as_ptr(), id_len, leniency, tries, at, text.len(), out, len, wrote)
+            })
+        })?;
+        by.read_at(hint, text, places)
+    }
+
     /// How a number is dialled from a region: its national text there, and else an international prefix, its
     /// calling code and its digits. `Error::NoTerritory` where the database has none of the region.
     ///
@@ -117,6 +146,11 @@ impl By<'_> {
                 ffi::phone_find(handle, id.as_ptr(), id_len, leniency, at, text.len(), out, len, wrote)
             })
         })?;
+        self.read_at(hint, text, places)
+    }
+
+    /// The numbers at places of a text.
+    fn read_at(&self, hint: Option<&str>, text: &str, places: Vec<ffi::Place>) -> Result<Vec<Found>, Error> {
         let found = |place: ffi::Place| {
             let place = place.start..place.end;
             Ok(Found { number: self.parse(hint, &text[place.clone()])?, place })
@@ -126,16 +160,25 @@ impl By<'_> {
 
     /// The example number of a region and a kind; none where the database has none.
     pub fn example(&self, region: &str, kind: Type) -> Result<Option<PhoneNumber>, Error> {
-        let (mut number, mut is_there) = (ffi::Number::default(), true);
-        let texts = bytes_of(64, |out, len, wrote| {
+        example_of(|number, out, len, wrote| {
             let (id, id_len) = (region.as_ptr(), region.len());
             // SAFETY: as in `find`.
-            let status = self.records().with(|handle| unsafe {
-                ffi::phone_example(handle, id, id_len, kind as u32, &mut number, out, len, wrote)
-            });
-            is_there = status != ffi::NO_EXAMPLE;
-            if is_there { status } else { ffi::OK }
-        })?;
-        Ok(is_there.then(|| PhoneNumber::of(&number, &texts)))
+            self.records().with(|handle| unsafe {
+                ffi::phone_example(handle, id, id_len, kind as u32, number, out, len, wrote)
+            })
+        })
     }
+}
+
+/// The number that a call writes; none where it says that there is none.
+pub(crate) fn example_of(
+    mut call: impl FnMut(&mut ffi::Number, *mut u8, usize, *mut usize) -> u32,
+) -> Result<Option<PhoneNumber>, Error> {
+    let (mut number, mut is_there) = (ffi::Number::default(), true);
+    let texts = bytes_of(64, |out, len, wrote| {
+        let status = call(&mut number, out, len, wrote);
+        is_there = status != ffi::NO_EXAMPLE;
+        if is_there { status } else { ffi::OK }
+    })?;
+    Ok(is_there.then(|| PhoneNumber::of(&number, &texts)))
 }

@@ -32,9 +32,11 @@ mod call;
 mod columns;
 pub mod compat;
 mod database;
+mod dialling;
 mod error;
 mod found;
 mod number;
+mod places;
 mod possible;
 mod prefixes;
 mod questions;
@@ -48,15 +50,17 @@ use phonenumber_proved_sys as ffi;
 
 pub use columns::{Column, Columns, Offset, Texts, TextsBuf};
 pub use database::{By, Database, Formatter, Rules};
+pub use dialling::{FactsAnywhere, Layout, Layouts};
 pub use error::{Error, LineFault};
 pub use found::{Found, Leniency};
 pub use number::{Mode, PhoneNumber, Source, Type};
+pub use places::{Atlas, AtlasTables};
 pub use possible::{Possibility, Sameness};
 pub use prefixes::Prefixes;
 pub use questions::{
     Form, NumberFacts, NumberMatch, RegionFacts, has_letters, is_geographical, match_numbers, mobile_token, normalize,
 };
-pub use short::{Cost, ShortFacts, ShortNumbers};
+pub use short::{Cost, ShortFacts, ShortNumbers, SmsServices};
 pub use typing::Typing;
 
 /// The metadata that [`Database::world`] opens, as JSON, which a program that names it holds besides.
@@ -71,6 +75,10 @@ pub const WORLD_PATH: &str = concat!(env!("PHONE_TABLES"), "/world.compact");
 /// The metadata of short numbers that go with this crate.
 #[cfg(feature = "table")]
 pub const SHORT: &str = include_str!(concat!(env!("PHONE_TABLES"), "/short.json"));
+
+/// The metadata of SMS services that go with this crate, short numbers that messages are sent to.
+#[cfg(feature = "table")]
+pub const SMS: &str = include_str!(concat!(env!("PHONE_TABLES"), "/sms.json"));
 
 /// The time zones by prefix that go with this crate, for [`Prefixes::of`]; those of a prefix are parted by `&`.
 ///

@@ -48,6 +48,11 @@ impl Prefixes {
         Prefixes::of(std::fs::read(path)?)
     }
 
+    /// The status of a call on a handle of the table, which is lent to it alone.
+    pub(crate) fn with(&self, call: impl FnOnce(&mut ffi::Prefixes) -> u32) -> u32 {
+        self.table.with(call)
+    }
+
     /// Prefix and text of the entry whose prefix is the longest that begins these digits, such as those of
     /// an E.164 text after its plus sign; none exactly where no prefix begins them.
     pub fn longest<'t>(&self, digits: &'t str) -> Result<Option<(&'t str, String)>, Error> {

@@ -144,6 +144,15 @@ impl Records {
         Shared::by(|handle| unsafe { ffi::phone_open_world(handle, Rules::Library as u32) }).map_err(Error::of)
     }
 
+    /// The newest metadata, of this folder or of the library, and their version, which is shorter than 64 bytes.
+    pub(crate) fn newest(folder: &[u8]) -> Result<(Records, String), Error> {
+        let (rules, at, len, mut out, mut wrote) = (Rules::Library as u32, folder.as_ptr(), folder.len(), [0; 64], 0);
+        // SAFETY: both slices are valid for their lengths, and the handle is closed and lent to the call alone.
+        let opens = |handle: &mut _| unsafe { ffi::phone_open_newest(handle, rules, at, len, out.as_mut_ptr(), out.len(), &mut wrote) };
+        let records = Shared::by(opens).map_err(Error::of)?;
+        Ok((records, String::from_utf8_lossy(&out[..wrote]).into_owned()))
+    }
+
     /// The same records, asked by these rules.
     pub(crate) fn asked_by(&self, rules: Rules) -> Result<Records, Error> {
         let mut first = locked(&self.0.first);

@@ -15,7 +15,7 @@ pub enum Cost {
     Unknown,
 }
 
-const COSTS: [Cost; 4] = [Cost::TollFree, Cost::StandardRate, Cost::PremiumRate, Cost::Unknown];
+pub(crate) const COSTS: [Cost; 4] = [Cost::TollFree, Cost::StandardRate, Cost::PremiumRate, Cost::Unknown];
 
 /// What is known of a text as a short number of a region.
 #[derive(Clone, Copy, Debug, PartialEq, Eq, Hash)]
@@ -46,7 +46,7 @@ pub struct ShortFacts {
 /// ```
 #[derive(Clone)]
 pub struct ShortNumbers {
-    records: Records,
+    pub(crate) records: Records,
 }
 
 impl fmt::Debug for ShortNumbers {
@@ -81,5 +81,30 @@ impl ShortNumbers {
             is_emergency: facts.is_emergency == 1,
             reaches_emergency: facts.reaches_emergency == 1,
         })
+    }
+}
+
+/// Metadata of SMS services, short numbers that messages are sent to, for
+/// [`Database::is_sms_service`](crate::Database::is_sms_service). Threads use it at once, and clones share it.
+#[derive(Clone)]
+pub struct SmsServices {
+    pub(crate) records: Records,
+}
+
+impl fmt::Debug for SmsServices {
+    fn fmt(&self, f: &mut fmt::Formatter<'_>) -> fmt::Result {
+        f.debug_struct("SmsServices").finish_non_exhaustive()
+    }
+}
+
+impl SmsServices {
+    /// The metadata of a JSON text.
+    pub fn from_json(text: impl AsRef<[u8]>) -> Result<SmsServices, Error> {
+        Ok(SmsServices { records: Records::open(text.as_ref())? })
+    }
+
+    /// The metadata of a file.
+    pub fn load(path: impl AsRef<Path>) -> Result<SmsServices, Error> {
+        SmsServices::from_json(std::fs::read(path)?)
     }
 }

@@ -2,9 +2,9 @@
 //! printed texts, validity, and texts that made readers panic. Then what is by libphonenumber's rules, and what
 //! belongs to neither.
 use phonenumber_proved::{
-    Column, Cost, Database, Error, Form, Found, Leniency, LineFault, Mode, NumberMatch, PhoneNumber, Prefixes, Rules,
-    SHORT, ShortNumbers, Source, TABLE_VERSION, TIME_ZONES, Texts, TextsBuf, Type, WORLD, has_letters, is_geographical,
-    is_viable, match_numbers, mobile_token, normalize,
+    Column, Cost, Database, Error, Form, Found, Layout, Layouts, Leniency, LineFault, Mode, NumberMatch, PhoneNumber,
+    Prefixes, Rules, SHORT, ShortNumbers, Source, TABLE_VERSION, TIME_ZONES, Texts, TextsBuf, Type, WORLD, has_letters,
+    is_geographical, is_viable, match_numbers, mobile_token, normalize,
 };
 use std::collections::{BTreeSet, HashMap, HashSet};
 use std::sync::Arc;
@@ -778,4 +778,41 @@ fn columns_of_each_width_of_offsets_and_none_that_are_no_columns() {
     assert_eq!(world.columns(&lacking, &Texts::one_hint(""), &COLUMNS).unwrap_err(), Error::Layout);
     let behind = Texts::new(&[0i64, -1], bytes);
     assert_eq!(world.columns(&behind, &Texts::one_hint(""), &COLUMNS).unwrap_err(), Error::Layout);
+}
+
+/// Hint, text, region: how a number is printed as it was written.
+const ORIGINALS: [(Option<&str>, &str, Option<&str>, &str); 6] = [
+    (Some("NZ"), "3 331-6005", Some("NZ"), "3 331 6005"),
+    (Some("NZ"), "03-331-6005", Some("NZ"), "03 331 6005"),
+    (Some("NZ"), "0064 33316005", Some("NZ"), "0064 33316005"),
+    (Some("US"), "011 64 33316005", Some("US"), "011 64 3 331 6005"),
+    (Some("GB"), "020 7946 0018 #5", Some("GB"), "020 7946 0018 #5"),
+    (None, "+64 33316005", None, "+64 3 331 6005"),
+];
+
+#[test]
+fn numbers_are_dialled_and_printed_as_they_were_written() {
+    let (world, shorts) = (world(), ShortNumbers::from_json(SHORT).unwrap());
+    for (hint, text, region, wanted) in ORIGINALS {
+        let number = world.parse(hint, text).unwrap();
+        assert_eq!(world.original_text(region, Some(text), &number).as_deref(), Ok(wanted), "{text}");
+    }
+    let number = world.parse(None, "+61 1300 123456").unwrap();
+    let dialled = ["AU", "CX", "xx"].map(|id| world.mobile_text(id, true, None, &number).unwrap());
+    assert_eq!(dialled, ["1300 123 456", "", ""]);
+    assert_eq!(world.text_from(Some("xx"), None, &number).unwrap_err(), Error::NoRegion);
+    assert_eq!(world.original_text(Some(""), None, &number).unwrap_err(), Error::NoRegion);
+    let none = Database::from_json("[]").unwrap();
+    assert_eq!(none.format_read(Mode::National, None, &number).as_deref(), Ok("1300123456"));
+    assert_eq!(none.mobile_text("AU", false, Some("as it was"), &number).as_deref(), Ok("as it was"));
+    let quoted = Layout { pattern: r"(\d{4})(\d+)", format: "$1 \"\\\u{1}\" $2", ..Layout::default() };
+    let own = Layouts::of(&[Layout { leading_digits: Some("2"), ..quoted }, quoted]).unwrap();
+    let told = world.format_by(&own.clone(), Mode::National, &number).unwrap();
+    assert_eq!(told, "1300 \"\\\u{1}\" 123456");
+    assert_eq!(Layouts::of(&[Layout { pattern: "(", ..quoted }]).unwrap_err(), Error::Database(12));
+    let facts = world.short_anywhere(&shorts, &PhoneNumber::from_parts(1, 911, 0).unwrap()).unwrap();
+    assert_eq!((facts.is_possible, facts.is_valid, facts.cost), (true, true, Cost::Unknown));
+    let examples = [Cost::TollFree, Cost::Unknown].map(|cost| shorts.example("FR", Some(cost)).unwrap());
+    assert_eq!(examples, [Some("15".to_owned()), None]);
+    assert_eq!(shorts.example("xx", None).unwrap_err(), Error::NoRegion);
 }

@@ -22,7 +22,8 @@ An unknown region is none, as there. A national number of 2^56 or more, as some 
 is too long. Where versions of libphonenumber differ, the rules are a newer one's: a text with
 `;phone-context=1` is no number. `AsYouTypeFormatter` shows what `Database.typed` does: unlike
 there, keys that begin with a national or an international prefix often stay without marks until
-the number is whole. `PhoneNumberMatcher` finds what `Database.find` does, which guesses less.
+the number is whole. `PhoneNumberMatcher` finds what `Database.matches` does; the two levels that look
+at grouping aren't offered.
 """
 
 from __future__ import annotations
@@ -31,6 +32,10 @@ import sys
 from typing import Any, Dict, FrozenSet, List, Optional, Tuple
 
 from .. import _of_regions, _regions
+from .._dialling import (
+    format_by_pattern, format_in_original_format, format_number, format_number_for_mobile_dialing,
+    format_out_of_country_calling_number,
+)
 from .._matches import Leniency, PhoneNumberMatch, PhoneNumberMatcher
 from .._metadata import NumberFormat, PhoneMetadata, PhoneNumberDesc
 from .._of_regions import (
@@ -55,12 +60,14 @@ from .._questions import (
     supported_types_for_region, truncate_too_long_number,
 )
 from .._shorts import (
-    connects_to_emergency_number, expected_cost, expected_cost_for_region, is_carrier_specific,
-    is_carrier_specific_for_region, is_emergency_number, is_possible_short_number,
-    is_possible_short_number_for_region, is_valid_short_number, is_valid_short_number_for_region,
+    connects_to_emergency_number, example_short_number as _example_short_number,
+    example_short_number_for_cost as _example_short_number_for_cost, expected_cost,
+    expected_cost_for_region, is_carrier_specific, is_carrier_specific_for_region,
+    is_emergency_number, is_possible_short_number, is_possible_short_number_for_region,
+    is_sms_service_for_region, is_valid_short_number, is_valid_short_number_for_region,
 )
-from ..errors import NoNumber, UnknownCode
-from ..number import Kind, Mode, Source
+from ..errors import NoNumber, UnknownRegion
+from ..number import Kind, Source
 
 __all__ = [
     "AsYouTypeFormatter", "COUNTRY_CODES_FOR_NON_GEO_REGIONS", "COUNTRY_CODE_TO_REGION_CODE",
@@ -71,16 +78,19 @@ __all__ = [
     "ValidationResult", "can_be_internationally_dialled", "connects_to_emergency_number",
     "convert_alpha_characters_in_number", "country_code_for_region",
     "country_code_for_valid_region", "country_mobile_token", "example_number",
-    "example_number_for_type", "expected_cost", "expected_cost_for_region",
+    "example_number_for_non_geo_entity", "example_number_for_type", "expected_cost",
+    "expected_cost_for_region", "format_by_pattern", "format_in_original_format",
     "format_national_number_with_carrier_code",
     "format_national_number_with_preferred_carrier_code", "format_number",
-    "format_out_of_country_calling_number", "is_alpha_number", "is_carrier_specific",
+    "format_number_for_mobile_dialing", "format_out_of_country_calling_number",
+    "invalid_example_number", "is_alpha_number", "is_carrier_specific",
     "is_carrier_specific_for_region", "is_emergency_number", "is_mobile_number_portable_region",
     "is_nanpa_country", "is_number_geographical", "is_number_match", "is_number_type_geographical",
     "is_possible_number", "is_possible_number_for_type", "is_possible_number_for_type_with_reason",
     "is_possible_number_string", "is_possible_number_with_reason", "is_possible_short_number",
-    "is_possible_short_number_for_region", "is_valid_number", "is_valid_number_for_region",
-    "is_valid_short_number", "is_valid_short_number_for_region", "length_of_geographical_area_code",
+    "is_possible_short_number_for_region", "is_sms_service_for_region", "is_valid_number",
+    "is_valid_number_for_region", "is_valid_short_number", "is_valid_short_number_for_region",
+    "length_of_geographical_area_code",
     "length_of_national_destination_code", "national_significant_number", "ndd_prefix_for_region",
     "normalize_diallable_chars_only", "normalize_digits_only", "number_type", "parse",
     "region_code_for_country_code", "region_code_for_number", "region_codes_for_country_code",
@@ -154,39 +164,6 @@ def _without_code(number: str, keep_raw_input: bool, numobj: Optional[PhoneNumbe
     return it
 
 
-def format_number(numobj: PhoneNumber, num_format: int) -> str:
-    """The text in a format; the national number's digits where no region has the calling code."""
-    if numobj.national_number == 0 and numobj.raw_input:
-        is_of_region = numobj.country_code_source == CountryCodeSource.FROM_DEFAULT_COUNTRY
-        is_coded = is_of_region and num_format == PhoneNumberFormat.E164
-        return f"+{numobj.country_code}{numobj.raw_input}" if is_coded else numobj.raw_input
-    digits = national_significant_number(numobj)
-    if num_format == PhoneNumberFormat.E164:
-        return f"+{numobj.country_code}{digits}"
-    read = asked(numobj)
-    try:
-        return digits if read is None else read.format(Mode(num_format))
-    except UnknownCode:
-        return digits
-
-
-def format_out_of_country_calling_number(
-    numobj: PhoneNumber, region_calling_from: Optional[str]
-) -> str:
-    """How a number is dialled from a region; international text where there is no such region."""
-    if not is_supported(region_calling_from):
-        return format_number(numobj, PhoneNumberFormat.INTERNATIONAL)
-    if numobj.country_code == 1 and is_nanpa_country(region_calling_from):
-        return "1 " + format_number(numobj, PhoneNumberFormat.NATIONAL)
-    read = asked(numobj)
-    try:
-        if read is not None:
-            return read.dialled_from(str(region_calling_from))
-    except UnknownCode:
-        pass
-    return national_significant_number(numobj)
-
-
 def number_type(numobj: PhoneNumber) -> int:
     """The kind of a number, of `PhoneNumberType`."""
     read = asked(numobj)
@@ -250,6 +227,21 @@ def example_number(region_code: Optional[str]) -> Optional[PhoneNumber]:
     return example_number_for_type(region_code, PhoneNumberType.FIXED_LINE)
 
 
+def example_number_for_non_geo_entity(country_calling_code: int) -> Optional[PhoneNumber]:
+    """An example of the numbers of a calling code that serves no region."""
+    read = _regions.world().example_of_code(country_calling_code)
+    return None if read is None else plain_number(read)
+
+
+def invalid_example_number(region_code: Optional[str]) -> Optional[PhoneNumber]:
+    """A number of a region that isn't valid, for tests."""
+    try:
+        read = _regions.world().invalid_example(region_code or "")
+    except UnknownRegion:
+        return None
+    return None if read is None else plain_number(read)
+
+
 class AsYouTypeFormatter:
     """A number as it is typed, character by character.
 
@@ -291,14 +283,14 @@ class AsYouTypeFormatter:
 
 
 from . import (  # noqa: E402
-    asyoutypeformatter, phonemetadata, phonenumber, phonenumbermatcher, phonenumberutil,
-    shortnumberinfo,
+    asyoutypeformatter, carrier, geocoder, phonemetadata, phonenumber, phonenumbermatcher,
+    phonenumberutil, shortnumberinfo, timezone,
 )
 
 #: The modules of that package that are here.
 _MODULES = (
-    asyoutypeformatter, phonemetadata, phonenumber, phonenumbermatcher, phonenumberutil,
-    shortnumberinfo,
+    asyoutypeformatter, carrier, geocoder, phonemetadata, phonenumber, phonenumbermatcher,
+    phonenumberutil, shortnumberinfo, timezone,
 )
 
 

@@ -16,6 +16,12 @@ pub struct Prefixes {
     pub at: *mut u8,
 }
 
+/// The same of an atlas: the tables of texts that a locale asks.
+#[repr(C)]
+pub struct Atlas {
+    pub at: *mut u8,
+}
+
 /// Where a text stands, in bytes beside a number.
 #[repr(C)]
 #[derive(Clone, Copy, Default)]
@@ -66,6 +72,16 @@ pub struct NumberFacts {
     pub destination_length: usize,
     pub is_geographical: u8,
     pub is_dialled_from_abroad: u8,
+}
+
+/// What is known of a number as a short number of any region of its calling code: each but the cost is 1, else 0.
+#[repr(C)]
+#[derive(Clone, Copy, Default)]
+pub struct FactsAnywhere {
+    pub cost: u32,
+    pub is_possible: u8,
+    pub is_valid: u8,
+    pub is_carrier_specific: u8,
 }
 
 /// Where a number stands in a text, in bytes.
@@ -119,6 +135,15 @@ unsafe extern "C" {
     pub fn phone_open(text: *const u8, text_len: usize, rules: u32, handle: *mut Handle) -> u32;
     pub fn phone_open_world(handle: *mut Handle, rules: u32) -> u32;
     pub fn phone_world_text(text_len: *mut usize) -> *const u8;
+    pub fn phone_open_newest(
+        handle: *mut Handle,
+        rules: u32,
+        folder: *const u8,
+        folder_len: usize,
+        out: *mut u8,
+        out_len: usize,
+        wrote: *mut usize,
+    ) -> u32;
     pub fn phone_share(world: *mut Handle, mine: *mut Handle) -> u32;
     pub fn phone_share_by(world: *mut Handle, rules: u32, mine: *mut Handle) -> u32;
     pub fn phone_close(handle: *mut Handle);
@@ -360,13 +385,199 @@ unsafe extern "C" {
         wrote: *mut usize,
         prefix_len: *mut usize,
     ) -> u32;
+    pub fn phone_atlas_open(
+        locale: *const u8,
+        locale_len: usize,
+        areas: *mut Prefixes,
+        english_areas: *mut Prefixes,
+        carriers: *mut Prefixes,
+        english_carriers: *mut Prefixes,
+        names: *const u8,
+        names_len: usize,
+        atlas: *mut Atlas,
+        line: *mut usize,
+    ) -> u32;
+    pub fn phone_atlas_close(atlas: *mut Atlas);
+    pub fn phone_description(
+        handle: *mut Handle,
+        atlas: *mut Atlas,
+        number: *const Number,
+        bytes: *const u8,
+        bytes_len: usize,
+        user: *const u8,
+        user_len: usize,
+        as_it_stands: u8,
+        out: *mut u8,
+        out_len: usize,
+        wrote: *mut usize,
+    ) -> u32;
+    pub fn phone_carrier(
+        handle: *mut Handle,
+        atlas: *mut Atlas,
+        number: *const Number,
+        bytes: *const u8,
+        bytes_len: usize,
+        as_it_stands: u8,
+        out: *mut u8,
+        out_len: usize,
+        wrote: *mut usize,
+    ) -> u32;
+    pub fn phone_safe_carrier(
+        handle: *mut Handle,
+        atlas: *mut Atlas,
+        number: *const Number,
+        bytes: *const u8,
+        bytes_len: usize,
+        out: *mut u8,
+        out_len: usize,
+        wrote: *mut usize,
+    ) -> u32;
+    pub fn phone_country_name(
+        handle: *mut Handle,
+        atlas: *mut Atlas,
+        number: *const Number,
+        bytes: *const u8,
+        bytes_len: usize,
+        out: *mut u8,
+        out_len: usize,
+        wrote: *mut usize,
+    ) -> u32;
+    pub fn phone_time_zones(
+        handle: *mut Handle,
+        zones: *mut Prefixes,
+        number: *const Number,
+        bytes: *const u8,
+        bytes_len: usize,
+        as_it_stands: u8,
+        out: *mut u8,
+        out_len: usize,
+        wrote: *mut usize,
+    ) -> u32;
+    pub fn phone_matches(
+        handle: *mut Handle,
+        hint: *const u8,
+        hint_len: usize,
+        leniency: u32,
+        tries: u64,
+        text: *const u8,
+        text_len: usize,
+        out: *mut Place,
+        out_len: usize,
+        wrote: *mut usize,
+    ) -> u32;
     pub fn phone_key(number: *const Number, out: *mut u8, out_len: usize, wrote: *mut usize) -> u32;
     pub fn phone_is_viable(text: *const u8, text_len: usize, told: *mut u8) -> u32;
     pub fn phone_status_words(status: u32, out: *mut u8, out_len: usize, wrote: *mut usize) -> u32;
     pub fn phone_word(set: u32, value: u32, out: *mut u8, out_len: usize, wrote: *mut usize) -> u32;
     pub fn phone_version() -> u32;
     pub fn phone_table_version(out: *mut u8, out_len: usize, wrote: *mut usize) -> u32;
+    pub fn phone_format_read(
+        handle: *mut Handle,
+        mode: u32,
+        raw: *const u8,
+        raw_len: usize,
+        number: *const Number,
+        bytes: *const u8,
+        bytes_len: usize,
+        out: *mut u8,
+        out_len: usize,
+        wrote: *mut usize,
+    ) -> u32;
+    pub fn phone_mobile_text(
+        handle: *mut Handle,
+        id: *const u8,
+        id_len: usize,
+        with_symbols: u8,
+        raw: *const u8,
+        raw_len: usize,
+        number: *const Number,
+        bytes: *const u8,
+        bytes_len: usize,
+        out: *mut u8,
+        out_len: usize,
+        wrote: *mut usize,
+    ) -> u32;
+    pub fn phone_text_from(
+        handle: *mut Handle,
+        region: *const u8,
+        region_len: usize,
+        raw: *const u8,
+        raw_len: usize,
+        number: *const Number,
+        bytes: *const u8,
+        bytes_len: usize,
+        out: *mut u8,
+        out_len: usize,
+        wrote: *mut usize,
+    ) -> u32;
+    pub fn phone_original_text(
+        handle: *mut Handle,
+        region: *const u8,
+        region_len: usize,
+        raw: *const u8,
+        raw_len: usize,
+        number: *const Number,
+        bytes: *const u8,
+        bytes_len: usize,
+        out: *mut u8,
+        out_len: usize,
+        wrote: *mut usize,
+    ) -> u32;
+    pub fn phone_format_by(
+        handle: *mut Handle,
+        layouts: *mut Handle,
+        mode: u32,
+        number: *const Number,
+        bytes: *const u8,
+        bytes_len: usize,
+        out: *mut u8,
+        out_len: usize,
+        wrote: *mut usize,
+    ) -> u32;
+    pub fn phone_short_anywhere(
+        handle: *mut Handle,
+        shorts: *mut Handle,
+        number: *const Number,
+        facts: *mut FactsAnywhere,
+    ) -> u32;
+    pub fn phone_short_example(
+        handle: *mut Handle,
+        region: *const u8,
+        region_len: usize,
+        cost: u32,
+        out: *mut u8,
+        out_len: usize,
+        wrote: *mut usize,
+    ) -> u32;
+    pub fn phone_is_sms_service(
+        handle: *mut Handle,
+        services: *mut Handle,
+        region: *const u8,
+        region_len: usize,
+        number: *const Number,
+        told: *mut u8,
+    ) -> u32;
+    pub fn phone_example_of_code(
+        handle: *mut Handle,
+        code: u16,
+        number: *mut Number,
+        out: *mut u8,
+        out_len: usize,
+        wrote: *mut usize,
+    ) -> u32;
+    pub fn phone_invalid_example(
+        handle: *mut Handle,
+        region: *const u8,
+        region_len: usize,
+        number: *mut Number,
+        out: *mut u8,
+        out_len: usize,
+        wrote: *mut usize,
+    ) -> u32;
 }
+
+/// Any cost, of `phone_short_example`.
+pub const COST_ANY: u32 = 4;
 
 /// The version of the calls that is declared here.
 pub const VERSION: u32 = 3;

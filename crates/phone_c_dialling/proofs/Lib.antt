@@ -1,0 +1,4 @@
+pub mod OneAnswers
+pub mod OneExamples
+pub mod OneOriginals
+pub mod TextsFrom

@@ -1,0 +1,3 @@
+pub mod Atlases
+pub mod Owned
+pub mod Places
