@@ -10,6 +10,7 @@ use phone_c_base::handle::{Handle, put, take};
 use phone_c_base::hint::hint_of;
 use phone_c_base::status::{CLOSED, MEMORY, NO_LENIENCY, NO_REGION, NOT_UTF8, OK, TOO_SMALL};
 use phone_c_matches::matches::{leniency_of, matches};
+use phone_plans::Plans;
 use std::alloc::Global;
 
 /// Writes where the numbers of a running text stand, in their order, under the hint that
@@ -60,13 +61,44 @@ pub extern "C" fn phone_matches(
     let Some(opened) = take(alloc, handle) else {
         return CLOSED;
     };
-    let status = match leniency_of(leniency) {
-        Some(leniency) => match hint_of(hint) {
-            Some(hint) => matches(opened.database(), hint, leniency, tries, text, out, wrote),
-            None => NO_REGION,
-        },
-        None => NO_LENIENCY,
-    };
+    let status = found(opened.database(), hint, leniency, tries, text, out, wrote);
     put(alloc, handle, opened);
     status
+}
+
+/// The same of a database.
+fn found(
+    database: &Plans,
+    hint: &[u8],
+    leniency: u32,
+    tries: u64,
+    text: &[u8],
+    out: &mut [Place],
+    wrote: &mut usize,
+) -> u32
+    ensures written { result ≡ OK → UnderHint hint.now (λ h.
+        UnderLeniency leniency (λ l. IsWrittenA
+        (ArePlaces database.now h l tries text.now) out.old out.new wrote.new)) }
+    ensures too_small { result ≡ TOO_SMALL → UnderHint hint.now (λ h.
+        UnderLeniency leniency (λ l. IsTooLongA
+        (ArePlaces database.now h l tries text.now) out.old out.new wrote.new)) }
+    ensures closed { ¬ (result ≡ CLOSED) }
+    ensures no_leniency { (result ≡ NO_LENIENCY) ↔ IsNoLeniency leniency }
+    ensures no_region { (result ≡ NO_REGION) ↔
+        (¬ (IsNoLeniency leniency) × (hint_of hint.now ≡ None)) }
+    ensures not_utf8 { (result ≡ NOT_UTF8) ↔
+        (¬ (IsNoLeniency leniency) × ¬ (hint_of hint.now ≡ None) × ¬ (IsUtf8 text.now)) }
+    ensures other { ¬ (result ≡ OK) → ¬ (result ≡ TOO_SMALL) → ¬ (result ≡ NO_LENIENCY) →
+        ¬ (result ≡ NO_REGION) → ¬ (result ≡ NOT_UTF8) → result ≡ MEMORY }
+    ensures untouched { ¬ (result ≡ OK) → out.new ≡ out.old }
+    ensures no_length { ¬ (result ≡ OK) → ¬ (result ≡ TOO_SMALL) → wrote.new ≡ 0 }
+{
+    *wrote = 0;
+    let Some(leniency) = leniency_of(leniency) else {
+        return NO_LENIENCY;
+    };
+    let Some(hint) = hint_of(hint) else {
+        return NO_REGION;
+    };
+    matches(database, hint, leniency, tries, text, out, wrote)
 }
