@@ -14,7 +14,10 @@ TOP = Path(__file__).resolve().parents[2]
 ROWS = TOP / "crates" / "replay" / "data" / "questions.tsv"
 
 # The questions that are answered in Rattle alone.
-LEFT = {"example-any"}
+LEFT = {
+    "example-any", "letters", "own-letters", "own-match", "own-match-text", "own-match-texts", "own-possible-kind", "own-mobile",
+    "own-by-layouts", "own-from-abroad", "short-own-cost",
+}
 
 # The escapes of rows: of characters, of a tab, of a line feed, of a backslash.
 ESCAPE = re.compile(r"\\(?:u([0-9A-Fa-f]{4})|U([0-9A-Fa-f]{8})|([tn\\]))")

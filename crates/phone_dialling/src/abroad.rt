@@ -52,7 +52,7 @@ pub fn dialled_text(
 }
 
 /// The territory of a region, where there is one.
-pub(crate) fn from_territory(database: &Plans, from: Option<Id>) -> Option<&Territory>
+pub fn from_territory(database: &Plans, from: Option<Id>) -> Option<&Territory>
     ensures { option_copied result ≡
         option_and_then (territory_of database.entry.now) from }
 {
@@ -153,7 +153,7 @@ fn international(
 
 /// A text behind a prefix and a space, without a prefix behind a plus sign. Refused only for
 /// memory.
-fn behind_prefix(alloc: Global, prefix: Option<&str>, rest: &str) -> Result<String, AllocError>
+pub fn behind_prefix(alloc: Global, prefix: Option<&str>, rest: &str) -> Result<String, AllocError>
     ensures { IfOk result (λ t. string_bytes t ≡
         behind_prefix (option_copied prefix.entry) rest.now) }
 {
@@ -174,7 +174,7 @@ pub(crate) fn prefix_of(from: &Territory) -> Option<&str>
 }
 
 /// The international prefix that a territory prefers, where it isn't empty.
-fn preferred_prefix(from: &Territory) -> Option<&str>
+pub fn preferred_prefix(from: &Territory) -> Option<&str>
     ensures { option_copied result ≡ preferred_prefix from.entry.now }
 {
     let preferred = from.preferred_international_prefix()?;
@@ -189,7 +189,7 @@ fn some(text: &str) -> Option<&str>
 }
 
 /// The pattern of a territory's international prefixes, where that is one prefix.
-fn single_prefix(from: &Territory) -> Option<&str>
+pub fn single_prefix(from: &Territory) -> Option<&str>
     ensures { option_copied result ≡ single_prefix from.entry.now }
 {
     let pattern = from.international_prefix_pattern()?;

@@ -11,12 +11,12 @@ mod own_layouts;
 mod short_numbers;
 mod texts;
 
-pub use abroad::dialled_text;
+pub use abroad::{behind_prefix, dialled_text, from_territory, preferred_prefix, single_prefix};
 pub use mobile::{MobileWay, mobile_text};
-pub use original::original_text;
+pub use original::{first_layout, original_text, with_extension};
 pub use own_layouts::text_by_layouts;
 pub use short_numbers::{
-    cost_anywhere, is_carrier_anywhere, is_possible_anywhere, is_valid_anywhere, short_example,
-    short_example_of_cost,
+    cost_anywhere, cost_in, dearest, is_carrier_anywhere, is_possible_anywhere, is_valid_anywhere,
+    short_example, short_example_of_cost,
 };
 pub use texts::text_in;

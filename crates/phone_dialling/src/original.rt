@@ -108,7 +108,7 @@ fn layout_in<'d>(m: &'d Territory, number: &PhoneNumber) -> Result<Option<&'d Fo
 }
 
 /// The first of these layouts that is that of digits. Refused only for memory.
-pub(crate) fn first_layout<'d>(
+pub fn first_layout<'d>(
     layouts: &'d [Format],
     digits: &str,
 ) -> Result<Option<&'d Format>, AllocError>
@@ -206,7 +206,7 @@ fn bare_text(m: &Territory, layout: &Format, number: &PhoneNumber) -> Result<Str
 
 /// A text with the extension of a number behind it, where that isn't empty. Refused only for
 /// memory.
-pub(crate) fn with_extension(
+pub fn with_extension(
     text: String,
     m: &Territory,
     number: &PhoneNumber,

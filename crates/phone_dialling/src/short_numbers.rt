@@ -250,8 +250,9 @@ pub fn cost_anywhere(
     }
 }
 
-/// What digits cost in the regions of these territories. Refused only for memory.
-fn dearest(short: &Plans, digits: &str, found: &[&Territory]) -> Result<Cost, AllocError>
+/// What digits cost in the regions of these territories: the first there is of premium rate, an
+/// unknown cost, standard rate and nothing; unknown without a territory. Refused only for memory.
+pub fn dearest(short: &Plans, digits: &str, found: &[&Territory]) -> Result<Cost, AllocError>
     ensures { IfOk result (λ c. c ≡ dearest short.now digits.now
         (map (λ (m : Bor loader.Metadata). m.now) found.now)) }
 {
@@ -302,8 +303,9 @@ fn is_one_cost(a: Cost, b: Cost) -> bool
     }
 }
 
-/// What digits cost in a territory's region. Refused only for memory.
-fn cost_in(short: &Plans, digits: &str, m: &Territory) -> Result<Cost, AllocError>
+/// What digits cost in a territory's region; unknown where it is the whole world. Refused only for
+/// memory.
+pub fn cost_in(short: &Plans, digits: &str, m: &Territory) -> Result<Cost, AllocError>
     ensures { IfOk result (λ c. c ≡ cost_in short.now digits.now m.now) }
 {
     match m.region() {

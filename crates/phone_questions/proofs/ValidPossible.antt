@@ -36,7 +36,7 @@ own_lengths m d e = at (length d.possible_length == 0)
     at true = ap (λ o. option_map_or (λ (d : Descriptor). d.possible_length) o []) e
     at false = refl
 
-by_general : (m : Metadata) (n : ℕ) (o : Option Descriptor) → m.general ≡ o →
+pub by_general : (m : Metadata) (n : ℕ) (o : Option Descriptor) → m.general ≡ o →
     option_map_or (λ (d : Descriptor). allows_length d n) o false ≡ true → is_possible (verdict_by m (cons_option o []) n) ≡ true
 by_general m n None e h = absurd (true≢false (sym h))
 by_general m n (Some d) e h =

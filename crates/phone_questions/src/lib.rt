@@ -23,9 +23,9 @@ pub use groups::{area_length, destination_length};
 pub use kinds::{is_geographical_kind, kinds_of_code, kinds_of_region, mobile_token};
 pub use letters::{diallable_only, digits_only, has_letters, with_keys};
 pub use matches::{NumberMatch, match_of};
-pub use possible::possibility_as;
+pub use possible::{possibility_as, verdict_in};
 pub use regions::{
     code_of_region, is_nanpa, is_portable, main_region, national_prefix, national_prefix_digits,
 };
-pub use text_matches::{match_text, match_texts};
+pub use text_matches::{match_text, match_texts, read_bare, read_beside};
 pub use truncation::truncated;

@@ -38,8 +38,9 @@ pub fn possibility_as(
     verdict_in(kind, digits.len(), territory)
 }
 
-/// What so many digits are as a number of a kind in a territory. Refused only for memory.
-fn verdict_in(kind: Type, digits: usize, m: &Territory) -> Result<Validation, AllocError>
+/// What so many digits are as a number of a kind in a territory, as [`possibility_as`] has it of
+/// the first one of a calling code. Refused only for memory.
+pub fn verdict_in(kind: Type, digits: usize, m: &Territory) -> Result<Validation, AllocError>
     ensures { IfOk result (λ v. v ≡ verdict_in kind digits m.now) }
 {
     let descriptors = descriptors_of(m, kind)?;

@@ -146,8 +146,9 @@ fn unsure(found: NumberMatch) -> NumberMatch
     }
 }
 
-/// What a text without a code is beside a number of this code.
-fn read_beside(database: &Plans, code: u16, text: &str) -> Result<PhoneNumber, ParseError>
+/// What a text without a calling code is beside a number of this code: as it is read under the main
+/// region of the code, where that is listed; else as it stands. Refused as reading refuses it.
+pub fn read_beside(database: &Plans, code: u16, text: &str) -> Result<PhoneNumber, ParseError>
     ensures { (result ≡ Err ParseError.Memory) ⊎
         IsBeside database.now code (chars text.now) result }
 {
@@ -157,8 +158,9 @@ fn read_beside(database: &Plans, code: u16, text: &str) -> Result<PhoneNumber, P
     }
 }
 
-/// What a text is without a calling code.
-fn read_bare(database: &Plans, text: &str) -> Result<PhoneNumber, ParseError>
+/// What a text is without a calling code: its digits under the code 0, which no number has, and its
+/// extension. `InvalidCountryCode` behind a plus sign; else refused as reading refuses it.
+pub fn read_bare(database: &Plans, text: &str) -> Result<PhoneNumber, ParseError>
     ensures { (result ≡ Err ParseError.Memory) ⊎ IsBare (chars text.now) result }
 {
     match read_written(database.allocator(), text) {

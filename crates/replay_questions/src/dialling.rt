@@ -3,7 +3,10 @@ use crate::given::{number, region, shown};
 use crate::layouts::layouts;
 use anyhow::Result;
 use phone_dialling::{dialled_text, mobile_text, original_text, text_by_layouts, text_in};
+use phone_letters::{dialled_with_letters, text_with_letters};
 use phone_meta::Database;
+use phone_own_answers::{mobile_text_in, own_layouts_text};
+use phone_plans::{Format, Plans};
 use phonenumber::PhoneNumber;
 use replay_base::table::Row;
 use replay_base::words::mode;
@@ -20,6 +23,10 @@ pub fn answer(alloc: Global, row: &Row, db: &Database) -> Result<Option<String>>
         "print" => text_in(db, mode(word)?, raw, &n)?,
         "mobile" => mobile_text(db, word, row.argument(5) == "yes", raw, &n)?,
         "dialled" => dialled_text(db, region(word), raw, &n)?,
+        "own-mobile" => mobile_text_in(db, word, row.argument(5) == "yes", &n)?,
+        "own-by-layouts" => by_own_layouts(alloc, row, db, &n)?,
+        "letters" => text_with_letters(db, region(word), raw, &n)?,
+        "own-letters" => dialled_with_letters(db, region(word), raw, &n)?,
         "by-layouts" => by_layouts(alloc, row, db, &n)?,
         _ => original_text(db, region(word), raw, &n)?,
     };
@@ -30,7 +37,15 @@ pub fn answer(alloc: Global, row: &Row, db: &Database) -> Result<Option<String>>
 fn is_asked(question: &str) -> bool {
     matches!(
         question,
-        "print" | "mobile" | "dialled" | "by-layouts" | "original"
+        "print"
+            | "mobile"
+            | "own-mobile"
+            | "dialled"
+            | "letters"
+            | "own-letters"
+            | "by-layouts"
+            | "own-by-layouts"
+            | "original"
     )
 }
 
@@ -45,9 +60,19 @@ fn raw(row: &Row) -> Option<&str> {
 /// The text of a number by the layouts of a line.
 fn by_layouts(alloc: Global, row: &Row, db: &Database, n: &PhoneNumber) -> Result<String> {
     let own = layouts(alloc, row, 5)?;
-    let formats = match own.by_id("001") {
+    Ok(text_by_layouts(db, mode(row.argument(4))?, formats(&own), n)?)
+}
+
+/// The same, but for E.164 text as it stands.
+fn by_own_layouts(alloc: Global, row: &Row, db: &Database, n: &PhoneNumber) -> Result<String> {
+    let own = layouts(alloc, row, 5)?;
+    Ok(own_layouts_text(db, mode(row.argument(4))?, formats(&own), n)?)
+}
+
+/// The layouts that a line hands in.
+fn formats(own: &Plans) -> &[Format] {
+    match own.by_id("001") {
         Some(territory) => territory.formats(),
         None => &[],
-    };
-    Ok(text_by_layouts(db, mode(row.argument(4))?, formats, n)?)
+    }
 }

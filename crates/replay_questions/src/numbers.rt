@@ -2,6 +2,7 @@
 use crate::given::{number, parts, yes};
 use anyhow::Result;
 use phone_meta::Database;
+use phone_own_answers::{match_numbers, possibility_of, reaches_from_abroad};
 use phone_questions::{
     NumberMatch, area_length, destination_length, is_dialled_from_abroad, is_geographical,
     is_valid_for, match_of, match_text, match_texts, national_with_carrier,
@@ -19,23 +20,36 @@ pub fn answer(alloc: Global, row: &Row, db: &Database) -> Result<Option<String>>
         let found = match_texts(db, row.argument(2), row.argument(3))?;
         return Ok(Some(match_word(alloc, found)?));
     }
+    if row.argument(1) == "own-match-texts" {
+        let found = phone_own_answers::match_texts(db, row.argument(2), row.argument(3))?;
+        return Ok(Some(match_word(alloc, found)?));
+    }
     if row.argument(1) == "keep" {
         return Ok(Some(kept(alloc, row, db)?));
     }
+    of_number(alloc, row, db)
+}
+
+/// The answer to a line whose question is of a number; none for any other question.
+fn of_number(alloc: Global, row: &Row, db: &Database) -> Result<Option<String>> {
     let n = number(alloc, row, db, 2)?;
     let answer = match row.argument(1) {
         "valid-for" => yes(alloc, is_valid_for(db, row.argument(4), &n)?),
         "from-abroad" => yes(alloc, is_dialled_from_abroad(db, &n)?),
+        "own-from-abroad" => yes(alloc, reaches_from_abroad(db, &n)?),
         "geographical" => yes(alloc, is_geographical(db, &n)?),
         "possible" => verdict(alloc, db, Type::Unknown, &n),
         "possible-kind" => verdict(alloc, db, kind(row.argument(4))?, &n),
+        "own-possible-kind" => own_verdict(alloc, db, kind(row.argument(4))?, &n),
         "destination-length" => count(alloc, destination_length(db, &n)?),
         "area-length" => count(alloc, area_length(db, &n)?),
         "truncate" => cut(alloc, db, &n),
         "carrier" => Ok(national_with_carrier(db, carrier(row), &n)?),
         "preferred" => Ok(national_with_preferred_carrier(db, carrier(row), &n)?),
         "match" => match_words(alloc, &n, &number(alloc, row, db, 4)?),
+        "own-match" => own_match(alloc, &n, &number(alloc, row, db, 4)?),
         "match-text" => match_word(alloc, match_text(db, &n, row.argument(4))?),
+        "own-match-text" => own_match_text(alloc, db, &n, row.argument(4)),
         _ => return Ok(None),
     };
     Ok(Some(answer?))
@@ -67,6 +81,12 @@ fn verdict(alloc: Global, db: &Database, kind: Type, n: &PhoneNumber) -> Result<
     Ok(format!(in alloc; "{verdict:?}")?)
 }
 
+/// The same by our own answer.
+fn own_verdict(alloc: Global, db: &Database, kind: Type, n: &PhoneNumber) -> Result<String> {
+    let verdict = possibility_of(db, kind, n)?;
+    Ok(format!(in alloc; "{verdict:?}")?)
+}
+
 /// A count.
 fn count(alloc: Global, count: usize) -> Result<String> {
     Ok(format!(in alloc; "{count}")?)
@@ -89,6 +109,16 @@ fn cut(alloc: Global, db: &Database, n: &PhoneNumber) -> Result<String> {
 /// How like two numbers are.
 fn match_words(alloc: Global, a: &PhoneNumber, b: &PhoneNumber) -> Result<String> {
     match_word(alloc, match_of(alloc, a, b)?)
+}
+
+/// The same by our own answer.
+fn own_match(alloc: Global, a: &PhoneNumber, b: &PhoneNumber) -> Result<String> {
+    match_word(alloc, match_numbers(alloc, a, b)?)
+}
+
+/// How like a number and a text are, by our own answer.
+fn own_match_text(alloc: Global, db: &Database, n: &PhoneNumber, text: &str) -> Result<String> {
+    match_word(alloc, phone_own_answers::match_text(db, n, text)?)
 }
 
 /// The word for how like two numbers are.

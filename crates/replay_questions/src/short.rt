@@ -6,6 +6,7 @@ use phone_dialling::{
     short_example_of_cost,
 };
 use phone_meta::Database;
+use phone_own_answers::known_cost;
 use phone_short::Cost;
 use phone_short_questions::is_sms_service;
 use replay_base::table::Row;
@@ -51,6 +52,7 @@ fn of_number(alloc: Global, row: &Row, db: &Database, short: &Database) -> Resul
         "short-valid" => yes(alloc, is_valid_anywhere(db, short, &n)?),
         "short-carrier" => yes(alloc, is_carrier_anywhere(db, short, &n)?),
         "short-cost" => said(alloc, cost_word(cost_anywhere(db, short, &n)?)),
+        "short-own-cost" => said(alloc, cost_word(known_cost(db, short, &n)?)),
         _ => Err(anyhow!("no question on short numbers has this name")),
     }
 }

@@ -1,0 +1,4 @@
+pub mod Dialled
+pub mod Kept
+pub mod Keys
+pub mod Lettered

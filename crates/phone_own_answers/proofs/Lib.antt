@@ -1,0 +1,5 @@
+pub mod Beginnings
+pub mod NumberSwaps
+pub mod TextReads
+pub mod TextSwaps
+pub mod ValidPossible
