@@ -1,6 +1,6 @@
 //! The numbers that stand in running text.
 ghost use Rattle.std.specs.Prelude.{◌≡◌, ◌+◌, ◌≤◌, ◌++◌, ◌∷◌, [], IfOk, IsCharBoundary, List, None};
-ghost use Rattle.std.specs.Prelude.{OnOk, chars, length, option_map, string_bytes, take, ℕ};
+ghost use Rattle.std.specs.Prelude.{OnOk, chars, length, map, option_map, string_bytes, take, ℕ};
 ghost use Rattle.std.specs.List.{AllByRecursion};
 ghost use Rattle.std.specs.Fmt.{decimal};
 ghost use Rattle.std.specs.Option.{option_to_list};
@@ -8,10 +8,14 @@ ghost use Rattle.csv.specs.Records.{fields_of, partial_of};
 ghost use Rattle.phone_csv.specs.Feeds.{counted};
 ghost use Rattle.phone_csv.specs.Formats.{Record, record_text};
 ghost use Rattle.phone_find.specs.Founds.{IsOrdered};
-ghost use Rattle.phone_commands.specs.FoundLines.{AreTold, AreToldIn, HasTerritory};
-ghost use Rattle.phone_commands.specs.FoundLines.{HaveTerritories, IsTold, columns, name_told};
-ghost use Rattle.phone_commands.specs.FoundLines.{records};
+ghost use Rattle.phone_commands.specs.FoundLines.{AreMatched, AreTold, AreToldIn, AreToldOf};
+ghost use Rattle.phone_commands.specs.FoundLines.{HasTerritory, HaveTerritories, IsTold, columns};
+ghost use Rattle.phone_commands.specs.FoundLines.{found_of, name_told, records};
 ghost use Rattle.phone_commands.specs.declared.finder.FoundForm.TheVariants as form;
+ghost use Rattle.phone_find.specs.Numbers.{AreNumbers};
+ghost use Rattle.phone_find.specs.declared.leniency.Leniency.TheVariants.{Valid};
+ghost use Rattle.phone_matches.specs.Orders as orders;
+ghost use Rattle.phone_matches_search.specs.Told.{AllMatchThere, told_matches};
 ghost use Rattle.phone_print.specs.Tabbed.{tabbed};
 ghost use Rattle.phone_print.specs.Texts.{e164_text};
 
@@ -21,6 +25,8 @@ use csv::ByteRecord;
 use phone_csv::{Format, LineEnd, add_record};
 use phone_find::{Found, find_numbers};
 use phone_lines::LineTaker;
+use phone_matches::{Leniency, Match, find_matches_by};
+use phone_plans::Plans;
 use phone_table::finds::{Spot, found_object, push_found, push_found_names};
 use phonenumber::{FormatError, PhoneNumber};
 use std::alloc::{AllocError, Global};
@@ -42,11 +48,23 @@ const RECORDS: Format = Format {
     line_end: LineEnd::Feed,
 };
 
-/// The valid numbers that stand in each line.
+/// How libphonenumber's matcher finds numbers.
+#[derive(Clone, Copy)]
+pub struct Matching<'d> {
+    /// How strictly they are judged.
+    pub leniency: Leniency,
+    /// The database of other formats, by which their groups are told.
+    pub alternates: Option<&'d Plans>,
+}
+
+/// The numbers that stand in each line: the valid ones, or those that libphonenumber's matcher
+/// finds.
 #[derive(Drop)]
 pub struct Finder<'d, 'f> {
     /// What reads the numbers.
     pub reader: Reader<'d>,
+    /// How libphonenumber's matcher finds the numbers, where that does.
+    pub matching: Option<Matching<'d>>,
     /// How each is told.
     pub form: FoundForm,
     /// The number of the next line.
@@ -261,15 +279,101 @@ impl<'d, 'f> Finder<'d, 'f> {
         Ok(())
     }
 
-    /// Puts what is told of all numbers that stand in a text at the end of the answers.
-    fn take_text(&self, alloc: Global, text: &str, answers: &mut Vec<u8>) -> Result<(), AllocError>
-        ensures { OnOk result ((told : List ℕ) × AreToldIn self.now.reader.engine.rules
-            self.now.reader.engine.database.now self.now.reader.engine.hint self.now.form
+    /// Puts what is told of all matches of a text at the end of the answers.
+    fn push_matches(
+        &self,
+        alloc: Global,
+        text: &str,
+        all: &[Match<'_, PhoneNumber>],
+        answers: &mut Vec<u8>,
+    ) -> Result<(), AllocError>
+        requires stand { AllMatchThere text.now all.now }
+        requires ordered { orders.IsOrdered 0 (told_matches all.now) }
+        requires listed { HaveTerritories self.now.reader.engine.database.now
+            (map found_of all.now) }
+        ensures { OnOk result ((told : List ℕ) × AreTold self.now.reader.engine.rules
+            self.now.reader.engine.database.now self.now.form
+            (name_told self.now.names.now self.now.begun) self.now.place text.now
+            (map found_of all.now) told × (answers.new.items ≡ answers.old.items ++ told)) }
+    {
+        let mut from = 0;
+        let mut column = 1u64;
+        let mut rest = all;
+        while let Some((found, later)) = rest.split_first() {
+            let before = found.place.before;
+            let start = before.len();
+            column = column_at(text, from, column, start);
+            from = start;
+            let spot = Spot {
+                line: self.place,
+                column,
+                piece: found.place.text,
+            };
+            self.push_one(alloc, spot, &found.number, answers)?;
+            rest = later;
+        }
+        Ok(())
+    }
+
+    /// Puts what is told of all valid numbers of a text at the end of the answers.
+    fn take_numbers(
+        &self,
+        alloc: Global,
+        text: &str,
+        answers: &mut Vec<u8>,
+    ) -> Result<(), AllocError>
+        ensures { OnOk result ((told : List ℕ) × AreToldOf (AreNumbers self.now.reader.engine.rules
+            self.now.reader.engine.database.now self.now.reader.engine.hint Valid text.now)
+            self.now.reader.engine.rules self.now.reader.engine.database.now self.now.form
             (name_told self.now.names.now self.now.begun) self.now.place text.now told ×
             (answers.new.items ≡ answers.old.items ++ told)) }
     {
         let all = find_numbers(self.reader.engine, text)?;
         self.push_all(alloc, text, all.as_slice(), answers)
+    }
+
+    /// Puts what is told of all numbers that libphonenumber's matcher finds in a text at the end of
+    /// the answers.
+    fn take_matches(
+        &self,
+        alloc: Global,
+        matching: Matching<'_>,
+        text: &str,
+        answers: &mut Vec<u8>,
+    ) -> Result<(), AllocError>
+        ensures { OnOk result ((told : List ℕ) × AreToldOf (AreMatched
+            self.now.reader.engine.database.now self.now.reader.engine.hint matching.entry text.now)
+            self.now.reader.engine.rules self.now.reader.engine.database.now self.now.form
+            (name_told self.now.names.now self.now.begun) self.now.place text.now told ×
+            (answers.new.items ≡ answers.old.items ++ told)) }
+    {
+        let engine = self.reader.engine;
+        let Matching {
+            leniency,
+            alternates,
+        } = matching;
+        let all = find_matches_by(
+            engine.database,
+            alternates,
+            engine.hint,
+            leniency,
+            u64::MAX,
+            text,
+        )?;
+        self.push_matches(alloc, text, all.as_slice(), answers)
+    }
+
+    /// Puts what is told of all numbers that are found in a text at the end of the answers.
+    fn take_text(&self, alloc: Global, text: &str, answers: &mut Vec<u8>) -> Result<(), AllocError>
+        ensures { OnOk result ((told : List ℕ) × AreToldIn self.now.reader.engine.rules
+            self.now.reader.engine.database.now self.now.reader.engine.hint self.now.matching
+            self.now.form (name_told self.now.names.now self.now.begun) self.now.place text.now
+            told × (answers.new.items ≡ answers.old.items ++ told)) }
+    {
+        match self.matching {
+            Some(matching) => self.take_matches(alloc, matching, text, answers),
+            None => self.take_numbers(alloc, text, answers),
+        }
     }
 }
 
@@ -284,7 +388,7 @@ impl<'d, 'f> LineTaker for Finder<'d, 'f> {
         (after ≡ record f { place = f.first; begun = after_one f.begun }) };
 
     ghost gives = { λ f line answer after. IsFoundLine f.reader.engine.rules
-        f.reader.engine.database.now f.reader.engine.hint f.form
+        f.reader.engine.database.now f.reader.engine.hint f.matching f.form
         (name_told f.names.now f.begun) f.place line answer ×
         (after ≡ record f { place = after_one f.place }) };
 
