@@ -23,7 +23,7 @@ use Rattle.phone_values.specs.declared.kind.«Type».{«Type»}
 use Rattle.phone_values.specs.declared.rules.Rules.TheVariants.{Library}
 use Rattle.phone_records.specs.declared.loader.Metadata.{Metadata}
 use Rattle.phone_answers.specs.Extras.{AreTold, EachHasOneText, HaveOneText, IsAreaIn, IsFound, IsIf, IsOfTables, IsPartOr, IsSpoken, IsTold, entries_in, part_of}
-use Rattle.phone_answers.specs.Extras.{IsSuspicion, IsToldBeside, IsToldBy, IsToldIf, split_in, tells_doubts}
+use Rattle.phone_answers.specs.Extras.{IsSuspicion, IsToldBeside, IsToldBy, IsToldIf, split_in, tells_doubts, zone_digits}
 use Rattle.phone_answers.specs.declared.extra.Told.{Told}
 use Rattle.phone_answers.specs.declared.extra.Told.TheVariants as kind
 use Rattle.phone_answers.specs.Splits.{IsSplit, IsSplitText, one_of, shown_of}
@@ -116,8 +116,8 @@ module _ (rules : Rules) (db : List Metadata) where
   -- a column's tables tell one text of a number
   tables_same : (c : Extra) → HasOneText c → (told : Told) (type : «Type») (region : Option Id) (n : Reading) (a b : List ℕ) →
       IsOfTables db c told type region n a → IsOfTables db c told type region n b → a ≡ b
-  tables_same c one kind.Prefix type region n a b h g = found_same (entries_in c.table) one.0 _ a b h g
-  tables_same c one kind.TimeZones type region n a b h g = found_same (entries_in c.table) one.0 _ a b h g
+  tables_same c one kind.Prefix type region n a b h g = found_same (entries_in c.table) one.0 (Some (digits_of n)) a b h g
+  tables_same c one kind.TimeZones type region n a b h g = found_same (entries_in c.table) one.0 (zone_digits type n) a b h g
   tables_same c one (kind.Carrier owner) type region n a b h g = if_one _ (IsSpoken c (digits_of n)) (spoken_same c one (digits_of n)) a b h g
   tables_same c one kind.Area type region n a b h g = if_one _ (IsAreaIn db c n) (area_same c one n) a b h g
   tables_same c one kind.Extension type region n a b h g = h ∙ sym g

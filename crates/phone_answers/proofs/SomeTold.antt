@@ -24,7 +24,7 @@ use Rattle.phone_prefixes.specs.Tables.{AreEntries, Entry, IsLongest, IsTable, N
 use Rattle.phone_prefixes.specs.Tables.AreEntries.{none as no_entries, next as next_entry}
 use Rattle.phone_records.specs.declared.loader.Metadata.{Metadata}
 use Rattle.phone_answers.specs.Extras.{AreTold, HaveOneText, IsAreaIn, IsFound, IsIf, IsOfTables, IsPartOr, IsSpoken, IsTold, entries_in, part_of}
-use Rattle.phone_answers.specs.Extras.{IsToldBeside, IsToldBy, IsToldIf, ask_fields, split_in, tells_doubts, tells_of_field}
+use Rattle.phone_answers.specs.Extras.{IsToldBeside, IsToldBy, IsToldIf, ask_fields, split_in, tells_doubts, tells_of_field, zone_digits}
 use Rattle.phone_answers.specs.declared.extra.Told.{Told}
 use Rattle.phone_answers.specs.declared.extra.Told.TheVariants as kind
 use Rattle.phone_languages.specs.Told.{IsTextIn, told as text_told}
@@ -210,8 +210,8 @@ module _ (rules : Rules) (db : List Metadata) where
 
   -- what a column's tables tell
   tables_some : (c : Extra) (told : Told) (type : «Type») (region : Option Id) (n : Reading) → (text : List ℕ) × IsOfTables db c told type region n text
-  tables_some c kind.Prefix type region n = found_some (entries_in c.table) _
-  tables_some c kind.TimeZones type region n = found_some (entries_in c.table) _
+  tables_some c kind.Prefix type region n = found_some (entries_in c.table) (Some (digits_of n))
+  tables_some c kind.TimeZones type region n = found_some (entries_in c.table) (zone_digits type n)
   tables_some c (kind.Carrier owner) type region n = if_some _ (IsSpoken c (digits_of n)) (spoken_some c (digits_of n))
   tables_some c kind.Area type region n = if_some _ (IsAreaIn db c n) (area_some c n)
   tables_some c kind.Extension type region n = ([], refl)

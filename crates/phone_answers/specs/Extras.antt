@@ -83,7 +83,8 @@ IsIf false IsSo text = text ≡ []
 abbrev pub IsOfTables : List Metadata → Extra → Told → «Type» → Option Id → Reading → List ℕ →
     Type 0
 IsOfTables db c Prefix kind region n text = IsFound (entries_in c.table) (Some (digits_of n)) text
-IsOfTables db c TimeZones kind region n text = IsFound (entries_in c.table) (zone_digits kind n) text
+IsOfTables db c TimeZones kind region n text =
+    IsFound (entries_in c.table) (zone_digits kind n) text
 IsOfTables db c (Carrier owner) kind region n text =
     IsIf (has_carrier kind && (is_first owner || not (is_portable db region)))
     (IsSpoken c (digits_of n)) text

@@ -10,10 +10,10 @@ ghost use Rattle.phone_csv.specs.Formats.{Record};
 ghost use Rattle.phone_maps.specs.Maps.{code_digits, digits_of, has_carrier, is_first};
 ghost use Rattle.phone_maps.specs.Maps.{is_geographical};
 ghost use Rattle.phone_values.specs.Numbers.{text_of as national_text};
-ghost use Rattle.phone_answers.specs.Extras.{AreTold, IsAreaIn, IsFound, IsIf, IsOfTables, IsPartOr};
-ghost use Rattle.phone_answers.specs.Extras.{IsSpoken, IsSuspicion, IsTold, IsToldBeside, IsToldBy};
-ghost use Rattle.phone_answers.specs.Extras.{entries_in, is_portable, is_unknown, part_of, split_in};
-ghost use Rattle.phone_answers.specs.Extras.{tells_doubts, zone_digits};
+ghost use Rattle.phone_answers.specs.Extras.{AreTold, IsAreaIn, IsFound, IsIf, IsOfTables};
+ghost use Rattle.phone_answers.specs.Extras.{IsPartOr, IsSpoken, IsSuspicion, IsTold, IsToldBeside};
+ghost use Rattle.phone_answers.specs.Extras.{IsToldBy, entries_in, is_portable, is_unknown};
+ghost use Rattle.phone_answers.specs.Extras.{part_of, split_in, tells_doubts, zone_digits};
 ghost use Rattle.phone_answers.specs.Splits.{IsSplit};
 ghost use Rattle.phone_answers.specs.Spelled.{IsKnownIn, number_in};
 

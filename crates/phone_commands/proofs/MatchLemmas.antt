@@ -2,7 +2,7 @@
 -- territories.
 use Rattle.std.proofs.Common.{◌≡◌, ◌+◌, ◌-◌, ◌<◌, ◌≤◌, ◌∷◌, ◌++◌, ◌∙◌, [], ℕ, List, Option, IsUtf8}
 use Rattle.std.proofs.Common.{IsCharBoundary, ap, arith, chars, drop, length, length-append, map, refl}
-use Rattle.std.proofs.Common.{slice_range, subst, sym, take}
+use Rattle.std.proofs.Common.{inl, inr, slice_range, subst, sym, take}
 use Rattle.std.proofs.Math.Seq.{drop-append_seam, take-add, take-append_seam}
 use Rattle.std.proofs.lemmas.Bool.{cases_lt}
 use Rattle.std.proofs.lemmas.List.{length-take-le}

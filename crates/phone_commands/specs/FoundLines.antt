@@ -1,7 +1,7 @@
 -- What is told of the numbers that stand in each line.
 use Rattle.std.specs.Prelude.{◌≡◌, ℕ, suc, zero, ◌+◌, ◌-◌, nat_lt, if◌then◌else◌, List, [], ◌∷◌}
 use Rattle.std.specs.Prelude.{◌++◌, chars, codes, length, map, Option, None, Some, option_map}
-use Rattle.std.specs.Prelude.{slice_get, slice_range, take, unwrap_or}
+use Rattle.std.specs.Prelude.{IsCharBoundary, slice_get, slice_range, take, unwrap_or}
 use Rattle.std.specs.Borrow.{Bor}
 use Rattle.std.specs.Fmt.{decimal}
 use Rattle.std.specs.List.{AllByRecursion}
@@ -88,6 +88,12 @@ found_of m = record {
   end = length m.place.before.now + length m.place.text.now;
   number = m.number;
 }
+
+-- a match begins at this byte, between characters, in this column
+pub record IsPlace (text : List ℕ) (m : Match Reading) (start column : ℕ) : Type 0 where
+  pub begins : start ≡ length m.place.before.now
+  pub border : IsCharBoundary text start
+  pub counts : column ≡ counted (length (chars (take start text)) + 1)
 
 -- as many tries as no text that memory holds uses up: 2^64 - 1
 abbrev pub all_tries : ℕ

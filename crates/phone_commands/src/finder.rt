@@ -9,8 +9,10 @@ ghost use Rattle.phone_csv.specs.Feeds.{counted};
 ghost use Rattle.phone_csv.specs.Formats.{Record, record_text};
 ghost use Rattle.phone_find.specs.Founds.{IsOrdered};
 ghost use Rattle.phone_commands.specs.FoundLines.{AreMatched, AreTold, AreToldIn, AreToldOf};
-ghost use Rattle.phone_commands.specs.FoundLines.{HasTerritory, HaveTerritories, IsTold, columns};
-ghost use Rattle.phone_commands.specs.FoundLines.{found_of, name_told, records};
+ghost use Rattle.phone_commands.specs.FoundLines.{HasTerritory, HaveTerritories, IsPlace, IsSpot};
+ghost use Rattle.phone_commands.specs.FoundLines.{IsTold, columns, found_of, name_told, records};
+ghost use Rattle.phone_answers.specs.declared.finds.Spot.{Spot};
+ghost use Rattle.phone_matches_text.specs.Lent.{StandsThere};
 ghost use Rattle.phone_commands.specs.declared.finder.FoundForm.TheVariants as form;
 ghost use Rattle.phone_find.specs.Numbers.{AreNumbers};
 ghost use Rattle.phone_find.specs.declared.leniency.Leniency.TheVariants.{Valid};
@@ -154,6 +156,22 @@ fn column_at(text: &str, from: usize, column: u64, to: usize) -> u64
     column.saturating_add(count_chars(&text[from..to]) as u64)
 }
 
+/// Where a piece begins that stands behind a front of a text, in bytes, and its column, by that of
+/// a place in the front.
+fn place_behind(text: &str, from: usize, column: u64, front: &str) -> (usize, u64)
+    requires from_border { IsCharBoundary text.now from }
+    requires column { column ≡ counted (length (chars (take from text.now)) + 1) }
+    requires front { (rest : List ℕ) × (text.now ≡ front.now ++ rest) }
+    requires behind { length (chars (take from text.now)) ≤ length (chars front.now) }
+    ensures begins { result.0 ≡ length front.now }
+    ensures border { IsCharBoundary text.now result.0 }
+    ensures column { result.1 ≡ counted (length (chars (take result.0 text.now)) + 1) }
+{
+    let start = front.len();
+    let column = column_at(text, from, column, start);
+    (start, column)
+}
+
 impl<'d, 'f> Finder<'d, 'f> {
     /// The name of the input, where it is told.
     fn name(&self) -> Option<&'f str>
@@ -279,6 +297,40 @@ impl<'d, 'f> Finder<'d, 'f> {
         Ok(())
     }
 
+    /// Puts what is told of one match at the end of the answers, by the column of a place in front
+    /// of it. Gives where it begins, and its column.
+    fn push_match(
+        &self,
+        alloc: Global,
+        text: &str,
+        from: usize,
+        column: u64,
+        found: &Match<'_, PhoneNumber>,
+        answers: &mut Vec<u8>,
+    ) -> Result<(usize, u64), AllocError>
+        requires from_border { IsCharBoundary text.now from }
+        requires column { column ≡ counted (length (chars (take from text.now)) + 1) }
+        requires stand { StandsThere text.now found.now.place }
+        requires behind { length (chars (take from text.now)) ≤
+            length (chars found.now.place.before.now) }
+        requires listed { HasTerritory self.now.reader.engine.database.now found.now.number }
+        ensures place { IfOk result (λ p. IsPlace text.now found.now p.0 p.1) }
+        ensures told { IfOk result (λ _. (spot : Spot) × (one : List ℕ) ×
+            IsSpot self.now.place text.now (found_of found.now) spot ×
+            IsTold self.now.reader.engine.rules self.now.reader.engine.database.now
+            (name_told self.now.names.now self.now.begun) spot found.now.number self.now.form one ×
+            (answers.new.items ≡ answers.old.items ++ one)) }
+    {
+        let (start, column) = place_behind(text, from, column, found.place.before);
+        let spot = Spot {
+            line: self.place,
+            column,
+            piece: found.place.text,
+        };
+        self.push_one(alloc, spot, &found.number, answers)?;
+        Ok((start, column))
+    }
+
     /// Puts what is told of all matches of a text at the end of the answers.
     fn push_matches(
         &self,
@@ -298,19 +350,10 @@ impl<'d, 'f> Finder<'d, 'f> {
     {
         let mut from = 0;
         let mut column = 1u64;
-        let mut rest = all;
-        while let Some((found, later)) = rest.split_first() {
-            let before = found.place.before;
-            let start = before.len();
-            column = column_at(text, from, column, start);
+        for found in all {
+            let (start, next) = self.push_match(alloc, text, from, column, found, answers)?;
             from = start;
-            let spot = Spot {
-                line: self.place,
-                column,
-                piece: found.place.text,
-            };
-            self.push_one(alloc, spot, &found.number, answers)?;
-            rest = later;
+            column = next;
         }
         Ok(())
     }

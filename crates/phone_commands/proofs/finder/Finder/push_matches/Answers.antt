@@ -1,14 +1,14 @@
-use Rattle.std.proofs.Common.{◌++◌, ◌∷◌, ◌+◌, ◌≡◌, [], ℕ, List, length, map, append_assoc, ap, refl, sym}
-use Rattle.std.proofs.Common.{IsCharBoundary, arith, chars, subst, take, ◌∙◌}
+use Rattle.std.proofs.Common.{◌++◌, ◌∷◌, ◌+◌, ◌≡◌, ◌∙◌, [], ℕ, List, add-one, append_assoc, ap, ap₂}
+use Rattle.std.proofs.Common.{arith, chars, drop, drop-cons, length, map, refl, subst, sym, take}
+use Rattle.std.proofs.Math.Seq.{drop-length, take-append_seam}
 use Rattle.std.proofs.lemmas.List.{append-nil, map-append}
 use Rattle.std.proofs.lemmas.Str.{IsCharBoundary-start, chars-nil}
 use Rattle.phone_csv.specs.Feeds.{counted}
-use Rattle.phone_commands.specs.FoundLines.{AreTold, IsSpot, found_of, name_told}
+use Rattle.phone_commands.specs.FoundLines.{AreTold, HaveTerritories, found_of, name_told}
 use Rattle.phone_commands.specs.FoundLines.AreTold.{none, next}
-use Rattle.phone_answers.specs.declared.finds.Spot.{Spot}
 use Rattle.phone_matches.specs.Orders as orders
-use Rattle.phone_matches_search.specs.Told.{told_matches}
-use Rattle.phone_commands.proofs.MatchLemmas.{border, front_is, not_earlier, ordered-earlier, piece_at}
+use Rattle.phone_matches_search.specs.Told.{AllMatchThere, told_matches}
+use Rattle.phone_commands.proofs.MatchLemmas.{ordered-earlier}
 use Rattle.phone_commands.proofs.finder.Finder.push_matches.Goals as goal
 
 pub loop-found-init : goal.loop-found-init
@@ -26,66 +26,98 @@ loop-found-init c = record {
   listed = c.requires.listed;
 }
 
-pub column_at-column-requires-clause-to_border : goal.column_at-column-requires-clause-to_border
-column_at-column-requires-clause-to_border c =
-    let stand = rw c.in-Some.ensures.cases.0 at c.loop-found.invariant.stand in
-    let found = c.in-Some.found.now in
-    rw c.len-start.ensures (border c.args.text.now found.place.before.now
-    (found.place.text.now ++ stand.0.after) stand.0.whole c.utf8.text c.utf8.before)
+pub push_match-requires-clause-stand : goal.push_match-requires-clause-stand
+push_match-requires-clause-stand c =
+    let all = c.args.all.now in
+    let at = c.loop-found.found-index in
+    let found = c.found-item.result in
+    let split : drop at all ≡ found ∷ drop (at + 1) all =
+    drop-cons all at found c.loop-found-test.true
+    ∙ ap₂ (λ x n. x ∷ drop n all) (sym c.found-item.is) (sym (add-one at)) in
+    (subst (AllMatchThere c.args.text.now) split c.loop-found.invariant.stand).0
 
-pub column_at-column-requires-clause-behind : goal.column_at-column-requires-clause-behind
-column_at-column-requires-clause-behind c =
-    let i = c.loop-found.invariant in
-    let stand = rw c.in-Some.ensures.cases.0 at i.stand in
-    let ordered = rw c.in-Some.ensures.cases.0 at i.ordered in
-    let found = c.in-Some.found.now in
-    rw c.len-start.ensures (not_earlier c.args.text.now found.place.before.now
-    (found.place.text.now ++ stand.0.after) stand.0.whole c.utf8.text c.utf8.before
-    c.loop-found.from i.border ordered.0)
+pub push_match-requires-clause-behind : goal.push_match-requires-clause-behind
+push_match-requires-clause-behind c =
+    let all = c.args.all.now in
+    let at = c.loop-found.found-index in
+    let found = c.found-item.result in
+    let split : drop at all ≡ found ∷ drop (at + 1) all =
+    drop-cons all at found c.loop-found-test.true
+    ∙ ap₂ (λ x n. x ∷ drop n all) (sym c.found-item.is) (sym (add-one at)) in
+    (subst (λ ms. orders.IsOrdered (length (chars (take c.loop-found.from c.args.text.now)))
+    (told_matches ms)) split c.loop-found.invariant.ordered).0
+
+pub push_match-requires-clause-listed : goal.push_match-requires-clause-listed
+push_match-requires-clause-listed c =
+    let all = c.args.all.now in
+    let at = c.loop-found.found-index in
+    let found = c.found-item.result in
+    let split : drop at all ≡ found ∷ drop (at + 1) all =
+    drop-cons all at found c.loop-found-test.true
+    ∙ ap₂ (λ x n. x ∷ drop n all) (sym c.found-item.is) (sym (add-one at)) in
+    (subst (λ ms. HaveTerritories c.args.self.now.reader.engine.database.now (map found_of ms))
+    split c.loop-found.invariant.listed).0
 
 pub loop-found-preserved : goal.loop-found-preserved
 loop-found-preserved c =
     let i = c.loop-found.invariant in
     let self = c.args.self.now in
     let text = c.args.text.now in
-    let found = c.in-Some.found.now in
-    let later = c.in-Some.later.now in
+    let all = c.args.all.now in
+    let at = c.loop-found.found-index in
+    let found = c.found-item.result in
+    let later = drop (at + 1) all in
+    let split : drop at all ≡ found ∷ later =
+    drop-cons all at found c.loop-found-test.true
+    ∙ ap₂ (λ x n. x ∷ drop n all) (sym c.found-item.is) (sym (add-one at)) in
     let before = found.place.before.now in
     let piece = found.place.text.now in
-    let stand = rw c.in-Some.ensures.cases.0 at i.stand in
-    let ordered = rw c.in-Some.ensures.cases.0 at i.ordered in
-    let listed = rw c.in-Some.ensures.cases.0 at i.listed in
-    let whole : text ≡ before ++ (piece ++ stand.0.after) = stand.0.whole in
-    let start : c.len-start.result ≡ length before = c.len-start.ensures in
-    let one = c.in_ok-push_one.ensures in
-    let spot : Spot = record {
-      line = self.place;
-      column = c.column_at-column.result;
-      piece = found.place.text;
-    } in
-    let column : c.column_at-column.result ≡ counted (length (chars (take (length before) text)) + 1) =
-    c.column_at-column.ensures ∙ ap (λ n. counted (length (chars (take n text)) + 1)) start in
-    let stands : IsSpot self.place text (found_of found) spot =
-    record { line = refl; column = column; piece = sym (piece_at text before piece stand.0.after whole) } in
-    let at : IsCharBoundary text (length before) =
-    border text before (piece ++ stand.0.after) whole c.utf8.text c.utf8.before in
-    let front = front_is text before (piece ++ stand.0.after) whole c.utf8.text c.utf8.before in
+    let stand = subst (AllMatchThere text) split i.stand in
+    let ordered = subst (λ ms. orders.IsOrdered (length (chars (take c.loop-found.from text)))
+    (told_matches ms)) split i.ordered in
+    let listed = subst (λ ms. HaveTerritories self.reader.engine.database.now (map found_of ms))
+    split i.listed in
+    let place = c.in_ok-start.ensures.place in
+    let told = c.in_ok-start.ensures.told in
+    let front : take (length before) text ≡ before =
+    ap (take (length before)) stand.0.whole ∙ take-append_seam before (piece ++ stand.0.after) in
+    let earlier : orders.IsOrdered (length (chars (take (length before) text)))
+    (told_matches later) =
+    subst (λ t. orders.IsOrdered (length (chars t)) (told_matches later)) (sym front)
+    (ordered-earlier (length (chars before)) (length (chars before) + length (chars piece))
+    (told_matches later) (omega arith) ordered.1) in
     record {
       done = i.done ++ found ∷ [];
-      whole = i.whole ∙ ap (λ t. i.done ++ t) c.in-Some.ensures.cases.0 ∙
-          sym (append_assoc i.done (found ∷ []) later);
-      told = i.told ++ one.0;
+      whole = i.whole ∙ ap (λ t. i.done ++ t) split ∙ sym (append_assoc i.done (found ∷ []) later);
+      told = i.told ++ told.1;
       are = subst (λ fs. AreTold self.reader.engine.rules self.reader.engine.database.now self.form
-          (name_told self.names.now self.begun) self.place text fs (i.told ++ one.0))
+          (name_told self.names.now self.begun) self.place text fs (i.told ++ told.1))
           (sym (map-append found_of i.done (found ∷ [])))
-          (next (map found_of i.done) i.told (found_of found) spot one.0 i.are stands one.1);
-      items = one.2 ∙ ap (λ t. t ++ one.0) i.items ∙
-          append_assoc c.args.answers.now.items i.told one.0;
-      border = rw start at;
-      column = c.column_at-column.ensures;
+          (next (map found_of i.done) i.told (found_of found) told.0 told.1 i.are told.2 told.3);
+      items = told.4 ∙ ap (λ t. t ++ told.1) i.items ∙
+          append_assoc c.args.answers.now.items i.told told.1;
+      border = place.border;
+      column = place.counts;
       stand = stand.1;
-      ordered = rw start (subst (λ t. orders.IsOrdered (length (chars t)) (told_matches later)) (sym front)
-          (ordered-earlier (length (chars before)) (length (chars before) + length (chars piece)) (told_matches later)
-          (omega arith) ordered.1));
+      ordered = subst (λ n. orders.IsOrdered (length (chars (take n text))) (told_matches later))
+          (sym place.begins) earlier;
       listed = listed.1;
     }
+
+pub returns : goal.returns
+returns c =
+    let i = c.loop-found.invariant in
+    let self = c.args.self.now in
+    let all = c.args.all.now in
+    let at : c.loop-found.found-index ≡ length all =
+    omega (arith, c.loop-found-test.false, c.loop-found.auto.found-index-end) in
+    let none_left : drop c.loop-found.found-index all ≡ [] =
+    ap (λ n. drop n all) at ∙ drop-length all in
+    let done : i.done ≡ all =
+    sym (i.whole ∙ ap (λ t. i.done ++ t) none_left ∙ append-nil i.done) in (
+      i.told,
+      subst (λ ms. AreTold self.reader.engine.rules self.reader.engine.database.now self.form
+          (name_told self.names.now self.begun) self.place c.args.text.now (map found_of ms) i.told)
+          done i.are,
+      i.items,
+    )
