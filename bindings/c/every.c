@@ -176,6 +176,34 @@ static void of_dialling(phone_handle *world) {
     phone_close(&shorts);
 }
 
+/* A number with its letters, an example of a kind, and our own answers. */
+static void of_own(phone_handle *world) {
+    const char *line = "0800 FLOWERS";
+    uint8_t texts[64], flag = 9;
+    size_t len = 0;
+    uint32_t told = 99;
+    phone_handle shorts = PHONE_CLOSED;
+    phone_number number = number_of(world, "phone_parse", line, texts, &len), other;
+    memset(&other, 0, sizeof other);
+    text("phone_text_with_letters",
+         phone_text_with_letters(world, TEXT("NZ"), TEXT(line), &number, texts, len, out, sizeof out, &wrote));
+    text("phone_dialled_with_letters",
+         phone_dialled_with_letters(world, TEXT("AT"), TEXT(line), &number, texts, len, out, sizeof out, &wrote));
+    text("phone_extract", phone_extract(TEXT("Ring 03-331 6005!"), out, sizeof out, &wrote));
+    VALUE("phone_own_match_text", phone_own_match_text(world, &number, texts, len, TEXT("0064 800 3569377"), &told), told);
+    VALUE("phone_own_match_texts", phone_own_match_texts(world, TEXT("+64 3 331 6005"), TEXT("31 6005"), &told), told);
+    VALUE("phone_example_of_kind", phone_example_of_kind(world, PHONE_KIND_PAGER, &other, texts, sizeof texts, &len), other.value);
+    VALUE("phone_own_possibility", phone_own_possibility(world, PHONE_KIND_PAGER, &other, &told), told);
+    VALUE("phone_own_match_numbers", phone_own_match_numbers(&number, texts, len, &other, texts, len, &told), told);
+    VALUE("phone_reaches_from_abroad", phone_reaches_from_abroad(world, &other, &flag), flag);
+    VALUE("phone_open", phone_open(TEXT(SHORT), PHONE_LIBRARY, &shorts), 0);
+    number.value = 111;
+    VALUE("phone_known_cost", phone_known_cost(world, &shorts, &number, &told), told);
+    number.code = 1, number.value = 911;
+    text("phone_own_mobile_text", phone_own_mobile_text(world, TEXT("CA"), 0, &number, texts, len, out, sizeof out, &wrote));
+    phone_close(&shorts);
+}
+
 /* Where a number is, and the numbers in a text as libphonenumber finds them. */
 static void of_places(phone_handle *world) {
     phone_prefixes areas = PHONE_CLOSED, english = PHONE_CLOSED, carriers = PHONE_CLOSED, none = PHONE_CLOSED, zones = PHONE_CLOSED;
@@ -249,6 +277,7 @@ int main(void) {
     of_columns(&mine);
     of_questions(&mine);
     of_dialling(&mine);
+    of_own(&mine);
     of_places(&mine);
     phone_close(&mine);
     of_tables();

@@ -40,8 +40,8 @@ from .number import Kind, Mode, PhoneNumber, Possibility, Rules, Source
 from .places import Atlas
 from .prefixes import Prefixes
 from .questions import (
-    Cost, FactsAnywhere, Form, NumberFacts, NumberMatch, RegionFacts, has_letters, is_geographical,
-    mobile_token, normalize,
+    Cost, FactsAnywhere, Form, NumberFacts, NumberMatch, RegionFacts, extract, has_letters,
+    is_geographical, mobile_token, normalize,
 )
 from .short import ShortFacts, ShortNumbers, SmsServices
 from .tables import (
@@ -95,6 +95,7 @@ __all__ = [
     "UnknownCode",
     "UnknownRegion",
     "__version__",
+    "extract",
     "has_letters",
     "is_geographical",
     "is_viable",

@@ -321,6 +321,16 @@ class Database(Asked, Records):
         """
         return self._example(lib.phone_example_of_code, code) if 0 <= code < 1 << 16 else None
 
+    def example_of_kind(self, kind: Kind) -> Optional[PhoneNumber]:
+        """An example of a kind, of whatever region: of the lowest calling code that has one.
+
+        >>> from phonenumber_proved import Database, Kind
+        >>> with Database.load() as world:
+        ...     world.example_of_kind(Kind.PAGER).e164, world.example_of_kind(Kind.EMERGENCY)
+        ('+12684061234', None)
+        """
+        return self._example(lib.phone_example_of_kind, Kind(kind))
+
     def invalid_example(self, region: str) -> Optional[PhoneNumber]:
         """A number of a region that isn't valid, for tests; `None` where there is none.
 

@@ -36,6 +36,7 @@ mod dialling;
 mod error;
 mod found;
 mod number;
+mod own;
 mod places;
 mod possible;
 mod prefixes;
@@ -54,11 +55,12 @@ pub use dialling::{FactsAnywhere, Layout, Layouts};
 pub use error::{Error, LineFault};
 pub use found::{Found, Leniency};
 pub use number::{Mode, PhoneNumber, Source, Type};
+pub use own::{extract, match_numbers};
 pub use places::{Atlas, AtlasTables};
 pub use possible::{Possibility, Sameness};
 pub use prefixes::Prefixes;
 pub use questions::{
-    Form, NumberFacts, NumberMatch, RegionFacts, has_letters, is_geographical, match_numbers, mobile_token, normalize,
+    Form, NumberFacts, NumberMatch, RegionFacts, has_letters, is_geographical, library_match_numbers, mobile_token, normalize,
 };
 pub use short::{Cost, ShortFacts, ShortNumbers, SmsServices};
 pub use typing::Typing;

@@ -1,0 +1,2 @@
+pub mod OneAnswers
+pub mod OneWays
