@@ -200,6 +200,13 @@ MOBILES = [
 ]
 
 
+# Region, text: the region where it is dialled, and what is dialled with its letters.
+LETTERS = [
+    ("US", "1-800-FLOWERS", "NZ", "00 1 800-FLOWERS"), ("US", "1-800-FLOWERS", "CA", "1 800-FLOWERS"), ("NZ", "0800 FLOWERS", "NZ", "0800 FLOWERS"),
+    ("NZ", "0800 FLOWERS", "UA", "00 64 800 FLOWERS"), ("NZ", "03 331 6005", "NZ", "003 331 6005"),
+]
+
+
 def numbers_are_dialled():
     for hint, text, region, wanted in ORIGINALS:
         number = names.parse(text, hint, keep_raw_input=True)
@@ -212,6 +219,14 @@ def numbers_are_dialled():
     told = [names.format_by_pattern(PhoneNumber(64, 33316005), it, [own]) for it in range(4)]
     check("layouts", told, ["+643 3316005", "+64 3 3316005", "(03) 3316005", "tel:+64-3-3316005"])
     check("layouts", names.format_by_pattern(PhoneNumber(999, 33316005), PhoneNumberFormat.NATIONAL, [own]), "33316005")
+    for hint, text, region, wanted in LETTERS:
+        number = names.parse(text, hint, keep_raw_input=True)
+        check(text, names.format_out_of_country_keeping_alpha_chars(number, region), wanted)
+    told = [names.format_out_of_country_keeping_alpha_chars(PhoneNumber(64, 33316005), it) for it in ("NZ", "ZZ")]
+    check("no letters", told, ["03 331 6005", "+64 3 331 6005"])
+    check("no code", names.format_out_of_country_keeping_alpha_chars(PhoneNumber(999, 12), "NZ"), "12")
+    part = names.phonenumberutil._extract_possible_number
+    check("part", [part(it) for it in ("Tel: 12 / x34", "call me", "+1 650!")], ["12 ", "", "+1 650"])
     zeros = names.parse("000", "IT", keep_raw_input=True)
     check("zeros", [names.format_number(zeros, it) for it in range(4)], ["+39000", "000", "000", "000"])
     short, of = names.shortnumberinfo, PhoneNumber(1, 911)

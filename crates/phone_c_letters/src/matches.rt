@@ -7,8 +7,8 @@ ghost use Rattle.phone_c_questions.specs.Matches.{match_number};
 
 use phone_c_base::number::{Number, to_phone_number};
 use phone_c_base::status::{BAD_NUMBER, MEMORY, NOT_UTF8, OK};
-use phone_plans::Plans;
 use phone_own_answers::match_numbers;
+use phone_plans::Plans;
 use phone_questions::NumberMatch;
 use phonenumber::PhoneNumber;
 use std::alloc::Global;
