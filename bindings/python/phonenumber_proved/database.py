@@ -73,6 +73,11 @@ class Records(Held):
             lambda handle: long_lib.phone_open(data, len(data), Rules.LIBRARY, handle)
         )
 
+    def regions(self) -> List[str]:
+        """The ids of the regions that the records are of, by the alphabet."""
+        ids = written(lambda *out: self._call(lib.phone_regions, *out), 512).decode()
+        return [ids[at : at + 2] for at in range(0, len(ids), 2)]
+
     def _opened(self, call: Callable[[Any], int]) -> None:
         status = self._open(call)
         if status == MEMORY:
@@ -356,11 +361,6 @@ class Database(Asked, Records):
 
         texts = written(call, region=region)
         return PhoneNumber(number, texts, by, self) if is_there[-1] else None
-
-    def regions(self) -> List[str]:
-        """The ids of the database's regions, by the alphabet."""
-        ids = written(lambda *out: self._call(lib.phone_regions, *out), 512).decode()
-        return [ids[at : at + 2] for at in range(0, len(ids), 2)]
 
     def codes(self) -> List[int]:
         """The calling codes of the database, ascending.

@@ -4,6 +4,7 @@ use crate::database::{By, Database};
 use crate::error::Error;
 use crate::ffi;
 use crate::number::{PhoneNumber, Type};
+use crate::records::Records;
 use std::ops::Range;
 
 /// Which pieces of a text are found.
@@ -114,11 +115,7 @@ impl Database {
     /// # Ok::<(), phonenumber_proved::Error>(())
     /// ```
     pub fn regions(&self) -> Result<Vec<String>, Error> {
-        let ids = bytes_of(512, |out, len, wrote| {
-            // SAFETY: as in `By::find`.
-            self.by(Default::default()).records().with(|handle| unsafe { ffi::phone_regions(handle, out, len, wrote) })
-        })?;
-        Ok(ids.chunks_exact(2).map(|id| String::from_utf8_lossy(id).into_owned()).collect())
+        regions_of(self.by(Default::default()).records())
     }
 
     /// The calling codes of the database, ascending.
@@ -168,6 +165,15 @@ impl By<'_> {
             })
         })
     }
+}
+
+/// The ids of the regions that records are of, by the alphabet.
+pub(crate) fn regions_of(records: &Records) -> Result<Vec<String>, Error> {
+    let ids = bytes_of(512, |out, len, wrote| {
+        // SAFETY: as in `By::find`.
+        records.with(|handle| unsafe { ffi::phone_regions(handle, out, len, wrote) })
+    })?;
+    Ok(ids.chunks_exact(2).map(|id| String::from_utf8_lossy(id).into_owned()).collect())
 }
 
 /// The number that a call writes; none where it says that there is none.

@@ -2,6 +2,7 @@
 use crate::call::check;
 use crate::error::Error;
 use crate::ffi;
+use crate::found::regions_of;
 use crate::records::Records;
 use std::fmt;
 use std::path::Path;
@@ -81,6 +82,17 @@ impl ShortNumbers {
             is_emergency: facts.is_emergency == 1,
             reaches_emergency: facts.reaches_emergency == 1,
         })
+    }
+
+    /// The ids of the regions whose short numbers it has, by the alphabet.
+    ///
+    /// ```
+    /// let table = phonenumber_proved::ShortNumbers::from_json(phonenumber_proved::SHORT)?;
+    /// assert_eq!(table.regions()?[..2], ["AC", "AD"]);
+    /// # Ok::<(), phonenumber_proved::Error>(())
+    /// ```
+    pub fn regions(&self) -> Result<Vec<String>, Error> {
+        regions_of(&self.records)
     }
 }
 
