@@ -22,7 +22,7 @@ LAYOUTS = (
 LETTERS = {"2": "ABCabc", "3": "DEFdef", "4": "GHI", "5": "JKL", "6": "MNOmno", "7": "PQRS", "8": "TUV", "9": "WXYZwxyz"}
 # Shapes of questions: what their arguments are, behind their names.
 SHAPES = {
-    "keep": "n", "print": "nm", "carrier": "nc", "preferred": "nc", "mobile": "nry", "original": "nr", "letters": "nr", "dialled": "nr",
+    "keep": "w", "print": "nm", "carrier": "nc", "preferred": "nc", "mobile": "nry", "original": "nr", "letters": "nr", "dialled": "nr",
     "by-layouts": "nml", "area-length": "n", "destination-length": "n", "geographical": "n", "geographical-kind": "kC", "from-abroad": "n",
     "mobile-token": "C", "region-of": "C", "regions-of": "C", "portable": "r", "nanpa": "r", "code-of": "r", "ndd": "ry", "valid-for": "nr",
     "kinds-of-region": "r", "kinds-of-code": "C", "example": "r", "example-kind": "rk", "example-any": "k", "example-code": "C",
@@ -80,15 +80,13 @@ def written(rng, records):
     return ["-" if of_world else record["id"], text]
 
 
+def read(rng, seed, records, world):
+    """A region or none, and a text that is read there."""
+    return written(rng, records) if rng.random() < 0.7 else list(line(rng, seed, world))
+
+
 def number(rng, seed, records, world):
-    choice = rng.random()
-    if choice < 0.4:
-        return ["=", parts(rng, records)]
-    return written(rng, records) if choice < 0.8 else list(line(rng, seed, world))
-
-
-def text(rng, seed, records, world):
-    return written(rng, records)[1] if rng.random() < 0.7 else line(rng, seed, world)[1]
+    return ["=", parts(rng, records)] if rng.random() < 0.4 else read(rng, seed, records, world)
 
 
 def short(rng, records, shorts):
@@ -113,7 +111,8 @@ def row(seed, place, records, shorts, world):
     of = {
         "n": lambda: number(rng, seed, records, world),
         "s": lambda: short(rng, records, shorts),
-        "t": lambda: [text(rng, seed, records, world)],
+        "w": lambda: read(rng, seed, records, world),
+        "t": lambda: read(rng, seed, records, world)[1:],
         "r": lambda: [region()],
         "m": lambda: [rng.choice(MODES)],
         "k": lambda: [rng.choice(KINDS)],
