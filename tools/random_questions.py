@@ -12,7 +12,7 @@ MODES = ("E164", "International", "National", "Rfc3966")
 KINDS = ("FixedLine", "Mobile", "FixedLineOrMobile", "TollFree", "PremiumRate", "SharedCost", "Voip", "PersonalNumber", "Pager", "Uan", "Voicemail", "Unknown")
 COSTS = ("TollFree", "StandardRate", "PremiumRate", "UnknownCost")
 # No regions, but for the first.
-STRANGE = ("001", "ZZ", "XX", "nz", "-")
+STRANGE = ("001", "ZZ", "XX", "-")
 # Layouts: a pattern, a template, leading digits and a rule.
 LAYOUTS = (
     (r"(\d)(\d+)", "$1 $2", "-", "($NP$FG)"), (r"(\d{3})(\d{3})(\d+)", "$1.$2.$3", "-", "-"), (r"(\d+)", "no $1", "[2-9]", "$NP-$FG"),
