@@ -1,2 +1,3 @@
 pub mod OneAnswers
+pub mod OneMatches
 pub mod OneWays
