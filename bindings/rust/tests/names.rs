@@ -171,13 +171,13 @@ fn numbers_are_read_by_metadata_of_choice() {
 fn what_is_no_database_is_told() {
     for (text, words) in [
         ("[", "malformed JSON"),
-        (r#"[{"id":1}]"#, "a value of the wrong kind"),
+        (r#"[{"id":1}]"#, "a value is of the wrong kind"),
         (r#"[{"idd":"NZ"}]"#, r#"territory: unhandled element: "idd""#),
         (r#"[{"id":"NZ","country_code":64}]"#, r#"metadata: missing value: "generalDesc""#),
         (r#"[{"country_code":64,"general":{"national_number":"1"}}]"#, r#"metadata: missing value: "id""#),
         (r#"[{"id":"NZ","general":{"national_number":"1"}}]"#, r#"metadata: missing value: "countryCode""#),
         (r#"[{"id":"NZ","country_code":64,"general":{}}]"#, r#"descriptor: missing value: "national_number""#),
-        (r#"[{"id":"NZ","country_code":64,"general":{"national_number":"("}}]"#, "malformed regex"),
+        (r#"[{"id":"NZ","country_code":64,"general":{"national_number":"("}}]"#, "a text is no pattern"),
         (r#"[{"id":"NZ","country_code":64,"general":{"national_number":"1"},"formats":[{"pattern":"1"}]}]"#, r#"format: missing value: "format""#),
     ] {
         let refused = metadata::Database::parse(text).unwrap_err().to_string();
